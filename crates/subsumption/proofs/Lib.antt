@@ -1,0 +1,3 @@
+-- Laws and machinery behind the proofs of the functions.
+pub mod WellFormed
+pub mod Steps

@@ -1,0 +1,32 @@
+-- What the checks 1 to 7 leave of tables: the facts that every later proof goes by.
+use Prim.Native.Nat.{ℕ, _*_, _<_, _≤_}
+use mathlib.Core.Path.{_≡_}
+use mathlib.Core.Bool.{true, false}
+use lib.ListN.{length}
+use Rattle.subsumption.specs.Tables.{Tables, Node, topAt, nameAt, existsAt, andAt, varAt, node, countOf, pairsOf, leftOf, rightOf, tree, hasVariable}
+use Rattle.subsumption.specs.Atoms.{atoms}
+
+-- inner ids are smaller than i
+abbrev pub Rising : ℕ → Node → Type 0
+Rising i topAt = Unit {0}
+Rising i (nameAt n) = Unit {0}
+Rising i (existsAt r j) = j < i
+Rising i (andAt j k) = (j < i) × (k < i)
+Rising i (varAt k) = Unit {0}
+
+pub record WellFormed (t : Tables) : Type 0 where
+  pub whole : length (t .concepts) ≡ countOf (t .concepts) * 3
+  pub few : countOf (t .concepts) ≤ 192
+  pub even : length (t .inclusions) ≡ pairsOf (t .inclusions) * 2
+  pub few-inclusions : pairsOf (t .inclusions) ≤ 96
+  pub even-questions : length (t .questions) ≡ pairsOf (t .questions) * 2
+  pub few-questions : pairsOf (t .questions) ≤ 32
+  pub few-variables : t .variables ≤ 8
+  pub rising : (i : ℕ) → Rising i (node (t .concepts) i)
+  pub numbered : (i k : ℕ) → node (t .concepts) i ≡ varAt k → k < t .variables
+  pub left-known : (m : ℕ) → m < pairsOf (t .inclusions) → leftOf (t .inclusions) m < countOf (t .concepts)
+  pub right-known : (m : ℕ) → m < pairsOf (t .inclusions) → rightOf (t .inclusions) m < countOf (t .concepts)
+  pub left-ground : (m : ℕ) → m < pairsOf (t .inclusions) → hasVariable (tree (t .concepts) (leftOf (t .inclusions) m)) ≡ false
+  pub right-ground : (m : ℕ) → m < pairsOf (t .inclusions) → hasVariable (tree (t .concepts) (rightOf (t .inclusions) m)) ≡ false
+  pub question-right : (m : ℕ) → m < pairsOf (t .questions) → rightOf (t .questions) m < countOf (t .concepts)
+  pub few-atoms : length (atoms t) ≤ 64

@@ -1,0 +1,10 @@
+-- What a reader must believe, in 01's order. proofs/ has the laws.
+pub mod Tables
+pub mod Atoms
+pub mod Subsumption
+pub mod Rules
+pub mod Refusal
+pub mod Check
+pub mod Listing
+pub mod Table
+pub mod Decide

@@ -1,0 +1,25 @@
+-- Listing the atoms (01, "Operations"): what it answers, and what the buffer then holds.
+use Prim.Native.Nat.{ℕ}
+use mathlib.Core.List.{List, _++_}
+use lib.ListN.{length, drop}
+use Rattle.subsumption.specs.declared.refusal.Outcome.{Outcome}
+use Rattle.subsumption.specs.declared.refusal.Outcome.the-variants.{Done, Refused}
+use Rattle.subsumption.specs.declared.listing.Listed.{Listed}
+use Rattle.subsumption.specs.declared.listing.Listed.the-variants.{Atoms, Rejected}
+use Rattle.subsumption.specs.Tables.{Tables}
+use Rattle.subsumption.specs.Atoms.{atoms}
+use Rattle.subsumption.specs.Refusal.{orElse}
+use Rattle.subsumption.specs.Check.{tableFault, bufferFault}
+
+-- The buffer wants 64 numbers, however few are written.
+unfoldable pub listingFault : Tables → ℕ → Outcome
+listingFault t size = orElse (tableFault t) (bufferFault 64 size)
+
+unfoldable pub listed : Outcome → Tables → Listed
+listed Done t = Atoms (length (atoms t))
+listed (Refused r) t = Rejected r
+
+-- The atoms' ids stand in front; past them, and after a refusal, the buffer keeps its values.
+unfoldable pub listedIn : Outcome → Tables → List ℕ → List ℕ
+listedIn Done t before = atoms t ++ drop (length (atoms t)) before
+listedIn (Refused r) t before = before

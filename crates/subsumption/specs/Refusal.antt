@@ -1,0 +1,37 @@
+-- The refusal table (01): each case's number and place, and how checks are put in order.
+use Prim.Native.Nat.{ℕ, zero, suc}
+use mathlib.Core.Bool.{Bool, true, false}
+use Rattle.subsumption.specs.declared.refusal.Refusal.{Refusal}
+use Rattle.subsumption.specs.declared.refusal.Refusal.the-variants.{Limit, Malformed, ForwardId, NoConcept, VariableInInclusion, VariablesOnBothSides, TooManyAtoms, BufferTooShort, BadAssignment, NoAssignment, NotSubsumed, BadDerivation, BadText}
+use Rattle.subsumption.specs.declared.refusal.Outcome.{Outcome}
+use Rattle.subsumption.specs.declared.refusal.Outcome.the-variants.{Done, Refused}
+use Rattle.subsumption.specs.declared.refusal.Code.{Code}
+
+abbrev pub codeOf : Refusal → Code
+codeOf (Limit place) = record { number = 1; place = place }
+codeOf (Malformed place) = record { number = 2; place = place }
+codeOf (ForwardId place) = record { number = 3; place = place }
+codeOf (NoConcept place) = record { number = 4; place = place }
+codeOf (VariableInInclusion place) = record { number = 5; place = place }
+codeOf (VariablesOnBothSides place) = record { number = 6; place = place }
+codeOf TooManyAtoms = record { number = 7; place = 64 }
+codeOf (BufferTooShort place) = record { number = 8; place = place }
+codeOf (BadAssignment place) = record { number = 9; place = place }
+codeOf NoAssignment = record { number = 10; place = 0 }
+codeOf NotSubsumed = record { number = 11; place = 0 }
+codeOf (BadDerivation place) = record { number = 12; place = place }
+codeOf (BadText place) = record { number = 13; place = place }
+
+-- Checks run in order: the first that refuses decides.
+unfoldable pub orElse : Outcome → Outcome → Outcome
+orElse Done next = next
+orElse (Refused r) next = Refused r
+
+unfoldable pub refuseIf : Bool → Refusal → Outcome
+refuseIf true r = Refused r
+refuseIf false r = Done
+
+-- Within one check the lowest place wins: the places from `from` on, `count` of them.
+unfoldable pub firstAt : (ℕ → Refusal) → (ℕ → Bool) → ℕ → ℕ → Outcome
+firstAt refusal faulty from zero = Done
+firstAt refusal faulty from (suc count) = orElse (refuseIf (faulty from) (refusal from)) (firstAt refusal faulty (suc from) count)

@@ -1,0 +1,41 @@
+-- The subsumption table (01: the below table): rows of 24 bytes, bit j of row i says that i is below j.
+use Prim.Native.Nat.{ℕ, _+_, _*_, _/_, _%_, _<_, _≤_}
+use mathlib.Core.Path.{_≡_}
+use mathlib.Core.List.{List}
+use mathlib.Core.Bool.{Bool, true, false}
+use lib.ListN.{length, getD}
+use Rattle.subsumption.specs.declared.refusal.Outcome.{Outcome}
+use Rattle.subsumption.specs.declared.refusal.Outcome.the-variants.{Done, Refused}
+use Rattle.subsumption.specs.Tables.{Tables, countOf}
+use Rattle.subsumption.specs.Atoms.{bit}
+use Rattle.subsumption.specs.Subsumption.{Subsumed}
+use Rattle.subsumption.specs.Refusal.{orElse}
+use Rattle.subsumption.specs.Check.{tableFault, assignmentFault, bufferFault}
+
+-- Where row i starts.
+unfoldable pub rowStart : ℕ → ℕ
+rowStart i = i * 24
+
+-- Bit j mod 8 of byte j div 8 of row i, lowest bit first.
+unfoldable pub marked : List ℕ → ℕ → ℕ → Bool
+marked bytes i j = bit (getD bytes (rowStart i + j / 8) 0) (j % 8)
+
+unfoldable pub writingFault : Tables → List ℕ → ℕ → Outcome
+writingFault t assignment size = orElse (tableFault t) (orElse (assignmentFault t assignment) (bufferFault (rowStart (countOf (t .concepts))) size))
+
+-- What the buffer holds after: exactly the pairs that are below, other bits of the rows 0, bytes past the last row as before.
+pub record TableOf (t : Tables) (assignment : List ℕ) (before after : List ℕ) : Type 0 where
+  pub size : length after ≡ length before
+  pub sound : (i j : ℕ) → i < countOf (t .concepts) → j < countOf (t .concepts) → marked after i j ≡ true → Subsumed t assignment i j
+  pub complete : (i j : ℕ) → i < countOf (t .concepts) → j < countOf (t .concepts) → Subsumed t assignment i j → marked after i j ≡ true
+  pub zero : (i j : ℕ) → i < countOf (t .concepts) → countOf (t .concepts) ≤ j → j < 192 → marked after i j ≡ false
+  pub rest : (p : ℕ) → rowStart (countOf (t .concepts)) ≤ p → getD after p 0 ≡ getD before p 0
+
+-- A refusal leaves the buffer as it was.
+abbrev pub Left : Tables → List ℕ → List ℕ → List ℕ → Outcome → Type 0
+Left t assignment before after Done = TableOf t assignment before after
+Left t assignment before after (Refused r) = after ≡ before
+
+pub record Wrote (t : Tables) (assignment : List ℕ) (before after : List ℕ) (answer : Outcome) : Type 0 where
+  pub answered : answer ≡ writingFault t assignment (length before)
+  pub left : Left t assignment before after answer

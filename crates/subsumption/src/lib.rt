@@ -1,0 +1,4 @@
+// Subsumption in EL under general inclusions: tables, atoms, the subsumption table.
+pub mod decide;
+pub mod listing;
+pub mod refusal;

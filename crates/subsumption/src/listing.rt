@@ -1,0 +1,7 @@
+// Listing the atoms.
+use crate::refusal::Refusal;
+
+pub enum Listed {
+    Atoms(usize),
+    Rejected(Refusal),
+}
