@@ -1,3 +1,2 @@
 -- Laws and machinery behind the proofs of the functions.
 pub mod WellFormed
-pub mod Steps

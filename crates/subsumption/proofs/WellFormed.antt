@@ -3,16 +3,9 @@ use Prim.Native.Nat.{ℕ, _*_, _<_, _≤_}
 use mathlib.Core.Path.{_≡_}
 use mathlib.Core.Bool.{true, false}
 use lib.ListN.{length}
-use Rattle.subsumption.specs.Tables.{Tables, Node, topAt, nameAt, existsAt, andAt, varAt, node, countOf, pairsOf, leftOf, rightOf, tree, hasVariable}
+use Rattle.subsumption.specs.Tables.{Tables, varAt, node, countOf, pairsOf, leftOf, rightOf, tree, hasVariable}
 use Rattle.subsumption.specs.Atoms.{atoms}
-
--- inner ids are smaller than i
-abbrev pub Rising : ℕ → Node → Type 0
-Rising i topAt = Unit {0}
-Rising i (nameAt n) = Unit {0}
-Rising i (existsAt r j) = j < i
-Rising i (andAt j k) = (j < i) × (k < i)
-Rising i (varAt k) = Unit {0}
+use Rattle.subsumption.specs.Closure.{Rising}
 
 pub record WellFormed (t : Tables) : Type 0 where
   pub whole : length (t .concepts) ≡ countOf (t .concepts) * 3

@@ -5,6 +5,7 @@ pub mod Subsumption
 pub mod Rules
 pub mod Refusal
 pub mod Check
+pub mod Closure
 pub mod Listing
 pub mod Table
 pub mod Decide

@@ -1,0 +1,83 @@
+-- What the closure of the columns promises to the operations above it (private to the crate: no operation's contract cites it).
+-- Column j is the set of ids known to be below j, and flows on to other columns by the steps below.
+use Prim.Native.Nat.{ℕ, _+_, _*_, _/_, _%_, _<_, _≤_}
+use mathlib.Core.Path.{_≡_}
+use mathlib.Core.List.{List, List·Memᴰ}
+use mathlib.Core.Bool.{Bool, true}
+use lib.ListN.{length, getD}
+use Rattle.subsumption.specs.Tables.{Node, topAt, nameAt, existsAt, andAt, varAt, node, countOf, pairsOf, leftOf, rightOf}
+use Rattle.subsumption.specs.Atoms.{bit, pick}
+
+-- id i is in column j: three words of 64 bits a column
+unfoldable pub has : List ℕ → ℕ → ℕ → Bool
+has columns i j = bit (getD columns (j * 3 + i / 64) 0) (i % 64)
+
+-- inner ids are smaller than i
+abbrev pub Rising : ℕ → Node → Type 0
+Rising i topAt = Unit {0}
+Rising i (nameAt n) = Unit {0}
+Rising i (existsAt r j) = j < i
+Rising i (andAt j k) = (j < i) × (k < i)
+Rising i (varAt k) = Unit {0}
+
+-- what the closure asks: the checks have passed, and the atoms are at hand
+pub record Ready (concepts inclusions atoms assignment : List ℕ) : Type 0 where
+  pub whole : length concepts ≡ countOf concepts * 3
+  pub few : countOf concepts ≤ 192
+  pub even : length inclusions ≡ pairsOf inclusions * 2
+  pub rising : (i : ℕ) → i < countOf concepts → Rising i (node concepts i)
+  pub numbered : (i k : ℕ) → node concepts i ≡ varAt k → k < length assignment
+  pub left-known : (m : ℕ) → m < pairsOf inclusions → leftOf inclusions m < countOf concepts
+  pub right-known : (m : ℕ) → m < pairsOf inclusions → rightOf inclusions m < countOf concepts
+  pub few-atoms : length atoms ≤ 64
+  pub atoms-known : (q : ℕ) → q < length atoms → getD atoms q 0 < countOf concepts
+
+-- the ids that the assignment chooses for a variable, of the atoms given
+abbrev pub chooseFrom : List ℕ → List ℕ → ℕ → List ℕ
+chooseFrom atoms assignment k = pick atoms (getD assignment k 0)
+
+module _ (concepts inclusions : List ℕ) (choose : ℕ → List ℕ) where
+  -- a relation on ids that takes every step
+  pub record Steps (R : ℕ → ℕ → Type 0) : Type 0 where
+    pub same : (j : ℕ) → j < countOf concepts → R j j
+    pub top : (i j : ℕ) → i < countOf concepts → j < countOf concepts → node concepts j ≡ topAt → R i j
+    pub named :
+        (i j k n : ℕ) → i < countOf concepts → j < countOf concepts → k < countOf concepts
+        → node concepts j ≡ nameAt n → node concepts k ≡ nameAt n → R i j → R i k
+    pub first : (i j a b : ℕ) → i < countOf concepts → j < countOf concepts → node concepts j ≡ andAt a b → R i j → R i a
+    pub second : (i j a b : ℕ) → i < countOf concepts → j < countOf concepts → node concepts j ≡ andAt a b → R i j → R i b
+    pub meet : (i j a b : ℕ) → i < countOf concepts → j < countOf concepts → node concepts j ≡ andAt a b → R i a → R i b → R i j
+    pub included : (i m : ℕ) → i < countOf concepts → m < pairsOf inclusions → R i (leftOf inclusions m) → R i (rightOf inclusions m)
+    pub linked :
+        (i e f r x y : ℕ) → i < countOf concepts → e < countOf concepts → f < countOf concepts
+        → node concepts e ≡ existsAt r x → node concepts f ≡ existsAt r y → R x y → R i e → R i f
+    pub chooses :
+        (i v k p : ℕ) → i < countOf concepts → v < countOf concepts → node concepts v ≡ varAt k → List·Memᴰ p (choose k) → R i v → R i p
+    pub all-chosen :
+        (i v k : ℕ) → i < countOf concepts → v < countOf concepts → node concepts v ≡ varAt k → ((p : ℕ) → List·Memᴰ p (choose k) → R i p) → R i v
+
+  -- the least such relation
+  pub data Flow : ℕ → ℕ → Type 0 where
+    flow-same : (j : ℕ) → j < countOf concepts → Flow j j
+    flow-top : (i j : ℕ) → i < countOf concepts → j < countOf concepts → node concepts j ≡ topAt → Flow i j
+    flow-named :
+        (i j k n : ℕ) → i < countOf concepts → j < countOf concepts → k < countOf concepts
+        → node concepts j ≡ nameAt n → node concepts k ≡ nameAt n → Flow i j → Flow i k
+    flow-first : (i j a b : ℕ) → i < countOf concepts → j < countOf concepts → node concepts j ≡ andAt a b → Flow i j → Flow i a
+    flow-second : (i j a b : ℕ) → i < countOf concepts → j < countOf concepts → node concepts j ≡ andAt a b → Flow i j → Flow i b
+    flow-meet : (i j a b : ℕ) → i < countOf concepts → j < countOf concepts → node concepts j ≡ andAt a b → Flow i a → Flow i b → Flow i j
+    flow-included : (i m : ℕ) → i < countOf concepts → m < pairsOf inclusions → Flow i (leftOf inclusions m) → Flow i (rightOf inclusions m)
+    flow-linked :
+        (i e f r x y : ℕ) → i < countOf concepts → e < countOf concepts → f < countOf concepts
+        → node concepts e ≡ existsAt r x → node concepts f ≡ existsAt r y → Flow x y → Flow i e → Flow i f
+    flow-chooses :
+        (i v k p : ℕ) → i < countOf concepts → v < countOf concepts → node concepts v ≡ varAt k → List·Memᴰ p (choose k) → Flow i v → Flow i p
+    flow-all-chosen :
+        (i v k : ℕ) → i < countOf concepts → v < countOf concepts → node concepts v ≡ varAt k
+        → ((p : ℕ) → List·Memᴰ p (choose k) → Flow i p) → Flow i v
+
+  -- the columns hold just what flows
+  pub record Closed (columns : List ℕ) : Type 0 where
+    pub long : length columns ≡ 576
+    pub sound : (i j : ℕ) → i < countOf concepts → j < countOf concepts → has columns i j ≡ true → Flow i j
+    pub closed : Steps (λ i j. has columns i j ≡ true)
