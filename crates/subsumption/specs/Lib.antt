@@ -1,5 +1,6 @@
 -- What a reader must believe, in 01's order. proofs/ has the laws.
 pub mod Tables
+pub mod Rows
 pub mod Atoms
 pub mod Subsumption
 pub mod Rules
