@@ -4,3 +4,5 @@ pub mod Bools
 pub mod Scans
 pub mod Limits
 pub mod Shapes
+pub mod Forward
+pub mod Refusals

@@ -30,19 +30,19 @@ module _ (cs is qs : List ℕ) (v : ℕ) where
   limit-inclusions a b ea ha eb hb = rw (← ea, ha, ← eb, hb)
 
   pub limit-questions :
-    (a b c : Bool) → a ≡ unfit 3 192 cs → a ≡ false → b ≡ unfit 2 96 is → b ≡ false → c ≡ unfit 2 32 qs → c ≡ true
-    → Refused (Limit 2) ≡ limitFault (tables cs is qs v)
+      (a b c : Bool) → a ≡ unfit 3 192 cs → a ≡ false → b ≡ unfit 2 96 is → b ≡ false → c ≡ unfit 2 32 qs → c ≡ true
+      → Refused (Limit 2) ≡ limitFault (tables cs is qs v)
   unfolding limitFault orElse refuseIf
   limit-questions a b c ea ha eb hb ec hc = rw (← ea, ha, ← eb, hb, ← ec, hc)
 
   pub limit-variables :
-    (a b c : Bool) → a ≡ unfit 3 192 cs → a ≡ false → b ≡ unfit 2 96 is → b ≡ false → c ≡ unfit 2 32 qs → c ≡ false
-    → 8 < v → Refused (Limit 3) ≡ limitFault (tables cs is qs v)
+      (a b c : Bool) → a ≡ unfit 3 192 cs → a ≡ false → b ≡ unfit 2 96 is → b ≡ false → c ≡ unfit 2 32 qs → c ≡ false
+      → 8 < v → Refused (Limit 3) ≡ limitFault (tables cs is qs v)
   unfolding limitFault orElse refuseIf
   limit-variables a b c ea ha eb hb ec hc h = rw (← ea, ha, ← eb, hb, ← ec, hc, lt-ltb 8 v h)
 
   pub limit-none :
-    (a b c : Bool) → a ≡ unfit 3 192 cs → a ≡ false → b ≡ unfit 2 96 is → b ≡ false → c ≡ unfit 2 32 qs → c ≡ false
-    → v ≤ 8 → Done ≡ limitFault (tables cs is qs v)
+      (a b c : Bool) → a ≡ unfit 3 192 cs → a ≡ false → b ≡ unfit 2 96 is → b ≡ false → c ≡ unfit 2 32 qs → c ≡ false
+      → v ≤ 8 → Done ≡ limitFault (tables cs is qs v)
   unfolding limitFault orElse refuseIf
   limit-none a b c ea ha eb hb ec hc h = rw (← ea, ha, ← eb, hb, ← ec, hc, le-ltb 8 v h)

@@ -24,10 +24,10 @@ module _ (refusal : ℕ → Refusal) (faulty : ℕ → Bool) (count : ℕ) where
   pub scan-more : (i : ℕ) → Scan i → i < count → faulty i ≡ false → Scan (i + 1)
   unfolding firstAt orElse refuseIf
   scan-more i s h e =
-      record
-        { within = omega arith
-        ; left = s .left ∙ ap (firstAt refusal faulty i) (split i h) ∙ rw e (rw add-one refl)
-        }
+      record {
+        within = omega arith;
+        left = s .left ∙ ap (firstAt refusal faulty i) (split i h) ∙ rw e (rw add-one refl);
+      }
 
   pub scan-found : (i : ℕ) → Scan i → i < count → faulty i ≡ true → Refused (refusal i) ≡ firstAt refusal faulty 0 count
   unfolding firstAt orElse refuseIf

@@ -44,7 +44,7 @@ module _ (v k a b : ℕ) where
   variable-rest e h = rw (e, lt-ltb a v h)
 
 pub unknown-kind :
-  (v k a b : ℕ) → (k ≡ 0 → ⊥) → (k ≡ 1 → ⊥) → (k ≡ 2 → ⊥) → (k ≡ 3 → ⊥) → (k ≡ 4 → ⊥) → true ≡ malformedRow v k a b
+    (v k a b : ℕ) → (k ≡ 0 → ⊥) → (k ≡ 1 → ⊥) → (k ≡ 2 → ⊥) → (k ≡ 3 → ⊥) → (k ≡ 4 → ⊥) → true ≡ malformedRow v k a b
 unfolding malformedRow
 unknown-kind v zero a b h0 h1 h2 h3 h4 = absurd (h0 refl)
 unknown-kind v (suc zero) a b h0 h1 h2 h3 h4 = absurd (h1 refl)

@@ -1,15 +1,14 @@
 // The checks 1 to 9, in 01's order. Each scan answers the lowest place at fault.
 use crate::refusal::Outcome;
 use crate::refusal::Refusal;
-use crate::tables::row_at;
 use crate::tables::pair_at;
-
+use crate::tables::row_at;
 ghost use mathlib.Core.Path.{_≡_};
 ghost use mathlib.Core.Bool.{not, true, false};
 ghost use Prim.Native.Nat.{_+_, _%_, _/_, _<_, _≤_, _^_};
 ghost use lib.Dec.{eqb, ltb};
 ghost use lib.ListN.{length, getD};
-ghost use Rattle.subsumption.specs.Tables.{tables, or, node, countOf};
+ghost use Rattle.subsumption.specs.Tables.{tables, or, decode, node, countOf};
 ghost use Rattle.subsumption.specs.Refusal.{orElse, refuseIf, firstAt};
 ghost use Rattle.subsumption.specs.Check.{unfit, limitFault, malformedRow, malformedFault, forward, forwardFault, noConcept, pairsFault, aloneFault, bufferFault, conceptFault, idFault};
 
@@ -85,4 +84,100 @@ fn check_rows(concepts: &[u16], variables: u16) -> Outcome
         i += 1;
     }
     Outcome::Done
+}
+
+fn is_forward(i: usize, kind: u16, a: u16, b: u16) -> bool
+    ensures { λ r. ⌜ r ≡ forward i (decode kind a b) ⌝ }
+{
+    if kind == 2 {
+        return i <= b as usize;
+    }
+    if kind == 3 {
+        if i <= a as usize {
+            return true;
+        }
+        return i <= b as usize;
+    }
+    false
+}
+
+fn check_inner(concepts: &[u16]) -> Outcome
+    ensures { λ r. ⌜ r ≡ forwardFault (now (concepts .entry)) ⌝ }
+{
+    let count = concepts.len() / 3;
+    let mut i: usize = 0;
+    while i < count {
+        let row = row_at(concepts, i);
+        if is_forward(i, row.kind, row.a, row.b) {
+            return Outcome::Refused(Refusal::ForwardId(i));
+        }
+        i += 1;
+    }
+    Outcome::Done
+}
+
+fn is_no_concept(count: usize, left: u16, right: u16) -> bool
+    ensures { λ r. ⌜ r ≡ noConcept count left right ⌝ }
+{
+    if count <= left as usize {
+        return true;
+    }
+    count <= right as usize
+}
+
+// `before` pairs are counted already.
+fn check_pairs(before: usize, count: usize, pairs: &[u16]) -> Outcome
+    requires { ⌜ before ≤ 96 ⌝ }
+    ensures { λ r. ⌜ r ≡ pairsFault before count (now (pairs .entry)) ⌝ }
+{
+    let rows = pairs.len() / 2;
+    let mut m: usize = 0;
+    while m < rows {
+        let pair = pair_at(pairs, m);
+        if is_no_concept(count, pair.left, pair.right) {
+            return Outcome::Refused(Refusal::NoConcept(before + m));
+        }
+        m += 1;
+    }
+    Outcome::Done
+}
+
+// Check 4 of a pair given alone.
+pub fn check_alone(concepts: &[u16], left: u16, right: u16) -> Outcome
+    ensures { λ r. ⌜ r ≡ aloneFault (now (concepts .entry)) left right ⌝ }
+{
+    if is_no_concept(concepts.len() / 3, left, right) {
+        return Outcome::Refused(Refusal::NoConcept(0));
+    }
+    Outcome::Done
+}
+
+// Check 8.
+pub fn check_buffer(wanted: usize, size: usize) -> Outcome
+    ensures { λ r. ⌜ r ≡ bufferFault wanted size ⌝ }
+{
+    if size < wanted {
+        return Outcome::Refused(Refusal::BufferTooShort(wanted));
+    }
+    Outcome::Done
+}
+
+// Checks 1 to 3.
+pub fn check_concepts(
+    concepts: &[u16],
+    inclusions: &[u16],
+    questions: &[u16],
+    variables: u16,
+) -> Outcome
+    ensures { λ r. ⌜ r ≡ conceptFault (tables (now (concepts .entry)) (now (inclusions .entry)) (now (questions .entry)) variables) ⌝ }
+{
+    let limits = check_limits(concepts, inclusions, questions, variables);
+    if let Outcome::Refused(r) = limits {
+        return Outcome::Refused(r);
+    }
+    let rows = check_rows(concepts, variables);
+    if let Outcome::Refused(r) = rows {
+        return Outcome::Refused(r);
+    }
+    check_inner(concepts)
 }
