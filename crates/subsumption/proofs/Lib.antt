@@ -1,2 +1,5 @@
 -- Laws and machinery behind the proofs of the functions.
 pub mod WellFormed
+pub mod Bools
+pub mod Depth
+pub mod Trees

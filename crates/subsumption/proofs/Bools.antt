@@ -1,0 +1,65 @@
+-- Laws of the tests `or`, `both` and `anyBelow`.
+use Prim.Native.Nat.{ℕ, zero, suc, _<_}
+use mathlib.Core.Path.{_≡_, refl, subst}
+use mathlib.Core.Bool.{Bool, true, false, false≢true}
+use mathlib.Core.Logic.{_⊎_, inl, inr, ⊎-elim}
+use native.Mathlib.Omega.{arith}
+use lib.Dec.{eqb}
+use borrow.Author.Tests.{eqb-true, eqb-false}
+use Rattle.subsumption.specs.Tables.{or, both, anyBelow}
+
+pub or-cases : (a b : Bool) → or a b ≡ true → (a ≡ true) ⊎ (b ≡ true)
+unfolding or
+or-cases true b h = inl refl
+or-cases false b h = inr h
+
+pub or-first : (a b : Bool) → a ≡ true → or a b ≡ true
+unfolding or
+or-first true b h = refl
+or-first false b h = cc
+
+pub or-second : (a b : Bool) → b ≡ true → or a b ≡ true
+unfolding or
+or-second true b h = refl
+or-second false b h = h
+
+pub or-false : (a b : Bool) → or a b ≡ false → (a ≡ false) × (b ≡ false)
+unfolding or
+or-false true b h = (cc, cc)
+or-false false b h = (refl, h)
+
+pub both-true : (a b : Bool) → both a b ≡ true → (a ≡ true) × (b ≡ true)
+unfolding both
+both-true true b h = (refl, h)
+both-true false b h = (cc, cc)
+
+pub both-intro : (a b : Bool) → a ≡ true → b ≡ true → both a b ≡ true
+unfolding both
+both-intro true b h k = k
+both-intro false b h k = h
+
+-- A test that is not false is true.
+pub true-of : (a : Bool) → (a ≡ false → ⊥) → a ≡ true
+true-of true h = refl
+true-of false h = absurd (h refl)
+
+-- The last number below suc n, or one before it.
+pub last-cases : (m n : ℕ) → m < suc n → (m ≡ n) ⊎ (m < n)
+last-cases m n h = go (eqb m n) refl
+  where
+    go : (b : Bool) → eqb m n ≡ b → (m ≡ n) ⊎ (m < n)
+    go true e = inl (eqb-true m n e)
+    go false e = inr (omega (arith, eqb-false m n e))
+
+pub anyBelow-intro : (n : ℕ) (test : ℕ → Bool) (m : ℕ) → m < n → test m ≡ true → anyBelow n test ≡ true
+unfolding anyBelow
+anyBelow-intro zero test m h k = absurd (omega arith)
+anyBelow-intro (suc n) test m h k =
+    ⊎-elim (λ (e : m ≡ n). or-first (test n) _ (subst (λ (z : ℕ). test z ≡ true) e k))
+    (λ l. or-second (test n) _ (anyBelow-intro n test m l k)) (last-cases m n h)
+
+pub anyBelow-elim : (n : ℕ) (test : ℕ → Bool) → anyBelow n test ≡ true → (m : ℕ) × (m < n) × (test m ≡ true)
+unfolding anyBelow
+anyBelow-elim zero test h = absurd (false≢true h)
+anyBelow-elim (suc n) test h =
+    ⊎-elim (λ e. (n, omega arith, e)) (λ k. let r = anyBelow-elim n test k in (r .0, omega (arith, r .1), r .2)) (or-cases (test n) _ h)
