@@ -3,3 +3,6 @@ pub mod WellFormed
 pub mod Bools
 pub mod Depth
 pub mod Trees
+pub mod Inward
+pub mod Occurs
+pub mod Keep
