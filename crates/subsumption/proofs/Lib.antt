@@ -6,3 +6,5 @@ pub mod Trees
 pub mod Inward
 pub mod Occurs
 pub mod Keep
+pub mod Membership
+pub mod Soundness
