@@ -8,3 +8,4 @@ pub mod Occurs
 pub mod Keep
 pub mod Membership
 pub mod Soundness
+pub mod Canonical
