@@ -1,69 +1,88 @@
--- Laws of the Bool connectives of specs/Tables.
-use mathlib.Core.Path.{_≡_, refl, sym, _∙_}
-use mathlib.Core.Bool.{Bool, true, false, not}
-use mathlib.Core.Logic.{_⊎_, inl, inr}
-use Prim.Native.Nat.{ℕ, _≤_, _<_}
-use lib.Dec.{leb, eqb}
-use borrow.Author.Tests.{leb-true, leb-false, eqb-true, eqb-false}
+-- Laws of the tests `or`, `both` and `anyBelow`.
+use Prim.Native.Nat.{ℕ, zero, suc, _<_, _≤_}
+use mathlib.Core.Path.{_≡_, refl, sym, subst}
+use mathlib.Core.Bool.{Bool, true, false, false≢true}
+use mathlib.Core.Logic.{_⊎_, inl, inr, ⊎-elim}
 use native.Mathlib.Omega.{arith}
-use Rattle.subsumption.specs.Tables.{or, both}
-
-pub or-left : (a b : Bool) → a ≡ true → or a b ≡ true
-unfolding or
-or-left true b e = refl
-or-left false b e = absurd (let z : _≡_ {A = ℕ} 0 1 = cc e in omega arith)
-
-pub or-right : (a b : Bool) → b ≡ true → or a b ≡ true
-unfolding or
-or-right true b e = refl
-or-right false b e = e
+use lib.Dec.{eqb, leb}
+use borrow.Author.Tests.{eqb-true, eqb-false, leb-true, leb-false}
+use Rattle.subsumption.specs.Tables.{or, both, anyBelow}
 
 pub or-cases : (a b : Bool) → or a b ≡ true → (a ≡ true) ⊎ (b ≡ true)
 unfolding or
-or-cases true b e = inl refl
-or-cases false b e = inr e
+or-cases true b h = inl refl
+or-cases false b h = inr h
 
-pub or-skip : (a b : Bool) → a ≡ false → or a b ≡ b
+pub or-first : (a b : Bool) → a ≡ true → or a b ≡ true
 unfolding or
-or-skip true b e = absurd (let z : _≡_ {A = ℕ} 0 1 = cc e in omega arith)
-or-skip false b e = refl
+or-first true b h = refl
+or-first false b h = cc
+
+pub or-second : (a b : Bool) → b ≡ true → or a b ≡ true
+unfolding or
+or-second true b h = refl
+or-second false b h = h
 
 pub or-false : (a b : Bool) → or a b ≡ false → (a ≡ false) × (b ≡ false)
 unfolding or
-or-false true b e = absurd (let z : _≡_ {A = ℕ} 0 1 = cc e in omega arith)
-or-false false b e = (refl, e)
+or-false true b h = (cc, cc)
+or-false false b h = (refl, h)
+
+pub both-true : (a b : Bool) → both a b ≡ true → (a ≡ true) × (b ≡ true)
+unfolding both
+both-true true b h = (refl, h)
+both-true false b h = (cc, cc)
 
 pub both-intro : (a b : Bool) → a ≡ true → b ≡ true → both a b ≡ true
 unfolding both
-both-intro true b p q = q
-both-intro false b p q = p
+both-intro true b h k = k
+both-intro false b h k = h
 
-pub both-left : (a b : Bool) → both a b ≡ true → a ≡ true
-unfolding both
-both-left true b e = refl
-both-left false b e = e
+-- A test that is not false is true.
+pub true-of : (a : Bool) → (a ≡ false → ⊥) → a ≡ true
+true-of true h = refl
+true-of false h = absurd (h refl)
 
-pub both-right : (a b : Bool) → both a b ≡ true → b ≡ true
-unfolding both
-both-right true b e = e
-both-right false b e = absurd (let z : _≡_ {A = ℕ} 0 1 = cc e in omega arith)
+-- The last number below suc n, or one before it.
+pub last-cases : (m n : ℕ) → m < suc n → (m ≡ n) ⊎ (m < n)
+last-cases m n h = go (eqb m n) refl
+  where
+    go : (b : Bool) → eqb m n ≡ b → (m ≡ n) ⊎ (m < n)
+    go true e = inl (eqb-true m n e)
+    go false e = inr (omega (arith, eqb-false m n e))
+
+pub anyBelow-intro : (n : ℕ) (test : ℕ → Bool) (m : ℕ) → m < n → test m ≡ true → anyBelow n test ≡ true
+unfolding anyBelow
+anyBelow-intro zero test m h k = absurd (omega arith)
+anyBelow-intro (suc n) test m h k =
+    ⊎-elim (λ (e : m ≡ n). or-first (test n) _ (subst (λ (z : ℕ). test z ≡ true) e k))
+    (λ l. or-second (test n) _ (anyBelow-intro n test m l k)) (last-cases m n h)
+
+pub anyBelow-elim : (n : ℕ) (test : ℕ → Bool) → anyBelow n test ≡ true → (m : ℕ) × (m < n) × (test m ≡ true)
+unfolding anyBelow
+anyBelow-elim zero test h = absurd (false≢true h)
+anyBelow-elim (suc n) test h =
+    ⊎-elim (λ e. (n, omega arith, e)) (λ k. let r = anyBelow-elim n test k in (r .0, omega (arith, r .1), r .2)) (or-cases (test n) _ h)
+
+pub or-skip : (a b : Bool) → a ≡ false → or a b ≡ b
+unfolding or
+or-skip true b h = cc
+or-skip false b h = refl
 
 pub both-skip : (a b : Bool) → a ≡ true → both a b ≡ b
 unfolding both
-both-skip true b e = refl
-both-skip false b e = absurd (let z : _≡_ {A = ℕ} 0 1 = cc e in omega arith)
+both-skip true b h = refl
+both-skip false b h = cc
 
 pub both-none : (a b : Bool) → a ≡ false → both a b ≡ false
 unfolding both
-both-none true b e = absurd (let z : _≡_ {A = ℕ} 0 1 = cc e in omega arith)
-both-none false b e = refl
+both-none true b h = cc
+both-none false b h = refl
 
-pub true-false : {A : Type 0} {b : Bool} → b ≡ true → b ≡ false → A
-true-false p q = absurd (let z : _≡_ {A = ℕ} 0 1 = cc in omega arith)
-
--- two Bools are equal where each implies the other
+-- Two tests are equal where each implies the other.
 pub same-bool : (a b : Bool) → (a ≡ true → b ≡ true) → (b ≡ true → a ≡ true) → a ≡ b
-same-bool true b f g = sym (f refl)
+same-bool true true f g = refl
+same-bool true false f g = sym (f refl)
 same-bool false true f g = g refl
 same-bool false false f g = refl
 

@@ -1,0 +1,27 @@
+-- Concepts without variables do not depend on how variables are read.
+use Prim.Native.Nat.{ℕ, _<_}
+use mathlib.Core.Path.{_≡_}
+use mathlib.Core.List.{List}
+use mathlib.Core.Bool.{true, false, true≢false}
+use Rattle.subsumption.specs.Tables.{Tables, Concept, top, name, exists, and, var, tree, hasVariable}
+use Rattle.subsumption.specs.Subsumption.{Interpretation, Reading, Member, assigned, SubsumedBy, Subsumed}
+use Rattle.subsumption.proofs.Bools.{or-false}
+use Rattle.subsumption.proofs.Inward.{Ground}
+
+pub member-ground : (I : Interpretation) (ρ ρ′ : Reading) (c : Concept) → hasVariable c ≡ false → (x : ℕ) → Member I ρ c x → Member I ρ′ c x
+unfolding hasVariable
+member-ground I ρ ρ′ top g x h = h
+member-ground I ρ ρ′ (name n) g x h = h
+member-ground I ρ ρ′ (exists r c) g x (y, l, k, h) = (y, l, k, member-ground I ρ ρ′ c g y h)
+member-ground I ρ ρ′ (and c d) g x (h, k) = (member-ground I ρ ρ′ c (or-false _ _ g .0) x h, member-ground I ρ ρ′ d (or-false _ _ g .1) x k)
+member-ground I ρ ρ′ (var k) g x h = absurd (true≢false g)
+
+pub subsumed-by-ground :
+    (t : Tables) (ρ ρ′ : Interpretation → Reading) (i j : ℕ) → Ground (t .concepts) i → Ground (t .concepts) j
+    → SubsumedBy t ρ i j → SubsumedBy t ρ′ i j
+subsumed-by-ground t ρ ρ′ i j g k s I obeys x l h = member-ground I (ρ I) (ρ′ I) _ k x (s I obeys x l (member-ground I (ρ′ I) (ρ I) _ g x h))
+
+-- Pairs without variables do not depend on the assignment.
+pub subsumed-ground :
+    (t : Tables) (α β : List ℕ) (i j : ℕ) → Ground (t .concepts) i → Ground (t .concepts) j → Subsumed t α i j → Subsumed t β i j
+subsumed-ground t α β = subsumed-by-ground t (assigned t α) (assigned t β)
