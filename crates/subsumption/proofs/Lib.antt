@@ -9,3 +9,5 @@ pub mod Keep
 pub mod Membership
 pub mod Soundness
 pub mod Canonical
+pub mod Rows
+pub mod Completeness
