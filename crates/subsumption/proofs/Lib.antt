@@ -11,3 +11,4 @@ pub mod Soundness
 pub mod Canonical
 pub mod Rows
 pub mod Completeness
+pub mod Rules
