@@ -12,3 +12,5 @@ pub mod Canonical
 pub mod Rows
 pub mod Completeness
 pub mod Rules
+pub mod RuleSoundness
+pub mod RuleCompleteness

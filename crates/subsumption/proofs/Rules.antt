@@ -61,7 +61,7 @@ contains-intro {a} (List·Memᴰ·head {x} e) = or-first _ _ (eq-eqb a x e)
 contains-intro (List·Memᴰ·tail m) = or-second _ _ (contains-intro m)
 
 -- What each test says of the rows that pass it.
-sameName-elim : (a b : Node) → sameName a b ≡ true → (n : ℕ) × (a ≡ nameAt n) × (b ≡ nameAt n)
+pub sameName-elim : (a b : Node) → sameName a b ≡ true → (n : ℕ) × (a ≡ nameAt n) × (b ≡ nameAt n)
 unfolding sameName
 sameName-elim (nameAt n) (nameAt m) h = (n, refl, ap nameAt (sym (eqb-true n m h)))
 sameName-elim (nameAt n) topAt h = absurd (false≢true h)
@@ -102,7 +102,7 @@ onBoth-elim test (nameAt n) h = absurd (false≢true h)
 onBoth-elim test (existsAt r j) h = absurd (false≢true h)
 onBoth-elim test (varAt k) h = absurd (false≢true h)
 
-onInner-elim :
+pub onInner-elim :
     (test : ℕ → ℕ → Bool) (a b : Node) → onInner test a b ≡ true
     → (r : ℕ) × (i : ℕ) × (j : ℕ) × (a ≡ existsAt r i) × (b ≡ existsAt r j) × (test i j ≡ true)
 unfolding onInner
