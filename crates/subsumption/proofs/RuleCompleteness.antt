@@ -1,22 +1,23 @@
 -- Marks closed under the rules hold all that is subsumed. No cut is needed: the interpretation asks of an id all that a row forces.
 use Prim.Native.Nat.{ℕ, _<_}
-use mathlib.Core.Path.{_≡_, refl, sym, ap₂, _∙_}
+use mathlib.Core.Path.{_≡_, refl, ap₂, _∙_}
 use mathlib.Core.List.{List}
 use mathlib.Core.Bool.{Bool, true}
 use mathlib.Core.Logic.{_↔_, ⊎-elim}
 use native.Mathlib.Omega.{arith}
 use borrow.Author.Tests.{eq-eqb}
-use Rattle.subsumption.specs.Tables.{Tables, or, nameAt, existsAt, node, countOf}
+use Rattle.subsumption.specs.Tables.{Tables, or, node, countOf}
 use Rattle.subsumption.specs.Atoms.{keep}
 use Rattle.subsumption.specs.Subsumption.{assigned, Subsumed}
 use Rattle.subsumption.specs.Rules.{every, sameName, onInner, follows}
 use Rattle.subsumption.proofs.Bools.{or-cases, or-first, or-second, both-intro}
 use Rattle.subsumption.proofs.WellFormed.{WellFormed}
 use Rattle.subsumption.proofs.Inward.{below-inward}
-use Rattle.subsumption.proofs.Keep.{Kept, keep-member, keep-intro}
+use Rattle.subsumption.proofs.Keep.{keep-member, keep-intro}
 use Rattle.subsumption.proofs.Canonical.{Canonical, canonical-complete}
 use Rattle.subsumption.proofs.Rows.{interpretation, named-in, named-out, linked-in, linked-out}
-use Rattle.subsumption.proofs.Rules.{Rules, every-elim, every-intro, sameName-elim, onInner-elim, follows-rules}
+use Rattle.subsumption.proofs.RuleTests.{every-elim, every-intro, sameName-elim, onInner-elim}
+use Rattle.subsumption.proofs.Rules.{Rules, follows-rules}
 use Rattle.subsumption.proofs.Soundness.{subsumed-trans}
 
 -- By rule 1 or 5 the row j is below the row f.

@@ -3,7 +3,7 @@ use Prim.Native.Nat.{ℕ, _<_}
 use mathlib.Core.Path.{_≡_}
 use mathlib.Core.List.{List}
 use mathlib.Core.Bool.{Bool, true}
-use Rattle.subsumption.specs.Tables.{Tables, countOf, leftOf, rightOf}
+use Rattle.subsumption.specs.Tables.{Tables, countOf, rightOf}
 use Rattle.subsumption.specs.Atoms.{chosen}
 use Rattle.subsumption.specs.Subsumption.{assigned, Subsumed}
 use Rattle.subsumption.specs.Rules.{follows}
