@@ -38,11 +38,6 @@ unfolding both
 both-intro true b h k = k
 both-intro false b h k = h
 
--- A test that is not false is true.
-pub true-of : (a : Bool) → (a ≡ false → ⊥) → a ≡ true
-true-of true h = refl
-true-of false h = absurd (h refl)
-
 -- The last number below suc n, or one before it.
 pub last-cases : (m n : ℕ) → m < suc n → (m ≡ n) ⊎ (m < n)
 last-cases m n h = go (eqb m n) refl

@@ -2,7 +2,7 @@
 use Prim.Native.Nat.{ℕ, _<_}
 use mathlib.Core.Path.{_≡_, refl, sym, _∙_}
 use mathlib.Core.List.{List, List·Memᴰ}
-use mathlib.Core.Bool.{true, false, true≢false}
+use mathlib.Core.Bool.{true≢false}
 use native.Mathlib.Omega.{arith}
 use Rattle.subsumption.specs.Tables.{Tables, Node, topAt, nameAt, existsAt, andAt, varAt, node, countOf, pairsOf, leftOf, rightOf, tree}
 use Rattle.subsumption.specs.Atoms.{chosen}
@@ -11,7 +11,7 @@ use Rattle.subsumption.proofs.WellFormed.{WellFormed}
 use Rattle.subsumption.proofs.Depth.{by-smaller}
 use Rattle.subsumption.proofs.Trees.{tree-top, tree-name, tree-exists, tree-and, tree-var, inner-exists, inner-and, variable-var}
 use Rattle.subsumption.proofs.Inward.{Inward, Ground, ground-inward, below-inward}
-use Rattle.subsumption.proofs.Keep.{chosen-known, chosen-ground}
+use Rattle.subsumption.proofs.Chosen.{chosen-known, chosen-ground}
 
 -- What the argument needs of an interpretation whose elements are the ids: what makes an id a member (In), and what a member shows (Out).
 pub record Canonical (t : Tables) (assignment : List ℕ) (I : Interpretation) (In Out : ℕ → ℕ → Type 0) : Type 0 where

@@ -11,6 +11,14 @@ pub mod Trees
 pub mod Inward
 pub mod Occurs
 pub mod Keep
+pub mod Atoms
+pub mod Chosen
 pub mod Membership
 pub mod Soundness
 pub mod Canonical
+pub mod Rows
+pub mod Completeness
+pub mod RuleTests
+pub mod Rules
+pub mod RuleSoundness
+pub mod RuleCompleteness

@@ -1,9 +1,9 @@
 -- Concepts without variables do not depend on how variables are read.
-use Prim.Native.Nat.{ℕ, _<_}
+use Prim.Native.Nat.{ℕ}
 use mathlib.Core.Path.{_≡_}
 use mathlib.Core.List.{List}
-use mathlib.Core.Bool.{true, false, true≢false}
-use Rattle.subsumption.specs.Tables.{Tables, Concept, top, name, exists, and, var, tree, hasVariable}
+use mathlib.Core.Bool.{false, true≢false}
+use Rattle.subsumption.specs.Tables.{Tables, Concept, top, name, exists, and, var, hasVariable}
 use Rattle.subsumption.specs.Subsumption.{Interpretation, Reading, Member, assigned, SubsumedBy, Subsumed}
 use Rattle.subsumption.proofs.Bools.{or-false}
 use Rattle.subsumption.proofs.Inward.{Ground}

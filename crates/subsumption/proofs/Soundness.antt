@@ -1,14 +1,13 @@
 -- Each step of the closure holds in every interpretation, so that all that flows is subsumed.
-use Prim.Native.Nat.{ℕ, _<_}
-use mathlib.Core.Path.{_≡_}
-use mathlib.Core.List.{List, List·Memᴰ}
-use Rattle.subsumption.specs.Tables.{Tables, tree, leftOf, rightOf}
+use Prim.Native.Nat.{ℕ}
+use mathlib.Core.List.{List}
+use Rattle.subsumption.specs.Tables.{Tables}
 use Rattle.subsumption.specs.Atoms.{chosen}
-use Rattle.subsumption.specs.Subsumption.{Interpretation, Reading, Member, noVariables, assigned, SubsumedBy, Subsumed}
+use Rattle.subsumption.specs.Subsumption.{Interpretation, Reading, noVariables, assigned, SubsumedBy, Subsumed}
 use Rattle.subsumption.specs.Closure.{Steps, Flow, flow-same, flow-top, flow-named, flow-first, flow-second, flow-meet, flow-included, flow-linked, flow-chooses, flow-all-chosen}
 use Rattle.subsumption.proofs.WellFormed.{WellFormed}
 use Rattle.subsumption.proofs.Trees.{tree-top, tree-name, tree-exists, tree-and, tree-var}
-use Rattle.subsumption.proofs.Keep.{chosen-ground}
+use Rattle.subsumption.proofs.Chosen.{chosen-ground}
 use Rattle.subsumption.proofs.Membership.{member-ground}
 
 pub subsumed-same : (t : Tables) (ρ : Interpretation → Reading) (i : ℕ) → SubsumedBy t ρ i i

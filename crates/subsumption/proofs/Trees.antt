@@ -2,7 +2,7 @@
 use Prim.Native.Nat.{ℕ, _<_}
 use mathlib.Core.Path.{_≡_, refl, ap, ap₂, _∙_}
 use mathlib.Core.List.{List}
-use mathlib.Core.Bool.{Bool, true, false}
+use mathlib.Core.Bool.{true, false}
 use Rattle.subsumption.specs.Tables.{or, Node, topAt, nameAt, existsAt, andAt, varAt, node, Concept, top, name, exists, and, var, shape, treeTo, tree, hasVariable}
 use Rattle.subsumption.specs.Closure.{Rising}
 use Rattle.subsumption.proofs.Depth.{enough}

@@ -1,0 +1,53 @@
+-- Marks that take every step of the closure hold all that is subsumed.
+use Prim.Native.Nat.{ℕ, _<_}
+use mathlib.Core.Path.{_≡_, refl}
+use mathlib.Core.List.{List}
+use mathlib.Core.Bool.{Bool, true}
+use mathlib.Core.Logic.{_↔_}
+use Rattle.subsumption.specs.Tables.{Tables, countOf}
+use Rattle.subsumption.specs.Atoms.{atoms, chosen}
+use Rattle.subsumption.specs.Subsumption.{Subsumed}
+use Rattle.subsumption.specs.Closure.{has, chooseFrom, Steps, Closed}
+use Rattle.subsumption.proofs.WellFormed.{WellFormed}
+use Rattle.subsumption.proofs.Inward.{below-inward}
+use Rattle.subsumption.proofs.Soundness.{flow-sound}
+use Rattle.subsumption.proofs.Canonical.{Canonical, canonical-complete}
+use Rattle.subsumption.proofs.Rows.{interpretation, named-in, named-out, linked-in, linked-out}
+
+module _ (t : Tables) (assignment : List ℕ) (wf : WellFormed t) (marks : ℕ → ℕ → Bool)
+    (steps : Steps (t .concepts) (t .inclusions) (chosen t assignment) (λ i j. marks i j ≡ true)) where
+  steps-canonical : Canonical t assignment (interpretation (t .concepts) marks) (λ i j. marks i j ≡ true) (λ i j. marks i j ≡ true)
+  steps-canonical =
+      record {
+        size = refl;
+        self = steps .same;
+        obeying = steps .included;
+        name-in = named-in (t .concepts) marks;
+        link-in = λ x c r d l k e h.
+            let u = below-inward (t .concepts) (wf .rising) (countOf (t .concepts)) .inner c r d e k in
+            (d, u, linked-in (t .concepts) marks x c r d l k e h, steps .same d u);
+        first-in = steps .first;
+        second-in = steps .second;
+        chosen-in = steps .chooses;
+        top-out = steps .top;
+        name-out = λ x c n l k e h.
+            let (j, u, f, m) = named-out (t .concepts) marks x n h in
+            steps .named x j c n l u k f e m;
+        link-out = λ x c r d y l k _ e h m.
+            let (j, u, f, o) = linked-out (t .concepts) marks x r y h in
+            steps .linked x j c r y d l u k f e m o;
+        and-out = steps .meet;
+        chosen-out = steps .all-chosen;
+      }
+
+  pub steps-complete :
+      (i j : ℕ) → i < countOf (t .concepts) → j < countOf (t .concepts) → Subsumed t assignment i j → marks i j ≡ true
+  steps-complete = canonical-complete t assignment wf _ _ _ steps-canonical
+
+-- Closed columns hold exactly what is subsumed.
+pub closed-exactly :
+    (t : Tables) (assignment columns : List ℕ) → WellFormed t → Closed (t .concepts) (t .inclusions) (chooseFrom (atoms t) assignment) columns
+    → (i j : ℕ) → i < countOf (t .concepts) → j < countOf (t .concepts) → (has columns i j ≡ true) ↔ Subsumed t assignment i j
+unfolding chosen
+closed-exactly t assignment columns wf c i j l k =
+    (λ h. flow-sound t assignment wf (c .sound i j l k h), steps-complete t assignment wf (has columns) (c .closed) i j l k)
