@@ -12,7 +12,7 @@ use Rattle.subsumption.specs.Tables.{Tables, countOf}
 use Rattle.subsumption.specs.Atoms.{atoms, bit, pick, chosen}
 use Rattle.subsumption.proofs.WellFormed.{WellFormed}
 use Rattle.subsumption.proofs.Inward.{Ground}
-use Rattle.subsumption.proofs.Atoms.{atom-known, atom-ground}
+use Rattle.subsumption.proofs.AtomLaws.{atom-known, atom-ground}
 
 pub bit-half : (x q : ℕ) → bit (x / 2) q ≡ bit x (suc q)
 unfolding bit

@@ -12,7 +12,7 @@ use Rattle.subsumption.proofs.WellFormed.{WellFormed}
 use Rattle.subsumption.proofs.Inward.{below-inward}
 use Rattle.subsumption.proofs.Soundness.{flow-sound}
 use Rattle.subsumption.proofs.Canonical.{Canonical, canonical-complete}
-use Rattle.subsumption.proofs.Rows.{interpretation, named-in, named-out, linked-in, linked-out}
+use Rattle.subsumption.proofs.ModelRows.{interpretation, named-in, named-out, linked-in, linked-out}
 
 module _ (t : Tables) (assignment : List ℕ) (wf : WellFormed t) (marks : ℕ → ℕ → Bool)
     (steps : Steps (t .concepts) (t .inclusions) (chosen t assignment) (λ i j. marks i j ≡ true)) where

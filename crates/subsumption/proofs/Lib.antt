@@ -11,14 +11,15 @@ pub mod Trees
 pub mod Inward
 pub mod Occurs
 pub mod Keep
-pub mod Atoms
+pub mod AtomLaws
 pub mod Chosen
 pub mod Membership
 pub mod Soundness
 pub mod Canonical
-pub mod Rows
+pub mod ModelRows
 pub mod Completeness
 pub mod RuleTests
 pub mod Rules
 pub mod RuleSoundness
 pub mod RuleCompleteness
+pub mod Marks

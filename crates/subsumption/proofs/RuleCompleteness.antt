@@ -15,7 +15,7 @@ use Rattle.subsumption.proofs.WellFormed.{WellFormed}
 use Rattle.subsumption.proofs.Inward.{below-inward}
 use Rattle.subsumption.proofs.Keep.{keep-member, keep-intro}
 use Rattle.subsumption.proofs.Canonical.{Canonical, canonical-complete}
-use Rattle.subsumption.proofs.Rows.{interpretation, named-in, named-out, linked-in, linked-out}
+use Rattle.subsumption.proofs.ModelRows.{interpretation, named-in, named-out, linked-in, linked-out}
 use Rattle.subsumption.proofs.RuleTests.{every-elim, every-intro, sameName-elim, onInner-elim}
 use Rattle.subsumption.proofs.Rules.{Rules, follows-rules}
 use Rattle.subsumption.proofs.Soundness.{subsumed-trans}

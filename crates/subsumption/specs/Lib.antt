@@ -7,6 +7,7 @@ pub mod Rules
 pub mod Refusal
 pub mod Check
 pub mod Closure
+pub mod Marks
 pub mod Listing
 pub mod Table
 pub mod Decide

@@ -1,0 +1,113 @@
+// Which ids are atoms: those in inclusions and variable-free right sides and all that stands in them, of kinds 1 and 2.
+use crate::tables::pair_at;
+use crate::tables::row_at;
+ghost use mathlib.Core.Path.{_≡_};
+ghost use Prim.Native.Nat.{_≤_, _<_};
+ghost use lib.Dec.{eqb};
+ghost use lib.ListN.{length};
+ghost use Rattle.subsumption.specs.Tables.{tables, decode, both, node, countOf};
+ghost use Rattle.subsumption.specs.Atoms.{inside, isAtomic};
+ghost use Rattle.subsumption.specs.Closure.{Rising};
+ghost use Rattle.subsumption.specs.Marks.{Layered, Known, markAt, heldBy, VariableMarks, MarkedBy, onSide, onGroundRight, Spread, AtomMarks, markedIds, inFront};
+
+fn holds_variable(marks: &[bool], kind: u16, a: u16, b: u16) -> bool
+    requires { ⌜ Rising (length (now marks)) (decode kind a b) ⌝ }
+    ensures { λ r. ⌜ r ≡ heldBy (markAt (now (marks .entry))) (decode kind a b) ⌝ }
+{
+    if kind == 2 {
+        return marks[b as usize];
+    }
+    if kind == 3 {
+        if marks[a as usize] {
+            return true;
+        }
+        return marks[b as usize];
+    }
+    kind == 4
+}
+
+// Which ids hold a variable.
+pub fn mark_variables(concepts: &[u16], marks: &mut [bool])
+    requires { ⌜ Layered (now concepts) ⌝ }
+    requires { ⌜ length (now marks) ≡ 192 ⌝ }
+    ensures { λ _. ⌜ VariableMarks (now (concepts .entry)) (now (marks .exit)) ⌝ }
+{
+    let count = concepts.len() / 3;
+    let mut i: usize = 0;
+    while i < count {
+        let row = row_at(concepts, i);
+        let held = holds_variable(marks, row.kind, row.a, row.b);
+        marks[i] = held;
+        i += 1;
+    }
+}
+
+fn mark_sides(count: usize, pairs: &[u16], marks: &mut [bool])
+    requires { ⌜ Known count (now pairs) ⌝ }
+    requires { ⌜ count ≤ 192 ⌝ }
+    requires { ⌜ length (now marks) ≡ 192 ⌝ }
+    ensures { λ _. ⌜ MarkedBy (onSide (now (pairs .entry))) (now (marks .entry)) (now (marks .exit)) ⌝ }
+{
+    let rows = pairs.len() / 2;
+    let mut m: usize = 0;
+    while m < rows {
+        let pair = pair_at(pairs, m);
+        let left = pair.left as usize;
+        let right = pair.right as usize;
+        marks[left] = true;
+        marks[right] = true;
+        m += 1;
+    }
+}
+
+fn mark_ground_rights(count: usize, questions: &[u16], variables: &[bool], marks: &mut [bool])
+    requires { ⌜ Known count (now questions) ⌝ }
+    requires { ⌜ count ≤ 192 ⌝ }
+    requires { ⌜ length (now variables) ≡ 192 ⌝ }
+    requires { ⌜ length (now marks) ≡ 192 ⌝ }
+    ensures { λ _. ⌜ MarkedBy (onGroundRight (now (questions .entry)) (now (variables .entry))) (now (marks .entry)) (now (marks .exit)) ⌝ }
+{
+    let rows = questions.len() / 2;
+    let mut m: usize = 0;
+    while m < rows {
+        let pair = pair_at(questions, m);
+        let right = pair.right as usize;
+        m += 1;
+        if variables[right] {
+            continue;
+        }
+        marks[right] = true;
+    }
+}
+
+fn mark_inner(marks: &mut [bool], kind: u16, a: u16, b: u16)
+    requires { ⌜ Rising 192 (decode kind a b) ⌝ }
+    requires { ⌜ length (now marks) ≡ 192 ⌝ }
+    ensures { λ _. ⌜ MarkedBy (λ q. inside (λ j. eqb q j) (decode kind a b)) (now (marks .entry)) (now (marks .exit)) ⌝ }
+{
+    if kind == 2 {
+        marks[b as usize] = true;
+        return;
+    }
+    if kind == 3 {
+        marks[a as usize] = true;
+        marks[b as usize] = true;
+        return;
+    }
+}
+
+// Inner ids are smaller, so one pass from the highest id down reaches all that stands in a marked id.
+fn spread(concepts: &[u16], marks: &mut [bool])
+    requires { ⌜ Layered (now concepts) ⌝ }
+    requires { ⌜ length (now marks) ≡ 192 ⌝ }
+    ensures { λ _. ⌜ Spread (now (concepts .entry)) (now (marks .entry)) (now (marks .exit)) ⌝ }
+{
+    let mut i = concepts.len() / 3;
+    while 0 < i {
+        i -= 1;
+        if marks[i] {
+            let row = row_at(concepts, i);
+            mark_inner(marks, row.kind, row.a, row.b);
+        }
+    }
+}
