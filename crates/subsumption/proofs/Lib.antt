@@ -23,3 +23,7 @@ pub mod Rules
 pub mod RuleSoundness
 pub mod RuleCompleteness
 pub mod Marks
+pub mod Lists
+pub mod AtomMarking
+pub mod Accepted
+pub mod ListingLaws

@@ -6,11 +6,12 @@ use mathlib.Core.Logic.{_⊎_, inl, inr, ⊎-elim}
 use native.Mathlib.Omega.{arith}
 use native.Mathlib.Nat.{eq-or-lt-of-le}
 use lib.Dec.{ltb}
-use borrow.Author.Tests.{lt-ltb, le-ltb}
+use borrow.Author.Tests.{lt-ltb, le-ltb, ltb-false}
 use Rattle.subsumption.specs.declared.refusal.Refusal.{Refusal}
 use Rattle.subsumption.specs.declared.refusal.Outcome.{Outcome}
 use Rattle.subsumption.specs.declared.refusal.Outcome.the-variants.{Done, Refused}
 use Rattle.subsumption.specs.Refusal.{orElse, refuseIf, firstAt}
+use Rattle.subsumption.specs.Check.{bufferFault}
 
 pub refused-if : (b : Bool) (r : Refusal) → b ≡ true → Refused r ≡ refuseIf b r
 unfolding refuseIf
@@ -35,6 +36,18 @@ stops x a b r e h = rw (← e, h)
 pub goes-on : (x a b y : Outcome) → x ≡ a → x ≡ Done → y ≡ b → y ≡ orElse a b
 unfolding orElse
 goes-on x a b y e h k = rw (← e, h) k
+
+-- both checks pass
+pub both-done : (x a y b : Outcome) → x ≡ a → x ≡ Done → y ≡ b → y ≡ Done → Done ≡ orElse a b
+both-done x a y b e h f k = goes-on x a b Done e h (sym (sym f ∙ k))
+
+-- what was computed refuses
+pub refuses : (x a : Outcome) (r : Refusal) → x ≡ a → x ≡ Refused r → Refused r ≡ a
+refuses x a r e h = sym h ∙ e
+
+-- what was computed passed
+pub is-done : (x a : Outcome) → x ≡ a → x ≡ Done → a ≡ Done
+is-done x a e h = sym e ∙ h
 
 not-refused : (r : Refusal) {A : Type 0} → Refused r ≡ Done → A
 not-refused r e = absurd (let z : _≡_ {A = ℕ} 0 1 = cc e in omega arith)
@@ -65,3 +78,7 @@ passed-at refusal faulty from (suc count) e i h l =
     (λ q. subst (λ (k : ℕ). faulty k ≡ false) q (passed-if (faulty from) (refusal from) (passed-first (refuseIf (faulty from) (refusal from)) (firstAt refusal faulty (suc from) count) e)))
     (λ q. passed-at refusal faulty (suc from) count (passed-second (refuseIf (faulty from) (refusal from)) (firstAt refusal faulty (suc from) count) e) i q (omega arith))
     (eq-or-lt-of-le h)
+
+pub buffer-fits : (wanted size : ℕ) → bufferFault wanted size ≡ Done → wanted ≤ size
+unfolding bufferFault
+buffer-fits wanted size h = ltb-false size wanted (passed-if _ _ h)

@@ -1,9 +1,9 @@
 -- What the checks 1 to 7 leave of tables: the facts that every later proof goes by.
 use Prim.Native.Nat.{ℕ, _*_, _<_, _≤_}
 use mathlib.Core.Path.{_≡_}
-use mathlib.Core.Bool.{true, false}
+use mathlib.Core.Bool.{false}
 use lib.ListN.{length}
-use Rattle.subsumption.specs.Tables.{Tables, varAt, node, countOf, pairsOf, leftOf, rightOf, tree, hasVariable}
+use Rattle.subsumption.specs.Tables.{Tables, both, varAt, node, countOf, pairsOf, leftOf, rightOf, tree, hasVariable}
 use Rattle.subsumption.specs.Atoms.{atoms}
 use Rattle.subsumption.specs.Closure.{Rising}
 
@@ -21,5 +21,9 @@ pub record WellFormed (t : Tables) : Type 0 where
   pub right-known : (m : ℕ) → m < pairsOf (t .inclusions) → rightOf (t .inclusions) m < countOf (t .concepts)
   pub left-ground : (m : ℕ) → m < pairsOf (t .inclusions) → hasVariable (tree (t .concepts) (leftOf (t .inclusions) m)) ≡ false
   pub right-ground : (m : ℕ) → m < pairsOf (t .inclusions) → hasVariable (tree (t .concepts) (rightOf (t .inclusions) m)) ≡ false
+  pub question-left : (m : ℕ) → m < pairsOf (t .questions) → leftOf (t .questions) m < countOf (t .concepts)
   pub question-right : (m : ℕ) → m < pairsOf (t .questions) → rightOf (t .questions) m < countOf (t .concepts)
+  pub one-sided :
+      (m : ℕ) → m < pairsOf (t .questions)
+      → both (hasVariable (tree (t .concepts) (leftOf (t .questions) m))) (hasVariable (tree (t .concepts) (rightOf (t .questions) m))) ≡ false
   pub few-atoms : length (atoms t) ≤ 64

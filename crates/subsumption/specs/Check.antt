@@ -97,10 +97,13 @@ unfoldable pub pairFault : Tables → ℕ → ℕ → Outcome
 pairFault t left right = orElse (conceptFault t) (orElse (aloneFault (t .concepts) left right) (orElse (idFault t) (useFault t)))
 
 -- Check 9: a wrong count of numbers, tested first; or a chosen bit past the atoms.
+unfoldable pub assignmentFaultAt : ℕ → ℕ → List ℕ → Outcome
+assignmentFaultAt atomCount variables assignment =
+    orElse (refuseIf (not (eqb (length assignment) variables)) (BadAssignment variables))
+    (firstAt BadAssignment (λ k. not (ltb (getD assignment k 0) (2 ^ atomCount))) 0 variables)
+
 unfoldable pub assignmentFault : Tables → List ℕ → Outcome
-assignmentFault t assignment =
-    orElse (refuseIf (not (eqb (length assignment) (t .variables))) (BadAssignment (t .variables)))
-    (firstAt BadAssignment (λ k. not (ltb (getD assignment k 0) (2 ^ length (atoms t)))) 0 (t .variables))
+assignmentFault t assignment = assignmentFaultAt (length (atoms t)) (t .variables) assignment
 
 -- Check 8: an output buffer of that size is too short.
 unfoldable pub bufferFault : ℕ → ℕ → Outcome

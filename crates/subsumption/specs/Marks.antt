@@ -5,8 +5,8 @@ use mathlib.Core.List.{List, _++_}
 use mathlib.Core.Bool.{Bool, true, false, not}
 use lib.Dec.{eqb}
 use lib.ListN.{length, getD, drop}
-use Rattle.subsumption.specs.Tables.{Tables, or, both, anyBelow, Node, topAt, nameAt, existsAt, andAt, varAt, node, countOf, pairsOf, leftOf, rightOf, tree, hasVariable}
-use Rattle.subsumption.specs.Atoms.{occurs, inside, isAtomic, isAtom, keep}
+use Rattle.subsumption.specs.Tables.{or, both, anyBelow, Node, topAt, nameAt, existsAt, andAt, varAt, node, countOf, pairsOf, leftOf, rightOf, tree, hasVariable}
+use Rattle.subsumption.specs.Atoms.{occurs, inside, isAtomic, inInclusion, inQuestion, keep}
 use Rattle.subsumption.specs.Closure.{Rising}
 
 abbrev pub markAt : List Bool → ℕ → Bool
@@ -60,9 +60,16 @@ pub record Spread (concepts : List ℕ) (before after : List Bool) : Type 0 wher
       → (q : ℕ) × (q < countOf concepts) × (markAt before q ≡ true) × (occurs concepts p q ≡ true)
   pub complete : (p q : ℕ) → q < countOf concepts → markAt before q ≡ true → occurs concepts p q ≡ true → markAt after p ≡ true
 
-pub record AtomMarks (t : Tables) (marks : List Bool) : Type 0 where
+-- only marks that pass the test are kept
+pub record Narrowed (concepts : List ℕ) (before after : List Bool) : Type 0 where
+  pub long : length after ≡ 192
+  pub marks : (p : ℕ) → p < countOf concepts → markAt after p ≡ both (isAtomic (node concepts p)) (markAt before p)
+
+pub record AtomMarks (concepts inclusions questions : List ℕ) (marks : List Bool) : Type 0 where
   pub long : length marks ≡ 192
-  pub holds : (p : ℕ) → p < countOf (t .concepts) → markAt marks p ≡ isAtom t p
+  pub holds :
+      (p : ℕ) → p < countOf concepts
+      → markAt marks p ≡ both (isAtomic (node concepts p)) (or (inInclusion concepts inclusions p) (inQuestion concepts questions p))
 
 -- the marked ids below count, rising
 abbrev pub markedIds : List Bool → ℕ → List ℕ

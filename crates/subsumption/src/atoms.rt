@@ -2,13 +2,14 @@
 use crate::tables::pair_at;
 use crate::tables::row_at;
 ghost use mathlib.Core.Path.{_≡_};
+ghost use mathlib.Core.Bool.{false};
 ghost use Prim.Native.Nat.{_≤_, _<_};
 ghost use lib.Dec.{eqb};
-ghost use lib.ListN.{length};
-ghost use Rattle.subsumption.specs.Tables.{tables, decode, both, node, countOf};
+ghost use lib.ListN.{length, replicate};
+ghost use Rattle.subsumption.specs.Tables.{tables, decode, or, both, node, countOf};
 ghost use Rattle.subsumption.specs.Atoms.{inside, isAtomic};
 ghost use Rattle.subsumption.specs.Closure.{Rising};
-ghost use Rattle.subsumption.specs.Marks.{Layered, Known, markAt, heldBy, VariableMarks, MarkedBy, onSide, onGroundRight, Spread, AtomMarks, markedIds, inFront};
+ghost use Rattle.subsumption.specs.Marks.{Layered, Known, markAt, heldBy, VariableMarks, MarkedBy, onSide, onGroundRight, Spread, Narrowed, AtomMarks, markedIds, inFront};
 
 fn holds_variable(marks: &[bool], kind: u16, a: u16, b: u16) -> bool
     requires { ⌜ Rising (length (now marks)) (decode kind a b) ⌝ }
@@ -110,4 +111,106 @@ fn spread(concepts: &[u16], marks: &mut [bool])
             mark_inner(marks, row.kind, row.a, row.b);
         }
     }
+}
+
+fn is_atomic(kind: u16, a: u16, b: u16) -> bool
+    ensures { λ r. ⌜ r ≡ isAtomic (decode kind a b) ⌝ }
+{
+    if kind == 1 {
+        return true;
+    }
+    kind == 2
+}
+
+pub fn and_also(x: bool, y: bool) -> bool
+    ensures { λ r. ⌜ r ≡ both x y ⌝ }
+{
+    if x {
+        return y;
+    }
+    false
+}
+
+pub fn either(x: bool, y: bool) -> bool
+    ensures { λ r. ⌜ r ≡ or x y ⌝ }
+{
+    if x {
+        return true;
+    }
+    y
+}
+
+fn keep_atomic(concepts: &[u16], marks: &mut [bool])
+    requires { ⌜ countOf (now concepts) ≤ 192 ⌝ }
+    requires { ⌜ length (now marks) ≡ 192 ⌝ }
+    ensures { λ _. ⌜ Narrowed (now (concepts .entry)) (now (marks .entry)) (now (marks .exit)) ⌝ }
+{
+    let count = concepts.len() / 3;
+    let mut p: usize = 0;
+    while p < count {
+        let row = row_at(concepts, p);
+        let atomic = is_atomic(row.kind, row.a, row.b);
+        let mark = and_also(atomic, marks[p]);
+        marks[p] = mark;
+        p += 1;
+    }
+}
+
+// Marks exactly the atoms.
+pub fn mark_atoms(
+    concepts: &[u16],
+    inclusions: &[u16],
+    questions: &[u16],
+    variables: &[bool],
+    marks: &mut [bool],
+)
+    requires { ⌜ Layered (now concepts) ⌝ }
+    requires { ⌜ Known (countOf (now concepts)) (now inclusions) ⌝ }
+    requires { ⌜ Known (countOf (now concepts)) (now questions) ⌝ }
+    requires { ⌜ VariableMarks (now concepts) (now variables) ⌝ }
+    requires { ⌜ now marks ≡ replicate 192 false ⌝ }
+    ensures { λ _. ⌜ AtomMarks (now (concepts .entry)) (now (inclusions .entry)) (now (questions .entry)) (now (marks .exit)) ⌝ }
+{
+    let count = concepts.len() / 3;
+    mark_sides(count, inclusions, marks);
+    mark_ground_rights(count, questions, variables, marks);
+    spread(concepts, marks);
+    keep_atomic(concepts, marks);
+}
+
+pub fn count_marks(marks: &[bool], count: usize) -> usize
+    requires { ⌜ count ≤ length (now marks) ⌝ }
+    ensures { λ r. ⌜ r ≡ length (markedIds (now (marks .entry)) count) ⌝ }
+{
+    let mut marked: usize = 0;
+    let mut p: usize = 0;
+    while p < count {
+        let id = p;
+        p += 1;
+        if marks[id] {
+            marked += 1;
+        }
+    }
+    marked
+}
+
+// Lists the marked ids in front of the buffer and answers how many.
+pub fn list_marks(marks: &[bool], count: usize, out: &mut [u16]) -> usize
+    requires { ⌜ count ≤ 192 ⌝ }
+    requires { ⌜ count ≤ length (now marks) ⌝ }
+    requires { ⌜ length (markedIds (now marks) count) ≤ length (now out) ⌝ }
+    ensures { λ r. ⌜ r ≡ length (markedIds (now (marks .entry)) count) ⌝ }
+    ensures { λ r. ⌜ now (out .exit) ≡ inFront (markedIds (now (marks .entry)) count) (now (out .entry)) ⌝ }
+{
+    let mut listed: usize = 0;
+    let mut p: usize = 0;
+    while p < count {
+        let id = p;
+        p += 1;
+        if marks[id] {
+            out[listed] = id as u16;
+            listed += 1;
+        }
+    }
+    listed
 }

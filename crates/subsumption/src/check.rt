@@ -1,4 +1,9 @@
 // The checks 1 to 9, in 01's order. Each scan answers the lowest place at fault.
+use crate::atoms::and_also;
+use crate::atoms::count_marks;
+use crate::atoms::either;
+use crate::atoms::mark_atoms;
+use crate::atoms::mark_variables;
 use crate::refusal::Outcome;
 use crate::refusal::Refusal;
 use crate::tables::pair_at;
@@ -10,7 +15,9 @@ ghost use lib.Dec.{eqb, ltb};
 ghost use lib.ListN.{length, getD};
 ghost use Rattle.subsumption.specs.Tables.{tables, or, decode, node, countOf};
 ghost use Rattle.subsumption.specs.Refusal.{orElse, refuseIf, firstAt};
-ghost use Rattle.subsumption.specs.Check.{unfit, limitFault, malformedRow, malformedFault, forward, forwardFault, noConcept, pairsFault, aloneFault, bufferFault, conceptFault, idFault};
+ghost use Rattle.subsumption.specs.Check.{unfit, limitFault, malformedRow, malformedFault, forward, forwardFault, noConcept, pairsFault, aloneFault, bufferFault, conceptFault, idFault, inclusionFault, sidesFault, useFault, tableFault, pairFault, assignmentFaultAt};
+ghost use Rattle.subsumption.specs.Marks.{VariableMarks, Known};
+ghost use Rattle.subsumption.specs.declared.refusal.Outcome.the-variants.{Done};
 
 // A table's length is no multiple of its row's width, or has too many rows.
 fn is_unfit(numbers: &[u16], width: usize, limit: usize) -> bool
@@ -180,4 +187,159 @@ pub fn check_concepts(
         return Outcome::Refused(r);
     }
     check_inner(concepts)
+}
+
+// Check 4 of the tables.
+pub fn check_ids(concepts: &[u16], inclusions: &[u16], questions: &[u16], variables: u16) -> Outcome
+    requires { ⌜ conceptFault (tables (now concepts) (now inclusions) (now questions) variables) ≡ Done ⌝ }
+    ensures { λ r. ⌜ r ≡ idFault (tables (now (concepts .entry)) (now (inclusions .entry)) (now (questions .entry)) variables) ⌝ }
+{
+    let count = concepts.len() / 3;
+    let first = check_pairs(0, count, inclusions);
+    if let Outcome::Refused(r) = first {
+        return Outcome::Refused(r);
+    }
+    check_pairs(inclusions.len() / 2, count, questions)
+}
+
+// Check 5, by the marks of the ids that hold a variable.
+fn check_inclusions(concepts: &[u16], inclusions: &[u16], held: &[bool]) -> Outcome
+    requires { ⌜ VariableMarks (now concepts) (now held) ⌝ }
+    requires { ⌜ countOf (now concepts) ≤ 192 ⌝ }
+    requires { ⌜ Known (countOf (now concepts)) (now inclusions) ⌝ }
+    ensures { λ r. ⌜ r ≡ inclusionFault (now (concepts .entry)) (now (inclusions .entry)) ⌝ }
+{
+    let rows = inclusions.len() / 2;
+    let mut m: usize = 0;
+    while m < rows {
+        let pair = pair_at(inclusions, m);
+        let left = pair.left as usize;
+        let right = pair.right as usize;
+        if either(held[left], held[right]) {
+            return Outcome::Refused(Refusal::VariableInInclusion(m));
+        }
+        m += 1;
+    }
+    Outcome::Done
+}
+
+// Check 6.
+fn check_sides(concepts: &[u16], questions: &[u16], held: &[bool]) -> Outcome
+    requires { ⌜ VariableMarks (now concepts) (now held) ⌝ }
+    requires { ⌜ countOf (now concepts) ≤ 192 ⌝ }
+    requires { ⌜ Known (countOf (now concepts)) (now questions) ⌝ }
+    ensures { λ r. ⌜ r ≡ sidesFault (now (concepts .entry)) (now (questions .entry)) ⌝ }
+{
+    let rows = questions.len() / 2;
+    let mut m: usize = 0;
+    while m < rows {
+        let pair = pair_at(questions, m);
+        let left = pair.left as usize;
+        let right = pair.right as usize;
+        if and_also(held[left], held[right]) {
+            return Outcome::Refused(Refusal::VariablesOnBothSides(m));
+        }
+        m += 1;
+    }
+    Outcome::Done
+}
+
+// Checks 5 to 7.
+pub fn check_use(concepts: &[u16], inclusions: &[u16], questions: &[u16], variables: u16) -> Outcome
+    requires { ⌜ conceptFault (tables (now concepts) (now inclusions) (now questions) variables) ≡ Done ⌝ }
+    requires { ⌜ idFault (tables (now concepts) (now inclusions) (now questions) variables) ≡ Done ⌝ }
+    ensures { λ r. ⌜ r ≡ useFault (tables (now (concepts .entry)) (now (inclusions .entry)) (now (questions .entry)) variables) ⌝ }
+{
+    let mut held = [false; 192];
+    mark_variables(concepts, &mut held);
+    let grounds = check_inclusions(concepts, inclusions, &held);
+    if let Outcome::Refused(r) = grounds {
+        return Outcome::Refused(r);
+    }
+    let sides = check_sides(concepts, questions, &held);
+    if let Outcome::Refused(r) = sides {
+        return Outcome::Refused(r);
+    }
+    let mut marks = [false; 192];
+    mark_atoms(concepts, inclusions, questions, &held, &mut marks);
+    if 64 < count_marks(&marks, concepts.len() / 3) {
+        return Outcome::Refused(Refusal::TooManyAtoms);
+    }
+    Outcome::Done
+}
+
+// The checks 1 to 7.
+pub fn check_tables(
+    concepts: &[u16],
+    inclusions: &[u16],
+    questions: &[u16],
+    variables: u16,
+) -> Outcome
+    ensures { λ r. ⌜ r ≡ tableFault (tables (now (concepts .entry)) (now (inclusions .entry)) (now (questions .entry)) variables) ⌝ }
+{
+    let rows = check_concepts(concepts, inclusions, questions, variables);
+    if let Outcome::Refused(r) = rows {
+        return Outcome::Refused(r);
+    }
+    let ids = check_ids(concepts, inclusions, questions, variables);
+    if let Outcome::Refused(r) = ids {
+        return Outcome::Refused(r);
+    }
+    check_use(concepts, inclusions, questions, variables)
+}
+
+// The same with a pair given alone, judged within check 4 at place 0.
+pub fn check_pair(
+    concepts: &[u16],
+    inclusions: &[u16],
+    questions: &[u16],
+    variables: u16,
+    left: u16,
+    right: u16,
+) -> Outcome
+    ensures { λ r. ⌜ r ≡ pairFault (tables (now (concepts .entry)) (now (inclusions .entry)) (now (questions .entry)) variables) left right ⌝ }
+{
+    let rows = check_concepts(concepts, inclusions, questions, variables);
+    if let Outcome::Refused(r) = rows {
+        return Outcome::Refused(r);
+    }
+    let alone = check_alone(concepts, left, right);
+    if let Outcome::Refused(r) = alone {
+        return Outcome::Refused(r);
+    }
+    let ids = check_ids(concepts, inclusions, questions, variables);
+    if let Outcome::Refused(r) = ids {
+        return Outcome::Refused(r);
+    }
+    check_use(concepts, inclusions, questions, variables)
+}
+
+// A choice has a bit past the atoms.
+fn is_past(choice: u64, atoms: usize) -> bool
+    requires { ⌜ atoms ≤ 64 ⌝ }
+    ensures { λ r. ⌜ r ≡ not (ltb choice (2 ^ atoms)) ⌝ }
+{
+    if atoms == 64 {
+        return false;
+    }
+    (choice >> atoms) != 0
+}
+
+// Check 9, given the number of atoms.
+pub fn check_assignment(assignment: &[u64], variables: u16, atoms: usize) -> Outcome
+    requires { ⌜ atoms ≤ 64 ⌝ }
+    ensures { λ r. ⌜ r ≡ assignmentFaultAt atoms variables (now (assignment .entry)) ⌝ }
+{
+    let count = variables as usize;
+    if assignment.len() != count {
+        return Outcome::Refused(Refusal::BadAssignment(count));
+    }
+    let mut k: usize = 0;
+    while k < count {
+        if is_past(assignment[k], atoms) {
+            return Outcome::Refused(Refusal::BadAssignment(k));
+        }
+        k += 1;
+    }
+    Outcome::Done
 }

@@ -1,0 +1,30 @@
+use borrow.Author.Needs.{needs}
+use Rattle.subsumption.specs.Check.{idFault}
+use Rattle.subsumption.proofs.Refusals.{stops, goes-on}
+use Rattle.subsumption.proofs.Accepted.{inclusions-few}
+use Rattle.subsumption.proofs.check.check_ids.Statement.{statement}
+use Rattle.subsumption.proofs.check.check_ids.Tie as tie
+use Rattle.subsumption.proofs.check.check_ids.Reads as reads
+use Rattle.subsumption.proofs.check.check_ids.Lts as lts
+
+returns : tie.Need-returns
+unfolding idFault
+returns c = search stops
+
+check-pairs-requires-2 : tie.Need-check-pairs-requires-2
+check-pairs-requires-2 c κs = search inclusions-few
+
+returns-2 : tie.Need-returns-2
+unfolding idFault
+returns-2 c = search goes-on
+
+pub check-ids-spec : {M : Type 1} → statement M
+check-ids-spec =
+    tie.close
+    (tie.spec
+    (λ c κs. search needs)
+    (λ c. search needs)
+    returns
+    (λ c. search needs)
+    check-pairs-requires-2
+    returns-2)
