@@ -1,2 +1,4 @@
 -- Laws and machinery behind the proofs of the functions.
 pub mod WellFormed
+pub mod Nodes
+pub mod Bits
