@@ -2,3 +2,4 @@
 pub mod WellFormed
 pub mod Nodes
 pub mod Bits
+pub mod Columns

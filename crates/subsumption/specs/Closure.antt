@@ -1,10 +1,12 @@
 -- What the closure of the columns promises to the operations above it (private to the crate: no operation's contract cites it).
 -- Column j is the set of ids known to be below j, and flows on to other columns by the steps below.
-use Prim.Native.Nat.{ℕ, _+_, _*_, _/_, _%_, _<_, _≤_}
+use Prim.Native.Nat.{ℕ, _+_, _-_, _*_, _/_, _%_, _^_, _<_, _≤_}
 use mathlib.Core.Path.{_≡_}
-use mathlib.Core.List.{List, List·Memᴰ}
-use mathlib.Core.Bool.{Bool, true}
+use mathlib.Core.List.{List, [], _∷_, List·Memᴰ}
+use mathlib.Core.Bool.{Bool, true, false}
+use mathlib.Core.Logic.{_⊎_}
 use lib.ListN.{length, getD}
+use lib.Bits.{bitOr}
 use Rattle.subsumption.specs.Tables.{Node, topAt, nameAt, existsAt, andAt, varAt, node, countOf, pairsOf, leftOf, rightOf}
 use Rattle.subsumption.specs.Atoms.{bit, pick}
 
@@ -81,3 +83,27 @@ module _ (concepts inclusions : List ℕ) (choose : ℕ → List ℕ) where
     pub long : length columns ≡ 576
     pub sound : (i j : ℕ) → i < countOf concepts → j < countOf concepts → has columns i j ≡ true → Flow i j
     pub closed : Steps (λ i j. has columns i j ≡ true)
+
+-- how far the words are from being all ones: falls with every change
+unfoldable pub slack : List ℕ → ℕ
+slack [] = 0
+slack (w ∷ ws) = (2 ^ 64 - w) + slack ws
+
+-- what one word does: it takes in the bits of `add`
+pub record Absorbs (before after : List ℕ) (at add : ℕ) (changed : Bool) : Type 0 where
+  pub long : length after ≡ length before
+  pub here : getD after at 0 ≡ bitOr (getD before at 0) add
+  pub there : (p : ℕ) → (p ≡ at → ⊥) → getD after p 0 ≡ getD before p 0
+  pub quiet : changed ≡ false → after ≡ before
+  pub less : changed ≡ true → slack after < slack before
+
+-- the columns in `to` take in the ids in `add`, and nothing else changes; `changed` says whether there was anything new
+pub record Takes (before after : List ℕ) (to add : ℕ → Type 0) (changed : Bool) : Type 0 where
+  pub long : length after ≡ length before
+  pub bits : (i j : ℕ) → i < 192 → has after i j ≡ true → (has before i j ≡ true) ⊎ (to j × add i)
+  pub taken : changed ≡ false → (i j : ℕ) → i < 192 → to j → add i → has before i j ≡ true
+  pub quiet : changed ≡ false → after ≡ before
+  pub less : changed ≡ true → slack after < slack before
+
+abbrev pub inThree : ℕ → ℕ → ℕ → ℕ → Type 0
+inThree first second third i = bit (getD (first ∷ second ∷ third ∷ []) (i / 64) 0) (i % 64) ≡ true

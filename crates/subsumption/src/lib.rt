@@ -1,4 +1,5 @@
 // Subsumption in EL under general inclusions: tables, atoms, the subsumption table.
+mod closure;
 pub mod decide;
 pub mod listing;
 pub mod refusal;

@@ -1,0 +1,117 @@
+-- How columns change: one word, three words, and what that says of the bits.
+use Prim.Native.Nat.{ℕ, zero, suc, _+_, _*_, _-_, _/_, _%_, _^_, _<_, _≤_}
+use mathlib.Core.Path.{_≡_, refl, ap, sym, _∙_, subst}
+use mathlib.Core.List.{List, [], _∷_}
+use mathlib.Core.Bool.{Bool, true, false, not, _||_}
+use mathlib.Core.Logic.{_⊎_, inl, inr, ⊎-elim}
+use native.Mathlib.Omega.{arith}
+use lib.ListN.{length, getD, set, length-set}
+use lib.Seq.{getD-set-same, getD-set-other, set-getD}
+use lib.Dec.{eqb}
+use lib.Bits.{bitOr}
+use borrow.Author.Tests.{eqb-true, eqb-false, not-true, not-false}
+use Rattle.subsumption.specs.Atoms.{bit}
+use Rattle.subsumption.specs.Closure.{has, slack, Absorbs, Takes, inThree}
+use Rattle.subsumption.proofs.Bits.{or-grows, bit-or-cases, bit-or-right}
+
+pub any-true : (a b : Bool) → (a || b) ≡ true → (a ≡ true) ⊎ (b ≡ true)
+any-true true b e = inl refl
+any-true false b e = inr e
+
+pub any-false : (a b : Bool) → (a || b) ≡ false → (a ≡ false) × (b ≡ false)
+any-false true b e = let z : _≡_ {A = ℕ} 0 1 = cc in absurd (omega arith)
+any-false false b e = (refl, e)
+
+pub not-both : {A : Type 0} (b : Bool) → b ≡ true → b ≡ false → A
+not-both b p q = let z : _≡_ {A = ℕ} 0 1 = cc in absurd (omega arith)
+
+slack-set : (l : List ℕ) (at v : ℕ) → at < length l → getD l at 0 < v → getD l at 0 < 2 ^ 64 → slack (set l at v) < slack l
+unfolding slack
+slack-set [] at v h g f = absurd (omega arith)
+slack-set (x ∷ xs) zero v h g f = omega arith
+slack-set (x ∷ xs) (suc at) v h g f = omega (arith, slack-set xs at v (omega arith) g f)
+
+-- one word, as the code changes it
+pub absorbs :
+    (l : List ℕ) (at add : ℕ) → at < length l → getD l at 0 < 2 ^ 64
+    → Absorbs l (set l at (bitOr (getD l at 0) add)) at add (not (eqb (getD l at 0) (bitOr (getD l at 0) add)))
+absorbs l at add h f =
+    record {
+      long = length-set l at _;
+      here = getD-set-same l at _ 0 h;
+      there = λ p e. getD-set-other l at p _ 0 e;
+      quiet = λ e. sym (ap (λ (v : ℕ). set l at v) (eqb-true _ _ (not-false _ e))) ∙ set-getD l at 0;
+      less = λ e. slack-set l at _ h (grown (eqb-false _ _ (not-true _ e))) f;
+    }
+  where
+    grown : (getD l at 0 ≡ bitOr (getD l at 0) add → ⊥) → getD l at 0 < bitOr (getD l at 0) add
+    grown ne = omega (arith, or-grows (getD l at 0) add, ne)
+
+module _ (before one two after : List ℕ) (to first second third : ℕ) (a b c : Bool) (low : to < 192)
+    (A : Absorbs before one (to * 3) first a)
+    (B : Absorbs one two (to * 3 + 1) second b)
+    (C : Absorbs two after (to * 3 + 2) third c) where
+  word : (q : ℕ) → q < 3 → getD after (to * 3 + q) 0 ≡ bitOr (getD before (to * 3 + q) 0) (getD (first ∷ second ∷ third ∷ []) q 0)
+  word zero h =
+      subst (λ (p : ℕ). getD after p 0 ≡ bitOr (getD before p 0) first) (omega arith)
+      (C .there (to * 3) (λ e. omega arith) ∙ B .there (to * 3) (λ e. omega arith) ∙ A .here)
+  word (suc zero) h =
+      C .there (to * 3 + 1) (λ e. omega arith) ∙ B .here ∙ ap (λ (v : ℕ). bitOr v second) (A .there (to * 3 + 1) (λ e. omega arith))
+  word (suc (suc zero)) h =
+      C .here ∙ ap (λ (v : ℕ). bitOr v third) (B .there (to * 3 + 2) (λ e. omega arith) ∙ A .there (to * 3 + 2) (λ e. omega arith))
+  word (suc (suc (suc q))) h = absurd (omega arith)
+
+  elsewhere : (i j : ℕ) → i < 192 → (j ≡ to → ⊥) → getD after (j * 3 + i / 64) 0 ≡ getD before (j * 3 + i / 64) 0
+  elsewhere i j h ne = C .there _ (λ e. ne (omega arith)) ∙ B .there _ (λ e. ne (omega arith)) ∙ A .there _ (λ e. ne (omega arith))
+
+  took-bits : (i j : ℕ) → i < 192 → has after i j ≡ true → (has before i j ≡ true) ⊎ ((j ≡ to) × inThree first second third i)
+  unfolding has
+  took-bits i j h e = go (eqb j to) refl
+    where
+      go : (t : Bool) → eqb j to ≡ t → (has before i j ≡ true) ⊎ ((j ≡ to) × inThree first second third i)
+      go true p =
+          let s : j ≡ to = eqb-true j to p in
+          ⊎-elim (λ u. inl (subst (λ (k : ℕ). bit (getD before (k * 3 + i / 64) 0) (i % 64) ≡ true) (sym s) u)) (λ u. inr (s, u))
+          (bit-or-cases (getD before (to * 3 + i / 64) 0) (getD (first ∷ second ∷ third ∷ []) (i / 64) 0) (i % 64)
+          (ap (λ (v : ℕ). bit v (i % 64)) (sym (word (i / 64) (omega arith)))
+          ∙ subst (λ (k : ℕ). bit (getD after (k * 3 + i / 64) 0) (i % 64) ≡ true) s e))
+      go false p = inl (ap (λ (v : ℕ). bit v (i % 64)) (sym (elsewhere i j h (eqb-false j to p))) ∙ e)
+
+  all-quiet : ((a || b) || c) ≡ false → after ≡ before
+  all-quiet e =
+      let u : (a || b ≡ false) × (c ≡ false) = any-false (a || b) c e in
+      let v : (a ≡ false) × (b ≡ false) = any-false a b (u .0) in
+      C .quiet (u .1) ∙ B .quiet (v .1) ∙ A .quiet (v .0)
+
+  took-all : ((a || b) || c) ≡ false → (i j : ℕ) → i < 192 → j ≡ to → inThree first second third i → has before i j ≡ true
+  unfolding has
+  took-all e i j h s u =
+      subst (λ (k : ℕ). bit (getD before (k * 3 + i / 64) 0) (i % 64) ≡ true) (sym s)
+      (ap (λ (l : List ℕ). bit (getD l (to * 3 + i / 64) 0) (i % 64)) (sym (all-quiet e))
+      ∙ ap (λ (v : ℕ). bit v (i % 64)) (word (i / 64) (omega arith))
+      ∙ bit-or-right (getD before (to * 3 + i / 64) 0) (getD (first ∷ second ∷ third ∷ []) (i / 64) 0) (i % 64) u)
+
+  less-or-same : (x y : List ℕ) (r : Bool) → (r ≡ false → y ≡ x) → (r ≡ true → slack y < slack x) → slack y ≤ slack x
+  less-or-same x y true p q = omega (arith, q refl)
+  less-or-same x y false p q = omega (arith, ap slack (p refl))
+
+  some-less : ((a || b) || c) ≡ true → slack after < slack before
+  some-less e =
+      let u = less-or-same before one a (A .quiet) (A .less) in
+      let v = less-or-same one two b (B .quiet) (B .less) in
+      let w = less-or-same two after c (C .quiet) (C .less) in
+      ⊎-elim
+      (λ ab. ⊎-elim (λ h. omega (arith, A .less h, u, v, w)) (λ h. omega (arith, B .less h, u, v, w)) (any-true a b ab))
+      (λ h. omega (arith, C .less h, u, v, w))
+      (any-true (a || b) c e)
+
+  -- three words
+  pub takes : Takes before after (λ j. j ≡ to) (inThree first second third) ((a || b) || c)
+  takes =
+      record {
+        long = C .long ∙ B .long ∙ A .long;
+        bits = took-bits;
+        taken = took-all;
+        quiet = all-quiet;
+        less = some-less;
+      }
