@@ -1,18 +1,20 @@
 -- How columns change: one word, three words, and what that says of the bits.
 use Prim.Native.Nat.{ℕ, zero, suc, _+_, _*_, _-_, _/_, _%_, _^_, _<_, _≤_}
-use mathlib.Core.Path.{_≡_, refl, ap, sym, _∙_, subst}
+use mathlib.Core.Path.{_≡_, refl, ap, ap₂, sym, _∙_, subst}
 use mathlib.Core.List.{List, [], _∷_}
 use mathlib.Core.Bool.{Bool, true, false, not, _||_}
 use mathlib.Core.Logic.{_⊎_, inl, inr, ⊎-elim}
 use native.Mathlib.Omega.{arith}
 use lib.ListN.{length, getD, set, length-set}
 use lib.Seq.{getD-set-same, getD-set-other, set-getD}
-use lib.Dec.{eqb}
-use lib.Bits.{bitOr}
+use lib.Dec.{eqb, lit<}
+use lib.Pow.{shl-exact}
+use native.Mathlib.Nat.{one-mul}
+use lib.Bits.{bitAnd, bitOr}
 use borrow.Author.Tests.{eqb-true, eqb-false, not-true, not-false}
 use Rattle.subsumption.specs.Atoms.{bit}
 use Rattle.subsumption.specs.Closure.{has, slack, Absorbs, Takes, inThree}
-use Rattle.subsumption.proofs.Bits.{or-grows, bit-or-cases, bit-or-right}
+use Rattle.subsumption.proofs.Bits.{or-grows, bit-or-cases, bit-or-right, bit-and, both-true, both-of, bit-ones, bit-pow, bit-pow-other}
 
 pub any-true : (a b : Bool) → (a || b) ≡ true → (a ≡ true) ⊎ (b ≡ true)
 any-true true b e = inl refl
@@ -115,3 +117,114 @@ module _ (before one two after : List ℕ) (to first second third : ℕ) (a b c 
         quiet = all-quiet;
         less = some-less;
       }
+
+-- the same ids, worded otherwise
+pub takes-as :
+    {before after : List ℕ} {to add add′ : ℕ → Type 0} {changed : Bool} → Takes before after to add changed
+    → ((i : ℕ) → i < 192 → add i → add′ i) → ((i : ℕ) → i < 192 → add′ i → add i) → Takes before after to add′ changed
+takes-as t there back =
+    record {
+      long = t .long;
+      bits = λ i j h e. ⊎-elim (λ u. inl u) (λ u. inr (u .0, there i h (u .1))) (t .bits i j h e);
+      taken = λ e i j h s u. t .taken e i j h s (back i h u);
+      quiet = t .quiet;
+      less = t .less;
+    }
+
+three-has : (l : List ℕ) (from q : ℕ) → q < 3 → getD (getD l (from * 3) 0 ∷ getD l (from * 3 + 1) 0 ∷ getD l (from * 3 + 2) 0 ∷ []) q 0 ≡ getD l (from * 3 + q) 0
+three-has l from zero h = ap (λ (p : ℕ). getD l p 0) (omega arith)
+three-has l from (suc zero) h = refl
+three-has l from (suc (suc zero)) h = refl
+three-has l from (suc (suc (suc q))) h = absurd (omega arith)
+
+pub flow-takes :
+    {before after : List ℕ} {to : ℕ → Type 0} {changed : Bool} (from : ℕ)
+    → Takes before after to (inThree (getD before (from * 3) 0) (getD before (from * 3 + 1) 0) (getD before (from * 3 + 2) 0)) changed
+    → Takes before after to (λ i. has before i from ≡ true) changed
+unfolding has
+flow-takes {before} from t =
+    takes-as t (λ i h u. ap (λ (v : ℕ). bit v (i % 64)) (sym (three-has before from (i / 64) (omega arith))) ∙ u)
+    (λ i h u. ap (λ (v : ℕ). bit v (i % 64)) (three-has before from (i / 64) (omega arith)) ∙ u)
+
+module _ (l : List ℕ) (left right : ℕ) where
+  three-both :
+      (q : ℕ) → q < 3
+      → getD (bitAnd (getD l (left * 3) 0) (getD l (right * 3) 0)
+      ∷ bitAnd (getD l (left * 3 + 1) 0) (getD l (right * 3 + 1) 0) ∷ bitAnd (getD l (left * 3 + 2) 0) (getD l (right * 3 + 2) 0) ∷ []) q 0
+      ≡ bitAnd (getD l (left * 3 + q) 0) (getD l (right * 3 + q) 0)
+  three-both zero h = ap₂ (λ (p q : ℕ). bitAnd (getD l p 0) (getD l q 0)) (omega arith) (omega arith)
+  three-both (suc zero) h = refl
+  three-both (suc (suc zero)) h = refl
+  three-both (suc (suc (suc q))) h = absurd (omega arith)
+
+pub meet-takes :
+    {before after : List ℕ} {to : ℕ → Type 0} {changed : Bool} (left right : ℕ)
+    → Takes before after to
+    (inThree (bitAnd (getD before (left * 3) 0) (getD before (right * 3) 0)) (bitAnd (getD before (left * 3 + 1) 0) (getD before (right * 3 + 1) 0))
+    (bitAnd (getD before (left * 3 + 2) 0) (getD before (right * 3 + 2) 0))) changed
+    → Takes before after to (λ i. (has before i left ≡ true) × (has before i right ≡ true)) changed
+unfolding has
+meet-takes {before} left right t =
+    takes-as t
+    (λ i h u.
+    both-true (bit (getD before (left * 3 + i / 64) 0) (i % 64)) (bit (getD before (right * 3 + i / 64) 0) (i % 64))
+    (sym (bit-and (getD before (left * 3 + i / 64) 0) (getD before (right * 3 + i / 64) 0) (i % 64))
+    ∙ ap (λ (v : ℕ). bit v (i % 64)) (sym (three-both before left right (i / 64) (omega arith))) ∙ u))
+    (λ i h u.
+    ap (λ (v : ℕ). bit v (i % 64)) (three-both before left right (i / 64) (omega arith))
+    ∙ bit-and (getD before (left * 3 + i / 64) 0) (getD before (right * 3 + i / 64) 0) (i % 64)
+    ∙ both-of (bit (getD before (left * 3 + i / 64) 0) (i % 64)) (bit (getD before (right * 3 + i / 64) 0) (i % 64)) (u .0) (u .1))
+
+all-ones : (q k : ℕ) → q < 3 → k < 64 → bit (getD ((2 ^ 64 - 1) ∷ (2 ^ 64 - 1) ∷ (2 ^ 64 - 1) ∷ []) q 0) k ≡ true
+all-ones zero k h l = bit-ones k l
+all-ones (suc zero) k h l = bit-ones k l
+all-ones (suc (suc zero)) k h l = bit-ones k l
+all-ones (suc (suc (suc q))) k h l = absurd (omega arith)
+
+pub fill-takes :
+    {before after : List ℕ} {to : ℕ → Type 0} {changed : Bool}
+    → Takes before after to (inThree (2 ^ 64 - 1) (2 ^ 64 - 1) (2 ^ 64 - 1)) changed → Takes before after to (λ i. Unit {0}) changed
+fill-takes t = takes-as t (λ i h u. tt) (λ i h _. all-ones (i / 64) (i % 64) (omega arith) (omega arith))
+
+same-column : (j k a b : ℕ) → a < 3 → b < 3 → j * 3 + a ≡ k * 3 + b → j ≡ k
+same-column j k a b p q e = omega arith
+
+same-word : (j k a b : ℕ) → a < 3 → b < 3 → j * 3 + a ≡ k * 3 + b → a ≡ b
+same-word j k a b p q e = omega arith
+
+same-id : (i k : ℕ) → i / 64 ≡ k / 64 → i % 64 ≡ k % 64 → i ≡ k
+same-id i k p q = omega arith
+
+module _ (before after : List ℕ) (id : ℕ) (changed : Bool) (low : id < 192) (A : Absorbs before after (id * 3 + id / 64) (2 ^ (id % 64)) changed) where
+  mark-bits : (i j : ℕ) → i < 192 → has after i j ≡ true → (has before i j ≡ true) ⊎ ((j ≡ id) × (i ≡ id))
+  unfolding has
+  mark-bits i j h e = go (eqb (j * 3 + i / 64) (id * 3 + id / 64)) refl
+    where
+      go : (t : Bool) → eqb (j * 3 + i / 64) (id * 3 + id / 64) ≡ t → (has before i j ≡ true) ⊎ ((j ≡ id) × (i ≡ id))
+      go true p =
+          let s : j * 3 + i / 64 ≡ id * 3 + id / 64 = eqb-true _ _ p in
+          ⊎-elim (λ u. inl (ap (λ (q : ℕ). bit (getD before q 0) (i % 64)) s ∙ u))
+          (λ u. inr (same-column j id (i / 64) (id / 64) (omega arith) (omega arith) s, same-id i id (same-word j id (i / 64) (id / 64) (omega arith) (omega arith) s) (bit-pow-other (i % 64) (id % 64) u)))
+          (bit-or-cases (getD before (id * 3 + id / 64) 0) (2 ^ (id % 64)) (i % 64)
+          (ap (λ (v : ℕ). bit v (i % 64)) (sym (A .here)) ∙ ap (λ (q : ℕ). bit (getD after q 0) (i % 64)) (sym s) ∙ e))
+      go false p = inl (ap (λ (v : ℕ). bit v (i % 64)) (sym (A .there _ (eqb-false _ _ p))) ∙ e)
+
+  mark-all : changed ≡ false → (i j : ℕ) → i < 192 → j ≡ id → i ≡ id → has before i j ≡ true
+  unfolding has
+  mark-all e i j h s u =
+      ap₂ (λ (x y : ℕ). bit (getD before (y * 3 + x / 64) 0) (x % 64)) u s
+      ∙ ap (λ (l : List ℕ). bit (getD l (id * 3 + id / 64) 0) (id % 64)) (sym (A .quiet e))
+      ∙ ap (λ (v : ℕ). bit v (id % 64)) (A .here)
+      ∙ bit-or-right (getD before (id * 3 + id / 64) 0) (2 ^ (id % 64)) (id % 64) (bit-pow (id % 64))
+
+  pub mark-takes : Takes before after (λ j. j ≡ id) (λ i. i ≡ id) changed
+  mark-takes = record { long = A .long; bits = mark-bits; taken = mark-all; quiet = A .quiet; less = A .less }
+
+-- the same, as the code shifts
+pub mark-shifted :
+    (before after : List ℕ) (id : ℕ) (changed : Bool) → id < 192 → Absorbs before after (id * 3 + id / 64) (1 * 2 ^ (id % 64) % 2 ^ 64) changed
+    → Takes before after (λ j. j ≡ id) (λ i. i ≡ id) changed
+mark-shifted before after id changed low A = mark-takes before after id changed low (subst (λ (v : ℕ). Absorbs before after (id * 3 + id / 64) v changed) (one (id % 64) (omega arith)) A)
+  where
+    one : (k : ℕ) → k < 64 → 1 * 2 ^ k % 2 ^ 64 ≡ 2 ^ k
+    one k h = shl-exact {a = 1} 1 k 64 (lit< tt) (omega arith) ∙ one-mul (2 ^ k)

@@ -1,9 +1,12 @@
 // The closure of the columns: column j is the set of ids known to be below j, three words of 64 bits.
 // Private to the crate.
 ghost use mathlib.Core.Path.{_≡_};
-ghost use Prim.Native.Nat.{ℕ, _+_, _*_, _<_, _≤_};
-ghost use lib.ListN.{length, getD};
+ghost use Prim.Native.Nat.{_<_};
+ghost use mathlib.Core.Bool.{true};
+ghost use lib.ListN.{length};
 ghost use Rattle.subsumption.specs.Closure.{has, Absorbs, Takes, inThree};
+
+const ALL: u64 = 18446744073709551615;
 
 // The one place that changes a column.
 fn absorb(columns: &mut [u64], at: usize, add: u64) -> bool
@@ -25,4 +28,56 @@ fn take(columns: &mut [u64], to: usize, first: u64, second: u64, third: u64) -> 
     let b = absorb(columns, to * 3 + 1, second);
     let c = absorb(columns, to * 3 + 2, third);
     a | b | c
+}
+
+// Everything known to be below `from` is below `to`.
+fn flow(columns: &mut [u64], from: usize, to: usize) -> bool
+    requires { ⌜ length (now columns) ≡ 576 ⌝ }
+    requires { ⌜ (from < 192) × (to < 192) ⌝ }
+    ensures { λ r. ⌜ Takes (now (columns .entry)) (now (columns .exit)) (λ j. j ≡ to) (λ i. has (now (columns .entry)) i from ≡ true) r ⌝ }
+{
+    let first = columns[from * 3];
+    let second = columns[from * 3 + 1];
+    let third = columns[from * 3 + 2];
+    take(columns, to, first, second, third)
+}
+
+// Everything known to be below both `left` and `right` is below `to`.
+fn meet(columns: &mut [u64], left: usize, right: usize, to: usize) -> bool
+    requires { ⌜ length (now columns) ≡ 576 ⌝ }
+    requires { ⌜ (left < 192) × (right < 192) × (to < 192) ⌝ }
+    ensures { λ r. ⌜ Takes (now (columns .entry)) (now (columns .exit)) (λ j. j ≡ to)
+        (λ i. (has (now (columns .entry)) i left ≡ true) × (has (now (columns .entry)) i right ≡ true)) r ⌝ }
+{
+    let first = columns[left * 3] & columns[right * 3];
+    let second = columns[left * 3 + 1] & columns[right * 3 + 1];
+    let third = columns[left * 3 + 2] & columns[right * 3 + 2];
+    take(columns, to, first, second, third)
+}
+
+// Every id is below `to`.
+fn fill(columns: &mut [u64], to: usize) -> bool
+    requires { ⌜ length (now columns) ≡ 576 ⌝ }
+    requires { ⌜ to < 192 ⌝ }
+    ensures { λ r. ⌜ Takes (now (columns .entry)) (now (columns .exit)) (λ j. j ≡ to) (λ i. Unit {0}) r ⌝ }
+{
+    take(columns, to, ALL, ALL, ALL)
+}
+
+// An id is below itself.
+fn mark(columns: &mut [u64], id: usize) -> bool
+    requires { ⌜ length (now columns) ≡ 576 ⌝ }
+    requires { ⌜ id < 192 ⌝ }
+    ensures { λ r. ⌜ Takes (now (columns .entry)) (now (columns .exit)) (λ j. j ≡ id) (λ i. i ≡ id) r ⌝ }
+{
+    absorb(columns, id * 3 + id / 64, 1 << (id % 64))
+}
+
+// Whether i is known to be below j.
+pub fn below(columns: &[u64], i: usize, j: usize) -> bool
+    requires { ⌜ length (now columns) ≡ 576 ⌝ }
+    requires { ⌜ (i < 192) × (j < 192) ⌝ }
+    ensures { λ r. ⌜ r ≡ has (now (columns .entry)) i j ⌝ }
+{
+    (columns[j * 3 + i / 64] >> (i % 64)) % 2 == 1
 }
