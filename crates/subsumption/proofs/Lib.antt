@@ -3,3 +3,5 @@ pub mod WellFormed
 pub mod Nodes
 pub mod Bits
 pub mod Columns
+pub mod Picks
+pub mod Choices

@@ -107,3 +107,14 @@ pub record Takes (before after : List ℕ) (to add : ℕ → Type 0) (changed : 
 
 abbrev pub inThree : ℕ → ℕ → ℕ → ℕ → Type 0
 inThree first second third i = bit (getD (first ∷ second ∷ third ∷ []) (i / 64) 0) (i % 64) ≡ true
+
+-- what the functions on a variable's choice ask of the atoms
+pub record Known (atoms : List ℕ) : Type 0 where
+  pub few : length atoms ≤ 64
+  pub low : (q : ℕ) → q < length atoms → getD atoms q 0 < 192
+
+-- the word has just the bits that the word `part` of the column of every atom has that is chosen at a place below n
+pub record Common (n : ℕ) (atoms : List ℕ) (choice : ℕ) (columns : List ℕ) (part word : ℕ) : Type 0 where
+  pub only : (k q : ℕ) → k < 64 → bit word k ≡ true → q < n → bit choice q ≡ true → bit (getD columns (getD atoms q 0 * 3 + part) 0) k ≡ true
+  pub every :
+      (k : ℕ) → k < 64 → ((q : ℕ) → q < n → bit choice q ≡ true → bit (getD columns (getD atoms q 0 * 3 + part) 0) k ≡ true) → bit word k ≡ true

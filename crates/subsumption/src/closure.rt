@@ -1,10 +1,12 @@
 // The closure of the columns: column j is the set of ids known to be below j, three words of 64 bits.
 // Private to the crate.
 ghost use mathlib.Core.Path.{_≡_};
-ghost use Prim.Native.Nat.{_<_};
+ghost use Prim.Native.Nat.{ℕ, _<_};
 ghost use mathlib.Core.Bool.{true};
+ghost use mathlib.Core.List.{List·Memᴰ};
+ghost use Rattle.subsumption.specs.Atoms.{pick};
 ghost use lib.ListN.{length};
-ghost use Rattle.subsumption.specs.Closure.{has, Absorbs, Takes, inThree};
+ghost use Rattle.subsumption.specs.Closure.{has, Absorbs, Takes, inThree, Known, Common};
 
 const ALL: u64 = 18446744073709551615;
 
@@ -80,4 +82,62 @@ pub fn below(columns: &[u64], i: usize, j: usize) -> bool
     ensures { λ r. ⌜ r ≡ has (now (columns .entry)) i j ⌝ }
 {
     (columns[j * 3 + i / 64] >> (i % 64)) % 2 == 1
+}
+
+// Of the word `part` of each chosen atom's column, the bits that all have.
+fn common(atoms: &[u16], choice: u64, columns: &[u64], part: usize) -> u64
+    requires { ⌜ length (now columns) ≡ 576 ⌝ }
+    requires { ⌜ Known (now atoms) ⌝ }
+    requires { ⌜ part < 3 ⌝ }
+    ensures { λ r. ⌜ Common (length (now (atoms .entry))) (now (atoms .entry)) choice (now (columns .entry)) part r ⌝ }
+{
+    let mut word = ALL;
+    let mut q = 0;
+    while q < atoms.len() {
+        let atom = atoms[q] as usize;
+        let picked = (choice >> q) % 2;
+        q += 1;
+        if picked == 0 {
+            continue;
+        }
+        word = word & columns[atom * 3 + part];
+    }
+    word
+}
+
+// Everything known to be below all chosen atoms is below the variable `to`.
+fn gather(atoms: &[u16], choice: u64, columns: &mut [u64], to: usize) -> bool
+    requires { ⌜ length (now columns) ≡ 576 ⌝ }
+    requires { ⌜ Known (now atoms) ⌝ }
+    requires { ⌜ to < 192 ⌝ }
+    ensures { λ r. ⌜ Takes (now (columns .entry)) (now (columns .exit)) (λ j. j ≡ to)
+        (λ i. (p : ℕ) → List·Memᴰ p (pick (now (atoms .entry)) choice) → has (now (columns .entry)) i p ≡ true) r ⌝ }
+{
+    let first = common(atoms, choice, columns, 0);
+    let second = common(atoms, choice, columns, 1);
+    let third = common(atoms, choice, columns, 2);
+    take(columns, to, first, second, third)
+}
+
+// Everything known to be below the variable `from` is below all chosen atoms.
+fn spread(atoms: &[u16], choice: u64, columns: &mut [u64], from: usize) -> bool
+    requires { ⌜ length (now columns) ≡ 576 ⌝ }
+    requires { ⌜ Known (now atoms) ⌝ }
+    requires { ⌜ from < 192 ⌝ }
+    ensures { λ r. ⌜ Takes (now (columns .entry)) (now (columns .exit)) (λ p. List·Memᴰ p (pick (now (atoms .entry)) choice))
+        (λ i. has (now (columns .entry)) i from ≡ true) r ⌝ }
+{
+    let mut changed = false;
+    let mut q = 0;
+    while q < atoms.len() {
+        let atom = atoms[q] as usize;
+        let picked = (choice >> q) % 2;
+        q += 1;
+        if picked == 0 {
+            continue;
+        }
+        let new = flow(columns, from, atom);
+        changed = changed | new;
+    }
+    changed
 }
