@@ -13,7 +13,7 @@ use Rattle.subsumption.specs.Atoms.{bit, pick}
 use Rattle.subsumption.specs.Closure.{has, slack, Takes, inThree, Known, Common}
 use Rattle.subsumption.proofs.Bits.{bit-ones, bit-and, both-true, both-of}
 use Rattle.subsumption.proofs.Picks.{ChosenBelow, picked-at, at-picked}
-use Rattle.subsumption.proofs.Columns.{any-true, any-false, not-both, takes-as}
+use Rattle.subsumption.proofs.Columns.{any-true, any-false, not-both, falls, takes-as}
 
 unpicked : (choice q : ℕ) → choice / 2 ^ q % 2 ≡ 0 → bit choice q ≡ true → ⊥
 unfolding bit
@@ -141,10 +141,6 @@ module _ (before : List ℕ) (from : ℕ) where
         let u = falls before mid a (S .quiet) (S .less) in
         let v = falls mid after b (T .quiet) (T .less) in
         ⊎-elim (λ h. omega (arith, S .less h, u, v)) (λ h. omega (arith, T .less h, u, v)) (any-true a b e)
-      where
-        falls : (x y : List ℕ) (r : Bool) → (r ≡ false → y ≡ x) → (r ≡ true → slack y < slack x) → slack y ≤ slack x
-        falls x y true p q = omega (arith, q refl)
-        falls x y false p q = omega (arith, ap slack (p refl))
 
     pub spread-more : Takes before after (λ j. to j ⊎ (j ≡ x)) (λ i. has before i from ≡ true) (a || b)
     spread-more =

@@ -27,6 +27,10 @@ any-false false b e = (refl, e)
 pub not-both : {A : Type 0} (b : Bool) → b ≡ true → b ≡ false → A
 not-both b p q = let z : _≡_ {A = ℕ} 0 1 = cc in absurd (omega arith)
 
+pub falls : (x y : List ℕ) (r : Bool) → (r ≡ false → y ≡ x) → (r ≡ true → slack y < slack x) → slack y ≤ slack x
+falls x y true p q = omega (arith, q refl)
+falls x y false p q = omega (arith, ap slack (p refl))
+
 slack-set : (l : List ℕ) (at v : ℕ) → at < length l → getD l at 0 < v → getD l at 0 < 2 ^ 64 → slack (set l at v) < slack l
 unfolding slack
 slack-set [] at v h g f = absurd (omega arith)
@@ -93,15 +97,11 @@ module _ (before one two after : List ℕ) (to first second third : ℕ) (a b c 
       ∙ ap (λ (v : ℕ). bit v (i % 64)) (word (i / 64) (omega arith))
       ∙ bit-or-right (getD before (to * 3 + i / 64) 0) (getD (first ∷ second ∷ third ∷ []) (i / 64) 0) (i % 64) u)
 
-  less-or-same : (x y : List ℕ) (r : Bool) → (r ≡ false → y ≡ x) → (r ≡ true → slack y < slack x) → slack y ≤ slack x
-  less-or-same x y true p q = omega (arith, q refl)
-  less-or-same x y false p q = omega (arith, ap slack (p refl))
-
   some-less : ((a || b) || c) ≡ true → slack after < slack before
   some-less e =
-      let u = less-or-same before one a (A .quiet) (A .less) in
-      let v = less-or-same one two b (B .quiet) (B .less) in
-      let w = less-or-same two after c (C .quiet) (C .less) in
+      let u = falls before one a (A .quiet) (A .less) in
+      let v = falls one two b (B .quiet) (B .less) in
+      let w = falls two after c (C .quiet) (C .less) in
       ⊎-elim
       (λ ab. ⊎-elim (λ h. omega (arith, A .less h, u, v, w)) (λ h. omega (arith, B .less h, u, v, w)) (any-true a b ab))
       (λ h. omega (arith, C .less h, u, v, w))

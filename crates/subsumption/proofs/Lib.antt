@@ -5,3 +5,5 @@ pub mod Bits
 pub mod Columns
 pub mod Picks
 pub mod Choices
+pub mod Passes
+pub mod Settling

@@ -27,6 +27,15 @@ module _ (concepts : List ℕ) (i : ℕ) where
   unfolding node decode
   node-var e = rw (e, decode) refl
 
+other-decoded : (kind a b : ℕ) → (kind ≡ 1 → ⊥) → (kind ≡ 2 → ⊥) → (kind ≡ 3 → ⊥) → (kind ≡ 4 → ⊥) → decode kind a b ≡ topAt
+unfolding decode
+other-decoded zero a b p q r s = refl
+other-decoded (suc zero) a b p q r s = absurd (p refl)
+other-decoded (suc (suc zero)) a b p q r s = absurd (q refl)
+other-decoded (suc (suc (suc zero))) a b p q r s = absurd (r refl)
+other-decoded (suc (suc (suc (suc zero)))) a b p q r s = absurd (s refl)
+other-decoded (suc (suc (suc (suc (suc k))))) a b p q r s = refl
+
 name-decoded : (kind a b m : ℕ) → decode kind a b ≡ nameAt m → (kind ≡ 1) × (a ≡ m)
 unfolding decode
 name-decoded zero a b m e = let z : _≡_ {A = ℕ} 0 1 = cc in absurd (omega arith)
@@ -64,6 +73,12 @@ var-decoded (suc (suc (suc (suc zero)))) a b k e = (refl, cc)
 var-decoded (suc (suc (suc (suc (suc x))))) a b k e = let z : _≡_ {A = ℕ} 0 1 = cc in absurd (omega arith)
 
 module _ (concepts : List ℕ) (i : ℕ) where
+  pub node-other :
+      (getD concepts (i * 3) 0 ≡ 1 → ⊥) → (getD concepts (i * 3) 0 ≡ 2 → ⊥) → (getD concepts (i * 3) 0 ≡ 3 → ⊥) → (getD concepts (i * 3) 0 ≡ 4 → ⊥)
+      → node concepts i ≡ topAt
+  unfolding node
+  node-other p q r s = other-decoded _ _ _ p q r s
+
   pub name-node : (m : ℕ) → node concepts i ≡ nameAt m → (getD concepts (i * 3) 0 ≡ 1) × (getD concepts (i * 3 + 1) 0 ≡ m)
   unfolding node
   name-node m e = name-decoded _ _ _ m e

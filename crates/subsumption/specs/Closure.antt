@@ -38,6 +38,60 @@ pub record Ready (concepts inclusions atoms assignment : List ℕ) : Type 0 wher
 abbrev pub chooseFrom : List ℕ → List ℕ → ℕ → List ℕ
 chooseFrom atoms assignment k = pick atoms (getD assignment k 0)
 
+-- how far the words are from being all ones: falls with every change
+unfoldable pub slack : List ℕ → ℕ
+slack [] = 0
+slack (w ∷ ws) = (2 ^ 64 - w) + slack ws
+
+-- what is below x is below y
+abbrev pub Into : ℕ → List ℕ → ℕ → ℕ → Type 0
+Into count columns x y = (i : ℕ) → i < count → has columns i x ≡ true → has columns i y ≡ true
+
+-- of the rows of j's name, k is the first
+pub record FirstNamed (concepts : List ℕ) (j k : ℕ) : Type 0 where
+  pub low : k ≤ j
+  pub named : (n : ℕ) → node concepts j ≡ nameAt n → node concepts k ≡ nameAt n
+  pub least : (n i : ℕ) → node concepts j ≡ nameAt n → node concepts i ≡ nameAt n → k ≤ i
+
+pub record Firsts (concepts firsts : List ℕ) : Type 0 where
+  pub long : length firsts ≡ 192
+  pub each : (j : ℕ) → j < countOf concepts → FirstNamed concepts j (getD firsts j 0)
+
+-- the steps at the row j are taken: names go by way of the first row of that name, existentials have no step here
+abbrev pub SettledBy : ℕ → (ℕ → List ℕ) → ℕ → ℕ → List ℕ → Node → Type 0
+SettledBy count choose first j columns topAt = (i : ℕ) → i < count → has columns i j ≡ true
+SettledBy count choose first j columns (nameAt n) = Into count columns j first × Into count columns first j
+SettledBy count choose first j columns (existsAt r x) = Unit {0}
+SettledBy count choose first j columns (andAt a b) =
+    Into count columns j a × Into count columns j b × ((i : ℕ) → i < count → has columns i a ≡ true → has columns i b ≡ true → has columns i j ≡ true)
+SettledBy count choose first j columns (varAt k) =
+    ((p : ℕ) → List·Memᴰ p (choose k) → Into count columns j p)
+    × ((i : ℕ) → i < count → ((p : ℕ) → List·Memᴰ p (choose k) → has columns i p ≡ true) → has columns i j ≡ true)
+
+pub record Settled (concepts firsts : List ℕ) (choose : ℕ → List ℕ) (j : ℕ) (columns : List ℕ) : Type 0 where
+  pub same : has columns j j ≡ true
+  pub by : SettledBy (countOf concepts) choose (getD firsts j 0) j columns (node concepts j)
+
+abbrev pub AllSettled : List ℕ → List ℕ → (ℕ → List ℕ) → List ℕ → Type 0
+AllSettled concepts firsts choose columns = (j : ℕ) → j < countOf concepts → Settled concepts firsts choose j columns
+
+abbrev pub AllIncluded : List ℕ → List ℕ → List ℕ → Type 0
+AllIncluded concepts inclusions columns =
+    (m : ℕ) → m < pairsOf inclusions → Into (countOf concepts) columns (leftOf inclusions m) (rightOf inclusions m)
+
+-- the existential e of that role has its inner id below that inner id
+pub record Linkable (concepts columns : List ℕ) (role inner e : ℕ) : Type 0 where
+  pub from : ℕ
+  pub row : node concepts e ≡ existsAt role from
+  pub below : has columns from inner ≡ true
+
+abbrev pub LinkedTo : List ℕ → ℕ → List ℕ → Type 0
+LinkedTo concepts f columns =
+    (e r y : ℕ) → e < countOf concepts → node concepts f ≡ existsAt r y → Linkable concepts columns r y e → Into (countOf concepts) columns e f
+
+abbrev pub AllLinked : List ℕ → List ℕ → Type 0
+AllLinked concepts columns = (f : ℕ) → f < countOf concepts → LinkedTo concepts f columns
+
 module _ (concepts inclusions : List ℕ) (choose : ℕ → List ℕ) where
   -- a relation on ids that takes every step
   pub record Steps (R : ℕ → ℕ → Type 0) : Type 0 where
@@ -84,10 +138,16 @@ module _ (concepts inclusions : List ℕ) (choose : ℕ → List ℕ) where
     pub sound : (i j : ℕ) → i < countOf concepts → j < countOf concepts → has columns i j ≡ true → Flow i j
     pub closed : Steps (λ i j. has columns i j ≡ true)
 
--- how far the words are from being all ones: falls with every change
-unfoldable pub slack : List ℕ → ℕ
-slack [] = 0
-slack (w ∷ ws) = (2 ^ 64 - w) + slack ws
+  abbrev pub Sound : List ℕ → Type 0
+  Sound columns = (i j : ℕ) → i < countOf concepts → j < countOf concepts → has columns i j ≡ true → Flow i j
+
+  -- a pass over the columns: nothing unsound comes in, a change uses up slack, and without one Quiet holds
+  pub record Pass (Quiet : List ℕ → Type 0) (before after : List ℕ) (changed : Bool) : Type 0 where
+    pub long : length after ≡ length before
+    pub sound : Sound before → Sound after
+    pub same : changed ≡ false → after ≡ before
+    pub less : changed ≡ true → slack after < slack before
+    pub quiet : changed ≡ false → Quiet before
 
 -- what one word does: it takes in the bits of `add`
 pub record Absorbs (before after : List ℕ) (at add : ℕ) (changed : Bool) : Type 0 where

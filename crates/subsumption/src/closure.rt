@@ -4,9 +4,10 @@ ghost use mathlib.Core.Path.{_≡_};
 ghost use Prim.Native.Nat.{ℕ, _<_};
 ghost use mathlib.Core.Bool.{true};
 ghost use mathlib.Core.List.{List·Memᴰ};
+ghost use Rattle.subsumption.specs.Tables.{countOf};
 ghost use Rattle.subsumption.specs.Atoms.{pick};
 ghost use lib.ListN.{length};
-ghost use Rattle.subsumption.specs.Closure.{has, Absorbs, Takes, inThree, Known, Common};
+ghost use Rattle.subsumption.specs.Closure.{has, Absorbs, Takes, inThree, Known, Common, Ready, Firsts, Settled, chooseFrom, Pass};
 
 const ALL: u64 = 18446744073709551615;
 
@@ -140,4 +141,51 @@ fn spread(atoms: &[u16], choice: u64, columns: &mut [u64], from: usize) -> bool
         changed = changed | new;
     }
     changed
+}
+
+// The steps at the row j.
+fn settle(
+    concepts: &[u16],
+    inclusions: &[u16],
+    atoms: &[u16],
+    assignment: &[u64],
+    firsts: &[u16],
+    columns: &mut [u64],
+    j: usize,
+) -> bool
+    requires { ⌜ Ready (now concepts) (now inclusions) (now atoms) (now assignment) ⌝ }
+    requires { ⌜ Firsts (now concepts) (now firsts) ⌝ }
+    requires { ⌜ length (now columns) ≡ 576 ⌝ }
+    requires { ⌜ j < countOf (now concepts) ⌝ }
+    ensures { λ r. ⌜ Pass (now (concepts .entry)) (now (inclusions .entry)) (chooseFrom (now (atoms .entry)) (now (assignment .entry)))
+        (Settled (now (concepts .entry)) (now (firsts .entry)) (chooseFrom (now (atoms .entry)) (now (assignment .entry))) j)
+        (now (columns .entry)) (now (columns .exit)) r ⌝ }
+{
+    let kind = concepts[j * 3];
+    let x = concepts[j * 3 + 1] as usize;
+    let own = mark(columns, j);
+    if kind == 1 {
+        let first = firsts[j] as usize;
+        let a = flow(columns, j, first);
+        let b = flow(columns, first, j);
+        return own | a | b;
+    }
+    if kind == 2 {
+        return own;
+    }
+    if kind == 3 {
+        let y = concepts[j * 3 + 2] as usize;
+        let a = flow(columns, j, x);
+        let b = flow(columns, j, y);
+        let c = meet(columns, x, y, j);
+        return own | a | b | c;
+    }
+    if kind == 4 {
+        let choice = assignment[x];
+        let a = spread(atoms, choice, columns, j);
+        let b = gather(atoms, choice, columns, j);
+        return own | a | b;
+    }
+    let a = fill(columns, j);
+    own | a
 }
