@@ -7,3 +7,5 @@ pub mod Picks
 pub mod Choices
 pub mod Passes
 pub mod Settling
+pub mod Linking
+pub mod Closing

@@ -6,6 +6,7 @@ use mathlib.Core.Bool.{Bool, true, false, _||_}
 use mathlib.Core.Logic.{_⊎_, inl, inr, ⊎-elim}
 use native.Mathlib.Omega.{arith}
 use lib.ListN.{length, getD}
+use borrow.Author.Count.{below-more}
 use Rattle.subsumption.specs.Tables.{countOf}
 use Rattle.subsumption.specs.Closure.{has, slack, Into, Flow, Sound, Pass, Takes}
 use Rattle.subsumption.proofs.Columns.{any-true, any-false, not-both, falls}
@@ -87,3 +88,21 @@ module _ {concepts inclusions : List ℕ} {choose : ℕ → List ℕ} where
       step-pass few t
       (λ s i j l _ e u. subst (λ (x : ℕ). Flow concepts inclusions choose i x) (sym e) (flows i l (s i from l h u)))
       (λ f i l u. f i to l refl u)
+
+  -- a loop of passes, each owing S of its number
+  pub loop-first :
+      (S : ℕ → List ℕ → Type 0) (columns : List ℕ)
+      → Pass concepts inclusions choose (λ l. (k : ℕ) → k < 0 → S k l) columns columns false
+  loop-first S columns = pass-none (λ k h. absurd (omega arith))
+
+  pub loop-more :
+      (S : ℕ → List ℕ → Type 0) (i : ℕ) {before mid after : List ℕ} {a b : Bool}
+      → Pass concepts inclusions choose (λ l. (k : ℕ) → k < i → S k l) before mid a → Pass concepts inclusions choose (S i) mid after b
+      → Pass concepts inclusions choose (λ l. (k : ℕ) → k < i + 1 → S k l) before after (a || b)
+  loop-more S i {before} p q = pass-as (pass-then p q) (λ u. below-more (λ k. S k before) i (u .0) (u .1))
+
+  pub loop-done :
+      (S : ℕ → List ℕ → Type 0) (i n : ℕ) {before after : List ℕ} {a : Bool} → n ≤ i
+      → Pass concepts inclusions choose (λ l. (k : ℕ) → k < i → S k l) before after a
+      → Pass concepts inclusions choose (λ l. (k : ℕ) → k < n → S k l) before after a
+  loop-done S i n h p = pass-as p (λ u k l. u k (omega arith))

@@ -92,6 +92,31 @@ LinkedTo concepts f columns =
 abbrev pub AllLinked : List ℕ → List ℕ → Type 0
 AllLinked concepts columns = (f : ℕ) → f < countOf concepts → LinkedTo concepts f columns
 
+-- what looking for existentials asks of the rows
+pub record Inner (concepts : List ℕ) : Type 0 where
+  pub few : countOf concepts ≤ 192
+  pub low : (e r x : ℕ) → e < countOf concepts → node concepts e ≡ existsAt r x → x < 192
+
+pub record Links (concepts columns : List ℕ) (role inner e : ℕ) (answer : Bool) : Type 0 where
+  pub found : answer ≡ true → Linkable concepts columns role inner e
+  pub none : answer ≡ false → Linkable concepts columns role inner e → ⊥
+
+-- the first that links, from `start` on; the number of rows if none does
+pub record NextLink (concepts columns : List ℕ) (role inner start e : ℕ) : Type 0 where
+  pub from : start ≤ e
+  pub within : e ≤ countOf concepts
+  pub none : (d : ℕ) → start ≤ d → d < e → Linkable concepts columns role inner d → ⊥
+  pub found : e < countOf concepts → Linkable concepts columns role inner e
+
+pub record IsNamed (concepts : List ℕ) (k name : ℕ) (answer : Bool) : Type 0 where
+  pub found : answer ≡ true → node concepts k ≡ nameAt name
+  pub none : answer ≡ false → node concepts k ≡ nameAt name → ⊥
+
+-- columns that hold nothing
+pub record Empty (columns : List ℕ) : Type 0 where
+  pub long : length columns ≡ 576
+  pub zeros : (p : ℕ) → p < 576 → getD columns p 0 ≡ 0
+
 module _ (concepts inclusions : List ℕ) (choose : ℕ → List ℕ) where
   -- a relation on ids that takes every step
   pub record Steps (R : ℕ → ℕ → Type 0) : Type 0 where
@@ -148,6 +173,12 @@ module _ (concepts inclusions : List ℕ) (choose : ℕ → List ℕ) where
     pub same : changed ≡ false → after ≡ before
     pub less : changed ≡ true → slack after < slack before
     pub quiet : changed ≡ false → Quiet before
+
+  -- everything is taken
+  pub record AllTaken (firsts columns : List ℕ) : Type 0 where
+    pub settled : AllSettled concepts firsts choose columns
+    pub included : AllIncluded concepts inclusions columns
+    pub linked : AllLinked concepts columns
 
 -- what one word does: it takes in the bits of `add`
 pub record Absorbs (before after : List ℕ) (at add : ℕ) (changed : Bool) : Type 0 where

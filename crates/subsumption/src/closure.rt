@@ -1,13 +1,13 @@
 // The closure of the columns: column j is the set of ids known to be below j, three words of 64 bits.
 // Private to the crate.
 ghost use mathlib.Core.Path.{_≡_};
-ghost use Prim.Native.Nat.{ℕ, _<_};
+ghost use Prim.Native.Nat.{ℕ, _≤_, _<_};
 ghost use mathlib.Core.Bool.{true};
 ghost use mathlib.Core.List.{List·Memᴰ};
 ghost use Rattle.subsumption.specs.Tables.{countOf};
 ghost use Rattle.subsumption.specs.Atoms.{pick};
 ghost use lib.ListN.{length};
-ghost use Rattle.subsumption.specs.Closure.{has, Absorbs, Takes, inThree, Known, Common, Ready, Firsts, Settled, chooseFrom, Pass};
+ghost use Rattle.subsumption.specs.Closure.{has, Absorbs, Takes, inThree, Known, Common, Ready, Firsts, Settled, chooseFrom, Pass, AllSettled, AllIncluded, LinkedTo, AllLinked, AllTaken, Inner, Links, NextLink, IsNamed, FirstNamed, Empty, Closed};
 
 const ALL: u64 = 18446744073709551615;
 
@@ -188,4 +188,245 @@ fn settle(
     }
     let a = fill(columns, j);
     own | a
+}
+
+// The steps at every row.
+fn settle_all(
+    concepts: &[u16],
+    inclusions: &[u16],
+    atoms: &[u16],
+    assignment: &[u64],
+    firsts: &[u16],
+    columns: &mut [u64],
+) -> bool
+    requires { ⌜ Ready (now concepts) (now inclusions) (now atoms) (now assignment) ⌝ }
+    requires { ⌜ Firsts (now concepts) (now firsts) ⌝ }
+    requires { ⌜ length (now columns) ≡ 576 ⌝ }
+    ensures { λ r. ⌜ Pass (now (concepts .entry)) (now (inclusions .entry)) (chooseFrom (now (atoms .entry)) (now (assignment .entry)))
+        (AllSettled (now (concepts .entry)) (now (firsts .entry)) (chooseFrom (now (atoms .entry)) (now (assignment .entry))))
+        (now (columns .entry)) (now (columns .exit)) r ⌝ }
+{
+    let count = concepts.len() / 3;
+    let mut changed = false;
+    let mut j = 0;
+    while j < count {
+        let new = settle(concepts, inclusions, atoms, assignment, firsts, columns, j);
+        changed = changed | new;
+        j += 1;
+    }
+    changed
+}
+
+// The inclusions: what is below a left side is below the right side.
+fn include_all(
+    concepts: &[u16],
+    inclusions: &[u16],
+    atoms: &[u16],
+    assignment: &[u64],
+    columns: &mut [u64],
+) -> bool
+    requires { ⌜ Ready (now concepts) (now inclusions) (now atoms) (now assignment) ⌝ }
+    requires { ⌜ length (now columns) ≡ 576 ⌝ }
+    ensures { λ r. ⌜ Pass (now (concepts .entry)) (now (inclusions .entry)) (chooseFrom (now (atoms .entry)) (now (assignment .entry)))
+        (AllIncluded (now (concepts .entry)) (now (inclusions .entry)))
+        (now (columns .entry)) (now (columns .exit)) r ⌝ }
+{
+    let count = inclusions.len() / 2;
+    let mut changed = false;
+    let mut m = 0;
+    while m < count {
+        let left = inclusions[m * 2] as usize;
+        let right = inclusions[m * 2 + 1] as usize;
+        let new = flow(columns, left, right);
+        changed = changed | new;
+        m += 1;
+    }
+    changed
+}
+
+// Whether the row e is an existential of that role whose inner id is below that inner id.
+fn links(concepts: &[u16], columns: &[u64], role: u16, inner: usize, e: usize) -> bool
+    requires { ⌜ Inner (now concepts) ⌝ }
+    requires { ⌜ length (now columns) ≡ 576 ⌝ }
+    requires { ⌜ (inner < 192) × (e < countOf (now concepts)) ⌝ }
+    ensures { λ r. ⌜ Links (now (concepts .entry)) (now (columns .entry)) role inner e r ⌝ }
+{
+    if concepts[e * 3] != 2 {
+        return false;
+    }
+    if concepts[e * 3 + 1] != role {
+        return false;
+    }
+    let from = concepts[e * 3 + 2] as usize;
+    below(columns, from, inner)
+}
+
+// The first such row, from `start` on.
+fn next_link(concepts: &[u16], columns: &[u64], role: u16, inner: usize, start: usize) -> usize
+    requires { ⌜ Inner (now concepts) ⌝ }
+    requires { ⌜ length (now columns) ≡ 576 ⌝ }
+    requires { ⌜ (inner < 192) × (start ≤ countOf (now concepts)) ⌝ }
+    ensures { λ r. ⌜ NextLink (now (concepts .entry)) (now (columns .entry)) role inner start r ⌝ }
+{
+    let count = concepts.len() / 3;
+    let mut e = start;
+    while e < count {
+        if links(concepts, columns, role, inner, e) {
+            return e;
+        }
+        e += 1;
+    }
+    count
+}
+
+// An existential f: what is below an existential of f's role whose inner id is below f's inner id is below f.
+fn link_to(
+    concepts: &[u16],
+    inclusions: &[u16],
+    atoms: &[u16],
+    assignment: &[u64],
+    columns: &mut [u64],
+    f: usize,
+) -> bool
+    requires { ⌜ Ready (now concepts) (now inclusions) (now atoms) (now assignment) ⌝ }
+    requires { ⌜ length (now columns) ≡ 576 ⌝ }
+    requires { ⌜ f < countOf (now concepts) ⌝ }
+    ensures { λ r. ⌜ Pass (now (concepts .entry)) (now (inclusions .entry)) (chooseFrom (now (atoms .entry)) (now (assignment .entry)))
+        (LinkedTo (now (concepts .entry)) f)
+        (now (columns .entry)) (now (columns .exit)) r ⌝ }
+{
+    if concepts[f * 3] != 2 {
+        return false;
+    }
+    let role = concepts[f * 3 + 1];
+    let inner = concepts[f * 3 + 2] as usize;
+    let count = concepts.len() / 3;
+    let mut changed = false;
+    let mut e = next_link(concepts, columns, role, inner, 0);
+    while e < count {
+        let new = flow(columns, e, f);
+        changed = changed | new;
+        e = next_link(concepts, columns, role, inner, e + 1);
+    }
+    changed
+}
+
+fn link_all(
+    concepts: &[u16],
+    inclusions: &[u16],
+    atoms: &[u16],
+    assignment: &[u64],
+    columns: &mut [u64],
+) -> bool
+    requires { ⌜ Ready (now concepts) (now inclusions) (now atoms) (now assignment) ⌝ }
+    requires { ⌜ length (now columns) ≡ 576 ⌝ }
+    ensures { λ r. ⌜ Pass (now (concepts .entry)) (now (inclusions .entry)) (chooseFrom (now (atoms .entry)) (now (assignment .entry)))
+        (AllLinked (now (concepts .entry)))
+        (now (columns .entry)) (now (columns .exit)) r ⌝ }
+{
+    let count = concepts.len() / 3;
+    let mut changed = false;
+    let mut f = 0;
+    while f < count {
+        let new = link_to(concepts, inclusions, atoms, assignment, columns, f);
+        changed = changed | new;
+        f += 1;
+    }
+    changed
+}
+
+// One round. Existentials are looked for only when all the rest is quiet.
+fn round(
+    concepts: &[u16],
+    inclusions: &[u16],
+    atoms: &[u16],
+    assignment: &[u64],
+    firsts: &[u16],
+    columns: &mut [u64],
+) -> bool
+    requires { ⌜ Ready (now concepts) (now inclusions) (now atoms) (now assignment) ⌝ }
+    requires { ⌜ Firsts (now concepts) (now firsts) ⌝ }
+    requires { ⌜ length (now columns) ≡ 576 ⌝ }
+    ensures { λ r. ⌜ Pass (now (concepts .entry)) (now (inclusions .entry)) (chooseFrom (now (atoms .entry)) (now (assignment .entry)))
+        (AllTaken (now (concepts .entry)) (now (inclusions .entry)) (chooseFrom (now (atoms .entry)) (now (assignment .entry))) (now (firsts .entry)))
+        (now (columns .entry)) (now (columns .exit)) r ⌝ }
+{
+    let a = settle_all(concepts, inclusions, atoms, assignment, firsts, columns);
+    let b = include_all(concepts, inclusions, atoms, assignment, columns);
+    if a | b {
+        return true;
+    }
+    link_all(concepts, inclusions, atoms, assignment, columns)
+}
+
+fn is_named(concepts: &[u16], k: usize, name: u16) -> bool
+    requires { ⌜ k < countOf (now concepts) ⌝ }
+    ensures { λ r. ⌜ IsNamed (now (concepts .entry)) k name r ⌝ }
+{
+    if concepts[k * 3] != 1 {
+        return false;
+    }
+    concepts[k * 3 + 1] == name
+}
+
+// The first row of j's name.
+fn first_named(concepts: &[u16], j: usize) -> usize
+    requires { ⌜ j < countOf (now concepts) ⌝ }
+    ensures { λ r. ⌜ FirstNamed (now (concepts .entry)) j r ⌝ }
+{
+    let name = concepts[j * 3 + 1];
+    let mut k = 0;
+    while k < j {
+        if is_named(concepts, k, name) {
+            return k;
+        }
+        k += 1;
+    }
+    j
+}
+
+fn note_firsts(concepts: &[u16], firsts: &mut [u16])
+    requires { ⌜ countOf (now concepts) ≤ 192 ⌝ }
+    requires { ⌜ length (now firsts) ≡ 192 ⌝ }
+    ensures { λ r. ⌜ Firsts (now (concepts .entry)) (now (firsts .exit)) ⌝ }
+{
+    let count = concepts.len() / 3;
+    let mut j = 0;
+    while j < count {
+        let first = first_named(concepts, j);
+        firsts[j] = first as u16;
+        j += 1;
+    }
+}
+
+fn clear(columns: &mut [u64])
+    requires { ⌜ length (now columns) ≡ 576 ⌝ }
+    ensures { λ r. ⌜ Empty (now (columns .exit)) ⌝ }
+{
+    let mut p = 0;
+    while p < 576 {
+        columns[p] = 0;
+        p += 1;
+    }
+}
+
+// The columns hold just what flows.
+pub fn close(
+    concepts: &[u16],
+    inclusions: &[u16],
+    atoms: &[u16],
+    assignment: &[u64],
+    columns: &mut [u64],
+)
+    requires { ⌜ Ready (now concepts) (now inclusions) (now atoms) (now assignment) ⌝ }
+    requires { ⌜ length (now columns) ≡ 576 ⌝ }
+    ensures { λ r. ⌜ Closed (now (concepts .entry)) (now (inclusions .entry)) (chooseFrom (now (atoms .entry)) (now (assignment .entry))) (now (columns .exit)) ⌝ }
+{
+    let mut firsts = [0u16; 192];
+    note_firsts(concepts, &mut firsts);
+    clear(columns);
+    let mut busy = true;
+    while busy {
+        busy = round(concepts, inclusions, atoms, assignment, &firsts, columns);
+    }
 }
