@@ -27,3 +27,12 @@ pub mod Lists
 pub mod AtomMarking
 pub mod Accepted
 pub mod ListingLaws
+pub mod Nodes
+pub mod Bits
+pub mod Columns
+pub mod Picks
+pub mod Choices
+pub mod Passes
+pub mod Settling
+pub mod Linking
+pub mod Closing

@@ -1,10 +1,12 @@
 -- What the closure of the columns promises to the operations above it (private to the crate: no operation's contract cites it).
 -- Column j is the set of ids known to be below j, and flows on to other columns by the steps below.
-use Prim.Native.Nat.{ℕ, _+_, _*_, _/_, _%_, _<_, _≤_}
+use Prim.Native.Nat.{ℕ, _+_, _-_, _*_, _/_, _%_, _^_, _<_, _≤_}
 use mathlib.Core.Path.{_≡_}
-use mathlib.Core.List.{List, List·Memᴰ}
-use mathlib.Core.Bool.{Bool, true}
+use mathlib.Core.List.{List, [], _∷_, List·Memᴰ}
+use mathlib.Core.Bool.{Bool, true, false}
+use mathlib.Core.Logic.{_⊎_}
 use lib.ListN.{length, getD}
+use lib.Bits.{bitOr}
 use Rattle.subsumption.specs.Tables.{Node, topAt, nameAt, existsAt, andAt, varAt, node, countOf, pairsOf, leftOf, rightOf}
 use Rattle.subsumption.specs.Atoms.{bit, pick}
 
@@ -35,6 +37,85 @@ pub record Ready (concepts inclusions atoms assignment : List ℕ) : Type 0 wher
 -- the ids that the assignment chooses for a variable, of the atoms given
 abbrev pub chooseFrom : List ℕ → List ℕ → ℕ → List ℕ
 chooseFrom atoms assignment k = pick atoms (getD assignment k 0)
+
+-- how far the words are from being all ones: falls with every change
+unfoldable pub slack : List ℕ → ℕ
+slack [] = 0
+slack (w ∷ ws) = (2 ^ 64 - w) + slack ws
+
+-- what is below x is below y
+abbrev pub Into : ℕ → List ℕ → ℕ → ℕ → Type 0
+Into count columns x y = (i : ℕ) → i < count → has columns i x ≡ true → has columns i y ≡ true
+
+-- of the rows of j's name, k is the first
+pub record FirstNamed (concepts : List ℕ) (j k : ℕ) : Type 0 where
+  pub low : k ≤ j
+  pub named : (n : ℕ) → node concepts j ≡ nameAt n → node concepts k ≡ nameAt n
+  pub least : (n i : ℕ) → node concepts j ≡ nameAt n → node concepts i ≡ nameAt n → k ≤ i
+
+pub record Firsts (concepts firsts : List ℕ) : Type 0 where
+  pub long : length firsts ≡ 192
+  pub each : (j : ℕ) → j < countOf concepts → FirstNamed concepts j (getD firsts j 0)
+
+-- the steps at the row j are taken: names go by way of the first row of that name, existentials have no step here
+abbrev pub SettledBy : ℕ → (ℕ → List ℕ) → ℕ → ℕ → List ℕ → Node → Type 0
+SettledBy count choose first j columns topAt = (i : ℕ) → i < count → has columns i j ≡ true
+SettledBy count choose first j columns (nameAt n) = Into count columns j first × Into count columns first j
+SettledBy count choose first j columns (existsAt r x) = Unit {0}
+SettledBy count choose first j columns (andAt a b) =
+    Into count columns j a × Into count columns j b × ((i : ℕ) → i < count → has columns i a ≡ true → has columns i b ≡ true → has columns i j ≡ true)
+SettledBy count choose first j columns (varAt k) =
+    ((p : ℕ) → List·Memᴰ p (choose k) → Into count columns j p)
+    × ((i : ℕ) → i < count → ((p : ℕ) → List·Memᴰ p (choose k) → has columns i p ≡ true) → has columns i j ≡ true)
+
+pub record Settled (concepts firsts : List ℕ) (choose : ℕ → List ℕ) (j : ℕ) (columns : List ℕ) : Type 0 where
+  pub same : has columns j j ≡ true
+  pub by : SettledBy (countOf concepts) choose (getD firsts j 0) j columns (node concepts j)
+
+abbrev pub AllSettled : List ℕ → List ℕ → (ℕ → List ℕ) → List ℕ → Type 0
+AllSettled concepts firsts choose columns = (j : ℕ) → j < countOf concepts → Settled concepts firsts choose j columns
+
+abbrev pub AllIncluded : List ℕ → List ℕ → List ℕ → Type 0
+AllIncluded concepts inclusions columns =
+    (m : ℕ) → m < pairsOf inclusions → Into (countOf concepts) columns (leftOf inclusions m) (rightOf inclusions m)
+
+-- the existential e of that role has its inner id below that inner id
+pub record Linkable (concepts columns : List ℕ) (role inner e : ℕ) : Type 0 where
+  pub from : ℕ
+  pub row : node concepts e ≡ existsAt role from
+  pub below : has columns from inner ≡ true
+
+abbrev pub LinkedTo : List ℕ → ℕ → List ℕ → Type 0
+LinkedTo concepts f columns =
+    (e r y : ℕ) → e < countOf concepts → node concepts f ≡ existsAt r y → Linkable concepts columns r y e → Into (countOf concepts) columns e f
+
+abbrev pub AllLinked : List ℕ → List ℕ → Type 0
+AllLinked concepts columns = (f : ℕ) → f < countOf concepts → LinkedTo concepts f columns
+
+-- what looking for existentials asks of the rows
+pub record Inner (concepts : List ℕ) : Type 0 where
+  pub few : countOf concepts ≤ 192
+  pub low : (e r x : ℕ) → e < countOf concepts → node concepts e ≡ existsAt r x → x < 192
+
+pub record Links (concepts columns : List ℕ) (role inner e : ℕ) (answer : Bool) : Type 0 where
+  pub found : answer ≡ true → Linkable concepts columns role inner e
+  pub none : answer ≡ false → Linkable concepts columns role inner e → ⊥
+
+-- the first that links, from `start` on; the number of rows if none does
+pub record NextLink (concepts columns : List ℕ) (role inner start e : ℕ) : Type 0 where
+  pub from : start ≤ e
+  pub within : e ≤ countOf concepts
+  pub none : (d : ℕ) → start ≤ d → d < e → Linkable concepts columns role inner d → ⊥
+  pub found : e < countOf concepts → Linkable concepts columns role inner e
+
+pub record IsNamed (concepts : List ℕ) (k name : ℕ) (answer : Bool) : Type 0 where
+  pub found : answer ≡ true → node concepts k ≡ nameAt name
+  pub none : answer ≡ false → node concepts k ≡ nameAt name → ⊥
+
+-- columns that hold nothing
+pub record Empty (columns : List ℕ) : Type 0 where
+  pub long : length columns ≡ 576
+  pub zeros : (p : ℕ) → p < 576 → getD columns p 0 ≡ 0
 
 module _ (concepts inclusions : List ℕ) (choose : ℕ → List ℕ) where
   -- a relation on ids that takes every step
@@ -81,3 +162,50 @@ module _ (concepts inclusions : List ℕ) (choose : ℕ → List ℕ) where
     pub long : length columns ≡ 576
     pub sound : (i j : ℕ) → i < countOf concepts → j < countOf concepts → has columns i j ≡ true → Flow i j
     pub closed : Steps (λ i j. has columns i j ≡ true)
+
+  abbrev pub Sound : List ℕ → Type 0
+  Sound columns = (i j : ℕ) → i < countOf concepts → j < countOf concepts → has columns i j ≡ true → Flow i j
+
+  -- a pass over the columns: nothing unsound comes in, a change uses up slack, and without one Quiet holds
+  pub record Pass (Quiet : List ℕ → Type 0) (before after : List ℕ) (changed : Bool) : Type 0 where
+    pub long : length after ≡ length before
+    pub sound : Sound before → Sound after
+    pub same : changed ≡ false → after ≡ before
+    pub less : changed ≡ true → slack after < slack before
+    pub quiet : changed ≡ false → Quiet before
+
+  -- everything is taken
+  pub record AllTaken (firsts columns : List ℕ) : Type 0 where
+    pub settled : AllSettled concepts firsts choose columns
+    pub included : AllIncluded concepts inclusions columns
+    pub linked : AllLinked concepts columns
+
+-- what one word does: it takes in the bits of `add`
+pub record Absorbs (before after : List ℕ) (at add : ℕ) (changed : Bool) : Type 0 where
+  pub long : length after ≡ length before
+  pub here : getD after at 0 ≡ bitOr (getD before at 0) add
+  pub there : (p : ℕ) → (p ≡ at → ⊥) → getD after p 0 ≡ getD before p 0
+  pub quiet : changed ≡ false → after ≡ before
+  pub less : changed ≡ true → slack after < slack before
+
+-- the columns in `to` take in the ids in `add`, and nothing else changes; `changed` says whether there was anything new
+pub record Takes (before after : List ℕ) (to add : ℕ → Type 0) (changed : Bool) : Type 0 where
+  pub long : length after ≡ length before
+  pub bits : (i j : ℕ) → i < 192 → has after i j ≡ true → (has before i j ≡ true) ⊎ (to j × add i)
+  pub taken : changed ≡ false → (i j : ℕ) → i < 192 → to j → add i → has before i j ≡ true
+  pub quiet : changed ≡ false → after ≡ before
+  pub less : changed ≡ true → slack after < slack before
+
+abbrev pub inThree : ℕ → ℕ → ℕ → ℕ → Type 0
+inThree first second third i = bit (getD (first ∷ second ∷ third ∷ []) (i / 64) 0) (i % 64) ≡ true
+
+-- what the functions on a variable's choice ask of the atoms
+pub record Known (atoms : List ℕ) : Type 0 where
+  pub few : length atoms ≤ 64
+  pub low : (q : ℕ) → q < length atoms → getD atoms q 0 < 192
+
+-- the word has just the bits that the word `part` of the column of every atom has that is chosen at a place below n
+pub record Common (n : ℕ) (atoms : List ℕ) (choice : ℕ) (columns : List ℕ) (part word : ℕ) : Type 0 where
+  pub only : (k q : ℕ) → k < 64 → bit word k ≡ true → q < n → bit choice q ≡ true → bit (getD columns (getD atoms q 0 * 3 + part) 0) k ≡ true
+  pub every :
+      (k : ℕ) → k < 64 → ((q : ℕ) → q < n → bit choice q ≡ true → bit (getD columns (getD atoms q 0 * 3 + part) 0) k ≡ true) → bit word k ≡ true

@@ -1,0 +1,116 @@
+-- Rounds until nothing changes.
+use Prim.Native.Nat.{ℕ, zero, suc, _+_, _*_, _/_, _%_, _<_, _≤_}
+use mathlib.Core.Path.{_≡_, refl, ap, sym, _∙_, subst}
+use mathlib.Core.List.{List, List·Memᴰ}
+use mathlib.Core.Bool.{Bool, true, false, _||_}
+use native.Mathlib.Omega.{arith}
+use native.Mathlib.Nat.{le-antisymm}
+use lib.ListN.{length, getD, set, length-set}
+use lib.Seq.{getD-set-same, getD-set-other}
+use lib.Dec.{eqb}
+use borrow.Author.Tests.{eqb-true, eqb-false}
+use Rattle.subsumption.specs.Tables.{Node, topAt, nameAt, existsAt, andAt, varAt, node, countOf}
+use Rattle.subsumption.specs.Atoms.{bit}
+use Rattle.subsumption.specs.Closure.{has, slack, Into, Ready, Firsts, SettledBy, Steps, Flow, Sound, Pass, Empty, AllTaken, AllSettled, AllIncluded, AllLinked, Closed}
+use Rattle.subsumption.proofs.Bits.{bit-of-zero}
+use Rattle.subsumption.proofs.Columns.{not-both}
+use Rattle.subsumption.proofs.Passes.{pass-as, pass-then}
+
+-- clearing
+pub record Cleared (p : ℕ) (columns : List ℕ) : Type 0 where
+  pub within : p ≤ 576
+  pub long : length columns ≡ 576
+  pub zeros : (q : ℕ) → q < p → getD columns q 0 ≡ 0
+
+pub cleared-none : (columns : List ℕ) → length columns ≡ 576 → Cleared 0 columns
+cleared-none columns h = record { within = omega arith; long = h; zeros = λ q l. absurd (omega arith) }
+
+pub cleared-more : (p : ℕ) (columns : List ℕ) → Cleared p columns → p < 576 → Cleared (p + 1) (set columns p 0)
+cleared-more p columns C h =
+    record { within = omega arith; long = length-set columns p 0 ∙ C .long; zeros = λ q l. go q l (eqb q p) refl }
+  where
+    go : (q : ℕ) → q < p + 1 → (t : Bool) → eqb q p ≡ t → getD (set columns p 0) q 0 ≡ 0
+    go q l true s =
+        ap (λ (x : ℕ). getD (set columns p 0) x 0) (eqb-true q p s) ∙ getD-set-same columns p 0 0 (omega (arith, C .long))
+    go q l false s = getD-set-other columns p q 0 0 (eqb-false q p s) ∙ C .zeros q (omega (arith, eqb-false q p s))
+
+pub cleared-done : (p : ℕ) (columns : List ℕ) → Cleared p columns → 576 ≤ p → Empty columns
+cleared-done p columns C h = record { long = C .long; zeros = λ q l. C .zeros q (omega arith) }
+
+-- 1 while busy
+abbrev pub weight : Bool → ℕ
+weight true = 1
+weight false = 0
+
+module _ (concepts inclusions : List ℕ) (choose : ℕ → List ℕ) (firsts : List ℕ) where
+  pub record Closing (columns : List ℕ) (busy : Bool) : Type 0 where
+    pub long : length columns ≡ 576
+    pub sound : Sound concepts inclusions choose columns
+    pub taken : busy ≡ false → AllTaken concepts inclusions choose firsts columns
+
+  nothing : (columns : List ℕ) → countOf concepts ≤ 192 → Empty columns → (i j : ℕ) → i < countOf concepts → j < countOf concepts → has columns i j ≡ true → ⊥
+  unfolding has
+  nothing columns few E i j h l e =
+      bit-of-zero (i % 64) (ap (λ (w : ℕ). bit w (i % 64)) (sym (E .zeros (j * 3 + i / 64) (omega arith))) ∙ e)
+
+  pub closing-first : (columns : List ℕ) → countOf concepts ≤ 192 → Empty columns → Closing columns true
+  closing-first columns few E =
+      record { long = E .long; sound = λ i j h l e. absurd (nothing columns few E i j h l e); taken = λ e. not-both true refl e }
+
+  pub closing-turn :
+      (before after : List ℕ) (busy changed : Bool) → Closing before busy
+      → Pass concepts inclusions choose (AllTaken concepts inclusions choose firsts) before after changed → Closing after changed
+  closing-turn before after busy changed C p =
+      record {
+        long = p .long ∙ C .long;
+        sound = p .sound (C .sound);
+        taken = λ e. subst (λ (l : List ℕ). AllTaken concepts inclusions choose firsts l) (sym (p .same e)) (p .quiet e);
+      }
+
+  pub closing-less :
+      (before after : List ℕ) (busy changed : Bool) → busy ≡ true
+      → Pass concepts inclusions choose (AllTaken concepts inclusions choose firsts) before after changed
+      → slack after + weight changed < slack before + weight busy
+  closing-less before after true true e p = omega (arith, p .less refl)
+  closing-less before after true false e p = omega (arith, ap slack (p .same refl))
+  closing-less before after false changed e p = not-both true refl (sym e)
+
+  -- one round
+  pub round-quiet :
+      (before one two after : List ℕ) (a b changed : Bool) → (a || b) ≡ false
+      → Pass concepts inclusions choose (AllSettled concepts firsts choose) before one a
+      → Pass concepts inclusions choose (AllIncluded concepts inclusions) one two b
+      → Pass concepts inclusions choose (AllLinked concepts) two after changed
+      → Pass concepts inclusions choose (AllTaken concepts inclusions choose firsts) before after changed
+  round-quiet before one two after a b changed e p q r =
+      subst (λ (t : Bool). Pass concepts inclusions choose (AllTaken concepts inclusions choose firsts) before after (t || changed)) e
+      (pass-as (pass-then (pass-then p q) r) (λ u. record { settled = u .0 .0; included = u .0 .1; linked = u .1 }))
+
+  module _ (columns : List ℕ) (F : Firsts concepts firsts) (A : AllTaken concepts inclusions choose firsts columns) where
+    at : (j : ℕ) (m : Node) → j < countOf concepts → node concepts j ≡ m → SettledBy (countOf concepts) choose (getD firsts j 0) j columns m
+    at j m h e = subst (λ (x : Node). SettledBy (countOf concepts) choose (getD firsts j 0) j columns x) e (A .settled j h .by)
+
+    one-first : (j k n : ℕ) → j < countOf concepts → k < countOf concepts → node concepts j ≡ nameAt n → node concepts k ≡ nameAt n → getD firsts j 0 ≡ getD firsts k 0
+    one-first j k n h l p q =
+        le-antisymm (F .each j h .least n (getD firsts k 0) p (F .each k l .named n q)) (F .each k l .least n (getD firsts j 0) q (F .each j h .named n p))
+
+    pub all-steps : Steps concepts inclusions choose (λ i j. has columns i j ≡ true)
+    all-steps =
+        record {
+          same = λ j h. A .settled j h .same;
+          top = λ i j h l e. at j topAt l e i h;
+          named =
+              λ i j k n h l m p q r.
+              at k (nameAt n) m q .1 i h
+              (subst (λ (x : ℕ). has columns i x ≡ true) (one-first j k n l m p q) (at j (nameAt n) l p .0 i h r));
+          first = λ i j a b h l e r. at j (andAt a b) l e .0 i h r;
+          second = λ i j a b h l e r. at j (andAt a b) l e .1 i h r;
+          meet = λ i j a b h l e r s. at j (andAt a b) l e .2 i h r s;
+          included = λ i m h l r. A .included m l i h r;
+          linked = λ i e f r x y h l m p q s t. A .linked f m e r y l q (record { from = x; row = p; below = s }) i h t;
+          chooses = λ i v k p h l e m r. at v (varAt k) l e .0 p m i h r;
+          all-chosen = λ i v k h l e r. at v (varAt k) l e .1 i h r;
+        }
+
+  pub closing-done : (columns : List ℕ) (busy : Bool) → busy ≡ false → Firsts concepts firsts → Closing columns busy → Closed concepts inclusions choose columns
+  closing-done columns busy e F C = record { long = C .long; sound = C .sound; closed = all-steps columns F (C .taken e) }

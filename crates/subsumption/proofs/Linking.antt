@@ -1,0 +1,216 @@
+-- Looking for existentials, and rows of one name.
+use Prim.Native.Nat.{ℕ, zero, suc, _+_, _*_, _<_, _≤_}
+use mathlib.Core.Path.{_≡_, refl, ap, sym, _∙_, subst}
+use mathlib.Core.List.{List}
+use mathlib.Core.Bool.{Bool, true, false, _||_}
+use mathlib.Core.Logic.{_⊎_, ⊎-elim}
+use native.Mathlib.Omega.{arith}
+use lib.ListN.{length, getD, set, length-set}
+use lib.Seq.{getD-set-same, getD-set-other}
+use lib.Dec.{eqb, ltb}
+use borrow.Author.Count.{below-more}
+use borrow.Author.Tests.{eqb-true, eqb-false, ltb-true, ltb-false}
+use Rattle.subsumption.specs.Tables.{Node, nameAt, existsAt, node, countOf}
+use Rattle.subsumption.specs.Closure.{has, Into, Rising, Ready, FirstNamed, Firsts, Inner, Linkable, Links, NextLink, LinkedTo, IsNamed, Flow, flow-linked, Sound, Pass, Takes, chooseFrom}
+use Rattle.subsumption.proofs.Nodes.{name-node, exists-node, node-name, node-exists}
+use Rattle.subsumption.proofs.Columns.{not-both}
+use Rattle.subsumption.proofs.Passes.{pass-as, pass-none, pass-then, pass-seen, step-pass}
+
+pub ready-inner : {concepts inclusions atoms assignment : List ℕ} → Ready concepts inclusions atoms assignment → Inner concepts
+ready-inner {concepts} R =
+    record { few = R .few; low = λ e r x h n. omega (arith, subst (λ (m : Node). Rising e m) n (R .rising e h), R .few) }
+
+module _ (concepts columns : List ℕ) (role inner e : ℕ) where
+  pub links-kind : (getD concepts (e * 3) 0 ≡ 2 → ⊥) → Links concepts columns role inner e false
+  links-kind ne =
+      record { found = λ p. not-both false p refl; none = λ _ l. ne (exists-node concepts e role (l .from) (l .row) .0) }
+
+  pub links-role : (getD concepts (e * 3 + 1) 0 ≡ role → ⊥) → Links concepts columns role inner e false
+  links-role ne =
+      record { found = λ p. not-both false p refl; none = λ _ l. ne (exists-node concepts e role (l .from) (l .row) .1) }
+
+  pub links-below :
+      (answer : Bool) → getD concepts (e * 3) 0 ≡ 2 → getD concepts (e * 3 + 1) 0 ≡ role
+      → answer ≡ has columns (getD concepts (e * 3 + 2) 0) inner → Links concepts columns role inner e answer
+  links-below answer kind of r =
+      record {
+        found =
+            λ p.
+            record {
+              from = getD concepts (e * 3 + 2) 0;
+              row = node-exists concepts e kind ∙ ap (λ (x : ℕ). existsAt x (getD concepts (e * 3 + 2) 0)) of;
+              below = sym r ∙ p;
+            };
+        none =
+            λ p l.
+            not-both (has columns (getD concepts (e * 3 + 2) 0) inner)
+            (subst (λ (x : ℕ). has columns x inner ≡ true) (sym (exists-node concepts e role (l .from) (l .row) .2)) (l .below)) (sym r ∙ p);
+      }
+
+  pub inner-low : Inner concepts → e < countOf concepts → getD concepts (e * 3) 0 ≡ 2 → getD concepts (e * 3 + 2) 0 < 192
+  inner-low I h kind = I .low e _ _ h (node-exists concepts e kind)
+
+module _ (concepts columns : List ℕ) (role inner start : ℕ) where
+  pub record NoLink (e : ℕ) : Type 0 where
+    pub from : start ≤ e
+    pub within : e ≤ countOf concepts
+    pub none : (d : ℕ) → start ≤ d → d < e → Linkable concepts columns role inner d → ⊥
+
+  pub no-link-first : start ≤ countOf concepts → NoLink start
+  no-link-first h = record { from = omega arith; within = h; none = λ d p q l. omega arith }
+
+  pub no-link-more : (e : ℕ) (answer : Bool) → NoLink e → e < countOf concepts → Links concepts columns role inner e answer → answer ≡ false → NoLink (e + 1)
+  no-link-more e answer N h L b =
+      record { from = omega (arith, N .from); within = omega arith; none = λ d p q. go d p q (eqb d e) refl }
+    where
+      go : (d : ℕ) → start ≤ d → d < e + 1 → (t : Bool) → eqb d e ≡ t → Linkable concepts columns role inner d → ⊥
+      go d p q true s l = L .none b (subst (λ (x : ℕ). Linkable concepts columns role inner x) (eqb-true d e s) l)
+      go d p q false s l = N .none d p (omega (arith, eqb-false d e s)) l
+
+  pub next-found : (e : ℕ) (answer : Bool) → NoLink e → e < countOf concepts → Links concepts columns role inner e answer → answer ≡ true → NextLink concepts columns role inner start e
+  next-found e answer N h L b = record { from = N .from; within = N .within; none = N .none; found = λ _. L .found b }
+
+  pub next-none : (e : ℕ) → NoLink e → countOf concepts ≤ e → NextLink concepts columns role inner start (countOf concepts)
+  next-none e N h =
+      record {
+        from = omega (arith, N .from, N .within);
+        within = omega arith;
+        none = λ d p q. N .none d p (omega arith);
+        found = λ p. absurd (omega arith);
+      }
+
+-- the loop over what links to f
+pub record Linked (concepts inclusions atoms assignment : List ℕ) (f : ℕ) (before after : List ℕ) (changed : Bool) (e : ℕ) : Type 0 where
+  pub within : e ≤ countOf concepts
+  pub passed :
+      Pass concepts inclusions (chooseFrom atoms assignment)
+      (λ l. (d : ℕ) → d < e → Linkable concepts l (getD concepts (f * 3 + 1) 0) (getD concepts (f * 3 + 2) 0) d → Into (countOf concepts) l d f)
+      before after changed
+  pub next : e < countOf concepts → Linkable concepts after (getD concepts (f * 3 + 1) 0) (getD concepts (f * 3 + 2) 0) e
+
+module _ (concepts inclusions atoms assignment : List ℕ) (f : ℕ) where
+  pub not-linked :
+      (columns : List ℕ) → (getD concepts (f * 3) 0 ≡ 2 → ⊥)
+      → Pass concepts inclusions (chooseFrom atoms assignment) (LinkedTo concepts f) columns columns false
+  not-linked columns ne = pass-none (λ e r y h n l. absurd (ne (exists-node concepts f r y n .0)))
+
+  pub linked-first :
+      (columns : List ℕ) (e : ℕ) → NextLink concepts columns (getD concepts (f * 3 + 1) 0) (getD concepts (f * 3 + 2) 0) 0 e
+      → Linked concepts inclusions atoms assignment f columns columns false e
+  linked-first columns e N =
+      record { within = N .within; passed = pass-none (λ d h l. absurd (N .none d (omega arith) h l)); next = N .found }
+
+  pub linked-done :
+      (before after : List ℕ) (changed : Bool) (e : ℕ) → Linked concepts inclusions atoms assignment f before after changed e → countOf concepts ≤ e
+      → Pass concepts inclusions (chooseFrom atoms assignment) (LinkedTo concepts f) before after changed
+  linked-done before after changed e L h =
+      pass-as (L .passed)
+      (λ q d r y l n k.
+      let m : (getD concepts (f * 3) 0 ≡ 2) × (getD concepts (f * 3 + 1) 0 ≡ r) × (getD concepts (f * 3 + 2) 0 ≡ y) = exists-node concepts f r y n in
+      q d (omega arith)
+      (subst (λ (x : ℕ). Linkable concepts before x (getD concepts (f * 3 + 2) 0) d) (sym (m .1))
+      (subst (λ (x : ℕ). Linkable concepts before r x d) (sym (m .2)) k)))
+
+  module _ (R : Ready concepts inclusions atoms assignment) (inside : f < countOf concepts) (kind : getD concepts (f * 3) 0 ≡ 2)
+      (before mid after : List ℕ) (a b : Bool) (e g : ℕ) (L : Linked concepts inclusions atoms assignment f before mid a e)
+      (h : e < countOf concepts) (T : Takes mid after (λ j. j ≡ f) (λ i. has mid i e ≡ true) b)
+      (N : NextLink concepts after (getD concepts (f * 3 + 1) 0) (getD concepts (f * 3 + 2) 0) (e + 1) g) where
+    linked-step : Pass concepts inclusions (chooseFrom atoms assignment) (λ l. Into (countOf concepts) l e f) mid after b
+    linked-step =
+        step-pass (R .few) T
+        (λ s i j l _ p q.
+        let k = L .next h in
+        let n : node concepts f ≡ existsAt (getD concepts (f * 3 + 1) 0) (getD concepts (f * 3 + 2) 0) = node-exists concepts f kind in
+        subst (λ (x : ℕ). Flow concepts inclusions (chooseFrom atoms assignment) i x) (sym p)
+        (flow-linked i e f (getD concepts (f * 3 + 1) 0) (k .from) (getD concepts (f * 3 + 2) 0) l h inside (k .row) n
+        (s (k .from) (getD concepts (f * 3 + 2) 0) (inner-known e (k .from) h (k .row)) (inner-known f (getD concepts (f * 3 + 2) 0) inside n) (k .below))
+        (s i e l h q)))
+        (λ w i l u. w i f l refl u)
+      where
+        inner-known : (d x : ℕ) {r : ℕ} → d < countOf concepts → node concepts d ≡ existsAt r x → x < countOf concepts
+        inner-known d x l n = omega (arith, subst (λ (m : Node). Rising d m) n (R .rising d l))
+
+    pub linked-more : Linked concepts inclusions atoms assignment f before after (a || b) g
+    linked-more =
+        record {
+          within = N .within;
+          passed = pass-as (pass-seen {Q′ = λ l. (d : ℕ) → e + 1 ≤ d → d < g → Linkable concepts l (getD concepts (f * 3 + 1) 0) (getD concepts (f * 3 + 2) 0) d → ⊥} (pass-then (L .passed) linked-step) (N .none)) (λ q d l k. go q d l k (eqb d e) refl (ltb d e) refl);
+          next = N .found;
+        }
+      where
+        go :
+            (((d : ℕ) → d < e → Linkable concepts before (getD concepts (f * 3 + 1) 0) (getD concepts (f * 3 + 2) 0) d → Into (countOf concepts) before d f)
+            × Into (countOf concepts) before e f)
+            × ((d : ℕ) → e + 1 ≤ d → d < g → Linkable concepts before (getD concepts (f * 3 + 1) 0) (getD concepts (f * 3 + 2) 0) d → ⊥)
+            → (d : ℕ) → d < g → Linkable concepts before (getD concepts (f * 3 + 1) 0) (getD concepts (f * 3 + 2) 0) d
+            → (t : Bool) → eqb d e ≡ t → (u : Bool) → ltb d e ≡ u → Into (countOf concepts) before d f
+        go q d l k true s u v = subst (λ (x : ℕ). Into (countOf concepts) before x f) (sym (eqb-true d e s)) (q .0 .1)
+        go q d l k false s true v = q .0 .0 d (ltb-true d e v) k
+        go q d l k false s false v = absurd (q .1 d (omega (arith, eqb-false d e s, ltb-false d e v)) l k)
+
+-- rows of one name
+module _ (concepts : List ℕ) (k name : ℕ) where
+  pub named-not : (getD concepts (k * 3) 0 ≡ 1 → ⊥) → IsNamed concepts k name false
+  named-not ne = record { found = λ p. not-both false p refl; none = λ _ n. ne (name-node concepts k name n .0) }
+
+  pub named-same : getD concepts (k * 3) 0 ≡ 1 → IsNamed concepts k name (eqb (getD concepts (k * 3 + 1) 0) name)
+  named-same kind =
+      record {
+        found = λ p. node-name concepts k kind ∙ ap nameAt (eqb-true (getD concepts (k * 3 + 1) 0) name p);
+        none = λ p n. eqb-false (getD concepts (k * 3 + 1) 0) name p (name-node concepts k name n .1);
+      }
+
+module _ (concepts : List ℕ) (j : ℕ) where
+  pub record NoneNamed (k : ℕ) : Type 0 where
+    pub within : k ≤ j
+    pub none : (i : ℕ) → i < k → node concepts i ≡ nameAt (getD concepts (j * 3 + 1) 0) → ⊥
+
+  pub named-first : NoneNamed 0
+  named-first = record { within = omega arith; none = λ i h. absurd (omega arith) }
+
+  pub named-more : (k : ℕ) (answer : Bool) → NoneNamed k → k < j → IsNamed concepts k (getD concepts (j * 3 + 1) 0) answer → answer ≡ false → NoneNamed (k + 1)
+  named-more k answer N h I b =
+      record { within = omega arith; none = below-more (λ i. node concepts i ≡ nameAt (getD concepts (j * 3 + 1) 0) → ⊥) k (N .none) (I .none b) }
+
+  of-name : (n i : ℕ) → node concepts j ≡ nameAt n → node concepts i ≡ nameAt n → node concepts i ≡ nameAt (getD concepts (j * 3 + 1) 0)
+  of-name n i p q = q ∙ ap nameAt (sym (name-node concepts j n p .1))
+
+  least : (k : ℕ) → NoneNamed k → (n i : ℕ) → node concepts j ≡ nameAt n → node concepts i ≡ nameAt n → k ≤ i
+  least k N n i p q = go (ltb i k) refl
+    where
+      go : (t : Bool) → ltb i k ≡ t → k ≤ i
+      go true s = absurd (N .none i (ltb-true i k s) (of-name n i p q))
+      go false s = ltb-false i k s
+
+  pub named-found :
+      (k : ℕ) (answer : Bool) → NoneNamed k → k < j → IsNamed concepts k (getD concepts (j * 3 + 1) 0) answer → answer ≡ true → FirstNamed concepts j k
+  named-found k answer N h I b =
+      record { low = N .within; named = λ n p. I .found b ∙ ap nameAt (name-node concepts j n p .1); least = least k N }
+
+  pub named-self : (k : ℕ) → NoneNamed k → j ≤ k → FirstNamed concepts j j
+  named-self k N h = record { low = omega arith; named = λ n p. p; least = λ n i p q. omega (arith, least k N n i p q, N .within) }
+
+module _ (concepts : List ℕ) where
+  pub record FirstsTo (j : ℕ) (firsts : List ℕ) : Type 0 where
+    pub within : j ≤ countOf concepts
+    pub long : length firsts ≡ 192
+    pub each : (i : ℕ) → i < j → FirstNamed concepts i (getD firsts i 0)
+
+  pub firsts-none : (firsts : List ℕ) → length firsts ≡ 192 → FirstsTo 0 firsts
+  firsts-none firsts h = record { within = omega arith; long = h; each = λ i l. absurd (omega arith) }
+
+  pub firsts-more :
+      (j : ℕ) (firsts : List ℕ) (k : ℕ) → countOf concepts ≤ 192 → FirstsTo j firsts → j < countOf concepts → FirstNamed concepts j k
+      → FirstsTo (j + 1) (set firsts j k)
+  firsts-more j firsts k few F h N =
+      record { within = omega arith; long = length-set firsts j k ∙ F .long; each = λ i l. go i l (eqb i j) refl }
+    where
+      go : (i : ℕ) → i < j + 1 → (t : Bool) → eqb i j ≡ t → FirstNamed concepts i (getD (set firsts j k) i 0)
+      go i l true s =
+          subst (λ (x : ℕ). FirstNamed concepts x (getD (set firsts j k) x 0)) (sym (eqb-true i j s))
+          (subst (λ (x : ℕ). FirstNamed concepts j x) (sym (getD-set-same firsts j k 0 (omega (arith, F .long)))) N)
+      go i l false s =
+          subst (λ (x : ℕ). FirstNamed concepts i x) (sym (getD-set-other firsts j i k 0 (eqb-false i j s))) (F .each i (omega (arith, eqb-false i j s)))
+
+  pub firsts-done : (j : ℕ) (firsts : List ℕ) → FirstsTo j firsts → countOf concepts ≤ j → Firsts concepts firsts
+  firsts-done j firsts F h = record { long = F .long; each = λ i l. F .each i (omega arith) }

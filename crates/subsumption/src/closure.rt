@@ -1,0 +1,432 @@
+// The closure of the columns: column j is the set of ids known to be below j, three words of 64 bits.
+// Private to the crate.
+ghost use mathlib.Core.Path.{_≡_};
+ghost use Prim.Native.Nat.{ℕ, _≤_, _<_};
+ghost use mathlib.Core.Bool.{true};
+ghost use mathlib.Core.List.{List·Memᴰ};
+ghost use Rattle.subsumption.specs.Tables.{countOf};
+ghost use Rattle.subsumption.specs.Atoms.{pick};
+ghost use lib.ListN.{length};
+ghost use Rattle.subsumption.specs.Closure.{has, Absorbs, Takes, inThree, Known, Common, Ready, Firsts, Settled, chooseFrom, Pass, AllSettled, AllIncluded, LinkedTo, AllLinked, AllTaken, Inner, Links, NextLink, IsNamed, FirstNamed, Empty, Closed};
+
+const ALL: u64 = 18446744073709551615;
+
+// The one place that changes a column.
+fn absorb(columns: &mut [u64], at: usize, add: u64) -> bool
+    requires { ⌜ at < length (now columns) ⌝ }
+    ensures { λ r. ⌜ Absorbs (now (columns .entry)) (now (columns .exit)) at add r ⌝ }
+{
+    let old = columns[at];
+    let new = old | add;
+    columns[at] = new;
+    old != new
+}
+
+fn take(columns: &mut [u64], to: usize, first: u64, second: u64, third: u64) -> bool
+    requires { ⌜ length (now columns) ≡ 576 ⌝ }
+    requires { ⌜ to < 192 ⌝ }
+    ensures { λ r. ⌜ Takes (now (columns .entry)) (now (columns .exit)) (λ j. j ≡ to) (inThree first second third) r ⌝ }
+{
+    let a = absorb(columns, to * 3, first);
+    let b = absorb(columns, to * 3 + 1, second);
+    let c = absorb(columns, to * 3 + 2, third);
+    a | b | c
+}
+
+// Everything known to be below `from` is below `to`.
+fn flow(columns: &mut [u64], from: usize, to: usize) -> bool
+    requires { ⌜ length (now columns) ≡ 576 ⌝ }
+    requires { ⌜ (from < 192) × (to < 192) ⌝ }
+    ensures { λ r. ⌜ Takes (now (columns .entry)) (now (columns .exit)) (λ j. j ≡ to) (λ i. has (now (columns .entry)) i from ≡ true) r ⌝ }
+{
+    let first = columns[from * 3];
+    let second = columns[from * 3 + 1];
+    let third = columns[from * 3 + 2];
+    take(columns, to, first, second, third)
+}
+
+// Everything known to be below both `left` and `right` is below `to`.
+fn meet(columns: &mut [u64], left: usize, right: usize, to: usize) -> bool
+    requires { ⌜ length (now columns) ≡ 576 ⌝ }
+    requires { ⌜ (left < 192) × (right < 192) × (to < 192) ⌝ }
+    ensures { λ r. ⌜ Takes (now (columns .entry)) (now (columns .exit)) (λ j. j ≡ to)
+        (λ i. (has (now (columns .entry)) i left ≡ true) × (has (now (columns .entry)) i right ≡ true)) r ⌝ }
+{
+    let first = columns[left * 3] & columns[right * 3];
+    let second = columns[left * 3 + 1] & columns[right * 3 + 1];
+    let third = columns[left * 3 + 2] & columns[right * 3 + 2];
+    take(columns, to, first, second, third)
+}
+
+// Every id is below `to`.
+fn fill(columns: &mut [u64], to: usize) -> bool
+    requires { ⌜ length (now columns) ≡ 576 ⌝ }
+    requires { ⌜ to < 192 ⌝ }
+    ensures { λ r. ⌜ Takes (now (columns .entry)) (now (columns .exit)) (λ j. j ≡ to) (λ i. Unit {0}) r ⌝ }
+{
+    take(columns, to, ALL, ALL, ALL)
+}
+
+// An id is below itself.
+fn mark(columns: &mut [u64], id: usize) -> bool
+    requires { ⌜ length (now columns) ≡ 576 ⌝ }
+    requires { ⌜ id < 192 ⌝ }
+    ensures { λ r. ⌜ Takes (now (columns .entry)) (now (columns .exit)) (λ j. j ≡ id) (λ i. i ≡ id) r ⌝ }
+{
+    absorb(columns, id * 3 + id / 64, 1 << (id % 64))
+}
+
+// Whether i is known to be below j.
+pub fn below(columns: &[u64], i: usize, j: usize) -> bool
+    requires { ⌜ length (now columns) ≡ 576 ⌝ }
+    requires { ⌜ (i < 192) × (j < 192) ⌝ }
+    ensures { λ r. ⌜ r ≡ has (now (columns .entry)) i j ⌝ }
+{
+    (columns[j * 3 + i / 64] >> (i % 64)) % 2 == 1
+}
+
+// Of the word `part` of each chosen atom's column, the bits that all have.
+fn common(atoms: &[u16], choice: u64, columns: &[u64], part: usize) -> u64
+    requires { ⌜ length (now columns) ≡ 576 ⌝ }
+    requires { ⌜ Known (now atoms) ⌝ }
+    requires { ⌜ part < 3 ⌝ }
+    ensures { λ r. ⌜ Common (length (now (atoms .entry))) (now (atoms .entry)) choice (now (columns .entry)) part r ⌝ }
+{
+    let mut word = ALL;
+    let mut q = 0;
+    while q < atoms.len() {
+        let atom = atoms[q] as usize;
+        let picked = (choice >> q) % 2;
+        q += 1;
+        if picked == 0 {
+            continue;
+        }
+        word = word & columns[atom * 3 + part];
+    }
+    word
+}
+
+// Everything known to be below all chosen atoms is below the variable `to`.
+fn gather(atoms: &[u16], choice: u64, columns: &mut [u64], to: usize) -> bool
+    requires { ⌜ length (now columns) ≡ 576 ⌝ }
+    requires { ⌜ Known (now atoms) ⌝ }
+    requires { ⌜ to < 192 ⌝ }
+    ensures { λ r. ⌜ Takes (now (columns .entry)) (now (columns .exit)) (λ j. j ≡ to)
+        (λ i. (p : ℕ) → List·Memᴰ p (pick (now (atoms .entry)) choice) → has (now (columns .entry)) i p ≡ true) r ⌝ }
+{
+    let first = common(atoms, choice, columns, 0);
+    let second = common(atoms, choice, columns, 1);
+    let third = common(atoms, choice, columns, 2);
+    take(columns, to, first, second, third)
+}
+
+// Everything known to be below the variable `from` is below all chosen atoms.
+fn spread(atoms: &[u16], choice: u64, columns: &mut [u64], from: usize) -> bool
+    requires { ⌜ length (now columns) ≡ 576 ⌝ }
+    requires { ⌜ Known (now atoms) ⌝ }
+    requires { ⌜ from < 192 ⌝ }
+    ensures { λ r. ⌜ Takes (now (columns .entry)) (now (columns .exit)) (λ p. List·Memᴰ p (pick (now (atoms .entry)) choice))
+        (λ i. has (now (columns .entry)) i from ≡ true) r ⌝ }
+{
+    let mut changed = false;
+    let mut q = 0;
+    while q < atoms.len() {
+        let atom = atoms[q] as usize;
+        let picked = (choice >> q) % 2;
+        q += 1;
+        if picked == 0 {
+            continue;
+        }
+        let new = flow(columns, from, atom);
+        changed = changed | new;
+    }
+    changed
+}
+
+// The steps at the row j.
+fn settle(
+    concepts: &[u16],
+    inclusions: &[u16],
+    atoms: &[u16],
+    assignment: &[u64],
+    firsts: &[u16],
+    columns: &mut [u64],
+    j: usize,
+) -> bool
+    requires { ⌜ Ready (now concepts) (now inclusions) (now atoms) (now assignment) ⌝ }
+    requires { ⌜ Firsts (now concepts) (now firsts) ⌝ }
+    requires { ⌜ length (now columns) ≡ 576 ⌝ }
+    requires { ⌜ j < countOf (now concepts) ⌝ }
+    ensures { λ r. ⌜ Pass (now (concepts .entry)) (now (inclusions .entry)) (chooseFrom (now (atoms .entry)) (now (assignment .entry)))
+        (Settled (now (concepts .entry)) (now (firsts .entry)) (chooseFrom (now (atoms .entry)) (now (assignment .entry))) j)
+        (now (columns .entry)) (now (columns .exit)) r ⌝ }
+{
+    let kind = concepts[j * 3];
+    let x = concepts[j * 3 + 1] as usize;
+    let own = mark(columns, j);
+    if kind == 1 {
+        let first = firsts[j] as usize;
+        let a = flow(columns, j, first);
+        let b = flow(columns, first, j);
+        return own | a | b;
+    }
+    if kind == 2 {
+        return own;
+    }
+    if kind == 3 {
+        let y = concepts[j * 3 + 2] as usize;
+        let a = flow(columns, j, x);
+        let b = flow(columns, j, y);
+        let c = meet(columns, x, y, j);
+        return own | a | b | c;
+    }
+    if kind == 4 {
+        let choice = assignment[x];
+        let a = spread(atoms, choice, columns, j);
+        let b = gather(atoms, choice, columns, j);
+        return own | a | b;
+    }
+    let a = fill(columns, j);
+    own | a
+}
+
+// The steps at every row.
+fn settle_all(
+    concepts: &[u16],
+    inclusions: &[u16],
+    atoms: &[u16],
+    assignment: &[u64],
+    firsts: &[u16],
+    columns: &mut [u64],
+) -> bool
+    requires { ⌜ Ready (now concepts) (now inclusions) (now atoms) (now assignment) ⌝ }
+    requires { ⌜ Firsts (now concepts) (now firsts) ⌝ }
+    requires { ⌜ length (now columns) ≡ 576 ⌝ }
+    ensures { λ r. ⌜ Pass (now (concepts .entry)) (now (inclusions .entry)) (chooseFrom (now (atoms .entry)) (now (assignment .entry)))
+        (AllSettled (now (concepts .entry)) (now (firsts .entry)) (chooseFrom (now (atoms .entry)) (now (assignment .entry))))
+        (now (columns .entry)) (now (columns .exit)) r ⌝ }
+{
+    let count = concepts.len() / 3;
+    let mut changed = false;
+    let mut j = 0;
+    while j < count {
+        let new = settle(concepts, inclusions, atoms, assignment, firsts, columns, j);
+        changed = changed | new;
+        j += 1;
+    }
+    changed
+}
+
+// The inclusions: what is below a left side is below the right side.
+fn include_all(
+    concepts: &[u16],
+    inclusions: &[u16],
+    atoms: &[u16],
+    assignment: &[u64],
+    columns: &mut [u64],
+) -> bool
+    requires { ⌜ Ready (now concepts) (now inclusions) (now atoms) (now assignment) ⌝ }
+    requires { ⌜ length (now columns) ≡ 576 ⌝ }
+    ensures { λ r. ⌜ Pass (now (concepts .entry)) (now (inclusions .entry)) (chooseFrom (now (atoms .entry)) (now (assignment .entry)))
+        (AllIncluded (now (concepts .entry)) (now (inclusions .entry)))
+        (now (columns .entry)) (now (columns .exit)) r ⌝ }
+{
+    let count = inclusions.len() / 2;
+    let mut changed = false;
+    let mut m = 0;
+    while m < count {
+        let left = inclusions[m * 2] as usize;
+        let right = inclusions[m * 2 + 1] as usize;
+        let new = flow(columns, left, right);
+        changed = changed | new;
+        m += 1;
+    }
+    changed
+}
+
+// Whether the row e is an existential of that role whose inner id is below that inner id.
+fn links(concepts: &[u16], columns: &[u64], role: u16, inner: usize, e: usize) -> bool
+    requires { ⌜ Inner (now concepts) ⌝ }
+    requires { ⌜ length (now columns) ≡ 576 ⌝ }
+    requires { ⌜ (inner < 192) × (e < countOf (now concepts)) ⌝ }
+    ensures { λ r. ⌜ Links (now (concepts .entry)) (now (columns .entry)) role inner e r ⌝ }
+{
+    if concepts[e * 3] != 2 {
+        return false;
+    }
+    if concepts[e * 3 + 1] != role {
+        return false;
+    }
+    let from = concepts[e * 3 + 2] as usize;
+    below(columns, from, inner)
+}
+
+// The first such row, from `start` on.
+fn next_link(concepts: &[u16], columns: &[u64], role: u16, inner: usize, start: usize) -> usize
+    requires { ⌜ Inner (now concepts) ⌝ }
+    requires { ⌜ length (now columns) ≡ 576 ⌝ }
+    requires { ⌜ (inner < 192) × (start ≤ countOf (now concepts)) ⌝ }
+    ensures { λ r. ⌜ NextLink (now (concepts .entry)) (now (columns .entry)) role inner start r ⌝ }
+{
+    let count = concepts.len() / 3;
+    let mut e = start;
+    while e < count {
+        if links(concepts, columns, role, inner, e) {
+            return e;
+        }
+        e += 1;
+    }
+    count
+}
+
+// An existential f: what is below an existential of f's role whose inner id is below f's inner id is below f.
+fn link_to(
+    concepts: &[u16],
+    inclusions: &[u16],
+    atoms: &[u16],
+    assignment: &[u64],
+    columns: &mut [u64],
+    f: usize,
+) -> bool
+    requires { ⌜ Ready (now concepts) (now inclusions) (now atoms) (now assignment) ⌝ }
+    requires { ⌜ length (now columns) ≡ 576 ⌝ }
+    requires { ⌜ f < countOf (now concepts) ⌝ }
+    ensures { λ r. ⌜ Pass (now (concepts .entry)) (now (inclusions .entry)) (chooseFrom (now (atoms .entry)) (now (assignment .entry)))
+        (LinkedTo (now (concepts .entry)) f)
+        (now (columns .entry)) (now (columns .exit)) r ⌝ }
+{
+    if concepts[f * 3] != 2 {
+        return false;
+    }
+    let role = concepts[f * 3 + 1];
+    let inner = concepts[f * 3 + 2] as usize;
+    let count = concepts.len() / 3;
+    let mut changed = false;
+    let mut e = next_link(concepts, columns, role, inner, 0);
+    while e < count {
+        let new = flow(columns, e, f);
+        changed = changed | new;
+        e = next_link(concepts, columns, role, inner, e + 1);
+    }
+    changed
+}
+
+fn link_all(
+    concepts: &[u16],
+    inclusions: &[u16],
+    atoms: &[u16],
+    assignment: &[u64],
+    columns: &mut [u64],
+) -> bool
+    requires { ⌜ Ready (now concepts) (now inclusions) (now atoms) (now assignment) ⌝ }
+    requires { ⌜ length (now columns) ≡ 576 ⌝ }
+    ensures { λ r. ⌜ Pass (now (concepts .entry)) (now (inclusions .entry)) (chooseFrom (now (atoms .entry)) (now (assignment .entry)))
+        (AllLinked (now (concepts .entry)))
+        (now (columns .entry)) (now (columns .exit)) r ⌝ }
+{
+    let count = concepts.len() / 3;
+    let mut changed = false;
+    let mut f = 0;
+    while f < count {
+        let new = link_to(concepts, inclusions, atoms, assignment, columns, f);
+        changed = changed | new;
+        f += 1;
+    }
+    changed
+}
+
+// One round. Existentials are looked for only when all the rest is quiet.
+fn round(
+    concepts: &[u16],
+    inclusions: &[u16],
+    atoms: &[u16],
+    assignment: &[u64],
+    firsts: &[u16],
+    columns: &mut [u64],
+) -> bool
+    requires { ⌜ Ready (now concepts) (now inclusions) (now atoms) (now assignment) ⌝ }
+    requires { ⌜ Firsts (now concepts) (now firsts) ⌝ }
+    requires { ⌜ length (now columns) ≡ 576 ⌝ }
+    ensures { λ r. ⌜ Pass (now (concepts .entry)) (now (inclusions .entry)) (chooseFrom (now (atoms .entry)) (now (assignment .entry)))
+        (AllTaken (now (concepts .entry)) (now (inclusions .entry)) (chooseFrom (now (atoms .entry)) (now (assignment .entry))) (now (firsts .entry)))
+        (now (columns .entry)) (now (columns .exit)) r ⌝ }
+{
+    let a = settle_all(concepts, inclusions, atoms, assignment, firsts, columns);
+    let b = include_all(concepts, inclusions, atoms, assignment, columns);
+    if a | b {
+        return true;
+    }
+    link_all(concepts, inclusions, atoms, assignment, columns)
+}
+
+fn is_named(concepts: &[u16], k: usize, name: u16) -> bool
+    requires { ⌜ k < countOf (now concepts) ⌝ }
+    ensures { λ r. ⌜ IsNamed (now (concepts .entry)) k name r ⌝ }
+{
+    if concepts[k * 3] != 1 {
+        return false;
+    }
+    concepts[k * 3 + 1] == name
+}
+
+// The first row of j's name.
+fn first_named(concepts: &[u16], j: usize) -> usize
+    requires { ⌜ j < countOf (now concepts) ⌝ }
+    ensures { λ r. ⌜ FirstNamed (now (concepts .entry)) j r ⌝ }
+{
+    let name = concepts[j * 3 + 1];
+    let mut k = 0;
+    while k < j {
+        if is_named(concepts, k, name) {
+            return k;
+        }
+        k += 1;
+    }
+    j
+}
+
+fn note_firsts(concepts: &[u16], firsts: &mut [u16])
+    requires { ⌜ countOf (now concepts) ≤ 192 ⌝ }
+    requires { ⌜ length (now firsts) ≡ 192 ⌝ }
+    ensures { λ r. ⌜ Firsts (now (concepts .entry)) (now (firsts .exit)) ⌝ }
+{
+    let count = concepts.len() / 3;
+    let mut j = 0;
+    while j < count {
+        let first = first_named(concepts, j);
+        firsts[j] = first as u16;
+        j += 1;
+    }
+}
+
+fn clear(columns: &mut [u64])
+    requires { ⌜ length (now columns) ≡ 576 ⌝ }
+    ensures { λ r. ⌜ Empty (now (columns .exit)) ⌝ }
+{
+    let mut p = 0;
+    while p < 576 {
+        columns[p] = 0;
+        p += 1;
+    }
+}
+
+// The columns hold just what flows.
+pub fn close(
+    concepts: &[u16],
+    inclusions: &[u16],
+    atoms: &[u16],
+    assignment: &[u64],
+    columns: &mut [u64],
+)
+    requires { ⌜ Ready (now concepts) (now inclusions) (now atoms) (now assignment) ⌝ }
+    requires { ⌜ length (now columns) ≡ 576 ⌝ }
+    ensures { λ r. ⌜ Closed (now (concepts .entry)) (now (inclusions .entry)) (chooseFrom (now (atoms .entry)) (now (assignment .entry))) (now (columns .exit)) ⌝ }
+{
+    let mut firsts = [0u16; 192];
+    note_firsts(concepts, &mut firsts);
+    clear(columns);
+    let mut busy = true;
+    while busy {
+        busy = round(concepts, inclusions, atoms, assignment, &firsts, columns);
+    }
+}
