@@ -27,6 +27,7 @@ pub mod Lists
 pub mod AtomMarking
 pub mod Accepted
 pub mod ListingLaws
+pub mod Deciding
 pub mod Nodes
 pub mod Bits
 pub mod Columns

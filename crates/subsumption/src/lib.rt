@@ -5,4 +5,5 @@ mod closure;
 pub mod decide;
 pub mod listing;
 pub mod refusal;
-mod tables;
+pub mod table;
+pub mod tables;
