@@ -9,3 +9,4 @@ pub mod Closure
 pub mod Listing
 pub mod Table
 pub mod Decide
+pub mod Rows

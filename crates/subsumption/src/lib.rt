@@ -3,3 +3,4 @@ mod closure;
 pub mod decide;
 pub mod listing;
 pub mod refusal;
+mod rows;
