@@ -15,7 +15,7 @@ use Rattle.subsumption.specs.declared.refusal.Outcome.{Outcome}
 use Rattle.subsumption.specs.declared.refusal.Outcome.the-variants.{Done, Refused}
 use Rattle.subsumption.specs.Refusal.{orElse, refuseIf, firstAt}
 use Rattle.subsumption.specs.declared.tables.Pair.{Pair}
-use Rattle.subsumption.specs.Rows.{pairOf}
+use Rattle.subsumption.specs.TableRows.{pairOf}
 use Rattle.subsumption.specs.Tables.{Tables, or, both, Node, topAt, nameAt, existsAt, andAt, varAt, node, decode, countOf, pairsOf, leftOf, rightOf, tree, hasVariable}
 use Rattle.subsumption.specs.Atoms.{atoms}
 use Rattle.subsumption.specs.Closure.{Rising}

@@ -13,7 +13,7 @@ use Rattle.subsumption.specs.declared.refusal.Refusal.the-variants.{TooM
 use Rattle.subsumption.specs.declared.refusal.Outcome.{Outcome}
 use Rattle.subsumption.specs.declared.refusal.Outcome.the-variants.{Done, Refused}
 use Rattle.subsumption.specs.declared.tables.Row.{Row}
-use Rattle.subsumption.specs.Rows.{rowOf}
+use Rattle.subsumption.specs.TableRows.{rowOf}
 use Rattle.subsumption.specs.Tables.{Tables, or, both, anyBelow, node, decode, countOf, pairsOf, leftOf, rightOf, tree, hasVariable}
 use Rattle.subsumption.specs.Atoms.{isAtomic, occurs, inInclusion, inQuestion, isAtom, keep, atoms}
 use Rattle.subsumption.specs.Refusal.{orElse, refuseIf}

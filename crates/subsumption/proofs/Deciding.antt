@@ -13,11 +13,13 @@ use Rattle.subsumption.specs.declared.refusal.Outcome.the-variants.{Done
 use Rattle.subsumption.specs.declared.refusal.Refusal.{Refusal}
 use Rattle.subsumption.specs.declared.decide.Decision.the-variants.{Yes, No, Rejected}
 use Rattle.subsumption.specs.Tables.{Tables, tables, countOf}
-use Rattle.subsumption.specs.Atoms.{atoms}
+use Rattle.subsumption.specs.Atoms.{atoms, chosen}
 use Rattle.subsumption.specs.Subsumption.{Subsumed}
 use Rattle.subsumption.specs.Refusal.{orElse}
 use Rattle.subsumption.specs.Check.{noConcept, aloneFault, tableFault, pairFault, assignmentFaultAt, assignmentFault}
 use Rattle.subsumption.specs.Closure.{has, Ready, chooseFrom, Closed}
+use Rattle.subsumption.specs.Rows.{Written}
+use Rattle.subsumption.specs.Table.{writingFault, TableOf, Wrote}
 use Rattle.subsumption.specs.Decide.{decidingFault, Tells, Answers, Decides}
 use Rattle.subsumption.specs.Marks.{inFront}
 use Rattle.subsumption.proofs.WellFormed.{WellFormed}
@@ -26,6 +28,8 @@ use Rattle.subsumption.proofs.Refusals.{passed-first, passed-second, pa
 use Rattle.subsumption.proofs.AtomLaws.{atom-known}
 use Rattle.subsumption.proofs.Chosen.{getD-member}
 use Rattle.subsumption.proofs.Accepted.{wellFormed}
+use Rattle.subsumption.proofs.Soundness.{flow-sound}
+use Rattle.subsumption.proofs.RowLaws.{table-of}
 use Rattle.subsumption.proofs.Completeness.{closed-exactly}
 
 -- the list in front of a buffer, taken out again
@@ -118,3 +122,20 @@ module _ (t : Tables) (assignment : List ℕ) (left right : ℕ) where
 
   pub decides-no : (b : Bool) → decidingFault t assignment left right ≡ Done → Tells t assignment left right b → b ≡ false → Decides t assignment left right No
   decides-no b h s e = subst (λ (f : Outcome). Answers t assignment left right f No) (sym h) (subst (Tells t assignment left right) e s)
+
+-- ---- writing the table
+module _ (t : Tables) (assignment before after : List ℕ) where
+  pub wrote-refused : (r : Refusal) → Refused r ≡ writingFault t assignment (length before) → after ≡ before → Wrote t assignment before after (Refused r)
+  wrote-refused r e k = record { answered = e; left = k }
+
+  pub wrote-done : Done ≡ writingFault t assignment (length before) → TableOf t assignment before after → Wrote t assignment before after Done
+  wrote-done e k = record { answered = e; left = k }
+
+pub table-written :
+    (t : Tables) (assignment columns before after : List ℕ) → tableFault t ≡ Done → Closed (t .concepts) (t .inclusions) (chooseFrom (atoms t) assignment) columns
+    → Written columns (countOf (t .concepts)) before after → TableOf t assignment before after
+unfolding chosen
+table-written t assignment columns before after h c w =
+    let wf = wellFormed t h in
+    table-of t assignment (chooseFrom (atoms t) assignment) columns before after (wf .few) c w (λ i j l k f. flow-sound t assignment wf f)
+    (λ i j l k s. closed-exactly t assignment columns wf c i j l k .1 s)

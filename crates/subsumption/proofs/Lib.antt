@@ -37,3 +37,4 @@ pub mod Passes
 pub mod Settling
 pub mod Linking
 pub mod Closing
+pub mod RowLaws

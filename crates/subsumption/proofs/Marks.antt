@@ -13,7 +13,7 @@ use lib.Seq.{getD-set-same, getD-set-other}
 use borrow.Author.Tests.{eq-eqb, ne-eqb, eqb-true}
 use Rattle.subsumption.specs.declared.tables.Pair.{Pair}
 use Rattle.subsumption.specs.declared.tables.Row.{Row}
-use Rattle.subsumption.specs.Rows.{rowOf, pairOf}
+use Rattle.subsumption.specs.TableRows.{rowOf, pairOf}
 use Rattle.subsumption.specs.Tables.{or, both, anyBelow, Node, topAt, nameAt, existsAt, andAt, varAt, node, decode, countOf, pairsOf, leftOf, rightOf, tree, hasVariable}
 use Rattle.subsumption.specs.Atoms.{inside, occurs}
 use Rattle.subsumption.specs.Closure.{Rising}

@@ -1,6 +1,6 @@
 -- What a reader must believe, in 01's order. proofs/ has the laws.
 pub mod Tables
-pub mod Rows
+pub mod TableRows
 pub mod Atoms
 pub mod Subsumption
 pub mod Rules
@@ -11,3 +11,4 @@ pub mod Marks
 pub mod Listing
 pub mod Table
 pub mod Decide
+pub mod Rows

@@ -1,13 +1,30 @@
--- Rows as the code reads them.
-use Prim.Native.Nat.{ℕ, _+_, _*_}
+-- What writing the rows out promises (private to the crate).
+use Prim.Native.Nat.{ℕ, _+_, _*_, _<_, _≤_}
+use mathlib.Core.Path.{_≡_}
 use mathlib.Core.List.{List}
-use lib.ListN.{getD}
-use Rattle.subsumption.specs.declared.tables.Row.{Row}
-use Rattle.subsumption.specs.declared.tables.Pair.{Pair}
-use Rattle.subsumption.specs.Tables.{leftOf, rightOf}
+use mathlib.Core.Bool.{Bool}
+use lib.Dec.{ltb}
+use lib.ListN.{length, getD}
+use Rattle.subsumption.specs.Tables.{both}
+use Rattle.subsumption.specs.Atoms.{bit}
+use Rattle.subsumption.specs.Closure.{has}
+use Rattle.subsumption.specs.Table.{rowStart, marked}
 
-abbrev pub rowOf : List ℕ → ℕ → Row
-rowOf concepts i = record { kind = getD concepts (i * 3) 0; a = getD concepts (i * 3 + 1) 0; b = getD concepts (i * 3 + 2) 0 }
+-- the bit of a row at j: set if j is an id and i is in its column
+abbrev pub shown : List ℕ → ℕ → ℕ → ℕ → Bool
+shown columns count i j = both (ltb j count) (has columns i j)
 
-abbrev pub pairOf : List ℕ → ℕ → Pair
-pairOf pairs m = record { left = leftOf pairs m; right = rightOf pairs m }
+-- byte `at` of row i
+pub record ByteOf (columns : List ℕ) (count i at byte : ℕ) : Type 0 where
+  pub bits : (b : ℕ) → b < 8 → bit byte b ≡ shown columns count i (at * 8 + b)
+
+pub record RowWritten (columns : List ℕ) (count i : ℕ) (before after : List ℕ) : Type 0 where
+  pub size : length after ≡ length before
+  pub bits : (j : ℕ) → j < 192 → marked after i j ≡ shown columns count i j
+  pub under : (p : ℕ) → p < rowStart i → getD after p 0 ≡ getD before p 0
+  pub over : (p : ℕ) → rowStart i + 24 ≤ p → getD after p 0 ≡ getD before p 0
+
+pub record Written (columns : List ℕ) (count : ℕ) (before after : List ℕ) : Type 0 where
+  pub size : length after ≡ length before
+  pub bits : (i j : ℕ) → i < count → j < 192 → marked after i j ≡ shown columns count i j
+  pub rest : (p : ℕ) → rowStart count ≤ p → getD after p 0 ≡ getD before p 0

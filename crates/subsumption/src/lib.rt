@@ -5,5 +5,6 @@ mod closure;
 pub mod decide;
 pub mod listing;
 pub mod refusal;
+mod rows;
 pub mod table;
 pub mod tables;

@@ -5,6 +5,7 @@ use crate::check::check_tables;
 use crate::closure::close;
 use crate::listing::put_atoms;
 use crate::refusal::Outcome;
+use crate::rows::write_rows;
 ghost use mathlib.Core.Path.{_≡_};
 ghost use Prim.Native.Nat.{_<_, _≤_};
 ghost use lib.ListN.{length};
@@ -48,4 +49,58 @@ pub fn close_tables(
     let mut ids = [0u16; 64];
     let count = put_atoms(concepts, inclusions, questions, variables, &mut ids);
     close(concepts, inclusions, &ids[..count], assignment, columns);
+}
+
+// The table of accepted tables and an accepted assignment, in a buffer that is long enough.
+fn put_table(
+    concepts: &[u16],
+    inclusions: &[u16],
+    questions: &[u16],
+    variables: u16,
+    assignment: &[u64],
+    out: &mut [u8],
+)
+    requires { ⌜ tableFault (tables (now concepts) (now inclusions) (now questions) variables) ≡ Done ⌝ }
+    requires { ⌜ assignmentFault (tables (now concepts) (now inclusions) (now questions) variables) (now assignment) ≡ Done ⌝ }
+    requires { ⌜ rowStart (countOf (now concepts)) ≤ length (now out) ⌝ }
+    ensures { λ _. ⌜ TableOf (tables (now (concepts .entry)) (now (inclusions .entry)) (now (questions .entry)) variables) (now (assignment .entry)) (now (out .entry)) (now (out .exit)) ⌝ }
+{
+    let mut columns = [0u64; 576];
+    close_tables(
+        concepts,
+        inclusions,
+        questions,
+        variables,
+        assignment,
+        &mut columns,
+    );
+    write_rows(&columns, concepts.len() / 3, out);
+}
+
+// Writes the subsumption table under an assignment.
+pub fn write_table(
+    concepts: &[u16],
+    inclusions: &[u16],
+    questions: &[u16],
+    variables: u16,
+    assignment: &[u64],
+    out: &mut [u8],
+) -> Outcome
+    ensures { λ r. ⌜ Wrote (tables (now (concepts .entry)) (now (inclusions .entry)) (now (questions .entry)) variables) (now (assignment .entry)) (now (out .entry)) (now (out .exit)) r ⌝ }
+{
+    let checked = check_tables(concepts, inclusions, questions, variables);
+    if let Outcome::Refused(r) = checked {
+        return Outcome::Refused(r);
+    }
+    let choices = check_choices(concepts, inclusions, questions, variables, assignment);
+    if let Outcome::Refused(r) = choices {
+        return Outcome::Refused(r);
+    }
+    let count = concepts.len() / 3;
+    let room = check_buffer(count * 24, out.len());
+    if let Outcome::Refused(r) = room {
+        return Outcome::Refused(r);
+    }
+    put_table(concepts, inclusions, questions, variables, assignment, out);
+    Outcome::Done
 }

@@ -2,30 +2,22 @@ use borrow.Author.Needs.{needs}
 use Rattle.subsumption.proofs.Columns.{absorbs}
 use Rattle.subsumption.proofs.closure.absorb.Statement.{statement}
 use Rattle.subsumption.proofs.closure.absorb.Tie as tie
-use Rattle.subsumption.proofs.closure.absorb.Reads as reads
-use Rattle.subsumption.proofs.closure.absorb.Lts as lts
 
--- src/closure.rt:13:15
 mul-old : tie.Need-mul-old
 mul-old c = search needs
 
--- src/closure.rt:13:15
 slice-read-old : tie.Need-slice-read-old
 slice-read-old c = search needs
 
--- src/closure.rt:15:5
 mul-columns : tie.Need-mul-columns
 mul-columns c = search needs
 
--- src/closure.rt:15:5
 slice-write-columns : tie.Need-slice-write-columns
 slice-write-columns c = search needs
 
--- src/closure.rt:9:1
 same-length : tie.Need-same-length
 same-length c = search needs
 
--- src/closure.rt:9:1
 returns : tie.Need-returns
 returns c = absorbs (c .before .args .columns .now) (c .before .args .at) (c .before .args .add) (search needs) (c .slice-known .given (c .before .args .at) .fits)
 

@@ -1,15 +1,10 @@
-use Prim.Native.Nat.{ℕ, _+_, _*_, _-_, _<_, _≤_}
+use Prim.Native.Nat.{_+_}
 use native.Mathlib.Omega.{arith}
 use borrow.Author.Needs.{needs}
 use Rattle.subsumption.specs.Closure.{Firsts, chooseFrom, slack}
 use Rattle.subsumption.proofs.Closing.{Closing, weight, closing-first, closing-turn, closing-less, closing-done}
 use Rattle.subsumption.proofs.closure.close.Statement.{statement}
 use Rattle.subsumption.proofs.closure.close.Tie as tie
-use Rattle.subsumption.proofs.closure.close.Reads as reads
-use Rattle.subsumption.proofs.closure.close.Lts as lts
-use Rattle.subsumption.proofs.closure.clear.Reads as clear-reads
-use Rattle.subsumption.proofs.closure.note_firsts.Reads as note-firsts-reads
-use Rattle.subsumption.proofs.closure.round.Reads as round-reads
 
 abbrev Inv-loop : tie.InvT-loop
 Inv-loop concepts inclusions atoms assignment columns₀ firsts busy₀ columns busy = (Firsts concepts firsts) × Closing concepts inclusions (chooseFrom atoms assignment) firsts columns busy
@@ -17,43 +12,33 @@ Inv-loop concepts inclusions atoms assignment columns₀ firsts busy₀ columns 
 abbrev μ-loop : tie.MeasureT-loop
 μ-loop concepts inclusions atoms assignment columns₀ firsts busy₀ columns busy = slack columns + weight busy
 
--- src/closure.rt:387:27
 slice-aggregate-note-firsts : tie.Need-slice-aggregate-note-firsts Inv-loop μ-loop
 slice-aggregate-note-firsts c = omega arith
 
--- src/closure.rt:387:5
 note-firsts-requires : tie.Need-note-firsts-requires Inv-loop μ-loop
 note-firsts-requires c κs = (c .before .before .before .before .before .before .pre .0 .few, omega arith)
 
--- src/closure.rt:388:5
 clear-requires : tie.Need-clear-requires Inv-loop μ-loop
 clear-requires c κs = c .before .before .before .before .before .before .before .before .before .pre .1
 
--- src/closure.rt:390:5
 loop-holds : tie.Need-loop-holds Inv-loop μ-loop
 loop-holds c = (c .before .before .before .before .before .note-firsts .ensures, closing-first _ _ _ _ _ (c .before .before .before .before .before .before .before .before .before .before .before .before .pre .0 .few) (c .before .before .clear .ensures))
 
--- src/closure.rt:391:63
 slice-aggregate-round : tie.Need-slice-aggregate-round Inv-loop μ-loop
 slice-aggregate-round c = search needs
 
--- src/closure.rt:391:9
 round-requires : tie.Need-round-requires Inv-loop μ-loop
 round-requires c κs = (c .before .before .before .before .before .before .before .before .before .before .before .before .before .before .before .before .pre .0, (c .before .before .before .loop .inv .0, c .before .before .before .loop .inv .1 .long))
 
--- src/closure.rt:390:5
 loop-less : tie.Need-loop-less Inv-loop μ-loop
 loop-less c = closing-less _ _ _ _ _ _ _ _ (c .before .before .before .before .before .loop-test .taken) (c .before .before .round .ensures)
 
--- src/closure.rt:390:5
 loop-again : tie.Need-loop-again Inv-loop μ-loop
 loop-again c = (c .before .before .before .before .before .before .loop .inv .0, closing-turn _ _ _ _ _ _ _ _ (c .before .before .before .before .before .before .loop .inv .1) (c .before .before .round .ensures))
 
--- src/closure.rt:381:1
 same-length : tie.Need-same-length Inv-loop μ-loop
 same-length c = omega (arith, c .before .loop .inv .1 .long, c .before .before .before .before .before .before .before .before .before .before .before .before .before .before .pre .1)
 
--- src/closure.rt:381:1
 returns : tie.Need-returns Inv-loop μ-loop
 returns c = closing-done _ _ _ _ _ _ (c .loop-test .left) (c .before .loop .inv .0) (c .before .loop .inv .1)
 

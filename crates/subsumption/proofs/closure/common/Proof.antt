@@ -6,8 +6,6 @@ use Rattle.subsumption.specs.Closure.{Common}
 use Rattle.subsumption.proofs.Choices.{common-none, common-skip, common-more, common-done}
 use Rattle.subsumption.proofs.closure.common.Statement.{statement}
 use Rattle.subsumption.proofs.closure.common.Tie as tie
-use Rattle.subsumption.proofs.closure.common.Reads as reads
-use Rattle.subsumption.proofs.closure.common.Lts as lts
 
 abbrev Inv-loop : tie.InvT-loop
 Inv-loop atoms choice columns part word₀ q₀ word q = (q ≤ length atoms) × Common q atoms choice columns part word
@@ -15,63 +13,48 @@ Inv-loop atoms choice columns part word₀ q₀ word q = (q ≤ length atoms) ×
 abbrev μ-loop : tie.MeasureT-loop
 μ-loop atoms choice columns part word₀ q₀ word q = length atoms - q
 
--- src/closure.rt:96:5
 loop-holds : tie.Need-loop-holds Inv-loop μ-loop
 loop-holds c = (omega arith, common-none _ _ _ _)
 
--- src/closure.rt:97:20
 mul-atom : tie.Need-mul-atom Inv-loop μ-loop
 mul-atom c = search needs
 
--- src/closure.rt:97:20
 shared-slice-read-atom : tie.Need-shared-slice-read-atom Inv-loop μ-loop
 shared-slice-read-atom c = search needs
 
--- src/closure.rt:97:20
 cast-atom : tie.Need-cast-atom Inv-loop μ-loop
 cast-atom c = omega (arith, c .shared-slice-known .given (c .before .before .loop .q))
 
--- src/closure.rt:98:23
 shr-picked : tie.Need-shr-picked Inv-loop μ-loop
 shr-picked c = search needs
 
--- src/closure.rt:99:9
 add-q : tie.Need-add-q Inv-loop μ-loop
 add-q c = search needs
 
--- src/closure.rt:96:5
 loop-less : tie.Need-loop-less Inv-loop μ-loop
 loop-less c = search needs
 
--- src/closure.rt:96:5
 loop-again : tie.Need-loop-again Inv-loop μ-loop
 loop-again c = (omega arith, common-skip _ _ _ _ _ _ (c .before .before .before .loop .inv .1) (c .if1 .taken))
 
--- src/closure.rt:103:31
 mul-word : tie.Need-mul-word Inv-loop μ-loop
 mul-word c = omega (arith, c .before .before .before .before .pre .1 .0 .low (c .before .before .before .loop .q) (omega arith))
 
--- src/closure.rt:103:31
 add-word : tie.Need-add-word Inv-loop μ-loop
 add-word c = omega (arith, c .before .before .before .before .pre .1 .0 .low (c .before .before .before .loop .q) (omega arith))
 
--- src/closure.rt:103:23
 mul-word-2 : tie.Need-mul-word-2 Inv-loop μ-loop
 mul-word-2 c = omega (arith, c .before .before .before .before .pre .1 .0 .low (c .before .before .before .loop .q) (omega arith))
 
--- src/closure.rt:103:23
 shared-slice-read-word : tie.Need-shared-slice-read-word Inv-loop μ-loop
 shared-slice-read-word c = omega (arith, c .before .before .before .before .before .pre .1 .0 .low (c .before .before .before .before .loop .q) (omega arith))
 
--- src/closure.rt:96:5
 loop-less-2 : tie.Need-loop-less-2 Inv-loop μ-loop
 loop-less-2 c = search needs
 
--- src/closure.rt:96:5
 loop-again-2 : tie.Need-loop-again-2 Inv-loop μ-loop
 loop-again-2 c = (omega arith, common-more _ _ _ _ _ _ (c .before .before .before .before .loop .inv .1) (c .before .if1 .left))
 
--- src/closure.rt:88:1
 returns : tie.Need-returns Inv-loop μ-loop
 returns c = common-done _ _ _ _ _ _ (c .before .loop .inv .0) (omega arith) (c .before .loop .inv .1)
 

@@ -1,11 +1,8 @@
-use Prim.Native.Nat.{ℕ, _+_, _*_, _-_, _<_, _≤_}
+use Prim.Native.Nat.{_-_}
 use native.Mathlib.Omega.{arith}
 use Rattle.subsumption.proofs.Linking.{NoneNamed, named-first, named-more, named-found, named-self}
 use Rattle.subsumption.proofs.closure.first_named.Statement.{statement}
 use Rattle.subsumption.proofs.closure.first_named.Tie as tie
-use Rattle.subsumption.proofs.closure.first_named.Reads as reads
-use Rattle.subsumption.proofs.closure.first_named.Lts as lts
-use Rattle.subsumption.proofs.closure.is_named.Reads as is-named-reads
 
 abbrev Inv-loop : tie.InvT-loop
 Inv-loop concepts j name k₀ k = NoneNamed concepts j k
@@ -13,47 +10,36 @@ Inv-loop concepts j name k₀ k = NoneNamed concepts j k
 abbrev μ-loop : tie.MeasureT-loop
 μ-loop concepts j name k₀ k = j - k
 
--- src/closure.rt:344:25
 mul-name : tie.Need-mul-name Inv-loop μ-loop
 mul-name c = omega arith
 
--- src/closure.rt:344:25
 add-name : tie.Need-add-name Inv-loop μ-loop
 add-name c = omega arith
 
--- src/closure.rt:344:16
 mul-name-2 : tie.Need-mul-name-2 Inv-loop μ-loop
 mul-name-2 c = omega arith
 
--- src/closure.rt:344:16
 shared-slice-read-name : tie.Need-shared-slice-read-name Inv-loop μ-loop
 shared-slice-read-name c = omega arith
 
--- src/closure.rt:346:5
 loop-holds : tie.Need-loop-holds Inv-loop μ-loop
 loop-holds c = named-first _ _
 
--- src/closure.rt:347:12
 is-named-requires : tie.Need-is-named-requires Inv-loop μ-loop
 is-named-requires c κs = omega arith
 
--- src/closure.rt:348:13
 returns : tie.Need-returns Inv-loop μ-loop
 returns c = named-found _ _ _ _ (c .before .before .before .loop .inv) (omega arith) (c .before .is-named .ensures) (c .if1 .taken)
 
--- src/closure.rt:350:9
 add-k : tie.Need-add-k Inv-loop μ-loop
 add-k c = omega arith
 
--- src/closure.rt:346:5
 loop-less : tie.Need-loop-less Inv-loop μ-loop
 loop-less c = omega arith
 
--- src/closure.rt:346:5
 loop-again : tie.Need-loop-again Inv-loop μ-loop
 loop-again c = named-more _ _ _ _ (c .before .before .before .loop .inv) (omega arith) (c .before .is-named .ensures) (c .if1 .left)
 
--- src/closure.rt:340:1
 returns-2 : tie.Need-returns-2 Inv-loop μ-loop
 returns-2 c = named-self _ _ _ (c .before .loop .inv) (omega arith)
 

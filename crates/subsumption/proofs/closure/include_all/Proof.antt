@@ -2,13 +2,9 @@ use Prim.Native.Nat.{ℕ, _+_, _*_, _-_, _<_, _≤_}
 use native.Mathlib.Omega.{arith}
 use Rattle.subsumption.specs.Tables.{countOf, leftOf, rightOf}
 use Rattle.subsumption.specs.Closure.{Pass, Into, chooseFrom, flow-included}
-use mathlib.Core.List.{List}
 use Rattle.subsumption.proofs.Passes.{loop-first, loop-more, loop-done, flow-pass}
 use Rattle.subsumption.proofs.closure.include_all.Statement.{statement}
 use Rattle.subsumption.proofs.closure.include_all.Tie as tie
-use Rattle.subsumption.proofs.closure.include_all.Reads as reads
-use Rattle.subsumption.proofs.closure.include_all.Lts as lts
-use Rattle.subsumption.proofs.closure.flow.Reads as flow-reads
 
 abbrev Inv-loop : tie.InvT-loop
 Inv-loop concepts inclusions atoms assignment columns₀ count changed₀ m₀ columns changed m = (m ≤ count) × Pass concepts inclusions (chooseFrom atoms assignment) (λ l. (k : ℕ) → k < m → Into (countOf concepts) l (leftOf inclusions k) (rightOf inclusions k)) columns₀ columns changed
@@ -16,67 +12,51 @@ Inv-loop concepts inclusions atoms assignment columns₀ count changed₀ m₀ c
 abbrev μ-loop : tie.MeasureT-loop
 μ-loop concepts inclusions atoms assignment columns₀ count changed₀ m₀ columns changed m = count - m
 
--- src/closure.rt:224:5
 loop-holds : tie.Need-loop-holds Inv-loop μ-loop
 loop-holds c = (omega arith, loop-first (λ k l. Into (countOf (c .before .before .before .before .before .args .concepts .now)) l (leftOf (c .before .before .before .before .before .args .inclusions .now) k) (rightOf (c .before .before .before .before .before .args .inclusions .now) k)) _)
 
--- src/closure.rt:225:31
 mul-left : tie.Need-mul-left Inv-loop μ-loop
 mul-left c = omega arith
 
--- src/closure.rt:225:20
 mul-left-2 : tie.Need-mul-left-2 Inv-loop μ-loop
 mul-left-2 c = omega arith
 
--- src/closure.rt:225:20
 shared-slice-read-left : tie.Need-shared-slice-read-left Inv-loop μ-loop
 shared-slice-read-left c = omega arith
 
--- src/closure.rt:225:20
 cast-left : tie.Need-cast-left Inv-loop μ-loop
 cast-left c = omega (arith, c .shared-slice-known5 .given (c .before .before .loop .m * 2))
 
--- src/closure.rt:226:32
 mul-right : tie.Need-mul-right Inv-loop μ-loop
 mul-right c = omega arith
 
--- src/closure.rt:226:32
 add-right : tie.Need-add-right Inv-loop μ-loop
 add-right c = omega arith
 
--- src/closure.rt:226:21
 mul-right-2 : tie.Need-mul-right-2 Inv-loop μ-loop
 mul-right-2 c = omega arith
 
--- src/closure.rt:226:21
 shared-slice-read-right : tie.Need-shared-slice-read-right Inv-loop μ-loop
 shared-slice-read-right c = omega arith
 
--- src/closure.rt:226:21
 cast-right : tie.Need-cast-right Inv-loop μ-loop
 cast-right c = omega (arith, c .shared-slice-known6 .given (c .before .before .before .loop .m * 2 + 1))
 
--- src/closure.rt:227:13
 flow-requires : tie.Need-flow-requires Inv-loop μ-loop
 flow-requires c κs = (omega arith, (omega (arith, c .before .before .before .before .before .before .before .before .before .before .pre .0 .left-known (c .before .before .before .before .loop .m) (omega arith), c .before .before .before .before .before .before .before .before .before .before .pre .0 .few), omega (arith, c .before .before .before .before .before .before .before .before .before .before .pre .0 .right-known (c .before .before .before .before .loop .m) (omega arith), c .before .before .before .before .before .before .before .before .before .before .pre .0 .few)))
 
--- src/closure.rt:229:9
 add-m : tie.Need-add-m Inv-loop μ-loop
 add-m c = omega arith
 
--- src/closure.rt:224:5
 loop-less : tie.Need-loop-less Inv-loop μ-loop
 loop-less c = omega arith
 
--- src/closure.rt:224:5
 loop-again : tie.Need-loop-again Inv-loop μ-loop
 loop-again c = (omega arith, loop-more (λ k l. Into (countOf (c .before .before .before .before .before .before .before .before .before .before .before .before .before .args .concepts .now)) l (leftOf (c .before .before .before .before .before .before .before .before .before .before .before .before .before .args .inclusions .now) k) (rightOf (c .before .before .before .before .before .before .before .before .before .before .before .before .before .args .inclusions .now) k)) _ (c .before .before .before .before .before .before .before .loop .inv .1) (flow-pass _ _ (c .before .before .before .before .before .before .before .before .before .before .before .before .before .pre .0 .few) (c .before .before .before .before .before .before .before .before .before .before .before .before .before .pre .0 .left-known (c .before .before .before .before .before .before .before .loop .m) (omega arith)) (λ i h w. flow-included i (c .before .before .before .before .before .before .before .loop .m) h (omega arith) w) (c .before .before .flow .ensures)))
 
--- src/closure.rt:214:1
 same-length : tie.Need-same-length Inv-loop μ-loop
 same-length c = omega arith
 
--- src/closure.rt:214:1
 returns : tie.Need-returns Inv-loop μ-loop
 returns c = loop-done (λ k l. Into (countOf (c .before .before .before .before .before .before .before .args .concepts .now)) l (leftOf (c .before .before .before .before .before .before .before .args .inclusions .now) k) (rightOf (c .before .before .before .before .before .before .before .args .inclusions .now) k)) _ _ (omega arith) (c .before .loop .inv .1)
 

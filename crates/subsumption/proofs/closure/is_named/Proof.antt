@@ -1,45 +1,32 @@
-use borrow.Author.Needs.{needs}
-use Prim.Native.Nat.{ℕ, _+_, _*_, _-_, _<_, _≤_}
 use native.Mathlib.Omega.{arith}
 use Rattle.subsumption.proofs.Linking.{named-not, named-same}
 use Rattle.subsumption.proofs.closure.is_named.Statement.{statement}
 use Rattle.subsumption.proofs.closure.is_named.Tie as tie
-use Rattle.subsumption.proofs.closure.is_named.Reads as reads
-use Rattle.subsumption.proofs.closure.is_named.Lts as lts
 
--- src/closure.rt:333:17
 mul-if1 : tie.Need-mul-if1
 mul-if1 c = omega arith
 
--- src/closure.rt:333:8
 mul-if1-2 : tie.Need-mul-if1-2
 mul-if1-2 c = omega arith
 
--- src/closure.rt:333:8
 shared-slice-read-if1 : tie.Need-shared-slice-read-if1
 shared-slice-read-if1 c = omega arith
 
--- src/closure.rt:334:9
 returns : tie.Need-returns
 returns c = named-not _ _ _ (c .if1 .taken)
 
--- src/closure.rt:336:14
 mul-result : tie.Need-mul-result
 mul-result c = omega arith
 
--- src/closure.rt:336:14
 add-result : tie.Need-add-result
 add-result c = omega arith
 
--- src/closure.rt:336:5
 mul-result-2 : tie.Need-mul-result-2
 mul-result-2 c = omega arith
 
--- src/closure.rt:336:5
 shared-slice-read-result : tie.Need-shared-slice-read-result
 shared-slice-read-result c = omega arith
 
--- src/closure.rt:329:1
 returns-2 : tie.Need-returns-2
 returns-2 c = named-same _ _ _ (c .before .if1 .left)
 

@@ -1,12 +1,9 @@
-use Prim.Native.Nat.{ℕ, _+_, _*_, _-_, _<_, _≤_}
+use Prim.Native.Nat.{ℕ, _-_, _<_, _≤_}
 use native.Mathlib.Omega.{arith}
 use Rattle.subsumption.specs.Closure.{Pass, LinkedTo, chooseFrom}
 use Rattle.subsumption.proofs.Passes.{loop-first, loop-more, loop-done}
 use Rattle.subsumption.proofs.closure.link_all.Statement.{statement}
 use Rattle.subsumption.proofs.closure.link_all.Tie as tie
-use Rattle.subsumption.proofs.closure.link_all.Reads as reads
-use Rattle.subsumption.proofs.closure.link_all.Lts as lts
-use Rattle.subsumption.proofs.closure.link_to.Reads as link-to-reads
 
 abbrev Inv-loop : tie.InvT-loop
 Inv-loop concepts inclusions atoms assignment columns₀ count changed₀ f₀ columns changed f = (f ≤ count) × Pass concepts inclusions (chooseFrom atoms assignment) (λ l. (k : ℕ) → k < f → LinkedTo concepts k l) columns₀ columns changed
@@ -14,31 +11,24 @@ Inv-loop concepts inclusions atoms assignment columns₀ count changed₀ f₀ c
 abbrev μ-loop : tie.MeasureT-loop
 μ-loop concepts inclusions atoms assignment columns₀ count changed₀ f₀ columns changed f = count - f
 
--- src/closure.rt:304:5
 loop-holds : tie.Need-loop-holds Inv-loop μ-loop
 loop-holds c = (omega arith, loop-first (λ k l. LinkedTo (c .before .before .before .before .before .args .concepts .now) k l) _)
 
--- src/closure.rt:305:13
 link-to-requires : tie.Need-link-to-requires Inv-loop μ-loop
 link-to-requires c κs = (c .before .before .before .before .before .before .before .before .pre .0, (omega (arith, c .before .before .loop .inv .1 .long, c .before .before .before .before .before .before .before .before .pre .1), omega arith))
 
--- src/closure.rt:307:9
 add-f : tie.Need-add-f Inv-loop μ-loop
 add-f c = omega arith
 
--- src/closure.rt:304:5
 loop-less : tie.Need-loop-less Inv-loop μ-loop
 loop-less c = omega arith
 
--- src/closure.rt:304:5
 loop-again : tie.Need-loop-again Inv-loop μ-loop
 loop-again c = (omega arith, loop-more (λ k l. LinkedTo (c .before .before .before .before .before .before .before .before .before .before .before .args .concepts .now) k l) _ (c .before .before .before .before .before .loop .inv .1) (c .before .before .link-to .ensures))
 
--- src/closure.rt:294:1
 same-length : tie.Need-same-length Inv-loop μ-loop
 same-length c = c .before .loop .inv .1 .long
 
--- src/closure.rt:294:1
 returns : tie.Need-returns Inv-loop μ-loop
 returns c = loop-done (λ k l. LinkedTo (c .before .before .before .before .before .before .before .args .concepts .now) k l) _ _ (omega arith) (c .before .loop .inv .1)
 

@@ -1,12 +1,8 @@
-use Prim.Native.Nat.{ℕ, _+_, _*_, _-_, _<_, _≤_}
+use Prim.Native.Nat.{_-_}
 use native.Mathlib.Omega.{arith}
 use Rattle.subsumption.proofs.Linking.{Linked, ready-inner, inner-low, not-linked, linked-first, linked-more, linked-done}
 use Rattle.subsumption.proofs.closure.link_to.Statement.{statement}
 use Rattle.subsumption.proofs.closure.link_to.Tie as tie
-use Rattle.subsumption.proofs.closure.link_to.Reads as reads
-use Rattle.subsumption.proofs.closure.link_to.Lts as lts
-use Rattle.subsumption.proofs.closure.flow.Reads as flow-reads
-use Rattle.subsumption.proofs.closure.next_link.Reads as next-link-reads
 
 abbrev Inv-loop : tie.InvT-loop
 Inv-loop concepts inclusions atoms assignment columns₀ f role inner count changed₀ e₀ columns changed e = Linked concepts inclusions atoms assignment f columns₀ columns changed e
@@ -14,91 +10,69 @@ Inv-loop concepts inclusions atoms assignment columns₀ f role inner count chan
 abbrev μ-loop : tie.MeasureT-loop
 μ-loop concepts inclusions atoms assignment columns₀ f role inner count changed₀ e₀ columns changed e = count - e
 
--- src/closure.rt:278:17
 mul-if1 : tie.Need-mul-if1 Inv-loop μ-loop
 mul-if1 c = omega arith
 
--- src/closure.rt:278:8
 mul-if1-2 : tie.Need-mul-if1-2 Inv-loop μ-loop
 mul-if1-2 c = omega arith
 
--- src/closure.rt:278:8
 shared-slice-read-if1 : tie.Need-shared-slice-read-if1 Inv-loop μ-loop
 shared-slice-read-if1 c = omega arith
 
--- src/closure.rt:279:9
 returns : tie.Need-returns Inv-loop μ-loop
 returns c = not-linked (c .before .before .before .before .before .before .before .args .concepts .now) (c .before .before .before .before .before .before .before .args .inclusions .now) (c .before .before .before .before .before .before .before .args .atoms .now) (c .before .before .before .before .before .before .before .args .assignment .now) _ _ (c .if1 .taken)
 
--- src/closure.rt:281:25
 mul-role : tie.Need-mul-role Inv-loop μ-loop
 mul-role c = omega arith
 
--- src/closure.rt:281:25
 add-role : tie.Need-add-role Inv-loop μ-loop
 add-role c = omega arith
 
--- src/closure.rt:281:16
 mul-role-2 : tie.Need-mul-role-2 Inv-loop μ-loop
 mul-role-2 c = omega arith
 
--- src/closure.rt:281:16
 shared-slice-read-role : tie.Need-shared-slice-read-role Inv-loop μ-loop
 shared-slice-read-role c = omega arith
 
--- src/closure.rt:282:26
 mul-inner : tie.Need-mul-inner Inv-loop μ-loop
 mul-inner c = omega arith
 
--- src/closure.rt:282:26
 add-inner : tie.Need-add-inner Inv-loop μ-loop
 add-inner c = omega arith
 
--- src/closure.rt:282:17
 mul-inner-2 : tie.Need-mul-inner-2 Inv-loop μ-loop
 mul-inner-2 c = omega arith
 
--- src/closure.rt:282:17
 shared-slice-read-inner : tie.Need-shared-slice-read-inner Inv-loop μ-loop
 shared-slice-read-inner c = omega arith
 
--- src/closure.rt:282:17
 cast-inner : tie.Need-cast-inner Inv-loop μ-loop
 cast-inner c = omega (arith, inner-low _ (c .before .before .before .before .before .before .before .before .before .args .columns .now) 0 0 _ (ready-inner (c .before .before .before .before .before .before .before .before .before .pre .0)) (c .before .before .before .before .before .before .before .before .before .pre .1 .1) (c .before .before .if1 .left))
 
--- src/closure.rt:285:9
 next-link-requires : tie.Need-next-link-requires Inv-loop μ-loop
 next-link-requires c κs = (ready-inner (c .before .before .before .before .before .before .before .before .before .before .pre .0), (c .before .before .before .before .before .before .before .before .before .before .pre .1 .0, (inner-low _ (c .before .before .before .before .before .before .before .before .before .before .args .columns .now) 0 0 _ (ready-inner (c .before .before .before .before .before .before .before .before .before .before .pre .0)) (c .before .before .before .before .before .before .before .before .before .before .pre .1 .1) (c .before .before .before .if1 .left), omega arith)))
 
--- src/closure.rt:286:5
 loop-holds : tie.Need-loop-holds Inv-loop μ-loop
 loop-holds c = linked-first _ _ _ _ _ _ _ (c .next-link .ensures)
 
--- src/closure.rt:287:13
 flow-requires : tie.Need-flow-requires Inv-loop μ-loop
 flow-requires c κs = (omega (arith, c .before .before .loop .inv .passed .long, c .before .before .before .before .before .before .before .before .before .before .before .before .before .before .pre .1 .0), (omega (arith, c .before .before .before .before .before .before .before .before .before .before .before .before .before .before .pre .0 .few), omega (arith, c .before .before .before .before .before .before .before .before .before .before .before .before .before .before .pre .0 .few)))
 
--- src/closure.rt:289:55
 add-next-link : tie.Need-add-next-link Inv-loop μ-loop
 add-next-link c = omega arith
 
--- src/closure.rt:289:9
 next-link-requires-2 : tie.Need-next-link-requires-2 Inv-loop μ-loop
 next-link-requires-2 c κs = (ready-inner (c .before .before .before .before .before .before .before .before .before .before .before .before .before .before .before .before .before .before .pre .0), (omega (arith, c .before .before .before .before .before .before .loop .inv .passed .long, c .before .before .before .before .before .before .before .before .before .before .before .before .before .before .before .before .before .before .pre .1 .0), (inner-low _ (c .before .before .before .before .before .before .before .before .before .before .before .before .before .before .before .before .before .before .args .columns .now) 0 0 _ (ready-inner (c .before .before .before .before .before .before .before .before .before .before .before .before .before .before .before .before .before .before .pre .0)) (c .before .before .before .before .before .before .before .before .before .before .before .before .before .before .before .before .before .before .pre .1 .1) (c .before .before .before .before .before .before .before .before .before .before .before .if1 .left), omega arith)))
 
--- src/closure.rt:286:5
 loop-less : tie.Need-loop-less Inv-loop μ-loop
 loop-less c = omega (arith, c .next-link2 .ensures .from, c .next-link2 .ensures .within)
 
--- src/closure.rt:286:5
 loop-again : tie.Need-loop-again Inv-loop μ-loop
 loop-again c = linked-more _ _ _ _ _ (c .before .before .before .before .before .before .before .before .before .before .before .before .before .before .before .before .before .before .before .pre .0) (c .before .before .before .before .before .before .before .before .before .before .before .before .before .before .before .before .before .before .before .pre .1 .1) (c .before .before .before .before .before .before .before .before .before .before .before .before .if1 .left) _ _ _ _ _ _ _ (c .before .before .before .before .before .before .before .loop .inv) (omega arith) (c .before .before .before .before .flow .ensures) (c .next-link2 .ensures)
 
--- src/closure.rt:270:1
 same-length : tie.Need-same-length Inv-loop μ-loop
 same-length c = c .before .loop .inv .passed .long
 
--- src/closure.rt:270:1
 returns-2 : tie.Need-returns-2 Inv-loop μ-loop
 returns-2 c = linked-done _ _ _ _ _ _ _ _ _ (c .before .loop .inv) (omega arith)
 

@@ -1,74 +1,54 @@
-use borrow.Author.Needs.{needs}
-use Prim.Native.Nat.{ℕ, _+_, _*_, _-_, _<_, _≤_}
+use Prim.Native.Nat.{_+_, _*_}
 use native.Mathlib.Omega.{arith}
 use Rattle.subsumption.proofs.Linking.{links-kind, links-role, links-below, inner-low}
 use Rattle.subsumption.proofs.closure.links.Statement.{statement}
 use Rattle.subsumption.proofs.closure.links.Tie as tie
-use Rattle.subsumption.proofs.closure.links.Reads as reads
-use Rattle.subsumption.proofs.closure.links.Lts as lts
-use Rattle.subsumption.proofs.closure.below.Reads as below-reads
 
--- src/closure.rt:241:17
 mul-if1 : tie.Need-mul-if1
 mul-if1 c = omega arith
 
--- src/closure.rt:241:8
 mul-if1-2 : tie.Need-mul-if1-2
 mul-if1-2 c = omega arith
 
--- src/closure.rt:241:8
 shared-slice-read-if1 : tie.Need-shared-slice-read-if1
 shared-slice-read-if1 c = omega arith
 
--- src/closure.rt:242:9
 returns : tie.Need-returns
 returns c = links-kind _ _ _ _ _ (c .if1 .taken)
 
--- src/closure.rt:244:17
 mul-if2 : tie.Need-mul-if2
 mul-if2 c = omega arith
 
--- src/closure.rt:244:17
 add-if2 : tie.Need-add-if2
 add-if2 c = omega arith
 
--- src/closure.rt:244:8
 mul-if2-2 : tie.Need-mul-if2-2
 mul-if2-2 c = omega arith
 
--- src/closure.rt:244:8
 shared-slice-read-if2 : tie.Need-shared-slice-read-if2
 shared-slice-read-if2 c = omega arith
 
--- src/closure.rt:245:9
 returns-2 : tie.Need-returns-2
 returns-2 c = links-role _ _ _ _ _ (c .if2 .taken)
 
--- src/closure.rt:247:25
 mul-from : tie.Need-mul-from
 mul-from c = omega arith
 
--- src/closure.rt:247:25
 add-from : tie.Need-add-from
 add-from c = omega arith
 
--- src/closure.rt:247:16
 mul-from-2 : tie.Need-mul-from-2
 mul-from-2 c = omega arith
 
--- src/closure.rt:247:16
 shared-slice-read-from : tie.Need-shared-slice-read-from
 shared-slice-read-from c = omega arith
 
--- src/closure.rt:247:16
 cast-from : tie.Need-cast-from
 cast-from c = omega (arith, c .shared-slice-known5 .given (c .before .before .before .before .before .before .before .args .e * 3 + 2))
 
--- src/closure.rt:248:5
 below-requires : tie.Need-below-requires
 below-requires c κs = (c .before .before .before .before .before .before .before .pre .1 .0, (inner-low _ (c .before .before .before .before .before .before .before .args .columns .now) 0 0 _ (c .before .before .before .before .before .before .before .pre .0) (c .before .before .before .before .before .before .before .pre .1 .1 .1) (c .before .before .before .if1 .left), c .before .before .before .before .before .before .before .pre .1 .1 .0))
 
--- src/closure.rt:235:1
 returns-3 : tie.Need-returns-3
 returns-3 c = links-below _ _ _ _ _ _ (c .before .before .before .before .if1 .left) (c .before .before .if2 .left) (c .below .ensures)
 

@@ -1,11 +1,8 @@
-use Prim.Native.Nat.{ℕ, _+_, _*_, _-_, _<_, _≤_}
+use Prim.Native.Nat.{_-_}
 use native.Mathlib.Omega.{arith}
 use Rattle.subsumption.proofs.Linking.{NoLink, no-link-first, no-link-more, next-found, next-none}
 use Rattle.subsumption.proofs.closure.next_link.Statement.{statement}
 use Rattle.subsumption.proofs.closure.next_link.Tie as tie
-use Rattle.subsumption.proofs.closure.next_link.Reads as reads
-use Rattle.subsumption.proofs.closure.next_link.Lts as lts
-use Rattle.subsumption.proofs.closure.links.Reads as links-reads
 
 abbrev Inv-loop : tie.InvT-loop
 Inv-loop concepts columns role inner start count e₀ e = NoLink concepts columns role inner start e
@@ -13,31 +10,24 @@ Inv-loop concepts columns role inner start count e₀ e = NoLink concepts column
 abbrev μ-loop : tie.MeasureT-loop
 μ-loop concepts columns role inner start count e₀ e = count - e
 
--- src/closure.rt:260:5
 loop-holds : tie.Need-loop-holds Inv-loop μ-loop
 loop-holds c = no-link-first _ _ _ _ _ (c .before .before .pre .1 .1 .1)
 
--- src/closure.rt:261:12
 links-requires : tie.Need-links-requires Inv-loop μ-loop
 links-requires c κs = (c .before .before .before .before .pre .0, (c .before .before .before .before .pre .1 .0, (c .before .before .before .before .pre .1 .1 .0, omega arith)))
 
--- src/closure.rt:262:13
 returns : tie.Need-returns Inv-loop μ-loop
 returns c = next-found _ _ _ _ _ _ _ (c .before .before .before .loop .inv) (omega arith) (c .before .links .ensures) (c .if1 .taken)
 
--- src/closure.rt:264:9
 add-e : tie.Need-add-e Inv-loop μ-loop
 add-e c = omega arith
 
--- src/closure.rt:260:5
 loop-less : tie.Need-loop-less Inv-loop μ-loop
 loop-less c = omega arith
 
--- src/closure.rt:260:5
 loop-again : tie.Need-loop-again Inv-loop μ-loop
 loop-again c = no-link-more _ _ _ _ _ _ _ (c .before .before .before .loop .inv) (omega arith) (c .before .links .ensures) (c .if1 .left)
 
--- src/closure.rt:252:1
 returns-2 : tie.Need-returns-2 Inv-loop μ-loop
 returns-2 c = next-none _ _ _ _ _ _ (c .before .loop .inv) (omega arith)
 

@@ -1,11 +1,8 @@
-use Prim.Native.Nat.{ℕ, _+_, _*_, _-_, _<_, _≤_}
+use Prim.Native.Nat.{_-_}
 use native.Mathlib.Omega.{arith}
 use Rattle.subsumption.proofs.Linking.{FirstsTo, firsts-none, firsts-more, firsts-done}
 use Rattle.subsumption.proofs.closure.note_firsts.Statement.{statement}
 use Rattle.subsumption.proofs.closure.note_firsts.Tie as tie
-use Rattle.subsumption.proofs.closure.note_firsts.Reads as reads
-use Rattle.subsumption.proofs.closure.note_firsts.Lts as lts
-use Rattle.subsumption.proofs.closure.first_named.Reads as first-named-reads
 
 abbrev Inv-loop : tie.InvT-loop
 Inv-loop concepts firsts₀ count j₀ firsts j = FirstsTo concepts j firsts
@@ -13,43 +10,33 @@ Inv-loop concepts firsts₀ count j₀ firsts j = FirstsTo concepts j firsts
 abbrev μ-loop : tie.MeasureT-loop
 μ-loop concepts firsts₀ count j₀ firsts j = count - j
 
--- src/closure.rt:362:5
 loop-holds : tie.Need-loop-holds Inv-loop μ-loop
 loop-holds c = firsts-none _ _ (c .before .before .pre .1)
 
--- src/closure.rt:363:13
 first-named-requires : tie.Need-first-named-requires Inv-loop μ-loop
 first-named-requires c κs = omega arith
 
--- src/closure.rt:364:21
 cast-firsts : tie.Need-cast-firsts Inv-loop μ-loop
 cast-firsts c = omega (arith, c .first-named .ensures .low, c .before .before .before .before .before .pre .0)
 
--- src/closure.rt:364:9
 mul-firsts : tie.Need-mul-firsts Inv-loop μ-loop
 mul-firsts c = omega arith
 
--- src/closure.rt:364:9
 slice-write-firsts : tie.Need-slice-write-firsts Inv-loop μ-loop
 slice-write-firsts c = omega (arith, c .before .before .loop .inv .long, c .before .before .before .before .before .pre .0)
 
--- src/closure.rt:365:9
 add-j : tie.Need-add-j Inv-loop μ-loop
 add-j c = omega arith
 
--- src/closure.rt:362:5
 loop-less : tie.Need-loop-less Inv-loop μ-loop
 loop-less c = omega arith
 
--- src/closure.rt:362:5
 loop-again : tie.Need-loop-again Inv-loop μ-loop
 loop-again c = firsts-more _ _ _ _ (c .before .before .before .before .before .pre .0) (c .before .before .loop .inv) (omega arith) (c .first-named .ensures)
 
--- src/closure.rt:355:1
 same-length : tie.Need-same-length Inv-loop μ-loop
 same-length c = omega arith
 
--- src/closure.rt:355:1
 returns : tie.Need-returns Inv-loop μ-loop
 returns c = firsts-done _ _ _ (c .before .loop .inv) (omega arith)
 

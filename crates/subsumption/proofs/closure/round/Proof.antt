@@ -1,40 +1,27 @@
 use borrow.Author.Needs.{needs}
-use native.Mathlib.Omega.{arith}
 use Rattle.subsumption.proofs.Passes.{pass-busy, pass-then}
 use Rattle.subsumption.proofs.Closing.{round-quiet}
 use Rattle.subsumption.proofs.closure.round.Statement.{statement}
 use Rattle.subsumption.proofs.closure.round.Tie as tie
-use Rattle.subsumption.proofs.closure.round.Reads as reads
-use Rattle.subsumption.proofs.closure.round.Lts as lts
-use Rattle.subsumption.proofs.closure.include_all.Reads as include-all-reads
-use Rattle.subsumption.proofs.closure.link_all.Reads as link-all-reads
-use Rattle.subsumption.proofs.closure.settle_all.Reads as settle-all-reads
 
--- src/closure.rt:321:9
 settle-all-requires : tie.Need-settle-all-requires
 settle-all-requires c κs = search needs
 
--- src/closure.rt:322:9
 include-all-requires : tie.Need-include-all-requires
 include-all-requires c κs = search needs
 
--- src/closure.rt:324:9
 same-length : tie.Need-same-length
 same-length c = search needs
 
--- src/closure.rt:324:9
 returns : tie.Need-returns
 returns c = pass-busy (pass-then (c .before .before .before .before .before .before .before .settle-all .ensures) (c .before .before .before .include-all .ensures)) (c .if1 .taken)
 
--- src/closure.rt:326:5
 link-all-requires : tie.Need-link-all-requires
 link-all-requires c κs = search needs
 
--- src/closure.rt:313:1
 same-length-2 : tie.Need-same-length-2
 same-length-2 c = search needs
 
--- src/closure.rt:313:1
 returns-2 : tie.Need-returns-2
 returns-2 c = round-quiet _ _ _ _ _ _ _ _ _ _ _ (c .before .before .before .before .if1 .left) (c .before .before .before .before .before .before .before .before .before .before .before .settle-all .ensures) (c .before .before .before .before .before .before .before .include-all .ensures) (c .before .before .link-all .ensures)
 

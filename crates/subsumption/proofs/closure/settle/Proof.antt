@@ -1,164 +1,118 @@
-use borrow.Author.Needs.{needs}
 use native.Mathlib.Omega.{arith}
 use Prim.Native.Nat.{_+_, _*_}
 use Rattle.subsumption.proofs.Nodes.{node-other}
 use Rattle.subsumption.proofs.Settling.{ready-known, first-low, and-low, var-low, settle-exists, settle-top, settle-name, settle-and, settle-var}
 use Rattle.subsumption.proofs.closure.settle.Statement.{statement}
 use Rattle.subsumption.proofs.closure.settle.Tie as tie
-use Rattle.subsumption.proofs.closure.settle.Reads as reads
-use Rattle.subsumption.proofs.closure.settle.Lts as lts
-use Rattle.subsumption.proofs.closure.fill.Reads as fill-reads
-use Rattle.subsumption.proofs.closure.flow.Reads as flow-reads
-use Rattle.subsumption.proofs.closure.gather.Reads as gather-reads
-use Rattle.subsumption.proofs.closure.mark.Reads as mark-reads
-use Rattle.subsumption.proofs.closure.meet.Reads as meet-reads
-use Rattle.subsumption.proofs.closure.spread.Reads as spread-reads
 
--- src/closure.rt:156:25
 mul-kind : tie.Need-mul-kind
 mul-kind c = omega arith
 
--- src/closure.rt:156:16
 mul-kind-2 : tie.Need-mul-kind-2
 mul-kind-2 c = omega arith
 
--- src/closure.rt:156:16
 shared-slice-read-kind : tie.Need-shared-slice-read-kind
 shared-slice-read-kind c = omega arith
 
--- src/closure.rt:157:22
 mul-x : tie.Need-mul-x
 mul-x c = omega arith
 
--- src/closure.rt:157:22
 add-x : tie.Need-add-x
 add-x c = omega arith
 
--- src/closure.rt:157:13
 mul-x-2 : tie.Need-mul-x-2
 mul-x-2 c = omega arith
 
--- src/closure.rt:157:13
 shared-slice-read-x : tie.Need-shared-slice-read-x
 shared-slice-read-x c = omega arith
 
--- src/closure.rt:157:13
 cast-x : tie.Need-cast-x
 cast-x c = omega (arith, c .shared-slice-known7 .given (c .before .before .before .before .before .before .before .before .args .j * 3 + 1))
 
--- src/closure.rt:158:9
 mark-requires : tie.Need-mark-requires
 mark-requires c κs = omega arith
 
--- src/closure.rt:160:21
 mul-first : tie.Need-mul-first
 mul-first c = omega arith
 
--- src/closure.rt:160:21
 shared-slice-read-first : tie.Need-shared-slice-read-first
 shared-slice-read-first c = omega arith
 
--- src/closure.rt:160:21
 cast-first : tie.Need-cast-first
 cast-first c = omega (arith, c .shared-slice-known8 .given (c .before .before .before .before .before .before .before .before .before .before .before .before .before .before .args .j))
 
--- src/closure.rt:161:13
 flow-requires : tie.Need-flow-requires
 flow-requires c κs = (omega arith, (omega arith, first-low (c .before .before .before .before .before .before .before .before .before .before .before .before .before .before .before .pre .0) (c .before .before .before .before .before .before .before .before .before .before .before .before .before .before .before .args .j) (c .before .before .before .before .before .before .before .before .before .before .before .before .before .before .before .pre .1 .1 .1) (c .before .before .before .before .before .before .before .before .before .before .before .before .before .before .before .pre .1 .0)))
 
--- src/closure.rt:162:13
 flow-requires-2 : tie.Need-flow-requires-2
 flow-requires-2 c κs = (omega arith, (first-low (c .before .before .before .before .before .before .before .before .before .before .before .before .before .before .before .before .before .before .before .pre .0) (c .before .before .before .before .before .before .before .before .before .before .before .before .before .before .before .before .before .before .before .args .j) (c .before .before .before .before .before .before .before .before .before .before .before .before .before .before .before .before .before .before .before .pre .1 .1 .1) (c .before .before .before .before .before .before .before .before .before .before .before .before .before .before .before .before .before .before .before .pre .1 .0), omega arith))
 
--- src/closure.rt:163:9
 same-length : tie.Need-same-length
 same-length c = omega arith
 
--- src/closure.rt:163:9
 returns : tie.Need-returns
 returns c = settle-name _ _ _ _ _ (c .before .before .before .before .before .before .before .before .before .before .before .before .before .before .before .before .before .before .before .before .before .before .pre .0) (c .before .before .before .before .before .before .before .before .before .before .before .before .before .before .before .before .before .before .before .before .before .before .pre .1 .0) _ (c .before .before .before .before .before .before .before .before .before .before .before .before .before .before .before .before .before .before .before .before .before .before .pre .1 .1 .1) _ _ _ _ _ _ _ (c .before .before .before .before .before .before .before .before .before .if1 .taken) (c .before .before .before .before .before .before .before .before .before .before .before .before .mark .ensures) (c .before .before .before .before .before .before .flow .ensures) (c .before .before .flow2 .ensures)
 
--- src/closure.rt:166:9
 same-length-2 : tie.Need-same-length-2
 same-length-2 c = omega arith
 
--- src/closure.rt:166:9
 returns-2 : tie.Need-returns-2
 returns-2 c = settle-exists _ _ _ _ _ (c .before .before .before .before .before .before .before .before .before .before .before .before .before .before .pre .0) (c .before .before .before .before .before .before .before .before .before .before .before .before .before .before .pre .1 .0) _ (c .before .before .before .before .before .before .before .before .before .before .before .before .before .before .pre .1 .1 .1) _ _ _ (c .if2 .taken) (c .before .before .before .before .mark .ensures)
 
--- src/closure.rt:169:26
 mul-y : tie.Need-mul-y
 mul-y c = omega arith
 
--- src/closure.rt:169:26
 add-y : tie.Need-add-y
 add-y c = omega arith
 
--- src/closure.rt:169:17
 mul-y-2 : tie.Need-mul-y-2
 mul-y-2 c = omega arith
 
--- src/closure.rt:169:17
 shared-slice-read-y : tie.Need-shared-slice-read-y
 shared-slice-read-y c = omega arith
 
--- src/closure.rt:169:17
 cast-y : tie.Need-cast-y
 cast-y c = omega (arith, c .shared-slice-known9 .given (c .before .before .before .before .before .before .before .before .before .before .before .before .before .before .before .before .args .j * 3 + 2))
 
--- src/closure.rt:170:13
 flow-requires-3 : tie.Need-flow-requires-3
 flow-requires-3 c κs = (omega arith, (omega arith, and-low (c .before .before .before .before .before .before .before .before .before .before .before .before .before .before .before .before .before .pre .0) (c .before .before .before .before .before .before .before .before .before .before .before .before .before .before .before .before .before .args .j) (c .before .before .before .before .before .before .before .before .before .before .before .before .before .before .before .before .before .pre .1 .1 .1) (c .before .before .if3 .taken) .0))
 
--- src/closure.rt:171:13
 flow-requires-4 : tie.Need-flow-requires-4
 flow-requires-4 c κs = (omega arith, (omega arith, and-low (c .before .before .before .before .before .before .before .before .before .before .before .before .before .before .before .before .before .before .before .before .before .pre .0) (c .before .before .before .before .before .before .before .before .before .before .before .before .before .before .before .before .before .before .before .before .before .args .j) (c .before .before .before .before .before .before .before .before .before .before .before .before .before .before .before .before .before .before .before .before .before .pre .1 .1 .1) (c .before .before .before .before .before .before .if3 .taken) .1))
 
--- src/closure.rt:172:13
 meet-requires : tie.Need-meet-requires
 meet-requires c κs = (omega arith, (and-low (c .before .before .before .before .before .before .before .before .before .before .before .before .before .before .before .before .before .before .before .before .before .before .before .before .before .pre .0) (c .before .before .before .before .before .before .before .before .before .before .before .before .before .before .before .before .before .before .before .before .before .before .before .before .before .args .j) (c .before .before .before .before .before .before .before .before .before .before .before .before .before .before .before .before .before .before .before .before .before .before .before .before .before .pre .1 .1 .1) (c .before .before .before .before .before .before .before .before .before .before .if3 .taken) .0, and-low (c .before .before .before .before .before .before .before .before .before .before .before .before .before .before .before .before .before .before .before .before .before .before .before .before .before .pre .0) (c .before .before .before .before .before .before .before .before .before .before .before .before .before .before .before .before .before .before .before .before .before .before .before .before .before .args .j) (c .before .before .before .before .before .before .before .before .before .before .before .before .before .before .before .before .before .before .before .before .before .before .before .before .before .pre .1 .1 .1) (c .before .before .before .before .before .before .before .before .before .before .if3 .taken) .1, omega arith))
 
--- src/closure.rt:173:9
 same-length-3 : tie.Need-same-length-3
 same-length-3 c = omega arith
 
--- src/closure.rt:173:9
 returns-3 : tie.Need-returns-3
 returns-3 c = settle-and _ _ _ _ _ (c .before .before .before .before .before .before .before .before .before .before .before .before .before .before .before .before .before .before .before .before .before .before .before .before .before .before .before .before .pre .0) (c .before .before .before .before .before .before .before .before .before .before .before .before .before .before .before .before .before .before .before .before .before .before .before .before .before .before .before .before .pre .1 .0) _ (c .before .before .before .before .before .before .before .before .before .before .before .before .before .before .before .before .before .before .before .before .before .before .before .before .before .before .before .before .pre .1 .1 .1) _ _ _ _ _ _ _ _ _ (c .before .before .before .before .before .before .before .before .before .before .before .before .before .if3 .taken) (c .before .before .before .before .before .before .before .before .before .before .before .before .before .before .before .before .before .before .mark .ensures) (c .before .before .before .before .before .before .before .before .before .before .flow3 .ensures) (c .before .before .before .before .before .before .flow4 .ensures) (c .before .before .meet .ensures)
 
--- src/closure.rt:176:22
 mul-choice : tie.Need-mul-choice
 mul-choice c = omega (arith, var-low (c .before .before .before .before .before .before .before .before .before .before .before .before .before .before .before .before .pre .0) (c .before .before .before .before .before .before .before .before .before .before .before .before .before .before .before .before .args .j) (c .before .before .before .before .before .before .before .before .before .before .before .before .before .before .before .before .pre .1 .1 .1) (c .if4 .taken))
 
--- src/closure.rt:176:22
 shared-slice-read-choice : tie.Need-shared-slice-read-choice
 shared-slice-read-choice c = var-low (c .before .before .before .before .before .before .before .before .before .before .before .before .before .before .before .before .before .pre .0) (c .before .before .before .before .before .before .before .before .before .before .before .before .before .before .before .before .before .args .j) (c .before .before .before .before .before .before .before .before .before .before .before .before .before .before .before .before .before .pre .1 .1 .1) (c .before .if4 .taken)
 
--- src/closure.rt:177:13
 spread-requires : tie.Need-spread-requires
 spread-requires c κs = (omega arith, (ready-known (c .before .before .before .before .before .before .before .before .before .before .before .before .before .before .before .before .before .before .pre .0), omega arith))
 
--- src/closure.rt:178:13
 gather-requires : tie.Need-gather-requires
 gather-requires c κs = (omega arith, (ready-known (c .before .before .before .before .before .before .before .before .before .before .before .before .before .before .before .before .before .before .before .before .before .before .pre .0), omega arith))
 
--- src/closure.rt:179:9
 same-length-4 : tie.Need-same-length-4
 same-length-4 c = omega arith
 
--- src/closure.rt:179:9
 returns-4 : tie.Need-returns-4
 returns-4 c = settle-var _ _ _ _ _ (c .before .before .before .before .before .before .before .before .before .before .before .before .before .before .before .before .before .before .before .before .before .before .before .before .before .pre .0) (c .before .before .before .before .before .before .before .before .before .before .before .before .before .before .before .before .before .before .before .before .before .before .before .before .before .pre .1 .0) _ (c .before .before .before .before .before .before .before .before .before .before .before .before .before .before .before .before .before .before .before .before .before .before .before .before .before .pre .1 .1 .1) _ _ _ _ _ _ _ (c .before .before .before .before .before .before .before .before .before .if4 .taken) (c .before .before .before .before .before .before .before .before .before .before .before .before .before .before .before .mark .ensures) (c .before .before .before .before .before .before .spread .ensures) (c .before .before .gather .ensures)
 
--- src/closure.rt:181:9
 fill-requires : tie.Need-fill-requires
 fill-requires c κs = omega arith
 
--- src/closure.rt:147:1
 same-length-5 : tie.Need-same-length-5
 same-length-5 c = omega arith
 
--- src/closure.rt:147:1
 returns-5 : tie.Need-returns-5
 returns-5 c = settle-top _ _ _ _ _ (c .before .before .before .before .before .before .before .before .before .before .before .before .before .before .before .before .before .before .before .before .pre .0) (c .before .before .before .before .before .before .before .before .before .before .before .before .before .before .before .before .before .before .before .before .pre .1 .0) _ (c .before .before .before .before .before .before .before .before .before .before .before .before .before .before .before .before .before .before .before .before .pre .1 .1 .1) _ _ _ _ _ (node-other _ _ (c .before .before .before .before .before .before .before .if1 .left) (c .before .before .before .before .before .before .if2 .left) (c .before .before .before .before .before .if3 .left) (c .before .before .before .before .if4 .left)) (c .before .before .before .before .before .before .before .before .before .before .mark .ensures) (c .before .before .fill .ensures)
 

@@ -1,12 +1,9 @@
-use Prim.Native.Nat.{ℕ, _+_, _*_, _-_, _<_, _≤_}
+use Prim.Native.Nat.{ℕ, _-_, _<_, _≤_}
 use native.Mathlib.Omega.{arith}
 use Rattle.subsumption.specs.Closure.{Pass, Settled, chooseFrom}
 use Rattle.subsumption.proofs.Passes.{loop-first, loop-more, loop-done}
 use Rattle.subsumption.proofs.closure.settle_all.Statement.{statement}
 use Rattle.subsumption.proofs.closure.settle_all.Tie as tie
-use Rattle.subsumption.proofs.closure.settle_all.Reads as reads
-use Rattle.subsumption.proofs.closure.settle_all.Lts as lts
-use Rattle.subsumption.proofs.closure.settle.Reads as settle-reads
 
 abbrev Inv-loop : tie.InvT-loop
 Inv-loop concepts inclusions atoms assignment firsts columns₀ count changed₀ j₀ columns changed j = (j ≤ count) × Pass concepts inclusions (chooseFrom atoms assignment) (λ l. (k : ℕ) → k < j → Settled concepts firsts (chooseFrom atoms assignment) k l) columns₀ columns changed
@@ -14,31 +11,24 @@ Inv-loop concepts inclusions atoms assignment firsts columns₀ count changed₀
 abbrev μ-loop : tie.MeasureT-loop
 μ-loop concepts inclusions atoms assignment firsts columns₀ count changed₀ j₀ columns changed j = count - j
 
--- src/closure.rt:205:5
 loop-holds : tie.Need-loop-holds Inv-loop μ-loop
 loop-holds c = (omega arith, loop-first (λ k l. Settled (c .before .before .before .before .before .before .args .concepts .now) (c .before .before .before .before .before .before .args .firsts .now) (chooseFrom (c .before .before .before .before .before .before .args .atoms .now) (c .before .before .before .before .before .before .args .assignment .now)) k l) _)
 
--- src/closure.rt:206:13
 settle-requires : tie.Need-settle-requires Inv-loop μ-loop
 settle-requires c κs = (c .before .before .before .before .before .before .before .before .before .pre .0, (c .before .before .before .before .before .before .before .before .before .pre .1 .0, (omega arith, omega arith)))
 
--- src/closure.rt:208:9
 add-j : tie.Need-add-j Inv-loop μ-loop
 add-j c = omega arith
 
--- src/closure.rt:205:5
 loop-less : tie.Need-loop-less Inv-loop μ-loop
 loop-less c = omega arith
 
--- src/closure.rt:205:5
 loop-again : tie.Need-loop-again Inv-loop μ-loop
 loop-again c = (omega arith, loop-more (λ k l. Settled (c .before .before .before .before .before .before .before .before .before .before .before .before .args .concepts .now) (c .before .before .before .before .before .before .before .before .before .before .before .before .args .firsts .now) (chooseFrom (c .before .before .before .before .before .before .before .before .before .before .before .before .args .atoms .now) (c .before .before .before .before .before .before .before .before .before .before .before .before .args .assignment .now)) k l) _ (c .before .before .before .before .before .loop .inv .1) (c .before .before .settle .ensures))
 
--- src/closure.rt:194:1
 same-length : tie.Need-same-length Inv-loop μ-loop
 same-length c = omega arith
 
--- src/closure.rt:194:1
 returns : tie.Need-returns Inv-loop μ-loop
 returns c = loop-done (λ k l. Settled (c .before .before .before .before .before .before .before .before .args .concepts .now) (c .before .before .before .before .before .before .before .before .args .firsts .now) (chooseFrom (c .before .before .before .before .before .before .before .before .args .atoms .now) (c .before .before .before .before .before .before .before .before .args .assignment .now)) k l) _ _ (omega arith) (c .before .loop .inv .1)
 

@@ -1,13 +1,10 @@
-use Prim.Native.Nat.{_≤_, _-_}
+use Prim.Native.Nat.{_-_}
 use native.Mathlib.Omega.{arith}
 use borrow.Author.Needs.{needs}
 use lib.ListN.{length}
 use Rattle.subsumption.proofs.Choices.{Spread, spread-first, spread-skip, spread-turn, spread-done}
 use Rattle.subsumption.proofs.closure.spread.Statement.{statement}
 use Rattle.subsumption.proofs.closure.spread.Tie as tie
-use Rattle.subsumption.proofs.closure.spread.Reads as reads
-use Rattle.subsumption.proofs.closure.spread.Lts as lts
-use Rattle.subsumption.proofs.closure.flow.Reads as flow-reads
 
 abbrev Inv-loop : tie.InvT-loop
 Inv-loop atoms choice columns₀ from changed₀ q₀ columns changed q = Spread q atoms choice columns₀ from columns changed
@@ -15,55 +12,42 @@ Inv-loop atoms choice columns₀ from changed₀ q₀ columns changed q = Spread
 abbrev μ-loop : tie.MeasureT-loop
 μ-loop atoms choice columns₀ from changed₀ q₀ columns changed q = length atoms - q
 
--- src/closure.rt:132:5
 loop-holds : tie.Need-loop-holds Inv-loop μ-loop
 loop-holds c = spread-first _ _ _ _
 
--- src/closure.rt:133:20
 mul-atom : tie.Need-mul-atom Inv-loop μ-loop
 mul-atom c = search needs
 
--- src/closure.rt:133:20
 shared-slice-read-atom : tie.Need-shared-slice-read-atom Inv-loop μ-loop
 shared-slice-read-atom c = search needs
 
--- src/closure.rt:133:20
 cast-atom : tie.Need-cast-atom Inv-loop μ-loop
 cast-atom c = omega (arith, c .shared-slice-known2 .given (c .before .before .loop .q))
 
--- src/closure.rt:134:23
 shr-picked : tie.Need-shr-picked Inv-loop μ-loop
 shr-picked c = search needs
 
--- src/closure.rt:135:9
 add-q : tie.Need-add-q Inv-loop μ-loop
 add-q c = search needs
 
--- src/closure.rt:132:5
 loop-less : tie.Need-loop-less Inv-loop μ-loop
 loop-less c = search needs
 
--- src/closure.rt:132:5
 loop-again : tie.Need-loop-again Inv-loop μ-loop
 loop-again c = spread-skip _ _ _ _ _ _ _ (omega arith) (c .before .before .before .loop .inv) (c .if1 .taken)
 
--- src/closure.rt:139:13
 flow-requires : tie.Need-flow-requires Inv-loop μ-loop
 flow-requires c κs = (omega arith, (omega arith, c .before .before .before .before .before .before .before .pre .1 .0 .low (c .before .before .before .before .loop .q) (omega arith)))
 
--- src/closure.rt:132:5
 loop-less-2 : tie.Need-loop-less-2 Inv-loop μ-loop
 loop-less-2 c = search needs
 
--- src/closure.rt:132:5
 loop-again-2 : tie.Need-loop-again-2 Inv-loop μ-loop
 loop-again-2 c = spread-turn _ _ _ _ _ _ _ (omega arith) (c .before .before .before .before .before .before .before .loop .inv) _ _ (omega arith) (c .before .before .before .before .if1 .left) (c .before .before .flow .ensures)
 
--- src/closure.rt:123:1
 same-length : tie.Need-same-length Inv-loop μ-loop
 same-length c = search needs
 
--- src/closure.rt:123:1
 returns : tie.Need-returns Inv-loop μ-loop
 returns c = spread-done _ _ _ _ _ _ _ (c .before .loop .inv) (omega arith)
 

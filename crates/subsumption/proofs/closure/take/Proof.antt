@@ -2,47 +2,34 @@ use borrow.Author.Needs.{needs}
 use Rattle.subsumption.proofs.Columns.{takes}
 use Rattle.subsumption.proofs.closure.take.Statement.{statement}
 use Rattle.subsumption.proofs.closure.take.Tie as tie
-use Rattle.subsumption.proofs.closure.take.Reads as reads
-use Rattle.subsumption.proofs.closure.take.Lts as lts
-use Rattle.subsumption.proofs.closure.absorb.Reads as absorb-reads
 
--- src/closure.rt:24:29
 mul-absorb : tie.Need-mul-absorb
 mul-absorb c = search needs
 
--- src/closure.rt:24:9
 absorb-requires : tie.Need-absorb-requires
 absorb-requires c κs = search needs
 
--- src/closure.rt:25:29
 mul-absorb-2 : tie.Need-mul-absorb-2
 mul-absorb-2 c = search needs
 
--- src/closure.rt:25:29
 add-absorb : tie.Need-add-absorb
 add-absorb c = search needs
 
--- src/closure.rt:25:9
 absorb-requires-2 : tie.Need-absorb-requires-2
 absorb-requires-2 c κs = search needs
 
--- src/closure.rt:26:29
 mul-absorb-3 : tie.Need-mul-absorb-3
 mul-absorb-3 c = search needs
 
--- src/closure.rt:26:29
 add-absorb-2 : tie.Need-add-absorb-2
 add-absorb-2 c = search needs
 
--- src/closure.rt:26:9
 absorb-requires-3 : tie.Need-absorb-requires-3
 absorb-requires-3 c κs = search needs
 
--- src/closure.rt:19:1
 same-length : tie.Need-same-length
 same-length c = search needs
 
--- src/closure.rt:19:1
 returns : tie.Need-returns
 returns c = takes _ _ _ _ _ _ _ _ _ _ _ (search needs) (c .before .before .before .before .before .before .before .before .before .before .absorb .ensures) (c .before .before .before .before .before .before .absorb2 .ensures) (c .before .before .absorb3 .ensures)
 
