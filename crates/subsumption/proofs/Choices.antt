@@ -10,7 +10,7 @@ use lib.Dec.{eqb}
 use lib.Bits.{bitAnd}
 use borrow.Author.Tests.{eqb-true, eqb-false, eq-eqb}
 use Rattle.subsumption.specs.Atoms.{bit, pick}
-use Rattle.subsumption.specs.Closure.{has, slack, Takes, inThree, Known, Common}
+use Rattle.subsumption.specs.Closure.{has, slack, Takes, inThree, Common}
 use Rattle.subsumption.proofs.Bits.{bit-ones, bit-and, both-true, both-of}
 use Rattle.subsumption.proofs.Picks.{ChosenBelow, picked-at, at-picked}
 use Rattle.subsumption.proofs.Columns.{any-true, any-false, not-both, falls, takes-as}

@@ -1,7 +1,7 @@
 -- Rounds until nothing changes.
-use Prim.Native.Nat.{ℕ, zero, suc, _+_, _*_, _/_, _%_, _<_, _≤_}
+use Prim.Native.Nat.{ℕ, _+_, _*_, _/_, _%_, _<_, _≤_}
 use mathlib.Core.Path.{_≡_, refl, ap, sym, _∙_, subst}
-use mathlib.Core.List.{List, List·Memᴰ}
+use mathlib.Core.List.{List}
 use mathlib.Core.Bool.{Bool, true, false, _||_}
 use native.Mathlib.Omega.{arith}
 use native.Mathlib.Nat.{le-antisymm}
@@ -9,9 +9,9 @@ use lib.ListN.{length, getD, set, length-set}
 use lib.Seq.{getD-set-same, getD-set-other}
 use lib.Dec.{eqb}
 use borrow.Author.Tests.{eqb-true, eqb-false}
-use Rattle.subsumption.specs.Tables.{Node, topAt, nameAt, existsAt, andAt, varAt, node, countOf}
+use Rattle.subsumption.specs.Tables.{Node, topAt, nameAt, andAt, varAt, node, countOf}
 use Rattle.subsumption.specs.Atoms.{bit}
-use Rattle.subsumption.specs.Closure.{has, slack, Into, Ready, Firsts, SettledBy, Steps, Flow, Sound, Pass, Empty, AllTaken, AllSettled, AllIncluded, AllLinked, Closed}
+use Rattle.subsumption.specs.Closure.{has, slack, Firsts, SettledBy, Steps, Sound, Pass, Empty, AllTaken, AllSettled, AllIncluded, AllLinked, Closed}
 use Rattle.subsumption.proofs.Bits.{bit-of-zero}
 use Rattle.subsumption.proofs.Columns.{not-both}
 use Rattle.subsumption.proofs.Passes.{pass-as, pass-then}

@@ -1,9 +1,8 @@
 -- Looking for existentials, and rows of one name.
-use Prim.Native.Nat.{ℕ, zero, suc, _+_, _*_, _<_, _≤_}
+use Prim.Native.Nat.{ℕ, _+_, _*_, _<_, _≤_}
 use mathlib.Core.Path.{_≡_, refl, ap, sym, _∙_, subst}
 use mathlib.Core.List.{List}
 use mathlib.Core.Bool.{Bool, true, false, _||_}
-use mathlib.Core.Logic.{_⊎_, ⊎-elim}
 use native.Mathlib.Omega.{arith}
 use lib.ListN.{length, getD, set, length-set}
 use lib.Seq.{getD-set-same, getD-set-other}
@@ -11,7 +10,7 @@ use lib.Dec.{eqb, ltb}
 use borrow.Author.Count.{below-more}
 use borrow.Author.Tests.{eqb-true, eqb-false, ltb-true, ltb-false}
 use Rattle.subsumption.specs.Tables.{Node, nameAt, existsAt, node, countOf}
-use Rattle.subsumption.specs.Closure.{has, Into, Rising, Ready, FirstNamed, Firsts, Inner, Linkable, Links, NextLink, LinkedTo, IsNamed, Flow, flow-linked, Sound, Pass, Takes, chooseFrom}
+use Rattle.subsumption.specs.Closure.{has, Into, Rising, Ready, FirstNamed, Firsts, Inner, Linkable, Links, NextLink, LinkedTo, IsNamed, Flow, flow-linked, Pass, Takes, chooseFrom}
 use Rattle.subsumption.proofs.Nodes.{name-node, exists-node, node-name, node-exists}
 use Rattle.subsumption.proofs.Columns.{not-both}
 use Rattle.subsumption.proofs.Passes.{pass-as, pass-none, pass-then, pass-seen, step-pass}

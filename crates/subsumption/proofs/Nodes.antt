@@ -4,7 +4,7 @@ use mathlib.Core.Path.{_≡_, refl}
 use mathlib.Core.List.{List}
 use native.Mathlib.Omega.{arith}
 use lib.ListN.{getD}
-use Rattle.subsumption.specs.Tables.{Node, topAt, nameAt, existsAt, andAt, varAt, node, decode}
+use Rattle.subsumption.specs.Tables.{topAt, nameAt, existsAt, andAt, varAt, node, decode}
 
 module _ (concepts : List ℕ) (i : ℕ) where
   pub node-top : getD concepts (i * 3) 0 ≡ 0 → node concepts i ≡ topAt

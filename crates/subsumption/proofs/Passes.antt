@@ -1,14 +1,13 @@
 -- Passes over the columns: from one step to a pass, and from two passes to one.
-use Prim.Native.Nat.{ℕ, zero, suc, _+_, _*_, _<_, _≤_}
-use mathlib.Core.Path.{_≡_, refl, ap, sym, _∙_, subst}
-use mathlib.Core.List.{List, List·Memᴰ}
+use Prim.Native.Nat.{ℕ, _+_, _<_, _≤_}
+use mathlib.Core.Path.{_≡_, refl, sym, _∙_, subst}
+use mathlib.Core.List.{List}
 use mathlib.Core.Bool.{Bool, true, false, _||_}
-use mathlib.Core.Logic.{_⊎_, inl, inr, ⊎-elim}
+use mathlib.Core.Logic.{⊎-elim}
 use native.Mathlib.Omega.{arith}
-use lib.ListN.{length, getD}
 use borrow.Author.Count.{below-more}
 use Rattle.subsumption.specs.Tables.{countOf}
-use Rattle.subsumption.specs.Closure.{has, slack, Into, Flow, Sound, Pass, Takes}
+use Rattle.subsumption.specs.Closure.{has, Into, Flow, Sound, Pass, Takes}
 use Rattle.subsumption.proofs.Columns.{any-true, any-false, not-both, falls}
 
 module _ {concepts inclusions : List ℕ} {choose : ℕ → List ℕ} where

@@ -6,7 +6,7 @@ use mathlib.Core.Bool.{Bool, true, false}
 use mathlib.Core.Logic.{⊎-elim}
 use native.Mathlib.Omega.{arith}
 use native.Mathlib.Nat.{one-mul, add-zero, zero-add, add-suc, suc-add, le-of-suc-le-suc, not-suc-le-zero}
-use lib.Dec.{T, eqb, ltb, lit<}
+use lib.Dec.{T, eqb, lit<}
 use lib.Pow.{shl-exact}
 use lib.Bits.{bitOr}
 use lib.ListN.{length, getD, set, length-set}
@@ -18,7 +18,7 @@ use Rattle.subsumption.specs.Subsumption.{Subsumed}
 use Rattle.subsumption.specs.Closure.{has, Flow, Closed}
 use Rattle.subsumption.specs.Table.{rowStart, marked, TableOf}
 use Rattle.subsumption.specs.Rows.{shown, ByteOf, RowWritten, Written}
-use Rattle.subsumption.proofs.Bits.{both-true, bit-or-left, bit-or-right, bit-or-cases, bit-pow, bit-pow-other, bit-of-zero}
+use Rattle.subsumption.proofs.Bits.{bit-or-left, bit-or-right, bit-or-cases, bit-pow, bit-pow-other, bit-of-zero}
 use Rattle.subsumption.proofs.Columns.{not-both}
 
 -- a table's rule from one test over all its entries

@@ -1,13 +1,13 @@
 -- The steps at one row.
-use Prim.Native.Nat.{ℕ, zero, suc, _+_, _*_, _<_, _≤_}
-use mathlib.Core.Path.{_≡_, refl, ap, sym, _∙_, subst}
+use Prim.Native.Nat.{ℕ, _+_, _*_, _<_}
+use mathlib.Core.Path.{_≡_, refl, sym, subst}
 use mathlib.Core.List.{List, List·Memᴰ}
-use mathlib.Core.Bool.{Bool, true, false, _||_}
+use mathlib.Core.Bool.{Bool, true, _||_}
 use native.Mathlib.Omega.{arith}
 use lib.ListN.{length, getD}
-use Rattle.subsumption.specs.Tables.{Node, topAt, nameAt, existsAt, andAt, varAt, node, countOf}
+use Rattle.subsumption.specs.Tables.{Node, topAt, nameAt, andAt, varAt, node, countOf}
 use Rattle.subsumption.specs.Atoms.{pick}
-use Rattle.subsumption.specs.Closure.{has, Into, Rising, Ready, Firsts, Settled, SettledBy, Flow, flow-same, flow-top, flow-named, flow-first, flow-second, flow-meet, flow-chooses, flow-all-chosen, Sound, Pass, Takes, Known, chooseFrom}
+use Rattle.subsumption.specs.Closure.{has, Into, Rising, Ready, Firsts, Settled, SettledBy, Flow, flow-same, flow-top, flow-named, flow-first, flow-second, flow-meet, flow-chooses, flow-all-chosen, Pass, Takes, Known, chooseFrom}
 use Rattle.subsumption.proofs.Nodes.{node-name, node-exists, node-and, node-var}
 use Rattle.subsumption.proofs.Picks.{ChosenBelow, at-picked}
 use Rattle.subsumption.proofs.Passes.{pass-as, pass-then, step-pass, flow-pass}

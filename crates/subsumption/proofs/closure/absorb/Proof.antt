@@ -1,19 +1,20 @@
+use native.Mathlib.Omega.{arith}
 use borrow.Author.Needs.{needs}
 use Rattle.subsumption.proofs.Columns.{absorbs}
 use Rattle.subsumption.proofs.closure.absorb.Statement.{statement}
 use Rattle.subsumption.proofs.closure.absorb.Tie as tie
 
 mul-old : tie.Need-mul-old
-mul-old c = search needs
+mul-old c = omega arith
 
 slice-read-old : tie.Need-slice-read-old
-slice-read-old c = search needs
+slice-read-old c = omega arith
 
 mul-columns : tie.Need-mul-columns
-mul-columns c = search needs
+mul-columns c = omega arith
 
 slice-write-columns : tie.Need-slice-write-columns
-slice-write-columns c = search needs
+slice-write-columns c = omega arith
 
 same-length : tie.Need-same-length
 same-length c = search needs

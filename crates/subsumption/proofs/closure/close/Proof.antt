@@ -25,7 +25,7 @@ loop-holds : tie.Need-loop-holds Inv-loop μ-loop
 loop-holds c = (c .before .before .before .before .before .note-firsts .ensures, closing-first _ _ _ _ _ (c .before .before .before .before .before .before .before .before .before .before .before .before .pre .0 .few) (c .before .before .clear .ensures))
 
 slice-aggregate-round : tie.Need-slice-aggregate-round Inv-loop μ-loop
-slice-aggregate-round c = search needs
+slice-aggregate-round c = omega arith
 
 round-requires : tie.Need-round-requires Inv-loop μ-loop
 round-requires c κs = (c .before .before .before .before .before .before .before .before .before .before .before .before .before .before .before .before .pre .0, (c .before .before .before .loop .inv .0, c .before .before .before .loop .inv .1 .long))

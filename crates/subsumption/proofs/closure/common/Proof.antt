@@ -17,22 +17,22 @@ loop-holds : tie.Need-loop-holds Inv-loop μ-loop
 loop-holds c = (omega arith, common-none _ _ _ _)
 
 mul-atom : tie.Need-mul-atom Inv-loop μ-loop
-mul-atom c = search needs
+mul-atom c = omega arith
 
 shared-slice-read-atom : tie.Need-shared-slice-read-atom Inv-loop μ-loop
-shared-slice-read-atom c = search needs
+shared-slice-read-atom c = omega arith
 
 cast-atom : tie.Need-cast-atom Inv-loop μ-loop
 cast-atom c = omega (arith, c .shared-slice-known .given (c .before .before .loop .q))
 
 shr-picked : tie.Need-shr-picked Inv-loop μ-loop
-shr-picked c = search needs
+shr-picked c = omega arith
 
 add-q : tie.Need-add-q Inv-loop μ-loop
-add-q c = search needs
+add-q c = omega arith
 
 loop-less : tie.Need-loop-less Inv-loop μ-loop
-loop-less c = search needs
+loop-less c = omega arith
 
 loop-again : tie.Need-loop-again Inv-loop μ-loop
 loop-again c = (omega arith, common-skip _ _ _ _ _ _ (c .before .before .before .loop .inv .1) (c .if1 .taken))
@@ -50,7 +50,7 @@ shared-slice-read-word : tie.Need-shared-slice-read-word Inv-loop μ-loop
 shared-slice-read-word c = omega (arith, c .before .before .before .before .before .pre .1 .0 .low (c .before .before .before .before .loop .q) (omega arith))
 
 loop-less-2 : tie.Need-loop-less-2 Inv-loop μ-loop
-loop-less-2 c = search needs
+loop-less-2 c = omega arith
 
 loop-again-2 : tie.Need-loop-again-2 Inv-loop μ-loop
 loop-again-2 c = (omega arith, common-more _ _ _ _ _ _ (c .before .before .before .before .loop .inv .1) (c .before .if1 .left))

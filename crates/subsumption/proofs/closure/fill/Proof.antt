@@ -1,13 +1,14 @@
+use native.Mathlib.Omega.{arith}
 use borrow.Author.Needs.{needs}
 use Rattle.subsumption.proofs.Columns.{fill-takes}
 use Rattle.subsumption.proofs.closure.fill.Statement.{statement}
 use Rattle.subsumption.proofs.closure.fill.Tie as tie
 
 take-requires : tie.Need-take-requires
-take-requires c κs = search needs
+take-requires c κs = omega arith
 
 same-length : tie.Need-same-length
-same-length c = search needs
+same-length c = omega arith
 
 returns : tie.Need-returns
 returns c = fill-takes (c .before .before .take .ensures)

@@ -1,22 +1,23 @@
+use native.Mathlib.Omega.{arith}
 use borrow.Author.Needs.{needs}
 use Rattle.subsumption.proofs.Columns.{mark-shifted}
 use Rattle.subsumption.proofs.closure.mark.Statement.{statement}
 use Rattle.subsumption.proofs.closure.mark.Tie as tie
 
 mul-absorb : tie.Need-mul-absorb
-mul-absorb c = search needs
+mul-absorb c = omega arith
 
 add-absorb : tie.Need-add-absorb
-add-absorb c = search needs
+add-absorb c = omega arith
 
 shl-absorb : tie.Need-shl-absorb
-shl-absorb c = search needs
+shl-absorb c = omega arith
 
 absorb-requires : tie.Need-absorb-requires
-absorb-requires c κs = search needs
+absorb-requires c κs = omega arith
 
 same-length : tie.Need-same-length
-same-length c = search needs
+same-length c = omega arith
 
 returns : tie.Need-returns
 returns c = mark-shifted _ _ _ _ (search needs) (c .before .before .absorb .ensures)

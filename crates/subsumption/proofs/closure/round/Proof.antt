@@ -1,3 +1,4 @@
+use native.Mathlib.Omega.{arith}
 use borrow.Author.Needs.{needs}
 use Rattle.subsumption.proofs.Passes.{pass-busy, pass-then}
 use Rattle.subsumption.proofs.Closing.{round-quiet}
@@ -11,7 +12,7 @@ include-all-requires : tie.Need-include-all-requires
 include-all-requires c κs = search needs
 
 same-length : tie.Need-same-length
-same-length c = search needs
+same-length c = omega arith
 
 returns : tie.Need-returns
 returns c = pass-busy (pass-then (c .before .before .before .before .before .before .before .settle-all .ensures) (c .before .before .before .include-all .ensures)) (c .if1 .taken)
@@ -20,7 +21,7 @@ link-all-requires : tie.Need-link-all-requires
 link-all-requires c κs = search needs
 
 same-length-2 : tie.Need-same-length-2
-same-length-2 c = search needs
+same-length-2 c = omega arith
 
 returns-2 : tie.Need-returns-2
 returns-2 c = round-quiet _ _ _ _ _ _ _ _ _ _ _ (c .before .before .before .before .if1 .left) (c .before .before .before .before .before .before .before .before .before .before .before .settle-all .ensures) (c .before .before .before .before .before .before .before .include-all .ensures) (c .before .before .link-all .ensures)
