@@ -63,7 +63,7 @@ fn is_subsumed(
 }
 
 // Decides one pair under an assignment.
-pub fn decide(
+pub fn decide_pair(
     concepts: &[u16],
     inclusions: &[u16],
     questions: &[u16],

@@ -1,10 +1,19 @@
-// Subsumption in EL under general inclusions: tables, atoms, the subsumption table.
+// Subsumption in EL under general inclusions: the checks of tables, atoms, the subsumption table, deciding a pair.
+// The operations, each without a `requires`, are what the crate passes on here.
 mod atoms;
 mod check;
 mod closure;
-pub mod decide;
-pub mod listing;
+mod decide;
+mod listing;
 pub mod refusal;
 mod rows;
-pub mod table;
+mod table;
 pub mod tables;
+
+pub use check::check_tables;
+pub use decide::Decision;
+pub use decide::check_asked;
+pub use decide::decide_pair;
+pub use listing::Listed;
+pub use listing::list_atoms;
+pub use table::write_table;

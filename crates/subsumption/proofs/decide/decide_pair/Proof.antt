@@ -1,10 +1,10 @@
 use Rattle.subsumption.proofs.Refusals.{refuses, is-done}
 use Rattle.subsumption.proofs.Deciding.{decides-refused, decides-yes, decides-no}
 use borrow.Author.Needs.{needs}
-use Rattle.subsumption.proofs.decide.decide.Statement.{statement}
-use Rattle.subsumption.proofs.decide.decide.Tie as tie
-use Rattle.subsumption.proofs.decide.decide.Reads as reads
-use Rattle.subsumption.proofs.decide.decide.Lts as lts
+use Rattle.subsumption.proofs.decide.decide_pair.Statement.{statement}
+use Rattle.subsumption.proofs.decide.decide_pair.Tie as tie
+use Rattle.subsumption.proofs.decide.decide_pair.Reads as reads
+use Rattle.subsumption.proofs.decide.decide_pair.Lts as lts
 use Rattle.subsumption.proofs.decide.check_asked.Reads as check-asked-reads
 use Rattle.subsumption.proofs.decide.is_subsumed.Reads as is-subsumed-reads
 
@@ -35,8 +35,8 @@ returns-2 c = decides-yes _ _ _ _ _ (search is-done) (c .before .is-subsumed .en
 returns-3 : tie.Need-returns-3
 returns-3 c = decides-no _ _ _ _ _ (search is-done) (c .before .is-subsumed .ensures) (c .if1 .left)
 
-pub decide-spec : {M : Type 1} → statement M
-decide-spec =
+pub decide-pair-spec : {M : Type 1} → statement M
+decide-pair-spec =
     tie.close
     (tie.spec
     check-asked-requires
