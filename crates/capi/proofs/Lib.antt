@@ -1,0 +1,2 @@
+-- Laws behind the proofs of the exports.
+pub mod Answers

@@ -1,0 +1,49 @@
+use Rattle.capi.proofs.Answers.{answered-refused, answered-done}
+use borrow.Author.Needs.{needs}
+use Rattle.capi.proofs.hc_check.Statement.{statement}
+use Rattle.capi.proofs.hc_check.Tie as tie
+use Rattle.capi.proofs.hc_check.Reads as reads
+use Rattle.capi.proofs.hc_check.Lts as lts
+use Rattle.capi.proofs.done.Reads as done-reads
+use Rattle.capi.proofs.refused.Reads as refused-reads
+use Rattle.subsumption.proofs.check_tables.Reads as check-tables-reads
+
+-- src/lib.rt:46:9
+check-tables-requires : tie.Need-check-tables-requires
+check-tables-requires c κs = search needs
+
+-- src/lib.rt:48:26
+enum-known-answer : tie.Need-enum-known-answer
+enum-known-answer c = search needs
+
+-- src/lib.rt:48:32
+refused-requires : tie.Need-refused-requires
+refused-requires c κs = search needs
+
+-- src/lib.rt:49:26
+enum-told : tie.Need-enum-told
+enum-told c = search needs
+
+-- src/lib.rt:49:26
+done-requires : tie.Need-done-requires
+done-requires c κs = search needs
+
+-- src/lib.rt:42:1
+returns : tie.Need-returns
+returns c = search answered-refused
+
+-- src/lib.rt:42:1
+returns-2 : tie.Need-returns-2
+returns-2 c = search answered-done
+
+pub hc-check-spec : {M : Type 1} → statement M
+hc-check-spec =
+    tie.close
+    (tie.spec
+    check-tables-requires
+    enum-known-answer
+    refused-requires
+    enum-told
+    done-requires
+    returns
+    returns-2)

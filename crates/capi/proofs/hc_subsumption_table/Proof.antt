@@ -1,0 +1,59 @@
+use Rattle.capi.proofs.Answers.{wrote-as-refused, wrote-as-done}
+use borrow.Author.Needs.{needs}
+use Rattle.capi.proofs.hc_subsumption_table.Statement.{statement}
+use Rattle.capi.proofs.hc_subsumption_table.Tie as tie
+use Rattle.capi.proofs.hc_subsumption_table.Reads as reads
+use Rattle.capi.proofs.hc_subsumption_table.Lts as lts
+use Rattle.capi.proofs.done.Reads as done-reads
+use Rattle.capi.proofs.refused.Reads as refused-reads
+use Rattle.subsumption.proofs.write_table.Reads as write-table-reads
+
+-- src/lib.rt:78:9
+write-table-requires : tie.Need-write-table-requires
+write-table-requires c κs = search needs
+
+-- src/lib.rt:80:26
+enum-known-answer : tie.Need-enum-known-answer
+enum-known-answer c = search needs
+
+-- src/lib.rt:80:32
+refused-requires : tie.Need-refused-requires
+refused-requires c κs = search needs
+
+-- src/lib.rt:81:26
+enum-told : tie.Need-enum-told
+enum-told c = search needs
+
+-- src/lib.rt:81:26
+done-requires : tie.Need-done-requires
+done-requires c κs = search needs
+
+-- src/lib.rt:67:1
+same-length : tie.Need-same-length
+same-length c = search needs
+
+-- src/lib.rt:67:1
+returns : tie.Need-returns
+returns c = search wrote-as-refused
+
+-- src/lib.rt:67:1
+same-length-2 : tie.Need-same-length-2
+same-length-2 c = search needs
+
+-- src/lib.rt:67:1
+returns-2 : tie.Need-returns-2
+returns-2 c = search wrote-as-done
+
+pub hc-subsumption-table-spec : {M : Type 1} → statement M
+hc-subsumption-table-spec =
+    tie.close
+    (tie.spec
+    write-table-requires
+    enum-known-answer
+    refused-requires
+    enum-told
+    done-requires
+    same-length
+    returns
+    same-length-2
+    returns-2)

@@ -1,0 +1,28 @@
+-- The answer of an export: number 0 and a value, or a refusal's number and place.
+use Prim.Native.Nat.{ℕ}
+use mathlib.Core.Path.{_≡_}
+use mathlib.Core.List.{List}
+use lib.ListN.{length}
+use Rattle.subsumption.specs.declared.refusal.Outcome.{Outcome}
+use Rattle.subsumption.specs.declared.refusal.Outcome.the-variants.{Done, Refused}
+use Rattle.capi.specs.declared.Answer.{Answer}
+use Rattle.subsumption.specs.Tables.{Tables}
+use Rattle.subsumption.specs.Subsumption.{Subsumed}
+use Rattle.subsumption.specs.Refusal.{codeOf}
+use Rattle.subsumption.specs.Table.{writingFault, Left}
+use Rattle.subsumption.specs.Decide.{decidingFault}
+
+-- the answer of an operation that ends so, with that value if it is done
+abbrev pub answerOf : Outcome → ℕ → Answer
+answerOf Done value = record { number = 0; place = 0; value = value }
+answerOf (Refused r) value = record { number = codeOf r .number; place = codeOf r .place; value = 0 }
+
+pub record WroteAs (t : Tables) (assignment before after : List ℕ) (answer : Answer) : Type 0 where
+  pub answered : answer ≡ answerOf (writingFault t assignment (length before)) 0
+  pub left : Left t assignment before after (writingFault t assignment (length before))
+
+-- value 1 for yes, 0 for no
+abbrev pub TellsAs : Tables → List ℕ → ℕ → ℕ → Outcome → Answer → Type 0
+TellsAs t assignment left right Done answer =
+    (answer ≡ answerOf Done (answer .value)) × (answer .value ≡ 1 → Subsumed t assignment left right) × (answer .value ≡ 0 → Subsumed t assignment left right → ⊥)
+TellsAs t assignment left right (Refused r) answer = answer ≡ answerOf (Refused r) 0

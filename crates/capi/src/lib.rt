@@ -1,0 +1,137 @@
+// The operations for C and Rust. No logic of its own: each export calls one operation and turns its answer into numbers.
+use subsumption::Decision;
+use subsumption::Listed;
+use subsumption::refusal::Outcome;
+use subsumption::refusal::Refusal;
+use subsumption::refusal::code_of;
+ghost use mathlib.Core.Path.{_≡_};
+ghost use lib.ListN.{length};
+ghost use Rattle.subsumption.specs.Tables.{tables};
+ghost use Rattle.subsumption.specs.Atoms.{atoms};
+ghost use Rattle.subsumption.specs.declared.refusal.Outcome.the-variants.{Done, Refused};
+ghost use Rattle.subsumption.specs.Check.{tableFault};
+ghost use Rattle.subsumption.specs.Listing.{listingFault, listedIn};
+ghost use Rattle.subsumption.specs.Decide.{decidingFault};
+ghost use Rattle.capi.specs.Answer.{answerOf, WroteAs, TellsAs};
+
+// number 0: done; else the refusal's number, with its place and value 0.
+#[repr(C)]
+pub struct Answer {
+    pub number: u16,
+    pub place: u64,
+    pub value: u64,
+}
+
+fn done(value: u64) -> Answer
+    ensures { λ a. ⌜ a ≡ answerOf Done value ⌝ }
+{
+    Answer {
+        number: 0,
+        place: 0,
+        value,
+    }
+}
+
+fn refused(r: Refusal) -> Answer
+    ensures { λ a. ⌜ a ≡ answerOf (Refused r) 0 ⌝ }
+{
+    let code = code_of(r);
+    let number = code.number;
+    let place = code.place as u64;
+    Answer {
+        number,
+        place,
+        value: 0,
+    }
+}
+
+// Checks the tables.
+#[no_mangle]
+pub extern "C" fn hc_check(
+    concepts: &[u16],
+    inclusions: &[u16],
+    questions: &[u16],
+    variables: u16,
+) -> Answer
+    ensures { λ a. ⌜ a ≡ answerOf (tableFault (tables (now (concepts .entry)) (now (inclusions .entry)) (now (questions .entry)) variables)) 0 ⌝ }
+{
+    let answer = subsumption::check_tables(concepts, inclusions, questions, variables);
+    match answer {
+        Outcome::Refused(r) => refused(r),
+        Outcome::Done => done(0),
+    }
+}
+
+// Lists the atoms' ids; value: how many.
+#[no_mangle]
+pub extern "C" fn hc_atoms(
+    concepts: &[u16],
+    inclusions: &[u16],
+    questions: &[u16],
+    variables: u16,
+    out: &mut [u16],
+) -> Answer
+    ensures { λ a. ⌜ a ≡ answerOf (listingFault (tables (now (concepts .entry)) (now (inclusions .entry)) (now (questions .entry)) variables) (length (now (out .entry)))) (length (atoms (tables (now (concepts .entry)) (now (inclusions .entry)) (now (questions .entry)) variables))) ⌝ }
+    ensures { λ a. ⌜ now (out .exit) ≡ listedIn (listingFault (tables (now (concepts .entry)) (now (inclusions .entry)) (now (questions .entry)) variables) (length (now (out .entry)))) (tables (now (concepts .entry)) (now (inclusions .entry)) (now (questions .entry)) variables) (now (out .entry)) ⌝ }
+{
+    let answer = subsumption::list_atoms(concepts, inclusions, questions, variables, out);
+    match answer {
+        Listed::Rejected(r) => refused(r),
+        Listed::Atoms(n) => done(n as u64),
+    }
+}
+
+// Writes the subsumption table under an assignment.
+#[no_mangle]
+pub extern "C" fn hc_subsumption_table(
+    concepts: &[u16],
+    inclusions: &[u16],
+    questions: &[u16],
+    variables: u16,
+    assignment: &[u64],
+    out: &mut [u8],
+) -> Answer
+    ensures { λ a. ⌜ WroteAs (tables (now (concepts .entry)) (now (inclusions .entry)) (now (questions .entry)) variables) (now (assignment .entry)) (now (out .entry)) (now (out .exit)) a ⌝ }
+{
+    let answer = subsumption::write_table(
+        concepts,
+        inclusions,
+        questions,
+        variables,
+        assignment,
+        out,
+    );
+    match answer {
+        Outcome::Refused(r) => refused(r),
+        Outcome::Done => done(0),
+    }
+}
+
+// Decides one pair under an assignment; value: 1 or 0.
+#[no_mangle]
+pub extern "C" fn hc_subsumed(
+    concepts: &[u16],
+    inclusions: &[u16],
+    questions: &[u16],
+    variables: u16,
+    assignment: &[u64],
+    left: u16,
+    right: u16,
+) -> Answer
+    ensures { λ a. ⌜ TellsAs (tables (now (concepts .entry)) (now (inclusions .entry)) (now (questions .entry)) variables) (now (assignment .entry)) left right (decidingFault (tables (now (concepts .entry)) (now (inclusions .entry)) (now (questions .entry)) variables) (now (assignment .entry)) left right) a ⌝ }
+{
+    let answer = subsumption::decide_pair(
+        concepts,
+        inclusions,
+        questions,
+        variables,
+        assignment,
+        left,
+        right,
+    );
+    match answer {
+        Decision::Rejected(r) => refused(r),
+        Decision::Yes => done(1),
+        Decision::No => done(0),
+    }
+}
