@@ -1,0 +1,182 @@
+//! The checks 1 to 7 and 9, in one pass over each table.
+
+use crate::columns::{count_ones, has, insert, Set, EMPTY};
+
+/// Number and place of 01's refusal table.
+pub type Refusal = (u16, u64);
+
+#[derive(Clone, Copy)]
+pub struct Input<'a> {
+    pub concepts: &'a [u16],
+    pub inclusions: &'a [u16],
+    pub questions: &'a [u16],
+    pub variables: u16,
+}
+
+impl Input<'_> {
+    pub fn row(&self, id: usize) -> (u16, usize, usize) {
+        let row = &self.concepts[3 * id..3 * id + 3];
+        (row[0], usize::from(row[1]), usize::from(row[2]))
+    }
+}
+
+/// What the checks find out about accepted tables.
+pub struct Accepted {
+    pub count: usize,
+    pub atoms: Set,
+}
+
+pub fn accept(input: &Input, pair: Option<(u16, u16)>) -> Result<Accepted, Refusal> {
+    check_counts(input)?;
+    let count = input.concepts.len() / 3;
+    check_rows(input, count)?;
+    check_inner_ids(input, count)?;
+    check_pairs(input, count, pair)?;
+    let patterns = patterns(input, count);
+    check_patterns(input, &patterns)?;
+    let atoms = atoms(input, count, &patterns);
+    if count_ones(&atoms) > 64 {
+        return Err((7, 64));
+    }
+    Ok(Accepted { count, atoms })
+}
+
+pub fn accept_assignment(
+    input: &Input,
+    accepted: &Accepted,
+    assignment: &[u64],
+) -> Result<(), Refusal> {
+    if assignment.len() != usize::from(input.variables) {
+        return Err((9, u64::from(input.variables)));
+    }
+    let count = count_ones(&accepted.atoms);
+    let allowed = if count == 64 { u64::MAX } else { (1 << count) - 1 };
+    match assignment.iter().position(|choice| choice & !allowed != 0) {
+        Some(variable) => Err((9, variable as u64)),
+        None => Ok(()),
+    }
+}
+
+fn check_counts(input: &Input) -> Result<(), Refusal> {
+    let place = if input.concepts.len() % 3 != 0 || input.concepts.len() > 3 * 192 {
+        0
+    } else if input.inclusions.len() % 2 != 0 || input.inclusions.len() > 2 * 96 {
+        1
+    } else if input.questions.len() % 2 != 0 || input.questions.len() > 2 * 32 {
+        2
+    } else if input.variables > 8 {
+        3
+    } else {
+        return Ok(());
+    };
+    Err((1, place))
+}
+
+fn check_rows(input: &Input, count: usize) -> Result<(), Refusal> {
+    for id in 0..count {
+        let (kind, a, b) = input.row(id);
+        let well_formed = match kind {
+            0 => a == 0 && b == 0,
+            1 => a < 1000 && b == 0,
+            2 => a < 100,
+            3 => true,
+            4 => a < usize::from(input.variables) && b == 0,
+            _ => false,
+        };
+        if !well_formed {
+            return Err((2, id as u64));
+        }
+    }
+    Ok(())
+}
+
+fn check_inner_ids(input: &Input, count: usize) -> Result<(), Refusal> {
+    for id in 0..count {
+        let (kind, a, b) = input.row(id);
+        if (kind == 2 && b >= id) || (kind == 3 && (a >= id || b >= id)) {
+            return Err((3, id as u64));
+        }
+    }
+    Ok(())
+}
+
+fn check_pairs(input: &Input, count: usize, pair: Option<(u16, u16)>) -> Result<(), Refusal> {
+    let known = |id: u16| usize::from(id) < count;
+    if let Some((left, right)) = pair {
+        if !known(left) || !known(right) {
+            return Err((4, 0));
+        }
+    }
+    let mut place = 0;
+    for list in [input.inclusions, input.questions] {
+        for pair in list.chunks_exact(2) {
+            if !known(pair[0]) || !known(pair[1]) {
+                return Err((4, place));
+            }
+            place += 1;
+        }
+    }
+    Ok(())
+}
+
+/// Ids that hold a variable at any depth.
+fn patterns(input: &Input, count: usize) -> Set {
+    let mut set = EMPTY;
+    for id in 0..count {
+        let holds = match input.row(id) {
+            (2, _, inner) => has(&set, inner),
+            (3, first, second) => has(&set, first) || has(&set, second),
+            (kind, _, _) => kind == 4,
+        };
+        if holds {
+            insert(&mut set, id);
+        }
+    }
+    set
+}
+
+fn check_patterns(input: &Input, patterns: &Set) -> Result<(), Refusal> {
+    let pattern = |id: u16| has(patterns, usize::from(id));
+    let mut inclusions = input.inclusions.chunks_exact(2);
+    if let Some(place) = inclusions.position(|p| pattern(p[0]) || pattern(p[1])) {
+        return Err((5, place as u64));
+    }
+    let mut questions = input.questions.chunks_exact(2);
+    match questions.position(|p| pattern(p[0]) && pattern(p[1])) {
+        Some(place) => Err((6, place as u64)),
+        None => Ok(()),
+    }
+}
+
+/// Marks go from each id to its inner ids, highest first, so one pass is enough.
+fn atoms(input: &Input, count: usize, patterns: &Set) -> Set {
+    let mut reached = EMPTY;
+    for &id in input.inclusions {
+        insert(&mut reached, usize::from(id));
+    }
+    for pair in input.questions.chunks_exact(2) {
+        let right = usize::from(pair[1]);
+        if !has(patterns, right) {
+            insert(&mut reached, right);
+        }
+    }
+    let mut atoms = EMPTY;
+    for id in (0..count).rev() {
+        if !has(&reached, id) {
+            continue;
+        }
+        match input.row(id) {
+            (1, _, _) => insert(&mut atoms, id),
+            (2, _, inner) => {
+                insert(&mut atoms, id);
+                insert(&mut reached, inner);
+            }
+            (3, first, second) => {
+                insert(&mut reached, first);
+                insert(&mut reached, second);
+            }
+            _ => {}
+        }
+    }
+    atoms
+}

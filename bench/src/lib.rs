@@ -1,0 +1,47 @@
+//! A plain Rust implementation of the same operations, word-parallel and without heap: the
+//! yardstick that the proved library is timed beside. It works on what it is lent and nothing
+//! else, refusals included, so that both do the same work.
+
+pub mod checks;
+pub mod columns;
+
+use checks::{Input, Refusal};
+
+const ROW_BYTES: usize = 24;
+
+pub fn check(input: Input) -> Result<(), Refusal> {
+    checks::accept(&input, None).map(|_| ())
+}
+
+/// How many atoms were written.
+pub fn atoms(input: Input, out: &mut [u16]) -> Result<usize, Refusal> {
+    let accepted = checks::accept(&input, None)?;
+    if out.len() < 64 {
+        return Err((8, 64));
+    }
+    let mut count = 0;
+    columns::each(accepted.atoms, |id| {
+        out[count] = id as u16;
+        count += 1;
+    });
+    Ok(count)
+}
+
+pub fn subsumption_table(input: Input, assignment: &[u64], out: &mut [u8]) -> Result<(), Refusal> {
+    let accepted = checks::accept(&input, None)?;
+    checks::accept_assignment(&input, &accepted, assignment)?;
+    let wanted = accepted.count * ROW_BYTES;
+    if out.len() < wanted {
+        return Err((8, wanted as u64));
+    }
+    let closed = columns::Columns::close(&input, &accepted, assignment);
+    closed.write_rows(&mut out[..wanted]);
+    Ok(())
+}
+
+pub fn subsumed(input: Input, assignment: &[u64], pair: (u16, u16)) -> Result<bool, Refusal> {
+    let accepted = checks::accept(&input, Some(pair))?;
+    checks::accept_assignment(&input, &accepted, assignment)?;
+    let closed = columns::Columns::close(&input, &accepted, assignment);
+    Ok(closed.holds(usize::from(pair.0), usize::from(pair.1)))
+}

@@ -1,0 +1,90 @@
+/* Matching template cards against an ingredient catalogue: the C interface of libcapi.a.
+ *
+ * Every table is a pointer and a count of numbers (not of rows). A pointer may be anything that
+ * is aligned and not null where its count is 0. Tables are only read. Any content is taken:
+ * what is wrong with it is refused, and then every output buffer is as it was before.
+ *
+ * entries     three numbers each, (kind, a, b); an entry's id is its place from 0:
+ *             (0, 0, 0) top; (1, name, 0); (2, role, id) "some"; (3, id, id) "and";
+ *             (4, blank, 0). Inner ids are smaller than the entry's own.
+ * inclusions  two ids each: the left is below the right. No blank at any depth.
+ * questions   two ids each. Blanks on one side at most.
+ * blanks      the number of blanks.
+ *
+ * At most 192 entries, 96 inclusions, 32 questions, 8 blanks, 64 parts; names to 999, roles to 99.
+ *
+ * The parts are the ids of kinds 1 and 2 that stand, at any depth, in an inclusion or in a
+ * blank-free right side of a question, in rising order. A filling is one 64-bit number for each
+ * blank: bit k chooses the part at position k. The empty choice reads as top.
+ *
+ * Refusals. Checks run in the order 1 to 7, then 9, 8; within one the lowest place wins.
+ *
+ *   number  condition                                          place
+ *   1       over a count limit, or a ragged table              0 entries, 1 inclusions,
+ *                                                              2 questions, 3 blanks
+ *   2       unknown kind, number out of range, unused field    id
+ *           not 0
+ *   3       inner id not smaller                               id
+ *   4       a pair's id is no entry                            inclusions then questions counted
+ *                                                              through; a pair given alone 0
+ *   5       blank in an inclusion                              inclusion
+ *   6       blanks on both sides                               question
+ *   7       over 64 parts                                      64
+ *   8       output buffer too short                            length wanted
+ *   9       wrong count of numbers in the filling (tested      count of blanks
+ *           first), or a chosen bit past the parts             blank
+ */
+#ifndef HERMITCASKET_H
+#define HERMITCASKET_H
+
+#include <stddef.h>
+#include <stdint.h>
+
+#ifdef __cplusplus
+extern "C" {
+#endif
+
+/* number 0: done, and place is 0. Otherwise the refusal, and value is 0. */
+typedef struct {
+    uint16_t number;
+    uint64_t place;
+    uint64_t value;
+} hc_answer;
+
+/* Checks the tables. value: 0. */
+hc_answer hc_check(const uint16_t *entries, size_t entries_len,
+                   const uint16_t *inclusions, size_t inclusions_len,
+                   const uint16_t *questions, size_t questions_len,
+                   uint16_t blanks);
+
+/* Writes the parts' ids, rising, to the front of out, which wants 64 numbers. value: how many. */
+hc_answer hc_atoms(const uint16_t *entries, size_t entries_len,
+                   const uint16_t *inclusions, size_t inclusions_len,
+                   const uint16_t *questions, size_t questions_len,
+                   uint16_t blanks,
+                   uint16_t *out, size_t out_len);
+
+/* Writes the below table under a filling: 24 bytes a row, row i at byte i * 24; bit j mod 8 of
+ * byte j div 8 (lowest bit first) says that i is below j. Other bits of written rows are 0. out
+ * wants entries * 24 bytes; bytes past the last row keep their values. value: 0. */
+hc_answer hc_subsumption_table(const uint16_t *entries, size_t entries_len,
+                               const uint16_t *inclusions, size_t inclusions_len,
+                               const uint16_t *questions, size_t questions_len,
+                               uint16_t blanks,
+                               const uint64_t *filling, size_t filling_len,
+                               uint8_t *out, size_t out_len);
+
+/* Decides one pair under a filling. value: 1 if left is below right, else 0. The pair may hold
+ * blanks on both sides. */
+hc_answer hc_subsumed(const uint16_t *entries, size_t entries_len,
+                      const uint16_t *inclusions, size_t inclusions_len,
+                      const uint16_t *questions, size_t questions_len,
+                      uint16_t blanks,
+                      const uint64_t *filling, size_t filling_len,
+                      uint16_t left, uint16_t right);
+
+#ifdef __cplusplus
+}
+#endif
+
+#endif

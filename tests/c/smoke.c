@@ -1,0 +1,39 @@
+/* 01's sample problem through the C header; tests/tests/header.rs compares what this prints. */
+#include <hermitcasket.h>
+#include <stdio.h>
+
+static const uint16_t entries[] = {1, 5, 0, 1, 7, 0, 2, 1, 0, 1, 9, 0, 4, 0, 0, 3, 1, 4};
+static const uint16_t inclusions[] = {2, 3};
+static const uint16_t questions[] = {5, 3, 2, 4};
+static const uint64_t filling[] = {4};
+
+#define LEN(list) (sizeof(list) / sizeof((list)[0]))
+#define TABLES entries, LEN(entries), inclusions, LEN(inclusions), questions, LEN(questions), 1
+
+static void show(const char *name, hc_answer answer)
+{
+    printf("%s %u %llu %llu\n", name, (unsigned)answer.number,
+           (unsigned long long)answer.place, (unsigned long long)answer.value);
+}
+
+int main(void)
+{
+    uint16_t atoms[64] = {0};
+    uint8_t table[6 * 24] = {0};
+
+    printf("answer %zu %zu %zu\n", sizeof(hc_answer), offsetof(hc_answer, place),
+           offsetof(hc_answer, value));
+    show("check", hc_check(TABLES));
+    show("atoms", hc_atoms(TABLES, atoms, LEN(atoms)));
+    printf("ids %u %u %u\n", (unsigned)atoms[0], (unsigned)atoms[1], (unsigned)atoms[2]);
+    show("table", hc_subsumption_table(TABLES, filling, LEN(filling), table, sizeof table));
+    for (int row = 0; row < 6; row++)
+        printf("row %d\n", table[24 * row]);
+    show("yes", hc_subsumed(TABLES, filling, LEN(filling), 5, 3));
+    show("no", hc_subsumed(TABLES, filling, LEN(filling), 3, 2));
+    show("short", hc_subsumption_table(TABLES, filling, LEN(filling), table, sizeof table - 1));
+    show("count", hc_subsumed(TABLES, filling, 0, 5, 3));
+    show("pair", hc_subsumed(TABLES, filling, LEN(filling), 5, 6));
+    show("ragged", hc_check(entries, LEN(entries) - 1, inclusions, 2, questions, 4, 1));
+    return 0;
+}

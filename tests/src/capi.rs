@@ -1,0 +1,143 @@
+//! The C interface, declared again from include/hermitcasket.h, with safe wrappers.
+
+use crate::tables::TablesRef;
+
+/// `hc_answer`: number 0 is done, any other the refusal's number in 01's table.
+#[repr(C)]
+#[derive(Clone, Copy, Debug, PartialEq, Eq)]
+pub struct Answer {
+    pub number: u16,
+    pub place: u64,
+    pub value: u64,
+}
+
+impl Answer {
+    pub fn done(value: u64) -> Self {
+        Answer { number: 0, place: 0, value }
+    }
+
+    pub fn refused(number: u16, place: u64) -> Self {
+        Answer { number, place, value: 0 }
+    }
+}
+
+extern "C" {
+    fn hc_check(
+        concepts: *const u16,
+        concepts_len: usize,
+        inclusions: *const u16,
+        inclusions_len: usize,
+        questions: *const u16,
+        questions_len: usize,
+        variables: u16,
+    ) -> Answer;
+
+    fn hc_atoms(
+        concepts: *const u16,
+        concepts_len: usize,
+        inclusions: *const u16,
+        inclusions_len: usize,
+        questions: *const u16,
+        questions_len: usize,
+        variables: u16,
+        out: *mut u16,
+        out_len: usize,
+    ) -> Answer;
+
+    fn hc_subsumption_table(
+        concepts: *const u16,
+        concepts_len: usize,
+        inclusions: *const u16,
+        inclusions_len: usize,
+        questions: *const u16,
+        questions_len: usize,
+        variables: u16,
+        assignment: *const u64,
+        assignment_len: usize,
+        out: *mut u8,
+        out_len: usize,
+    ) -> Answer;
+
+    fn hc_subsumed(
+        concepts: *const u16,
+        concepts_len: usize,
+        inclusions: *const u16,
+        inclusions_len: usize,
+        questions: *const u16,
+        questions_len: usize,
+        variables: u16,
+        assignment: *const u64,
+        assignment_len: usize,
+        left: u16,
+        right: u16,
+    ) -> Answer;
+}
+
+// Each call below is sound for any slices: the operations have no `requires`, read only what the
+// lengths cover, and write only to `out`.
+
+pub fn check(t: TablesRef) -> Answer {
+    unsafe {
+        hc_check(
+            t.concepts.as_ptr(),
+            t.concepts.len(),
+            t.inclusions.as_ptr(),
+            t.inclusions.len(),
+            t.questions.as_ptr(),
+            t.questions.len(),
+            t.variables,
+        )
+    }
+}
+
+pub fn atoms(t: TablesRef, out: &mut [u16]) -> Answer {
+    unsafe {
+        hc_atoms(
+            t.concepts.as_ptr(),
+            t.concepts.len(),
+            t.inclusions.as_ptr(),
+            t.inclusions.len(),
+            t.questions.as_ptr(),
+            t.questions.len(),
+            t.variables,
+            out.as_mut_ptr(),
+            out.len(),
+        )
+    }
+}
+
+pub fn subsumption_table(t: TablesRef, assignment: &[u64], out: &mut [u8]) -> Answer {
+    unsafe {
+        hc_subsumption_table(
+            t.concepts.as_ptr(),
+            t.concepts.len(),
+            t.inclusions.as_ptr(),
+            t.inclusions.len(),
+            t.questions.as_ptr(),
+            t.questions.len(),
+            t.variables,
+            assignment.as_ptr(),
+            assignment.len(),
+            out.as_mut_ptr(),
+            out.len(),
+        )
+    }
+}
+
+pub fn subsumed(t: TablesRef, assignment: &[u64], pair: (u16, u16)) -> Answer {
+    unsafe {
+        hc_subsumed(
+            t.concepts.as_ptr(),
+            t.concepts.len(),
+            t.inclusions.as_ptr(),
+            t.inclusions.len(),
+            t.questions.as_ptr(),
+            t.questions.len(),
+            t.variables,
+            assignment.as_ptr(),
+            assignment.len(),
+            pair.0,
+            pair.1,
+        )
+    }
+}

@@ -1,0 +1,165 @@
+//! Faults put at random into tables and assignments.
+
+use crate::limits::*;
+use crate::random::Random;
+use crate::tables::Tables;
+
+/// One to three faults put into the tables; some leave them accepted.
+pub fn tables(random: &mut Random, tables: &mut Tables) {
+    let kinds = [
+        ragged,
+        overfull,
+        noise_in_place,
+        other_kind,
+        forward_id,
+        no_concept,
+        variable_in_inclusion,
+        variables_on_both_sides,
+        fewer_variables,
+        many_atoms,
+    ];
+    for _ in 0..random.between(1, 3) {
+        random.pick(&kinds)(random, tables);
+    }
+}
+
+fn any_list<'a>(random: &mut Random, tables: &'a mut Tables) -> &'a mut Vec<u16> {
+    match random.below(3) {
+        0 => &mut tables.concepts,
+        1 => &mut tables.inclusions,
+        _ => &mut tables.questions,
+    }
+}
+
+fn ragged(random: &mut Random, tables: &mut Tables) {
+    let longer = random.percent(50);
+    let number = random.below(6) as u16;
+    let list = any_list(random, tables);
+    if longer {
+        list.push(number);
+    } else {
+        list.pop();
+    }
+}
+
+fn overfull(random: &mut Random, tables: &mut Tables) {
+    let extra = random.below(3);
+    match random.below(4) {
+        0 => tables.concepts.resize(3 * (MAX_CONCEPTS + extra), 0),
+        1 => tables.inclusions.resize(2 * (MAX_INCLUSIONS + extra), 0),
+        2 => tables.questions.resize(2 * (MAX_QUESTIONS + extra), 0),
+        _ => tables.variables = *random.pick(&[8, 9, 255, 256, 65535]),
+    }
+}
+
+/// Numbers at and next to a limit.
+const TELLING: [u16; 17] =
+    [0, 1, 2, 3, 4, 5, 8, 99, 100, 191, 192, 255, 256, 999, 1000, 32768, 65535];
+
+fn telling_number(random: &mut Random, tables: &Tables) -> u16 {
+    let count = tables.concept_count() as u16;
+    let near = [count.wrapping_sub(1), count, count.wrapping_add(1)];
+    let numbers: &[u16] = if random.percent(20) { &near } else { &TELLING };
+    *random.pick(numbers)
+}
+
+fn noise_in_place(random: &mut Random, tables: &mut Tables) {
+    let number = telling_number(random, tables);
+    let at = random.number() as usize;
+    let list = any_list(random, tables);
+    if !list.is_empty() {
+        let at = at % list.len();
+        list[at] = number;
+    }
+}
+
+fn other_kind(random: &mut Random, tables: &mut Tables) {
+    if tables.concept_count() > 0 {
+        let at = 3 * random.below(tables.concept_count());
+        tables.concepts[at] = random.below(7) as u16;
+    }
+}
+
+fn forward_id(random: &mut Random, tables: &mut Tables) {
+    let holders: Vec<usize> =
+        (0..tables.concept_count()).filter(|&id| matches!(tables.row(id)[0], 2 | 3)).collect();
+    if !holders.is_empty() {
+        let id = *random.pick(&holders);
+        let field = if tables.row(id)[0] == 3 { random.between(1, 2) } else { 2 };
+        let ahead = random.below(3);
+        tables.concepts[3 * id + field] = (id + ahead) as u16;
+    }
+}
+
+fn no_concept(random: &mut Random, tables: &mut Tables) {
+    let beyond = tables.concept_count() as u16 + random.below(3) as u16;
+    let id = *random.pick(&[beyond, 65535]);
+    let at = random.number() as usize;
+    let list = if random.percent(50) { &mut tables.inclusions } else { &mut tables.questions };
+    if !list.is_empty() {
+        let at = at % list.len();
+        list[at] = id;
+    }
+}
+
+/// The ids of kind 4, whatever else is wrong with the tables.
+fn variable_rows(tables: &Tables) -> Vec<usize> {
+    let is_variable = |&id: &usize| tables.row(id)[0] == 4;
+    (0..tables.concept_count()).filter(is_variable).collect()
+}
+
+fn variable_in_inclusion(random: &mut Random, tables: &mut Tables) {
+    let variables = variable_rows(tables);
+    if !variables.is_empty() && !tables.inclusions.is_empty() {
+        let at = random.below(tables.inclusions.len());
+        tables.inclusions[at] = *random.pick(&variables) as u16;
+    }
+}
+
+fn variables_on_both_sides(random: &mut Random, tables: &mut Tables) {
+    let variables = variable_rows(tables);
+    if !variables.is_empty() && tables.questions.len() >= 2 {
+        let at = 2 * random.below(tables.questions.len() / 2);
+        tables.questions[at] = *random.pick(&variables) as u16;
+        tables.questions[at + 1] = *random.pick(&variables) as u16;
+    }
+}
+
+fn fewer_variables(_: &mut Random, tables: &mut Tables) {
+    tables.variables = tables.variables.saturating_sub(1);
+}
+
+/// 62 to 68 more names that stand in inclusions; without room for them, names and existentials
+/// at random in every inclusion.
+fn many_atoms(random: &mut Random, tables: &mut Tables) {
+    let more = 62 + 2 * random.below(4);
+    if tables.concept_count() + more <= MAX_CONCEPTS {
+        for _ in 0..more / 2 {
+            let id = tables.concept_count() as u16;
+            tables.concepts.extend([1, 7, 0, 1, 8, 0]);
+            tables.inclusions.extend([id, id + 1]);
+        }
+        return;
+    }
+    let is_candidate = |&id: &usize| matches!(tables.row(id)[0], 1 | 2);
+    let candidates: Vec<usize> = (0..tables.concept_count()).filter(is_candidate).collect();
+    if !candidates.is_empty() {
+        for id in &mut tables.inclusions {
+            *id = *random.pick(&candidates) as u16;
+        }
+    }
+}
+
+/// Another count of numbers, or one more bit.
+pub fn assignment(random: &mut Random, choices: &mut Vec<u64>) {
+    match random.below(3) {
+        0 => choices.push(0),
+        1 => drop(choices.pop()),
+        _ => {
+            if !choices.is_empty() {
+                let at = random.below(choices.len());
+                choices[at] |= 1 << random.below(64);
+            }
+        }
+    }
+}

@@ -1,0 +1,109 @@
+//! One table without fault and single faults to put into it, each with the refusal it brings.
+//! Every set of them can be put in at once, to see which check speaks first.
+
+use crate::limits::{ATOM_ROOM, ROW_BYTES};
+use crate::tables::{Case, Tables};
+
+/// In the order of 01's checks: 1 to 7, then 9, 8.
+#[derive(Clone, Copy, Debug, PartialEq, Eq)]
+pub enum Fault {
+    Ragged,
+    OutOfRange,
+    ForwardId,
+    LonePair,
+    NoConcept,
+    VariableInInclusion,
+    VariablesOnBothSides,
+    TooManyAtoms,
+    AssignmentLength,
+    BitPastAtoms,
+    ShortBuffer,
+}
+
+pub const FAULTS: [Fault; 11] = [
+    Fault::Ragged,
+    Fault::OutOfRange,
+    Fault::ForwardId,
+    Fault::LonePair,
+    Fault::NoConcept,
+    Fault::VariableInInclusion,
+    Fault::VariablesOnBothSides,
+    Fault::TooManyAtoms,
+    Fault::AssignmentLength,
+    Fault::BitPastAtoms,
+    Fault::ShortBuffer,
+];
+
+// Ids of the base table that only faults use.
+const VARIABLE: u16 = 2;
+const FIVE_NAMES: u16 = 72;
+const CHANGED_KIND: usize = 73;
+const CHANGED_INNER: usize = 74;
+const COUNT: usize = 75;
+
+/// 75 concepts, 31 inclusions, 1 question, 2 variables, 60 atoms.
+pub fn base() -> Case {
+    let mut rows: Vec<[u16; 3]> = vec![[0, 0, 0], [4, 1, 0], [4, 0, 0]];
+    rows.extend((3..68).map(|name| [1, name, 0]));
+    rows.extend([[3, 63, 64], [3, 65, 66], [3, 68, 69], [3, 70, 67]]);
+    assert_eq!(rows.len(), usize::from(FIVE_NAMES));
+    rows.extend([[3, 71, 71], [0, 0, 0], [3, 3, 4]]);
+    assert_eq!(rows.len(), COUNT);
+    let mut inclusions: Vec<[u16; 2]> = (0..30).map(|k| [3 + 2 * k, 4 + 2 * k]).collect();
+    inclusions.push([3, 0]);
+    let tables = Tables::new(&rows, &inclusions, &[[VARIABLE, 0]], 2);
+    Case::new(tables, &[0, 0])
+}
+
+impl Fault {
+    /// The refusal that this fault alone brings. A short buffer's place is the operation's.
+    pub fn refusal(self) -> (u16, u64) {
+        match self {
+            Fault::Ragged => (1, 2),
+            Fault::OutOfRange => (2, CHANGED_KIND as u64),
+            Fault::ForwardId => (3, CHANGED_INNER as u64),
+            Fault::LonePair => (4, 0),
+            Fault::NoConcept => (4, 31),
+            Fault::VariableInInclusion => (5, 31),
+            Fault::VariablesOnBothSides => (6, 1),
+            Fault::TooManyAtoms => (7, 64),
+            Fault::AssignmentLength => (9, 2),
+            Fault::BitPastAtoms => (9, 1),
+            Fault::ShortBuffer => (8, (COUNT * ROW_BYTES) as u64),
+        }
+    }
+
+    /// Faults are put in in the order of FAULTS, so that the places above stay right for the
+    /// first of them.
+    pub fn put_into(self, case: &mut Case) {
+        let tables = &mut case.tables;
+        match self {
+            Fault::Ragged => tables.questions.push(0),
+            Fault::OutOfRange => tables.concepts[3 * CHANGED_KIND] = 5,
+            Fault::ForwardId => tables.concepts[3 * CHANGED_INNER + 2] = CHANGED_INNER as u16,
+            Fault::LonePair => case.pair = (0, COUNT as u16),
+            Fault::NoConcept => tables.inclusions.extend([COUNT as u16, 0]),
+            Fault::VariableInInclusion => tables.inclusions.extend([0, VARIABLE]),
+            Fault::VariablesOnBothSides => tables.questions.extend([VARIABLE, 1]),
+            Fault::TooManyAtoms => tables.inclusions.extend([FIVE_NAMES, 0]),
+            Fault::AssignmentLength => case.assignment.push(0),
+            Fault::BitPastAtoms => case.assignment[1] |= 1 << 60,
+            Fault::ShortBuffer => {
+                case.table_room = COUNT * ROW_BYTES - 1;
+                case.atom_room = ATOM_ROOM - 1;
+            }
+        }
+    }
+}
+
+/// Every set of the given faults in one case each, with the faults put in, first to speak first.
+pub fn every_set(faults: &[Fault]) -> Vec<(Case, Vec<Fault>)> {
+    let of_set = |set: u32| {
+        let chosen: Vec<Fault> =
+            (0..faults.len()).filter(|k| set >> k & 1 == 1).map(|k| faults[k]).collect();
+        let mut case = base();
+        chosen.iter().for_each(|fault| fault.put_into(&mut case));
+        (case, chosen)
+    };
+    (0..1u32 << faults.len()).map(of_set).collect()
+}

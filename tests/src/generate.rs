@@ -1,0 +1,349 @@
+//! Random tables of many shapes that the checks accept, and random cases around them.
+
+use std::collections::BTreeSet;
+
+use crate::damage;
+use crate::limits::*;
+use crate::random::{Random, Size};
+use crate::reference::atoms;
+use crate::tables::{Case, Tables};
+
+/// Which pairs the inclusions prefer.
+#[derive(Clone, Copy, Debug, PartialEq, Eq)]
+enum Style {
+    Any,
+    Path,
+    Ring,
+    Rising,
+    Falling,
+    Looping,
+}
+
+/// What a random table is to look like.
+struct Shape {
+    concepts: usize,
+    inclusions: usize,
+    questions: usize,
+    variables: usize,
+    names: Vec<u16>,
+    roles: Vec<u16>,
+    /// Weights of top, name, existential, conjunction, variable.
+    weights: [usize; 5],
+    /// Inner ids close below their own make deep chains.
+    deep: bool,
+    /// Variables at the lowest ids choose atoms of higher ids.
+    variables_first: bool,
+    /// Chance in percent that a row repeats an earlier one.
+    twins: usize,
+    style: Style,
+}
+
+const WEIGHTS: [[usize; 5]; 5] = [
+    [5, 30, 25, 30, 10],
+    [5, 15, 60, 15, 5],
+    [2, 15, 10, 65, 8],
+    [10, 60, 10, 10, 10],
+    [2, 20, 30, 20, 28],
+];
+
+const STYLES: [Style; 6] =
+    [Style::Any, Style::Path, Style::Ring, Style::Rising, Style::Falling, Style::Looping];
+
+/// Numbers of concepts, inclusions and questions.
+fn counts(random: &mut Random, size: Size) -> (usize, usize, usize) {
+    match size {
+        Size::Small => {
+            let concepts = random.between(0, 14);
+            (concepts, random.below(2 + 2 * concepts / 3), random.below(5))
+        }
+        Size::Medium => (random.between(8, 60), random.below(33), random.below(17)),
+        Size::Large => {
+            let concepts = *random.pick(&[150, 180, 191, 192, 192]);
+            let inclusions = *random.pick(&[20, 48, 80, 95, 96, 96]);
+            (concepts, inclusions, *random.pick(&[0, 31, 32]))
+        }
+    }
+}
+
+fn shape(random: &mut Random, size: Size) -> Shape {
+    let (names, roles, variables) = match size {
+        Size::Small => (6, 2, 3),
+        Size::Medium => (20, 5, MAX_VARIABLES),
+        Size::Large => (60, 8, MAX_VARIABLES),
+    };
+    let (concepts, inclusions, questions) = counts(random, size);
+    Shape {
+        concepts,
+        inclusions,
+        questions,
+        variables: random.between(0, variables),
+        names: numbers(random, names, MAX_NAME),
+        roles: numbers(random, roles, MAX_ROLE),
+        weights: *random.pick(&WEIGHTS),
+        deep: random.percent(25),
+        variables_first: random.percent(30),
+        twins: *random.pick(&[0, 0, 10, 50]),
+        style: *random.pick(&STYLES),
+    }
+}
+
+/// One to `most` numbers up to `last`, with both ends of the range often among them.
+fn numbers(random: &mut Random, most: usize, last: u16) -> Vec<u16> {
+    let count = random.between(1, most);
+    let number = |random: &mut Random| match random.below(8) {
+        0 => 0,
+        1 => last,
+        _ => random.below(usize::from(last) + 1) as u16,
+    };
+    (0..count).map(|_| number(random)).collect()
+}
+
+/// Tables that the checks accept.
+pub fn valid(random: &mut Random, size: Size) -> Tables {
+    let shape = shape(random, size);
+    let mut rows: Vec<[u16; 3]> = Vec::new();
+    while rows.len() < shape.concepts {
+        let row = concept(random, &shape, &rows);
+        rows.push(row);
+    }
+    let mut tables = Tables::new(&rows, &[], &[], shape.variables as u16);
+    add_inclusions(random, &shape, &mut tables);
+    add_questions(random, &shape, &mut tables);
+    tables
+}
+
+fn concept(random: &mut Random, shape: &Shape, earlier: &[[u16; 3]]) -> [u16; 3] {
+    let id = earlier.len();
+    if shape.variables_first && id < shape.variables {
+        return [4, id as u16, 0];
+    }
+    if id > 0 && random.percent(shape.twins) {
+        return *random.pick(earlier);
+    }
+    match weighted(random, &shape.weights) {
+        0 => [0, 0, 0],
+        2 if id > 0 => [2, *random.pick(&shape.roles), inner(random, shape, id)],
+        3 if id > 0 => [3, inner(random, shape, id), inner(random, shape, id)],
+        4 if shape.variables > 0 => [4, random.below(shape.variables) as u16, 0],
+        _ => [1, *random.pick(&shape.names), 0],
+    }
+}
+
+fn weighted(random: &mut Random, weights: &[usize; 5]) -> usize {
+    let mut rest = random.below(weights.iter().sum());
+    for (kind, &weight) in weights.iter().enumerate() {
+        if rest < weight {
+            return kind;
+        }
+        rest -= weight;
+    }
+    unreachable!("the rest is below the sum of the weights")
+}
+
+fn inner(random: &mut Random, shape: &Shape, id: usize) -> u16 {
+    let back = if shape.deep && random.percent(80) {
+        1 + random.below(id.min(2))
+    } else {
+        1 + random.below(id)
+    };
+    (id - back) as u16
+}
+
+/// Ids with and without variables.
+fn split(tables: &Tables) -> (Vec<usize>, Vec<usize>) {
+    let pattern = atoms::patterns(tables);
+    (0..tables.concept_count()).partition(|&id| pattern[id])
+}
+
+/// Adds an inclusion unless that would bring more than 64 atoms.
+fn add_inclusion(tables: &mut Tables, (left, right): (usize, usize)) {
+    let before = tables.inclusions.len();
+    tables.inclusions.extend([left as u16, right as u16]);
+    if atoms::list(tables).len() > MAX_ATOMS {
+        tables.inclusions.truncate(before);
+    }
+}
+
+/// Adds a question unless that would bring more than 64 atoms.
+fn add_question(tables: &mut Tables, (left, right): (usize, usize)) {
+    let before = tables.questions.len();
+    tables.questions.extend([left as u16, right as u16]);
+    if atoms::list(tables).len() > MAX_ATOMS {
+        tables.questions.truncate(before);
+    }
+}
+
+fn add_inclusions(random: &mut Random, shape: &Shape, tables: &mut Tables) {
+    let (_, ground) = split(tables);
+    if ground.is_empty() {
+        return;
+    }
+    let mut order = ground.clone();
+    random.shuffle(&mut order);
+    order.truncate(shape.inclusions.max(1));
+    // half as many tries again, since pairs with too many atoms are left out
+    for k in 0..shape.inclusions * 3 / 2 {
+        if tables.inclusions.len() / 2 < shape.inclusions {
+            let pair = inclusion(random, shape.style, tables, &ground, &order, k);
+            add_inclusion(tables, pair);
+        }
+    }
+}
+
+fn inclusion(
+    random: &mut Random,
+    style: Style,
+    tables: &Tables,
+    ground: &[usize],
+    order: &[usize],
+    k: usize,
+) -> (usize, usize) {
+    let (mut a, b) = (*random.pick(ground), *random.pick(ground));
+    // all is below what top is below: more than a few of these leave nothing to tell apart
+    if tables.row(a)[0] == 0 && random.percent(90) {
+        a = *random.pick(ground);
+    }
+    match style {
+        Style::Any => (a, b),
+        Style::Path if k + 1 < order.len() => (order[k], order[k + 1]),
+        // one inclusion more would close the ring
+        Style::Path => (order[0], order[order.len() / 2]),
+        Style::Ring => (order[k % order.len()], order[(k + 1) % order.len()]),
+        Style::Rising => (a.min(b), a.max(b)),
+        Style::Falling => (a.max(b), a.min(b)),
+        // as 01's card K: something below "some" of itself, or the reverse
+        Style::Looping => match tables.row(a) {
+            [2, _, inner] if k % 3 > 0 => (usize::from(inner), a),
+            [2, _, inner] => (a, usize::from(inner)),
+            _ => (a, b),
+        },
+    }
+}
+
+fn add_questions(random: &mut Random, shape: &Shape, tables: &mut Tables) {
+    let (patterns, ground) = split(tables);
+    if ground.is_empty() {
+        return;
+    }
+    for _ in 0..shape.questions {
+        let side = *random.pick(&ground);
+        let other = if patterns.is_empty() || random.percent(20) {
+            *random.pick(&ground)
+        } else {
+            *random.pick(&patterns)
+        };
+        let pair = if random.percent(50) { (side, other) } else { (other, side) };
+        add_question(tables, pair);
+    }
+}
+
+/// 192 concepts: variables, 64 names and existentials without variables (ids 8 to 71), and
+/// existentials and conjunctions over all of these.
+fn full_rows(random: &mut Random) -> Vec<[u16; 3]> {
+    let mut rows: Vec<[u16; 3]> = (0..8).map(|variable| [4, variable, 0]).collect();
+    while rows.len() < 72 {
+        let id = rows.len();
+        rows.push(if id > 8 && random.percent(50) {
+            [2, random.below(3) as u16, random.between(8, id - 1) as u16]
+        } else {
+            [1, MAX_NAME - id as u16, 0]
+        });
+    }
+    while rows.len() < MAX_CONCEPTS {
+        let (a, b) = (random.below(rows.len()) as u16, random.below(rows.len()) as u16);
+        let existential = random.percent(30);
+        rows.push(if existential { [2, random.below(3) as u16, a] } else { [3, a, b] });
+    }
+    rows
+}
+
+/// Tables at every limit at once: 192 concepts, 96 inclusions, 32 questions, 8 variables and
+/// exactly 64 atoms.
+pub fn full(random: &mut Random) -> Tables {
+    let mut tables = Tables::new(&full_rows(random), &[], &[], 8);
+    for k in 0..32 {
+        add_inclusion(&mut tables, (8 + 2 * k, 9 + 2 * k));
+    }
+    let rising = random.percent(60);
+    while tables.inclusions.len() < 2 * MAX_INCLUSIONS {
+        let (a, b) = (random.between(8, 71), random.between(8, 71));
+        add_inclusion(&mut tables, if rising { (a.min(b), a.max(b)) } else { (a, b) });
+    }
+    let (patterns, _) = split(&tables);
+    while tables.questions.len() < 2 * MAX_QUESTIONS {
+        let (pattern, atom) = (*random.pick(&patterns), random.between(8, 71));
+        let left = random.percent(50);
+        add_question(&mut tables, if left { (pattern, atom) } else { (atom, pattern) });
+    }
+    tables
+}
+
+/// An assignment that check 9 accepts, for accepted tables.
+pub fn assignment(random: &mut Random, tables: &Tables) -> Vec<u64> {
+    let count = atoms::list(tables).len();
+    let all = if count == 0 { 0 } else { u64::MAX >> (64 - count) };
+    let choice = |random: &mut Random| match random.below(5) {
+        0 => 0,
+        1 => all,
+        2 => 1 << random.below(count.max(1)),
+        3 => random.number() & random.number() & random.number(),
+        _ => random.number(),
+    };
+    (0..tables.variables).map(|_| choice(random) & all).collect()
+}
+
+/// A random case: most are accepted, the others are damaged in the tables, the assignment, the
+/// pair or the buffers, or in several of them.
+pub fn case(random: &mut Random, size: Size) -> Case {
+    let at_limits = size == Size::Large && random.percent(30);
+    let mut tables = if at_limits { full(random) } else { valid(random, size) };
+    let choices = assignment(random, &tables);
+    if random.percent(40) {
+        damage::tables(random, &mut tables);
+    }
+    let mut case = Case::new(tables, &choices);
+    case.pair = pair(random, &case.tables);
+    case.atom_room = room(random, case.atom_room);
+    case.table_room = room(random, case.table_room);
+    if random.percent(15) {
+        damage::assignment(random, &mut case.assignment);
+    }
+    case
+}
+
+fn pair(random: &mut Random, tables: &Tables) -> (u16, u16) {
+    let count = tables.concept_count();
+    let id = |random: &mut Random| {
+        if count == 0 || random.percent(5) {
+            *random.pick(&[count as u16, 192, 65535])
+        } else {
+            random.below(count) as u16
+        }
+    };
+    (id(random), id(random))
+}
+
+/// As long as wanted, longer, or now and then shorter.
+fn room(random: &mut Random, wanted: usize) -> usize {
+    match random.below(10) {
+        0 => wanted.saturating_sub(1),
+        1 => random.below(wanted + 1),
+        2..=5 => wanted,
+        _ => wanted + random.below(100),
+    }
+}
+
+/// All pairs of a small table, or `most` of a large one.
+pub fn pairs(random: &mut Random, tables: &Tables, most: usize) -> Vec<(u16, u16)> {
+    let count = tables.concept_count() as u16;
+    if usize::from(count).pow(2) <= most {
+        let of_left = |left| (0..count).map(move |right| (left, right));
+        return (0..count).flat_map(of_left).collect();
+    }
+    let mut some = BTreeSet::new();
+    while some.len() < most {
+        let id = |random: &mut Random| random.below(usize::from(count)) as u16;
+        some.insert((id(random), id(random)));
+    }
+    some.into_iter().collect()
+}

@@ -1,0 +1,15 @@
+//! The independent implementation that the proved library is held against, and what that takes:
+//! the C interface, random tables, guarded buffers.
+
+pub mod capi;
+pub mod compare;
+pub mod damage;
+pub mod families;
+pub mod faults;
+pub mod generate;
+pub mod lend;
+pub mod limits;
+pub mod random;
+pub mod reference;
+pub mod semantics;
+pub mod tables;

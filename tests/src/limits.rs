@@ -1,0 +1,14 @@
+//! The limits of 01, "Tables" and "Operations".
+
+pub const MAX_CONCEPTS: usize = 192;
+pub const MAX_INCLUSIONS: usize = 96;
+pub const MAX_QUESTIONS: usize = 32;
+pub const MAX_VARIABLES: usize = 8;
+pub const MAX_ATOMS: usize = 64;
+pub const MAX_NAME: u16 = 999;
+pub const MAX_ROLE: u16 = 99;
+
+/// Bytes of one row of the subsumption table.
+pub const ROW_BYTES: usize = 24;
+/// Numbers that the buffer for the atoms must hold, however few are written.
+pub const ATOM_ROOM: usize = 64;

@@ -1,0 +1,99 @@
+//! Refusals 1 to 9 of 01. Each check answers the lowest place at fault.
+
+use super::atoms;
+use super::Refusal;
+use crate::limits::*;
+use crate::tables::{Concept, Tables};
+
+/// Checks 1 to 7 in order. A pair given alone is judged within check 4, at place 0.
+pub fn of_tables(tables: &Tables, pair: Option<(u16, u16)>) -> Result<(), Refusal> {
+    refuse(1, limit_fault(tables))?;
+    refuse(2, ids(tables).find(|&id| malformed(tables, id)))?;
+    refuse(3, ids(tables).find(|&id| looks_ahead(tables, id)))?;
+    refuse(4, pair_fault(tables, pair))?;
+    refuse(5, variable_in_inclusion(tables))?;
+    refuse(6, variables_on_both_sides(tables))?;
+    let too_many = atoms::list(tables).len() > MAX_ATOMS;
+    refuse(7, too_many.then_some(64))
+}
+
+/// Check 9, for accepted tables.
+pub fn of_assignment(tables: &Tables, assignment: &[u64]) -> Result<(), Refusal> {
+    let variables = usize::from(tables.variables);
+    if assignment.len() != variables {
+        return refuse(9, Some(variables));
+    }
+    let count = atoms::list(tables).len();
+    let past = |choice: u64| (count..64).any(|position| choice >> position & 1 == 1);
+    refuse(9, assignment.iter().position(|&choice| past(choice)))
+}
+
+/// Check 8: the place is the length wanted.
+pub fn of_room(room: usize, wanted: usize) -> Result<(), Refusal> {
+    refuse(8, (room < wanted).then_some(wanted))
+}
+
+fn refuse(number: u16, place: Option<usize>) -> Result<(), Refusal> {
+    match place {
+        None => Ok(()),
+        Some(place) => Err(Refusal { number, place: place as u64 }),
+    }
+}
+
+fn ids(tables: &Tables) -> std::ops::Range<usize> {
+    0..tables.concept_count()
+}
+
+fn limit_fault(tables: &Tables) -> Option<usize> {
+    let bad = |len: usize, width: usize, most: usize| len % width != 0 || len / width > most;
+    let faults = [
+        bad(tables.concepts.len(), 3, MAX_CONCEPTS),
+        bad(tables.inclusions.len(), 2, MAX_INCLUSIONS),
+        bad(tables.questions.len(), 2, MAX_QUESTIONS),
+        usize::from(tables.variables) > MAX_VARIABLES,
+    ];
+    faults.iter().position(|&fault| fault)
+}
+
+/// Check 2 of one row. Inner ids are check 3's.
+fn malformed(tables: &Tables, id: usize) -> bool {
+    match tables.row(id) {
+        [0, a, b] => a != 0 || b != 0,
+        [1, name, b] => name > MAX_NAME || b != 0,
+        [2, role, _] => role > MAX_ROLE,
+        [3, _, _] => false,
+        [4, variable, b] => variable >= tables.variables || b != 0,
+        _ => true,
+    }
+}
+
+fn looks_ahead(tables: &Tables, id: usize) -> bool {
+    match tables.concept(id) {
+        Concept::Existential(_, inner) => inner >= id,
+        Concept::Conjunction(first, second) => first >= id || second >= id,
+        _ => false,
+    }
+}
+
+fn pair_fault(tables: &Tables, pair: Option<(u16, u16)>) -> Option<usize> {
+    let count = tables.concept_count();
+    if let Some((left, right)) = pair {
+        if usize::from(left) >= count || usize::from(right) >= count {
+            return Some(0);
+        }
+    }
+    let through = [tables.inclusion_pairs(), tables.question_pairs()].concat();
+    through.iter().position(|&(left, right)| left >= count || right >= count)
+}
+
+fn variable_in_inclusion(tables: &Tables) -> Option<usize> {
+    let pattern = atoms::patterns(tables);
+    let faulty = |&(left, right): &(usize, usize)| pattern[left] || pattern[right];
+    tables.inclusion_pairs().iter().position(faulty)
+}
+
+fn variables_on_both_sides(tables: &Tables) -> Option<usize> {
+    let pattern = atoms::patterns(tables);
+    let faulty = |&(left, right): &(usize, usize)| pattern[left] && pattern[right];
+    tables.question_pairs().iter().position(faulty)
+}

@@ -1,0 +1,142 @@
+//! The tables as lists of numbers, their decoding, and cases that print as Rust text.
+
+use std::fmt;
+
+use crate::limits::{ATOM_ROOM, ROW_BYTES};
+
+/// The raw tables, damaged or not. 01: entries, inclusions, questions, number of blanks.
+#[derive(Clone, Debug, Default, PartialEq, Eq)]
+pub struct Tables {
+    pub concepts: Vec<u16>,
+    pub inclusions: Vec<u16>,
+    pub questions: Vec<u16>,
+    pub variables: u16,
+}
+
+/// Lent tables: what one call of the C interface takes.
+#[derive(Clone, Copy)]
+pub struct TablesRef<'a> {
+    pub concepts: &'a [u16],
+    pub inclusions: &'a [u16],
+    pub questions: &'a [u16],
+    pub variables: u16,
+}
+
+/// One row of an accepted concept table. 01: top, name, "some", "and", blank.
+#[derive(Clone, Copy, Debug, PartialEq, Eq)]
+pub enum Concept {
+    Top,
+    Name(u16),
+    Existential(u16, usize),
+    Conjunction(usize, usize),
+    Variable(usize),
+}
+
+impl Tables {
+    pub fn new(
+        concepts: &[[u16; 3]],
+        inclusions: &[[u16; 2]],
+        questions: &[[u16; 2]],
+        variables: u16,
+    ) -> Self {
+        Tables {
+            concepts: concepts.concat(),
+            inclusions: inclusions.concat(),
+            questions: questions.concat(),
+            variables,
+        }
+    }
+
+    pub fn lend(&self) -> TablesRef<'_> {
+        TablesRef {
+            concepts: &self.concepts,
+            inclusions: &self.inclusions,
+            questions: &self.questions,
+            variables: self.variables,
+        }
+    }
+
+    /// Whole rows only: a ragged rest is no concept.
+    pub fn concept_count(&self) -> usize {
+        self.concepts.len() / 3
+    }
+
+    pub fn row(&self, id: usize) -> [u16; 3] {
+        let at = 3 * id;
+        [self.concepts[at], self.concepts[at + 1], self.concepts[at + 2]]
+    }
+
+    /// Only for tables that checks 1 to 3 accept.
+    pub fn concept(&self, id: usize) -> Concept {
+        let [kind, a, b] = self.row(id);
+        match kind {
+            0 => Concept::Top,
+            1 => Concept::Name(a),
+            2 => Concept::Existential(a, usize::from(b)),
+            3 => Concept::Conjunction(usize::from(a), usize::from(b)),
+            4 => Concept::Variable(usize::from(a)),
+            _ => panic!("concept {} of kind {} was not checked", id, kind),
+        }
+    }
+
+    pub fn inclusion_pairs(&self) -> Vec<(usize, usize)> {
+        pairs(&self.inclusions)
+    }
+
+    pub fn question_pairs(&self) -> Vec<(usize, usize)> {
+        pairs(&self.questions)
+    }
+}
+
+fn pairs(numbers: &[u16]) -> Vec<(usize, usize)> {
+    numbers.chunks_exact(2).map(|pair| (usize::from(pair[0]), usize::from(pair[1]))).collect()
+}
+
+/// All that the four operations are lent. It prints as Rust text, for `compare::all`.
+#[derive(Clone, Debug)]
+pub struct Case {
+    pub tables: Tables,
+    pub assignment: Vec<u64>,
+    pub pair: (u16, u16),
+    /// Length of the buffer for the atoms, in numbers.
+    pub atom_room: usize,
+    /// Length of the buffer for the subsumption table, in bytes.
+    pub table_room: usize,
+}
+
+impl Case {
+    /// Buffers as long as wanted, the pair (0, 0).
+    pub fn new(tables: Tables, assignment: &[u64]) -> Self {
+        let table_room = tables.concept_count() * ROW_BYTES;
+        Case {
+            tables,
+            assignment: assignment.to_vec(),
+            pair: (0, 0),
+            atom_room: ATOM_ROOM,
+            table_room,
+        }
+    }
+}
+
+impl fmt::Display for Tables {
+    fn fmt(&self, f: &mut fmt::Formatter<'_>) -> fmt::Result {
+        writeln!(f, "Tables {{")?;
+        writeln!(f, "    concepts: vec!{:?},", self.concepts)?;
+        writeln!(f, "    inclusions: vec!{:?},", self.inclusions)?;
+        writeln!(f, "    questions: vec!{:?},", self.questions)?;
+        writeln!(f, "    variables: {},", self.variables)?;
+        write!(f, "}}")
+    }
+}
+
+impl fmt::Display for Case {
+    fn fmt(&self, f: &mut fmt::Formatter<'_>) -> fmt::Result {
+        writeln!(f, "Case {{")?;
+        writeln!(f, "tables: {},", self.tables)?;
+        writeln!(f, "assignment: vec!{:?},", self.assignment)?;
+        writeln!(f, "pair: {:?},", self.pair)?;
+        writeln!(f, "atom_room: {},", self.atom_room)?;
+        writeln!(f, "table_room: {},", self.table_room)?;
+        write!(f, "}}")
+    }
+}
