@@ -11,26 +11,7 @@ use lib.Bits.{bitAnd, bitOr, or-shr, and-shr, or-step, and-step, and-mask, or-ad
 use borrow.Author.Tests.{eqb-true, ltb-true, ltb-false}
 use Rattle.subsumption.specs.Tables.{or, both}
 use Rattle.subsumption.specs.Atoms.{bit}
-
-pub or-true : (a b : Bool) → or a b ≡ true → (a ≡ true) ⊎ (b ≡ true)
-unfolding or
-or-true true b e = inl refl
-or-true false b e = inr e
-
-pub or-false : (a b : Bool) → or a b ≡ false → (a ≡ false) × (b ≡ false)
-unfolding or
-or-false true b e = let z : _≡_ {A = ℕ} 0 1 = cc in absurd (omega arith)
-or-false false b e = (refl, e)
-
-pub both-true : (a b : Bool) → both a b ≡ true → (a ≡ true) × (b ≡ true)
-unfolding both
-both-true true b e = (refl, e)
-both-true false b e = let z : _≡_ {A = ℕ} 0 1 = cc in absurd (omega arith)
-
-pub both-of : (a b : Bool) → a ≡ true → b ≡ true → both a b ≡ true
-unfolding both
-both-of true b p q = q
-both-of false b p q = p
+use Rattle.subsumption.proofs.Bools.{or-cases, both-true}
 
 max-odd : (a b : ℕ) → a < 2 → b < 2 → eqb (max a b % 2) 1 ≡ or (eqb a 1) (eqb b 1)
 unfolding or
@@ -92,7 +73,7 @@ bit-or-left x y k h = bit-or x y k ∙ go (bit x k) (bit y k) h
     go false b e = let z : _≡_ {A = ℕ} 0 1 = cc in absurd (omega arith)
 
 pub bit-or-cases : (x y k : ℕ) → bit (bitOr x y) k ≡ true → (bit x k ≡ true) ⊎ (bit y k ≡ true)
-bit-or-cases x y k h = or-true (bit x k) (bit y k) (sym (bit-or x y k) ∙ h)
+bit-or-cases x y k h = or-cases (bit x k) (bit y k) (sym (bit-or x y k) ∙ h)
 
 -- one bit
 pub bit-pow : (k : ℕ) → bit (2 ^ k) k ≡ true

@@ -11,7 +11,8 @@ use lib.Bits.{bitAnd}
 use borrow.Author.Tests.{eqb-true, eqb-false, eq-eqb}
 use Rattle.subsumption.specs.Atoms.{bit, pick}
 use Rattle.subsumption.specs.Closure.{has, slack, Takes, inThree, Common}
-use Rattle.subsumption.proofs.Bits.{bit-ones, bit-and, both-true, both-of}
+use Rattle.subsumption.proofs.Bools.{both-true, both-intro}
+use Rattle.subsumption.proofs.Bits.{bit-ones, bit-and}
 use Rattle.subsumption.proofs.Picks.{ChosenBelow, picked-at, at-picked}
 use Rattle.subsumption.proofs.Columns.{any-true, any-false, not-both, falls, takes-as}
 
@@ -59,7 +60,7 @@ module _ (atoms : List ℕ) (choice : ℕ) (columns : List ℕ) (part : ℕ) whe
         every =
             λ k h f.
             bit-and word (getD columns (getD atoms q 0 * 3 + part) 0) k
-            ∙ both-of _ _ (c .every k h (λ m l p. f m (omega arith) p)) (f q (omega arith) (picked-bit choice q ne));
+            ∙ both-intro _ _ (c .every k h (λ m l p. f m (omega arith) p)) (f q (omega arith) (picked-bit choice q ne));
       }
 
   pub common-done : (q word : ℕ) → q ≤ length atoms → length atoms ≤ q → Common q atoms choice columns part word → Common (length atoms) atoms choice columns part word

@@ -10,15 +10,10 @@ use lib.ListN.{length, getD}
 use lib.Pow.{shr-shr}
 use Rattle.subsumption.specs.Tables.{Tables, countOf}
 use Rattle.subsumption.specs.Atoms.{atoms, bit, pick, chosen}
+pub use Rattle.subsumption.proofs.Bits.{bit-half}
 use Rattle.subsumption.proofs.WellFormed.{WellFormed}
 use Rattle.subsumption.proofs.Inward.{Ground}
 use Rattle.subsumption.proofs.AtomLaws.{atom-known, atom-ground}
-
-pub bit-half : (x q : ℕ) → bit (x / 2) q ≡ bit x (suc q)
-unfolding bit
-bit-half x q =
-    let s : 1 + q ≡ suc q = omega arith in
-    ap (λ (z : ℕ). eqb (z % 2) 1) (shr-shr x 1 q ∙ ap (λ (z : ℕ). x / 2 ^ z) s)
 
 pub record Picked (xs : List ℕ) (choice p : ℕ) : Type 0 where
   pub place : ℕ

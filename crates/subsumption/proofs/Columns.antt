@@ -14,7 +14,8 @@ use lib.Bits.{bitAnd, bitOr}
 use borrow.Author.Tests.{eqb-true, eqb-false, not-true, not-false}
 use Rattle.subsumption.specs.Atoms.{bit}
 use Rattle.subsumption.specs.Closure.{has, slack, Absorbs, Takes, inThree}
-use Rattle.subsumption.proofs.Bits.{or-grows, bit-or-cases, bit-or-right, bit-and, both-true, both-of, bit-ones, bit-pow, bit-pow-other}
+use Rattle.subsumption.proofs.Bools.{both-true, both-intro}
+use Rattle.subsumption.proofs.Bits.{or-grows, bit-or-cases, bit-or-right, bit-and, bit-ones, bit-pow, bit-pow-other}
 
 pub any-true : (a b : Bool) → (a || b) ≡ true → (a ≡ true) ⊎ (b ≡ true)
 any-true true b e = inl refl
@@ -173,7 +174,7 @@ meet-takes {before} left right t =
     (λ i h u.
     ap (λ (v : ℕ). bit v (i % 64)) (three-both before left right (i / 64) (omega arith))
     ∙ bit-and (getD before (left * 3 + i / 64) 0) (getD before (right * 3 + i / 64) 0) (i % 64)
-    ∙ both-of (bit (getD before (left * 3 + i / 64) 0) (i % 64)) (bit (getD before (right * 3 + i / 64) 0) (i % 64)) (u .0) (u .1))
+    ∙ both-intro (bit (getD before (left * 3 + i / 64) 0) (i % 64)) (bit (getD before (right * 3 + i / 64) 0) (i % 64)) (u .0) (u .1))
 
 all-ones : (q k : ℕ) → q < 3 → k < 64 → bit (getD ((2 ^ 64 - 1) ∷ (2 ^ 64 - 1) ∷ (2 ^ 64 - 1) ∷ []) q 0) k ≡ true
 all-ones zero k h l = bit-ones k l

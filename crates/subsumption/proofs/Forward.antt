@@ -20,7 +20,7 @@ leb-not-ltb i j = ⊎-elim (λ h. rw (le-leb i j h, le-ltb j i h)) (λ h. rw (lt
 module _ (i k a b : ℕ) where
   pub exists-inner : k ≡ 2 → leb i b ≡ forward i (decode k a b)
   unfolding forward decode
-  exists-inner e = rw (e, leb-not-ltb)
+  exists-inner e = rw (e, leb-not-ltb i b)
 
   pub and-first : k ≡ 3 → i ≤ a → true ≡ forward i (decode k a b)
   unfolding forward decode or
@@ -28,7 +28,7 @@ module _ (i k a b : ℕ) where
 
   pub and-second : k ≡ 3 → a < i → leb i b ≡ forward i (decode k a b)
   unfolding forward decode or
-  and-second e h = rw (e, lt-ltb a i h, leb-not-ltb)
+  and-second e h = rw (e, lt-ltb a i h, leb-not-ltb i b)
 
 pub no-inner : (i k a b : ℕ) → (k ≡ 2 → ⊥) → (k ≡ 3 → ⊥) → false ≡ forward i (decode k a b)
 unfolding forward decode
@@ -50,7 +50,7 @@ module _ (count left right : ℕ) where
 
   pub no-right : left < count → leb count right ≡ noConcept count left right
   unfolding noConcept or
-  no-right h = rw (lt-ltb left count h, leb-not-ltb)
+  no-right h = rw (lt-ltb left count h, leb-not-ltb count right)
 
 pub pair-unknown :
     (count : ℕ) (pairs : List ℕ) (m : ℕ) (pair : Pair) (r : Bool) → pair ≡ pairOf pairs m → r ≡ noConcept count (pair .left) (pair .right)
