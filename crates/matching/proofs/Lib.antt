@@ -1,0 +1,1 @@
+-- Laws and machinery behind the proofs of the functions.

@@ -1,0 +1,3 @@
+-- What a reader must believe of matching and derivations. proofs/ has the laws.
+pub mod Solving
+pub mod Finding

@@ -1,0 +1,2 @@
+// Matching under subsumption: the matcher, derivations and their checker.
+pub mod find;
