@@ -1,1 +1,5 @@
 -- Laws and machinery behind the proofs of the functions.
+pub mod Readings
+pub mod Monotone
+pub mod Decided
+pub mod Members
