@@ -3,3 +3,7 @@ pub mod Readings
 pub mod Monotone
 pub mod Decided
 pub mod Members
+pub mod Assigning
+pub mod Parts
+pub mod Extended
+pub mod Reached
