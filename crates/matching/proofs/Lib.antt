@@ -7,3 +7,5 @@ pub mod Assigning
 pub mod Parts
 pub mod Extended
 pub mod Reached
+pub mod Locality
+pub mod Conjoined

@@ -1,5 +1,5 @@
 -- Membership of a concept in an interpretation, as a test.
-use Prim.Native.Nat.{ℕ, _<_}
+use Prim.Native.Nat.{ℕ}
 use mathlib.Core.Path.{_≡_, refl, sym}
 use mathlib.Core.List.{List, [], _∷_, List·Memᴰ, List·Memᴰ·head, List·Memᴰ·tail, Memᴰ·cast}
 use mathlib.Core.Bool.{Bool, true, false, false≢true}
@@ -7,7 +7,7 @@ use mathlib.Core.Logic.{⊎-elim}
 use lib.Dec.{eqb, ltb}
 use borrow.Author.Tests.{eqb-true, eq-eqb, ltb-true, lt-ltb}
 use Rattle.subsumption.specs.Tables.{or, both, Concept, top, name, exists, and, var}
-use Rattle.subsumption.specs.Subsumption.{Named, Linked, Interpretation, Member, noVariables}
+use Rattle.subsumption.specs.Subsumption.{Interpretation, Member, noVariables}
 use Rattle.subsumption.proofs.Bools.{or-cases, or-first, or-second, both-true, both-intro}
 
 module _ {A : Type 0} (test : A → Bool) where

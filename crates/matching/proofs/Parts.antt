@@ -1,7 +1,7 @@
 -- Lists of concepts that hold the parts of their members.
-use Prim.Native.Nat.{ℕ, zero, suc, _<_}
+use Prim.Native.Nat.{ℕ, suc, _<_}
 use mathlib.Core.Path.{_≡_, refl, sym, subst}
-use mathlib.Core.List.{List, [], _∷_, _++_, List·Memᴰ, List·Memᴰ·head, List·Memᴰ·tail, List·Memᴰ·cases-cons, List·Memᴰ·append-cases, List·Memᴰ·eq-of-singleton, Memᴰ·append-left, Memᴰ·append-right}
+use mathlib.Core.List.{List, [], _∷_, _++_, List·Memᴰ, List·Memᴰ·head, List·Memᴰ·tail, List·Memᴰ·cases-cons, List·Memᴰ·append-cases, Memᴰ·append-left, Memᴰ·append-right}
 use mathlib.Core.Logic.{⊎-elim}
 use native.Mathlib.Omega.{arith}
 use lib.ListN.{length, getD}
@@ -68,9 +68,9 @@ gather-closed f n c h =
     inner-more (parts (f m)) _ (λ d v. gather-in (λ i. parts (f i)) n m l v) c (parts-closed (f m) c u)
 
 -- the place of a member
+pub place : {A : Type 0} (default : A) (list : List A) (a : A) → List·Memᴰ a list → (j : ℕ) × (j < length list) × (getD list j default ≡ a)
+place default list a (List·Memᴰ·head e) = (0, omega arith, sym e)
+place default list a (List·Memᴰ·tail {x} {xs} m) = let (j, l, e) = place default xs a m in (suc j, omega arith, e)
+
 abbrev pub conceptAt : List Concept → ℕ → Concept
 conceptAt E j = getD E j top
-
-pub place : (E : List Concept) (c : Concept) → List·Memᴰ c E → (j : ℕ) × (j < length E) × (conceptAt E j ≡ c)
-place E c (List·Memᴰ·head e) = (0, omega arith, sym e)
-place E c (List·Memᴰ·tail {x} {xs} m) = let (j, l, e) = place xs c m in (suc j, omega arith, e)

@@ -1,7 +1,7 @@
 -- The extended interpretation where the new elements reach all that their concept is below, and the old ones only what their members force:
 -- it obeys the inclusions, and the old elements gain no membership that matters.
-use Prim.Native.Nat.{ℕ, _+_, _-_, _<_, _≤_}
-use mathlib.Core.Path.{_≡_, refl, sym, ap, _∙_, subst}
+use Prim.Native.Nat.{ℕ, _+_, _-_, _<_}
+use mathlib.Core.Path.{_≡_, sym, subst}
 use mathlib.Core.List.{List, List·Memᴰ}
 use mathlib.Core.Bool.{Bool, true}
 use mathlib.Core.Logic.{_⊎_, inl, inr, ⊎-elim}
@@ -12,7 +12,7 @@ use Rattle.subsumption.specs.Subsumption.{Interpretation, Reading, Member, Incl
 use Rattle.subsumption.proofs.Bools.{le-or-lt}
 use Rattle.matching.proofs.Decided.{Decides}
 use Rattle.matching.proofs.Parts.{Closed, conceptAt, place}
-use Rattle.matching.proofs.Extended.{extended, name-old, name-new, link-old, link-new, NewName, name-cases, NewLink, link-cases}
+use Rattle.matching.proofs.Extended.{extended, name-old, name-new, link-old, link-new, name-cases, NewLink, link-cases}
 
 -- One concept is below another in all that obeys the inclusions.
 abbrev pub Below : Tables → Concept → Concept → Type 0
@@ -97,16 +97,16 @@ module _ (t : Tables) (I : Interpretation) (E : List Concept) (closed : Closed E
     unfolding innerOf
     reached-in top m z l h = tt
     reached-in (name n) m z l h =
-        let (j, k, e) = place E (name n) m in
+        let (j, k, e) = place top E (name n) m in
         name-new I E inner reach z j n l k e (h j k (subst (Below t (name n)) (sym e) (λ K o x u v. v)))
-    reached-in (exists r d) m z l h = go (closed (exists r d) m) (place E (exists r d) m) (reached-in d (closed (exists r d) m))
+    reached-in (exists r d) m z l h = go (closed (exists r d) m) (place top E (exists r d) m) (reached-in d (closed (exists r d) m))
       where
         go :
             List·Memᴰ d E → (j : ℕ) × (j < length E) × (conceptAt E j ≡ exists r d)
             → ((w : ℕ) → w < I .size + length E → Reaches w d → Member (extended I E inner reach) noVariables d w)
             → Member (extended I E inner reach) noVariables (exists r d) z
         go n (j, k, e) rest =
-            let (y, u, f) = place E d n in (
+            let (y, u, f) = place top E d n in (
               I .size + y,
               omega arith,
               link-new I E inner reach z j r y d l k u e (h j k (subst (Below t (exists r d)) (sym e) (λ K o x u v. v)))
