@@ -9,3 +9,4 @@ pub mod Extended
 pub mod Reached
 pub mod Locality
 pub mod Conjoined
+pub mod Choosing
