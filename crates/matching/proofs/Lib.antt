@@ -10,3 +10,4 @@ pub mod Reached
 pub mod Locality
 pub mod Conjoined
 pub mod Choosing
+pub mod ChoosingFaults

@@ -12,7 +12,6 @@ use Rattle.subsumption.specs.Refusal.{codeOf, orElse, refuseIf}
 use Rattle.subsumption.specs.Check.{limitFault, tableFault, assignmentFault, bufferFault}
 use Rattle.matching.specs.declared.chosen.Chosen.{Chosen}
 use Rattle.matching.specs.declared.chosen.Chosen.the-variants.{Ids, Rejected}
-use Rattle.matching.specs.declared.chosen.Told.{Told}
 
 -- A variable's number that is not below the count is judged within check 2, at place 0.
 unfoldable pub variableFault : ℕ → ℕ → Outcome
@@ -38,7 +37,11 @@ unfoldable pub handedBack : Outcome → List ℕ → List ℕ
 handedBack Done ids = ids
 handedBack (Refused r) ids = []
 
--- What an answer tells beside the list: the paper's number and place, both 0 when there is no refusal, and how many ids there are.
-abbrev pub toldOf : Chosen → Told
-toldOf (Ids n) = record { number = 0; place = 0; count = n }
-toldOf (Rejected r) = record { number = codeOf r .number; place = codeOf r .place; count = 0 }
+-- The paper's number and place beside the list: both 0 when there is no refusal.
+abbrev pub numberOf : Outcome → ℕ
+numberOf Done = 0
+numberOf (Refused r) = codeOf r .number
+
+abbrev pub placeOf : Outcome → ℕ
+placeOf Done = 0
+placeOf (Refused r) = codeOf r .place

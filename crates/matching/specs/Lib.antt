@@ -2,3 +2,4 @@
 pub mod Solving
 pub mod Finding
 pub mod Chosen
+pub mod Listing
