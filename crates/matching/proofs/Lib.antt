@@ -11,3 +11,5 @@ pub mod Locality
 pub mod Conjoined
 pub mod Choosing
 pub mod ChoosingFaults
+pub mod Testing
+pub mod SampleCards

@@ -3,3 +3,4 @@ pub mod Solving
 pub mod Finding
 pub mod Chosen
 pub mod Listing
+pub mod Samples
