@@ -3,7 +3,7 @@ use Prim.Native.Nat.{ℕ, _+_, _-_, _<_, _≤_}
 use mathlib.Core.Path.{_≡_, refl, sym, ap, _∙_, subst}
 use mathlib.Core.List.{List, _++_, List·Memᴰ, Memᴰ·append-left, Memᴰ·append-right}
 use mathlib.Core.Bool.{Bool, true, false, not}
-use mathlib.Core.Logic.{⊎-elim}
+use mathlib.Core.Logic.{_↔_, ⊎-elim}
 use native.Mathlib.Omega.{arith}
 use lib.Dec.{ltb}
 use lib.ListN.{length, getD, List·getD-eq-default}
@@ -33,6 +33,7 @@ use Rattle.matching.proofs.Decided.{Decides, branch, decided-pairs}
 use Rattle.matching.proofs.Members.{isMember, member-test, test-member}
 use Rattle.matching.proofs.Assigning.{assignmentOf, assignmentOf-length, assignmentOf-accepted, assignmentOf-bit}
 use Rattle.matching.proofs.Parts.{Closed, parts, parts-self, append-closed, gather-closed, place, conceptAt}
+use Rattle.matching.proofs.Conjoined.{asSubstitution, solves-by-substitution}
 use Rattle.matching.proofs.Extended.{extended}
 use Rattle.matching.proofs.Reached.{Below, innerOf, Each, Numbered, old-in, reached-in, Holds, old-out, included-still}
 
@@ -230,3 +231,10 @@ none-by-substitution t ok none σ s =
     decided-pairs (λ j y. Below t (innerOf (conceptAt (concepts t (σ .concept)) j)) (conceptAt (concepts t (σ .concept)) y)) (length (concepts t (σ .concept))) (length (concepts t (σ .concept))) λ (inner, u).
     decided-pairs (λ k j. Below t (σ .concept k) (conceptAt (concepts t (σ .concept)) j)) (t .variables) (length (concepts t (σ .concept))) λ (forces, v).
     none (assignmentOf t bits) (assignmentOf-accepted t bits) (solves t (wellFormed t ok) (σ .concept) bits below inner forces p q u v s)
+
+-- No assignment solves exactly when no substitution does.
+pub none-exactly :
+    (t : Tables) → tableFault t ≡ Done
+    → ((α : List ℕ) → assignmentFault t α ≡ Done → Solves t α → ⊥) ↔ ((σ : Substitution t) → SolvesBy t σ → ⊥)
+none-exactly t ok =
+    (none-by-substitution t ok, λ none α _ s. none (asSubstitution t (wellFormed t ok) α) (solves-by-substitution t (wellFormed t ok) α s))

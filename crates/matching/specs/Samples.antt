@@ -50,7 +50,7 @@ questions = 5 ∷ 3 ∷ 2 ∷ 4 ∷ []
 abbrev pub card : Tables → Saying → Card
 card t saying = record { tables = t; saying = saying }
 
--- A choice is written as its number: position 0 is id 0, position 1 is id 2, position 2 is id 3.
+-- The cards, A first. A choice is written as its number: position 0 is id 0, position 1 is id 2, position 2 is id 3.
 unfoldable pub cards : List Card
 cards =
     card (house questions) (below (0 ∷ []) 2 3)

@@ -2,6 +2,7 @@ use mathlib.Core.Path.{refl, sym}
 use lib.Seq.{length-take-le}
 use native.Mathlib.Omega.{arith}
 use borrow.Author.Needs.{needs}
+use Rattle.subsumption.specs.Tables.{tables}
 use Rattle.matching.proofs.ChoosingFaults.{found, choosing-rejected, choosing-found}
 use Rattle.matching.proofs.chosen.put_chosen.Statement.{statement}
 use Rattle.matching.proofs.chosen.put_chosen.Tie as tie
@@ -55,7 +56,8 @@ same-length c = search needs
 returns-2 : tie.Need-returns-2
 returns-2 c =
     let f = found _ _ _ _ (c .before .before .before .before .before .before .before .before .before .list-atoms .ensures .0) (c .before .before .before .before .before .before .before .before .before .list-atoms .ensures .1) (c .before .before .before .before .before .before .atoms2 .given .1) in
-    choosing-found _ _ (c .before .before .before .before .before .before .before .before .before .before .before .before .before .before .before .before .args .out .now) _ _ _ _ (f .accepted) (f .front) (c .before .before .put-known .ensures .0) (c .before .before .put-known .ensures .1)
+    let args = c .before .before .before .before .before .before .before .before .before .before .before .before .before .before .before .before .args in
+    choosing-found (tables (args .concepts .now) (args .inclusions .now) (args .questions .now) (args .variables)) _ (args .out .now) _ _ _ _ (f .accepted) (f .front) (c .before .before .put-known .ensures .0) (c .before .before .put-known .ensures .1)
 
 pub put-chosen-spec : {M : Type 1} → statement M
 put-chosen-spec =
