@@ -1,0 +1,20 @@
+-- The sample cards A to L, all at once: the test passes by computation, so every card holds.
+use mathlib.Core.Path.{_≡_, refl}
+use mathlib.Core.List.{List·Memᴰ}
+use mathlib.Core.Bool.{true}
+use Rattle.subsumption.specs.Tables.{or, both, anyBelow, decode, node, shape, treeTo, tree, hasVariable}
+use Rattle.subsumption.specs.Atoms.{inside, occursTo, occurs, isAtomic, inInclusion, inQuestion, isAtom, keep, atoms, bit, pick, chosen}
+use Rattle.subsumption.specs.Rules.{every, contains, sameName, isTop, onPicked, onBoth, onInner, onVariable, byRule, follows}
+use Rattle.subsumption.specs.Refusal.{orElse, refuseIf, firstAt}
+use Rattle.subsumption.specs.Check.{unfit, limitFault, malformedRow, malformed, malformedFault, forward, forwardFault, noConcept, pairsFault, inclusionFault, sidesFault, atomsFault, conceptFault, idFault, useFault, tableFault, assignmentFaultAt, assignmentFault}
+use Rattle.subsumption.proofs.ModelRows.{gather}
+use Rattle.matching.specs.Samples.{Card, Holds, entries, house, looped, questions, cards}
+use Rattle.matching.proofs.Members.{anyIn}
+use Rattle.matching.proofs.Testing.{allBelow, built, markAt, lines, some, round, rounds, closedTest, sameList, allIn, allIn-at, before, allLists, assignments, sameBool, earlierTest, isDone, solvedBy, refuted, saysTest, cardTest, test-holds}
+
+cards-pass : allIn (cardTest 4) cards ≡ true
+unfolding or both anyBelow decode node shape treeTo tree hasVariable inside occursTo occurs isAtomic inInclusion inQuestion isAtom keep atoms bit pick chosen every contains sameName isTop onPicked onBoth onInner onVariable byRule follows orElse refuseIf firstAt unfit limitFault malformedRow malformed malformedFault forward forwardFault noConcept pairsFault inclusionFault sidesFault atomsFault conceptFault idFault useFault tableFault assignmentFaultAt assignmentFault gather entries house looped questions cards anyIn allBelow built markAt lines some round rounds closedTest sameList allIn before allLists assignments sameBool earlierTest isDone solvedBy refuted saysTest cardTest
+cards-pass = refl
+
+pub every-card : (c : Card) → List·Memᴰ c cards → Holds c
+every-card c m = test-holds 4 c (allIn-at (cardTest 4) m cards-pass)

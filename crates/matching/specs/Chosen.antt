@@ -1,0 +1,47 @@
+-- Listing one variable's chosen ids (01, "Operations"): what it answers, the list that it hands back, and what the buffer then holds.
+use Prim.Native.Nat.{ℕ}
+use mathlib.Core.List.{List, [], _++_}
+use mathlib.Core.Bool.{not}
+use lib.Dec.{ltb}
+use lib.ListN.{length, drop}
+use Rattle.subsumption.specs.declared.refusal.Refusal.the-variants.{Malformed}
+use Rattle.subsumption.specs.declared.refusal.Outcome.{Outcome}
+use Rattle.subsumption.specs.declared.refusal.Outcome.the-variants.{Done, Refused}
+use Rattle.subsumption.specs.Tables.{Tables}
+use Rattle.subsumption.specs.Refusal.{codeOf, orElse, refuseIf}
+use Rattle.subsumption.specs.Check.{limitFault, tableFault, assignmentFault, bufferFault}
+use Rattle.matching.specs.declared.chosen.Chosen.{Chosen}
+use Rattle.matching.specs.declared.chosen.Chosen.the-variants.{Ids, Rejected}
+
+-- A variable's number that is not below the count is judged within check 2, at place 0.
+unfoldable pub variableFault : ℕ → ℕ → Outcome
+variableFault variables k = refuseIf (not (ltb k variables)) (Malformed 0)
+
+-- Check 1, the variable's number, the other checks up to 7, then 9 and 8: the buffer wants 64 numbers, however few are written.
+unfoldable pub choosingFault : Tables → List ℕ → ℕ → ℕ → Outcome
+choosingFault t assignment k size =
+    orElse (limitFault t)
+    (orElse (variableFault (t .variables) k) (orElse (tableFault t) (orElse (assignmentFault t assignment) (bufferFault 64 size))))
+
+unfoldable pub chosenOf : Outcome → List ℕ → Chosen
+chosenOf Done ids = Ids (length ids)
+chosenOf (Refused r) ids = Rejected r
+
+-- The ids stand in front; past them, and after a refusal, the buffer keeps its values.
+unfoldable pub chosenIn : Outcome → List ℕ → List ℕ → List ℕ
+chosenIn Done ids before = ids ++ drop (length ids) before
+chosenIn (Refused r) ids before = before
+
+-- The list that is handed back: none after a refusal.
+unfoldable pub handedBack : Outcome → List ℕ → List ℕ
+handedBack Done ids = ids
+handedBack (Refused r) ids = []
+
+-- The paper's number and place beside the list: both 0 when there is no refusal.
+abbrev pub numberOf : Outcome → ℕ
+numberOf Done = 0
+numberOf (Refused r) = codeOf r .number
+
+abbrev pub placeOf : Outcome → ℕ
+placeOf Done = 0
+placeOf (Refused r) = codeOf r .place

@@ -1,0 +1,41 @@
+-- Finding an assignment (01, "Operations" and demand 3): the first one, or none when no substitution solves.
+use Prim.Native.Nat.{ℕ}
+use mathlib.Core.Path.{_≡_}
+use mathlib.Core.List.{List}
+use lib.ListN.{length, take, drop}
+use Rattle.subsumption.specs.declared.refusal.Refusal.the-variants.{NoAssignment}
+use Rattle.subsumption.specs.declared.refusal.Outcome.{Outcome}
+use Rattle.subsumption.specs.declared.refusal.Outcome.the-variants.{Done, Refused}
+use Rattle.matching.specs.declared.find.Match.{Match}
+use Rattle.matching.specs.declared.find.Match.the-variants.{Filled, Nothing, Rejected}
+use Rattle.subsumption.specs.Tables.{Tables}
+use Rattle.subsumption.specs.Refusal.{orElse}
+use Rattle.subsumption.specs.Check.{tableFault, bufferFault}
+use Rattle.matching.specs.Solving.{Substitution, SolvesBy, First}
+
+-- The checks 1 to 7, then 8: the buffer wants as many numbers as variables.
+unfoldable pub findingFault : Tables → ℕ → Outcome
+findingFault t size = orElse (tableFault t) (bufferFault (t .variables) size)
+
+-- One number a variable is written, the first assignment that solves; the rest of the buffer keeps its values.
+pub record FilledBy (t : Tables) (before after : List ℕ) : Type 0 where
+  pub size : length after ≡ length before
+  pub first : First t (take (t .variables) after)
+  pub rest : drop (t .variables) after ≡ drop (t .variables) before
+
+-- No substitution of any size makes every question hold; nothing is written.
+pub record NoneSolves (t : Tables) (before after : List ℕ) : Type 0 where
+  pub none : (σ : Substitution t) → SolvesBy t σ → ⊥
+  pub kept : after ≡ before
+
+abbrev pub Finds : Tables → List ℕ → List ℕ → Outcome → Match → Type 0
+Finds t before after Done Filled = FilledBy t before after
+Finds t before after Done Nothing = NoneSolves t before after
+Finds t before after Done (Rejected r) = ⊥
+Finds t before after (Refused r) answer = (answer ≡ Rejected r) × (after ≡ before)
+
+-- The paper's refusal for an answer that gives no assignment.
+abbrev pub refusalOf : Match → Outcome
+refusalOf Filled = Done
+refusalOf Nothing = Refused NoAssignment
+refusalOf (Rejected r) = Refused r

@@ -1,0 +1,6 @@
+-- What a reader must believe of matching and derivations. proofs/ has the laws.
+pub mod Solving
+pub mod Finding
+pub mod Chosen
+pub mod Listing
+pub mod Samples

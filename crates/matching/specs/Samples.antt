@@ -1,0 +1,68 @@
+-- The sample cards A to L (01, "Sample cards, proved"), as one table of sentences on the definitions.
+use Prim.Native.Nat.{ℕ}
+use mathlib.Core.Path.{_≡_}
+use mathlib.Core.List.{List, [], _∷_}
+use Rattle.subsumption.specs.declared.refusal.Outcome.the-variants.{Done}
+use Rattle.subsumption.specs.Tables.{Tables, tables}
+use Rattle.subsumption.specs.Atoms.{atoms}
+use Rattle.subsumption.specs.Subsumption.{Subsumed}
+use Rattle.subsumption.specs.Check.{tableFault, assignmentFault}
+use Rattle.matching.specs.Solving.{Substitution, SolvesBy, First}
+
+-- What a card says of its tables: a pair is below under an assignment, or is not; which the atoms are; the first assignment that solves;
+-- that no substitution of any size solves (01: refusal 10).
+pub data Saying : Type 0 where
+  below : List ℕ → ℕ → ℕ → Saying
+  notBelow : List ℕ → ℕ → ℕ → Saying
+  parts : List ℕ → Saying
+  filling : List ℕ → Saying
+  noFilling : Saying
+
+abbrev pub Says : Tables → Saying → Type 0
+Says t (below assignment i j) = (assignmentFault t assignment ≡ Done) × Subsumed t assignment i j
+Says t (notBelow assignment i j) = (assignmentFault t assignment ≡ Done) × (Subsumed t assignment i j → ⊥)
+Says t (parts ids) = atoms t ≡ ids
+Says t (filling assignment) = First t assignment
+Says t noFilling = (σ : Substitution t) → SolvesBy t σ → ⊥
+
+pub record Card : Type 0 where
+  pub tables : Tables
+  pub saying : Saying
+
+-- The tables are accepted, and what the card says is true.
+abbrev pub Holds : Card → Type 0
+Holds card = (tableFault (card .tables) ≡ Done) × Says (card .tables) (card .saying)
+
+-- The entries and the inclusion of the house text.
+unfoldable pub entries : List ℕ
+entries = 1 ∷ 5 ∷ 0 ∷ 1 ∷ 7 ∷ 0 ∷ 2 ∷ 1 ∷ 0 ∷ 1 ∷ 9 ∷ 0 ∷ 4 ∷ 0 ∷ 0 ∷ 3 ∷ 1 ∷ 4 ∷ []
+
+unfoldable pub house : List ℕ → Tables
+house questions = tables entries (2 ∷ 3 ∷ []) questions 1
+
+-- The tables of cards K and L.
+unfoldable pub looped : Tables
+looped = tables (1 ∷ 1 ∷ 0 ∷ 2 ∷ 0 ∷ 0 ∷ 2 ∷ 0 ∷ 1 ∷ []) (0 ∷ 1 ∷ []) [] 0
+
+unfoldable pub questions : List ℕ
+questions = 5 ∷ 3 ∷ 2 ∷ 4 ∷ []
+
+abbrev pub card : Tables → Saying → Card
+card t saying = record { tables = t; saying = saying }
+
+-- The cards, A first. A choice is written as its number: position 0 is id 0, position 1 is id 2, position 2 is id 3.
+unfoldable pub cards : List Card
+cards =
+    card (house questions) (below (0 ∷ []) 2 3)
+    ∷ card (house questions) (notBelow (0 ∷ []) 3 2)
+    ∷ card (house questions) (below (4 ∷ []) 5 3)
+    ∷ card (house questions) (notBelow (0 ∷ []) 5 3)
+    ∷ card (house questions) (below (0 ∷ []) 0 4)
+    ∷ card (house questions) (below (1 ∷ []) 4 0)
+    ∷ card (house questions) (parts (0 ∷ 2 ∷ 3 ∷ []))
+    ∷ card (house questions) (filling (4 ∷ []))
+    ∷ card (house (5 ∷ 3 ∷ 0 ∷ 4 ∷ [])) noFilling
+    ∷ card (house []) (filling (0 ∷ []))
+    ∷ card looped (below [] 0 2)
+    ∷ card looped (notBelow [] 1 0)
+    ∷ []

@@ -1,0 +1,193 @@
+// Listing one variable's chosen ids.
+use subsumption::Listed;
+use subsumption::list_atoms;
+use subsumption::refusal::Outcome;
+use subsumption::refusal::Refusal;
+use subsumption::refusal::code_of;
+ghost use mathlib.Core.Path.{_≡_};
+ghost use Prim.Native.Nat.{_<_, _≤_, _^_};
+ghost use mathlib.Core.Bool.{not};
+ghost use lib.Dec.{ltb};
+ghost use lib.ListN.{length, getD};
+ghost use Rattle.subsumption.specs.Tables.{tables};
+ghost use Rattle.subsumption.specs.Atoms.{pick, chosen};
+ghost use Rattle.subsumption.specs.Check.{assignmentFaultAt};
+ghost use Rattle.subsumption.specs.Marks.{inFront};
+ghost use Rattle.matching.specs.Chosen.{choosingFault, chosenOf, chosenIn, handedBack, numberOf, placeOf};
+ghost use Rattle.matching.specs.Listing.{knownFault, earlierOf, toldOf};
+
+pub enum Chosen {
+    Ids(usize),
+    Rejected(Refusal),
+}
+
+// What is told beside the list.
+pub struct Told {
+    pub number: u16,
+    pub place: usize,
+    pub count: usize,
+}
+
+// The ids at the places where the choice has a one, in front of the buffer; answers their number.
+fn put_picked(ids: &[u16], choice: u64, out: &mut [u16]) -> usize
+    requires { ⌜ length (now ids) ≤ 64 ⌝ }
+    requires { ⌜ choice < 2 ^ length (now ids) ⌝ }
+    requires { ⌜ 64 ≤ length (now out) ⌝ }
+    ensures { λ r. ⌜ r ≡ length (pick (now (ids .entry)) choice) ⌝ }
+    ensures { λ r. ⌜ now (out .exit) ≡ inFront (pick (now (ids .entry)) choice) (now (out .entry)) ⌝ }
+{
+    let count = u64::count_ones(choice) as usize;
+    let mut rest = choice;
+    let mut listed: usize = 0;
+    while listed < count {
+        let position = u64::trailing_zeros(rest) as usize;
+        out[listed] = ids[position];
+        rest = rest & (rest - 1);
+        listed += 1;
+    }
+    count
+}
+
+// A choice has a bit past the atoms.
+fn is_past(choice: u64, atoms: usize) -> bool
+    requires { ⌜ atoms ≤ 64 ⌝ }
+    ensures { λ r. ⌜ r ≡ not (ltb choice (2 ^ atoms)) ⌝ }
+{
+    if atoms == 64 {
+        return false;
+    }
+    (choice >> atoms) != 0
+}
+
+// Check 9, given the number of atoms.
+fn check_choices(assignment: &[u64], variables: u16, atoms: usize) -> Outcome
+    requires { ⌜ atoms ≤ 64 ⌝ }
+    ensures { λ r. ⌜ r ≡ assignmentFaultAt atoms variables (now (assignment .entry)) ⌝ }
+{
+    let count = variables as usize;
+    if assignment.len() != count {
+        return Outcome::Refused(Refusal::BadAssignment(count));
+    }
+    let mut k: usize = 0;
+    while k < count {
+        if is_past(assignment[k], atoms) {
+            return Outcome::Refused(Refusal::BadAssignment(k));
+        }
+        k += 1;
+    }
+    Outcome::Done
+}
+
+// The rest of the checks, given the atoms of accepted tables, and then the list.
+fn put_known(
+    ids: &[u16],
+    variables: u16,
+    assignment: &[u64],
+    variable: u16,
+    out: &mut [u16],
+) -> Chosen
+    requires { ⌜ length (now ids) ≤ 64 ⌝ }
+    ensures { λ r. ⌜ r ≡ chosenOf (knownFault (length (now (ids .entry))) variables (now (assignment .entry)) variable (length (now (out .entry)))) (pick (now (ids .entry)) (getD (now (assignment .entry)) variable 0)) ⌝ }
+    ensures { λ r. ⌜ now (out .exit) ≡ chosenIn (knownFault (length (now (ids .entry))) variables (now (assignment .entry)) variable (length (now (out .entry)))) (pick (now (ids .entry)) (getD (now (assignment .entry)) variable 0)) (now (out .entry)) ⌝ }
+{
+    if variables <= variable {
+        return Chosen::Rejected(Refusal::Malformed(0));
+    }
+    let choices = check_choices(assignment, variables, ids.len());
+    if let Outcome::Refused(r) = choices {
+        return Chosen::Rejected(r);
+    }
+    if out.len() < 64 {
+        return Chosen::Rejected(Refusal::BufferTooShort(64));
+    }
+    let choice = assignment[variable as usize];
+    Chosen::Ids(put_picked(ids, choice, out))
+}
+
+// The tables are refused: the variable's number comes before all but check 1.
+fn refused_with(r: Refusal, known: bool) -> Refusal
+    ensures { λ q. ⌜ q ≡ earlierOf r known ⌝ }
+{
+    if known {
+        return r;
+    }
+    let code = code_of(r);
+    if code.number == 1 {
+        return r;
+    }
+    Refusal::Malformed(0)
+}
+
+// Lists one variable's chosen ids in front of the buffer.
+pub fn put_chosen(
+    concepts: &[u16],
+    inclusions: &[u16],
+    questions: &[u16],
+    variables: u16,
+    assignment: &[u64],
+    variable: u16,
+    out: &mut [u16],
+) -> Chosen
+    ensures { λ r. ⌜ r ≡ chosenOf (choosingFault (tables (now (concepts .entry)) (now (inclusions .entry)) (now (questions .entry)) variables) (now (assignment .entry)) variable (length (now (out .entry)))) (chosen (tables (now (concepts .entry)) (now (inclusions .entry)) (now (questions .entry)) variables) (now (assignment .entry)) variable) ⌝ }
+    ensures { λ r. ⌜ now (out .exit) ≡ chosenIn (choosingFault (tables (now (concepts .entry)) (now (inclusions .entry)) (now (questions .entry)) variables) (now (assignment .entry)) variable (length (now (out .entry)))) (chosen (tables (now (concepts .entry)) (now (inclusions .entry)) (now (questions .entry)) variables) (now (assignment .entry)) variable) (now (out .entry)) ⌝ }
+{
+    let mut ids = [0u16; 64];
+    let atoms = list_atoms(concepts, inclusions, questions, variables, &mut ids);
+    match atoms {
+        Listed::Rejected(r) => Chosen::Rejected(refused_with(r, variable < variables)),
+        Listed::Atoms(count) => put_known(&ids[..count], variables, assignment, variable, out),
+    }
+}
+
+// What an answer tells beside the list.
+fn tell(answer: Chosen) -> Told
+    ensures { λ r. ⌜ r ≡ toldOf answer ⌝ }
+{
+    match answer {
+        Chosen::Ids(n) => Told {
+            number: 0,
+            place: 0,
+            count: n,
+        },
+        Chosen::Rejected(r) => {
+            let code = code_of(r);
+            Told {
+                number: code.number,
+                place: code.place,
+                count: 0,
+            }
+        }
+    }
+}
+
+// Lists one variable's chosen ids, rising, and hands the list back as the written stretch of the buffer; the refusal stands beside it.
+pub fn list_chosen<'a, 'b>(
+    concepts: &'b [u16],
+    inclusions: &'b [u16],
+    questions: &'b [u16],
+    variables: u16,
+    assignment: &'b [u64],
+    variable: u16,
+    out: &'a mut [u16],
+    number: &'b mut u16,
+    place: &'b mut u64,
+) -> &'a mut [u16]
+    ensures { λ r. ⌜ now r ≡ handedBack (choosingFault (tables (now (concepts .entry)) (now (inclusions .entry)) (now (questions .entry)) variables) (now (assignment .entry)) variable (length (now (out .entry)))) (chosen (tables (now (concepts .entry)) (now (inclusions .entry)) (now (questions .entry)) variables) (now (assignment .entry)) variable) ⌝ }
+    ensures { λ r. ⌜ now (number .exit) ≡ numberOf (choosingFault (tables (now (concepts .entry)) (now (inclusions .entry)) (now (questions .entry)) variables) (now (assignment .entry)) variable (length (now (out .entry)))) ⌝ }
+    ensures { λ r. ⌜ now (place .exit) ≡ placeOf (choosingFault (tables (now (concepts .entry)) (now (inclusions .entry)) (now (questions .entry)) variables) (now (assignment .entry)) variable (length (now (out .entry)))) ⌝ }
+{
+    let answer = put_chosen(
+        concepts,
+        inclusions,
+        questions,
+        variables,
+        assignment,
+        variable,
+        out,
+    );
+    let told = tell(answer);
+    *number = told.number;
+    *place = told.place as u64;
+    let count = told.count;
+    &mut out[..count]
+}
