@@ -1,5 +1,6 @@
 // Listing one variable's chosen ids.
 use subsumption::Listed;
+use subsumption::check_assignment;
 use subsumption::list_atoms;
 use subsumption::refusal::Outcome;
 use subsumption::refusal::Refusal;
@@ -48,36 +49,6 @@ fn put_picked(ids: &[u16], choice: u64, out: &mut [u16]) -> usize
     count
 }
 
-// A choice has a bit past the atoms.
-fn is_past(choice: u64, atoms: usize) -> bool
-    requires { ⌜ atoms ≤ 64 ⌝ }
-    ensures { λ r. ⌜ r ≡ not (ltb choice (2 ^ atoms)) ⌝ }
-{
-    if atoms == 64 {
-        return false;
-    }
-    (choice >> atoms) != 0
-}
-
-// Check 9, given the number of atoms.
-fn check_choices(assignment: &[u64], variables: u16, atoms: usize) -> Outcome
-    requires { ⌜ atoms ≤ 64 ⌝ }
-    ensures { λ r. ⌜ r ≡ assignmentFaultAt atoms variables (now (assignment .entry)) ⌝ }
-{
-    let count = variables as usize;
-    if assignment.len() != count {
-        return Outcome::Refused(Refusal::BadAssignment(count));
-    }
-    let mut k: usize = 0;
-    while k < count {
-        if is_past(assignment[k], atoms) {
-            return Outcome::Refused(Refusal::BadAssignment(k));
-        }
-        k += 1;
-    }
-    Outcome::Done
-}
-
 // The rest of the checks, given the atoms of accepted tables, and then the list.
 fn put_known(
     ids: &[u16],
@@ -93,7 +64,7 @@ fn put_known(
     if variables <= variable {
         return Chosen::Rejected(Refusal::Malformed(0));
     }
-    let choices = check_choices(assignment, variables, ids.len());
+    let choices = check_assignment(assignment, variables, ids.len());
     if let Outcome::Refused(r) = choices {
         return Chosen::Rejected(r);
     }

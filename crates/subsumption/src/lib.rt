@@ -13,7 +13,6 @@ pub mod tables;
 // Helpers for the crates above, which ask what the checks have shown.
 pub use atoms::mark_variables;
 pub use check::check_assignment;
-
 pub use check::check_tables;
 pub use decide::Decision;
 pub use decide::check_asked;

@@ -7,7 +7,6 @@ use Rattle.matching.proofs.chosen.put_known.Statement.{statement}
 use Rattle.matching.proofs.chosen.put_known.Tie as tie
 use Rattle.matching.proofs.chosen.put_known.Reads as reads
 use Rattle.matching.proofs.chosen.put_known.Lts as lts
-use Rattle.matching.proofs.chosen.check_choices.Reads as check-choices-reads
 use Rattle.matching.proofs.chosen.put_picked.Reads as put-picked-reads
 
 -- src/chosen.rt:94:9
@@ -15,8 +14,8 @@ returns : tie.Need-returns
 returns c = chosen-refused _ _ _ _ (known-unknown _ _ _ _ _ (omega arith))
 
 -- src/chosen.rt:96:9
-check-choices-requires : tie.Need-check-choices-requires
-check-choices-requires c κs = search needs
+check-assignment-requires : tie.Need-check-assignment-requires
+check-assignment-requires c κs = search needs
 
 -- src/chosen.rt:97:29
 enum-known-choices : tie.Need-enum-known-choices
@@ -33,7 +32,7 @@ enum-told c = search needs
 
 -- src/chosen.rt:101:9
 returns-3 : tie.Need-returns-3
-returns-3 c = chosen-refused _ _ _ _ (known-short _ _ _ _ _ (omega arith) (is-done _ _ (c .before .before .before .check-choices .ensures) (c .before .enum-told .given .1)) (omega arith))
+returns-3 c = chosen-refused _ _ _ _ (known-short _ _ _ _ _ (omega arith) (is-done _ _ (c .before .before .before .check-assignment .ensures) (c .before .enum-told .given .1)) (omega arith))
 
 -- src/chosen.rt:103:18
 mul-choice : tie.Need-mul-choice
@@ -41,13 +40,13 @@ mul-choice c = search needs
 
 -- src/chosen.rt:103:18
 shared-slice-read-choice : tie.Need-shared-slice-read-choice
-shared-slice-read-choice c = omega (arith, choices-length _ _ _ (is-done _ _ (c .before .before .before .before .check-choices .ensures) (c .before .before .enum-told .given .1)))
+shared-slice-read-choice c = omega (arith, choices-length _ _ _ (is-done _ _ (c .before .before .before .before .check-assignment .ensures) (c .before .before .enum-told .given .1)))
 
 -- src/chosen.rt:104:17
 put-picked-requires : tie.Need-put-picked-requires
 put-picked-requires c κs = (
   c .before .before .before .before .before .before .before .before .before .before .pre,
-  (choices-low _ _ _ _ (is-done _ _ (c .before .before .before .before .before .check-choices .ensures) (c .before .before .before .enum-told .given .1)) (omega arith), omega arith),
+  (choices-low _ _ _ _ (is-done _ _ (c .before .before .before .before .before .check-assignment .ensures) (c .before .before .before .enum-told .given .1)) (omega arith), omega arith),
 )
 
 -- src/chosen.rt:82:1
@@ -56,14 +55,14 @@ same-length c = search needs
 
 -- src/chosen.rt:82:1
 returns-4 : tie.Need-returns-4
-returns-4 c = chosen-done _ _ _ _ _ (known-done _ _ _ _ _ (omega arith) (is-done _ _ (c .before .before .before .before .before .before .before .before .check-choices .ensures) (c .before .before .before .before .before .before .enum-told .given .1)) (omega arith)) (c .before .before .put-picked .ensures .0) (c .before .before .put-picked .ensures .1)
+returns-4 c = chosen-done _ _ _ _ _ (known-done _ _ _ _ _ (omega arith) (is-done _ _ (c .before .before .before .before .before .before .before .before .check-assignment .ensures) (c .before .before .before .before .before .before .enum-told .given .1)) (omega arith)) (c .before .before .put-picked .ensures .0) (c .before .before .put-picked .ensures .1)
 
 pub put-known-spec : {M : Type 1} → statement M
 put-known-spec =
     tie.close
     (tie.spec
     returns
-    check-choices-requires
+    check-assignment-requires
     enum-known-choices
     returns-2
     enum-told
