@@ -1,1 +1,2 @@
 -- Laws and machinery behind the proofs of the functions.
+pub mod Tests

@@ -1,2 +1,5 @@
 // Matching under subsumption: the matcher, derivations and their checker.
 pub mod find;
+mod interval;
+mod questions;
+mod variables;
