@@ -1,2 +1,3 @@
 -- Laws and machinery behind the proofs of the functions.
 pub mod Tests
+pub mod Choices

@@ -10,6 +10,8 @@ use Rattle.subsumption.specs.Subsumption.{Subsumed}
 use Rattle.subsumption.specs.Table.{marked}
 use Rattle.subsumption.specs.Marks.{markAt}
 use Rattle.subsumption.specs.Check.{assignmentFault}
+use Rattle.matching.specs.declared.interval.Pick.{Pick}
+use Rattle.matching.specs.declared.interval.Pick.the-variants.{At, Nothing}
 use Rattle.matching.specs.Solving.{takes, Solves}
 
 -- A truth value tells whether a statement holds.
@@ -42,7 +44,7 @@ pub record Changed (before after : List ℕ) (k q : ℕ) (b : Bool) : Type 0 whe
   pub elsewhere : (l r : ℕ) → ((l ≡ k) × (r ≡ q) → ⊥) → takes after l r ≡ takes before l r
 
 -- An interval of assignments: eight numbers on each side, of which the variables' are read.
-pub record Interval (t : Tables) (low high : List ℕ) : Type 0 where
+pub record IntervalOf (t : Tables) (low high : List ℕ) : Type 0 where
   pub low-long : length low ≡ 8
   pub high-long : length high ≡ 8
   pub accepted : assignmentFault t (take (t .variables) high) ≡ Done
@@ -52,8 +54,18 @@ pub record Interval (t : Tables) (low high : List ℕ) : Type 0 where
 unfoldable pub undecided : List ℕ → List ℕ → ℕ → Bool
 undecided low high p = both (takes high (p / 64) (p % 64)) (not (takes low (p / 64) (p % 64)))
 
+-- The first pair that may be taken or left, if there is one.
+abbrev pub Picked : List ℕ → List ℕ → Pick → Type 0
+Picked low high (At p) = (p < 512) × (undecided low high p ≡ true)
+Picked low high Nothing = (p : ℕ) → p < 512 → undecided low high p ≡ false
+
+-- Neither side of the interval shuts every solution out: what holds on the low side with variables on the right, and on the high side without.
+pub record Possible (t : Tables) (low high : List ℕ) : Type 0 where
+  pub antitone : Hold t (take (t .variables) low) true
+  pub monotone : Hold t (take (t .variables) high) false
+
 -- A search's answer names no order: a choice between that solves, or none between does.
-pub record Solution (t : Tables) (low high choice : List ℕ) : Type 0 where
+pub record SolutionIn (t : Tables) (low high choice : List ℕ) : Type 0 where
   pub long : length choice ≡ 8
   pub between : Between low high choice
   pub solves : Solves t (take (t .variables) choice)
@@ -63,5 +75,5 @@ NoSolution t low high =
     (other : List ℕ) → assignmentFault t other ≡ Done → Between (take (t .variables) low) (take (t .variables) high) other → Solves t other → ⊥
 
 abbrev pub Searched : Tables → List ℕ → List ℕ → Bool → List ℕ → Type 0
-Searched t low high true choice = Solution t low high choice
+Searched t low high true choice = SolutionIn t low high choice
 Searched t low high false choice = NoSolution t low high

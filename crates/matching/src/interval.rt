@@ -6,11 +6,17 @@ ghost use Prim.Native.Nat.{_<_, _/_, _%_};
 ghost use lib.ListN.{length};
 ghost use Rattle.subsumption.specs.Atoms.{bit};
 ghost use Rattle.matching.specs.Solving.{takes};
-ghost use Rattle.matching.specs.Search.{Changed, undecided};
+ghost use Rattle.matching.specs.Search.{Changed, undecided, Picked};
 
 pub struct Interval {
     pub low: [u64; 8],
     pub high: [u64; 8],
+}
+
+// A pair of variable and position, counted through with 64 positions a variable.
+pub enum Pick {
+    At(usize),
+    Nothing,
 }
 
 pub fn has_bit(x: u64, q: usize) -> bool
@@ -56,4 +62,18 @@ impl Interval {
         }
         false
     }
+}
+
+// The first pair that may be taken or left.
+pub fn first_undecided(interval: Interval) -> Pick
+    ensures { λ r. ⌜ Picked (interval .low) (interval .high) r ⌝ }
+{
+    let mut p: usize = 0;
+    while p < 512 {
+        if interval.is_undecided(p) {
+            return Pick::At(p);
+        }
+        p += 1;
+    }
+    Pick::Nothing
 }

@@ -2,4 +2,5 @@
 pub mod find;
 mod interval;
 mod questions;
+mod solve;
 mod variables;

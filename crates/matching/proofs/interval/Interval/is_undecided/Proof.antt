@@ -1,3 +1,4 @@
+use Rattle.matching.proofs.Choices.{is-open, is-shut}
 use borrow.Author.Needs.{needs}
 use Rattle.matching.proofs.interval.Interval.is_undecided.Statement.{statement}
 use Rattle.matching.proofs.interval.Interval.is_undecided.Tie as tie
@@ -31,11 +32,11 @@ has-bit-requires-2 c κs = search needs
 
 -- src/interval.rt:55:13
 returns : tie.Need-returns
-returns c = ?
+returns c = search is-open
 
 -- src/interval.rt:46:5
 returns-2 : tie.Need-returns-2
-returns-2 c = ?
+returns-2 c = search is-shut
 
 pub is-undecided-spec : {M : Type 1} → statement M
 is-undecided-spec =

@@ -1,3 +1,5 @@
+use mathlib.Core.Path.{refl}
+use Rattle.matching.proofs.Choices.{left-out}
 use borrow.Author.Needs.{needs}
 use Rattle.matching.proofs.interval.Interval.leave.Statement.{statement}
 use Rattle.matching.proofs.interval.Interval.leave.Tie as tie
@@ -26,7 +28,7 @@ element-write-self c = search needs
 
 -- src/interval.rt:34:5
 returns : tie.Need-returns
-returns c = ?
+returns c = (refl, left-out _ _ _ (c .before .pre .0) (c .before .pre .1 .0 .0) (c .before .pre .1 .0 .1) (c .before .pre .1 .1))
 
 pub leave-spec : {M : Type 1} → statement M
 leave-spec =

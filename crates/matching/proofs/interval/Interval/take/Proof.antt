@@ -1,3 +1,5 @@
+use mathlib.Core.Path.{refl}
+use Rattle.matching.proofs.Choices.{taken}
 use borrow.Author.Needs.{needs}
 use Rattle.matching.proofs.interval.Interval.take.Statement.{statement}
 use Rattle.matching.proofs.interval.Interval.take.Tie as tie
@@ -26,7 +28,7 @@ element-write-self c = search needs
 
 -- src/interval.rt:24:5
 returns : tie.Need-returns
-returns c = ?
+returns c = (refl, taken _ _ _ (c .before .pre .0) (c .before .pre .1 .0) (c .before .pre .1 .1))
 
 pub take-spec : {M : Type 1} → statement M
 take-spec =
