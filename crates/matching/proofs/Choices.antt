@@ -112,3 +112,6 @@ same-to (suc n) x y h l e =
     let p : x % 2 ≡ y % 2 = same-parity x y (e 0) in
     omega arith)
     (le-or-lt (x + y) 0)
+
+pub same-bits : (x y : ℕ) → ((q : ℕ) → bit x q ≡ bit y q) → x ≡ y
+same-bits x y e = same-to (suc (x + y)) x y (omega arith) (omega arith) e

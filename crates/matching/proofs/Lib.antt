@@ -1,3 +1,6 @@
 -- Laws and machinery behind the proofs of the functions.
 pub mod Tests
 pub mod Choices
+pub mod Assumed
+pub mod Fronts
+pub mod Searching

@@ -77,3 +77,8 @@ NoSolution t low high =
 abbrev pub Searched : Tables → List ℕ → List ℕ → Bool → List ℕ → Type 0
 Searched t low high true choice = SolutionIn t low high choice
 Searched t low high false choice = NoSolution t low high
+
+-- What heuristics offer is a solution if they say so; else they are free.
+abbrev pub Offered : Tables → List ℕ → List ℕ → Bool → List ℕ → Type 0
+Offered t low high true choice = SolutionIn t low high choice
+Offered t low high false choice = Unit {0}

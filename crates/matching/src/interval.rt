@@ -77,3 +77,15 @@ pub fn first_undecided(interval: Interval) -> Pick
     }
     Pick::Nothing
 }
+
+// The pair at the hint if it may be taken or left, else the first such.
+pub fn pick_undecided(interval: Interval, hint: usize) -> Pick
+    ensures { λ r. ⌜ Picked (interval .low) (interval .high) r ⌝ }
+{
+    if hint < 512 {
+        if interval.is_undecided(hint) {
+            return Pick::At(hint);
+        }
+    }
+    first_undecided(interval)
+}
