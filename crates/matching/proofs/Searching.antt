@@ -16,7 +16,9 @@ use Rattle.subsumption.proofs.WellFormed.{WellFormed}
 use Rattle.subsumption.proofs.Bools.{both-true, both-intro, eq-or-ne, last-cases}
 use Rattle.subsumption.proofs.Accepted.{wellFormed}
 use Rattle.matching.specs.Solving.{takes, Solves}
-use Rattle.matching.specs.Search.{Decided, Hold, Within, Between, Changed, IntervalOf, undecided, Possible, SolutionIn, NoSolution}
+use Rattle.matching.specs.Search.{Decided, Hold, Within, Between, Changed, IntervalOf, undecided, Possible, SolutionIn, NoSolution, Picked, Offered, Searched}
+use Rattle.matching.specs.declared.interval.Pick.{Pick}
+use Rattle.matching.specs.declared.interval.Pick.the-variants.{At, Nothing}
 use Rattle.matching.proofs.Fronts.{front-known, front-takes, front-within, accepted-bits, within-accepted}
 use Rattle.matching.proofs.Assumed.{monotone, antitone}
 
@@ -50,7 +52,7 @@ module _ (f g : ℕ → Bool) where
   counted-less (suc n) p l e k h =
       ⊎-elim
       (λ (q : p ≡ n).
-       omega (arith, ap one (subst (λ (z : ℕ). f z ≡ false) q e), ap one (subst (λ (z : ℕ). g z ≡ true) q k), counted-le n (λ r m. h r (omega arith))))
+      omega (arith, ap one (subst (λ (z : ℕ). f z ≡ false) q e), ap one (subst (λ (z : ℕ). g z ≡ true) q k), counted-le n (λ r m. h r (omega arith))))
       (λ m. omega (arith, one-le n (h n (omega arith)), counted-less n p m e k (λ r x. h r (omega arith))))
       (last-cases p n l)
 
@@ -307,3 +309,30 @@ decided-true P b x e = subst (Decided P) e x
 
 pub decided-false : (P : Type 0) (b : Bool) → Decided P b → b ≡ false → P → ⊥
 decided-false P b x e = subst (Decided P) e x
+
+-- ---- answers
+pub picked-at : (low high : List ℕ) (r : Pick) (p : ℕ) → Picked low high r → r ≡ At p → (p < 512) × (undecided low high p ≡ true)
+picked-at low high r p x e = subst (Picked low high) e x
+
+pub picked-none : (low high : List ℕ) (r : Pick) → Picked low high r → r ≡ Nothing → (p : ℕ) → p < 512 → undecided low high p ≡ false
+picked-none low high r x e = subst (Picked low high) e x
+
+pub offered : (t : Tables) (low high : List ℕ) (b : Bool) (choice : List ℕ) → Offered t low high b choice → b ≡ true → SolutionIn t low high choice
+offered t low high b choice x e = subst (λ (z : Bool). Offered t low high z choice) e x
+
+pub searched-found : (t : Tables) (low high : List ℕ) (b : Bool) (choice : List ℕ) → Searched t low high b choice → b ≡ true → SolutionIn t low high choice
+searched-found t low high b choice x e = subst (λ (z : Bool). Searched t low high z choice) e x
+
+pub searched-none : (t : Tables) (low high : List ℕ) (b : Bool) (choice : List ℕ) → Searched t low high b choice → b ≡ false → NoSolution t low high
+searched-none t low high b choice x e = subst (λ (z : Bool). Searched t low high z choice) e x
+
+module _ (t : Tables) (h : tableFault t ≡ Done) (low high : List ℕ) (i : IntervalOf t low high) (p : ℕ) (u : undecided low high p ≡ true)
+    (low₁ high₁ : List ℕ) (e : low₁ ≡ low) (c : Changed high high₁ (p / 64) (p % 64) false) (b₁ : Bool) (choice₁ : List ℕ) (s : Searched t low₁ high₁ b₁ choice₁) where
+  pub without-found : b₁ ≡ true → Searched t low high b₁ choice₁
+  without-found x = subst (λ (z : Bool). Searched t low high z choice₁) (sym x) (leave-found t h low high i p u low₁ high₁ e c choice₁ (searched-found t low₁ high₁ b₁ choice₁ s x))
+
+  pub with-answers :
+      b₁ ≡ false → (low₂ high₂ : List ℕ) → high₂ ≡ high → Changed low low₂ (p / 64) (p % 64) true → (b : Bool) (choice : List ℕ) → Searched t low₂ high₂ b choice
+      → Searched t low high b choice
+  with-answers x low₂ high₂ f d true choice y = take-found t h low high i p u low₂ high₂ f d choice y
+  with-answers x low₂ high₂ f d false choice y = none-split t h low high i p u low₁ high₁ e c low₂ high₂ f d (searched-none t low₁ high₁ b₁ choice₁ s x) y

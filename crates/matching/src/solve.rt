@@ -56,7 +56,10 @@ fn is_solution(
     requires { ⌜ IntervalOf (tables (now concepts) (now inclusions) (now questions) variables) choice choice ⌝ }
     ensures { λ r. ⌜ Decided (Possible (tables (now (concepts .entry)) (now (inclusions .entry)) (now (questions .entry)) variables) choice choice) r ⌝ }
 {
-    let both = Interval { low: choice, high: choice };
+    let both = Interval {
+        low: choice,
+        high: choice,
+    };
     can_hold(concepts, inclusions, questions, variables, both)
 }
 
@@ -80,13 +83,25 @@ fn advise(
 {
     let high = interval.high;
     if is_solution(concepts, inclusions, questions, variables, high) {
-        return Advice { found: true, choice: high, place: 0 };
+        return Advice {
+            found: true,
+            choice: high,
+            place: 0,
+        };
     }
     let low = interval.low;
     if is_solution(concepts, inclusions, questions, variables, low) {
-        return Advice { found: true, choice: low, place: 0 };
+        return Advice {
+            found: true,
+            choice: low,
+            place: 0,
+        };
     }
-    Advice { found: false, choice: low, place: 0 }
+    Advice {
+        found: false,
+        choice: low,
+        place: 0,
+    }
 }
 
 // Some solution between the two sides, or none: no order is promised, so that any pair may be split.
@@ -106,11 +121,17 @@ pub fn some_solution(
         let advice = advise(concepts, inclusions, questions, variables, interval);
         let choice = advice.choice;
         if advice.found {
-            return Solution { found: true, choice };
+            return Solution {
+                found: true,
+                choice,
+            };
         }
         let pick = pick_undecided(interval, advice.place);
         let Pick::At(p) = pick else {
-            return Solution { found: true, choice: high };
+            return Solution {
+                found: true,
+                choice: high,
+            };
         };
         let without = interval.leave(p / 64, p % 64);
         let s = some_solution(concepts, inclusions, questions, variables, without);
@@ -120,5 +141,8 @@ pub fn some_solution(
         let with = interval.take(p / 64, p % 64);
         return some_solution(concepts, inclusions, questions, variables, with);
     }
-    Solution { found: false, choice: high }
+    Solution {
+        found: false,
+        choice: high,
+    }
 }

@@ -1,3 +1,5 @@
+use mathlib.Core.Path.{_∙_, sym}
+use native.Mathlib.Omega.{arith}
 use borrow.Author.Needs.{needs}
 use Rattle.matching.proofs.interval.pick_undecided.Statement.{statement}
 use Rattle.matching.proofs.interval.pick_undecided.Tie as tie
@@ -12,7 +14,7 @@ is-undecided-requires c κs = search needs
 
 -- src/interval.rt:87:13
 returns : tie.Need-returns
-returns c = ?
+returns c = (omega arith, sym (c .before .is-undecided .ensures) ∙ c .if2 .taken)
 
 -- src/interval.rt:90:5
 first-undecided-requires : tie.Need-first-undecided-requires

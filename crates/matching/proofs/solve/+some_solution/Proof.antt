@@ -1,3 +1,7 @@
+use borrow.Author.Needs.{needs}
+use native.Mathlib.Omega.{arith}
+use mathlib.Core.Path.{subst}
+use Rattle.matching.proofs.Searching.{openPairs, take-keeps, take-less, leave-keeps, leave-less, all-decided, impossible, decided-true, decided-false, open-high, picked-at, picked-none, offered, without-found, with-answers}
 use Prim.Native.Nat.{ℕ, _<_}
 use borrow.Fn.Kinds.{In}
 use borrow.Fn.PlainCycle.{Measures, is, falls, and}
@@ -13,7 +17,7 @@ use Rattle.matching.proofs.solve.+some_solution.{statement}
 use Rattle.matching.proofs.solve.+some_solution.Tie.{close}
 
 abbrev μ-some-solution : Measures 3 some-solution-kinds.ps ℕ
-μ-some-solution κs a = ?
+μ-some-solution κs a = openPairs (a .1 .1 .1 .1 .0 .low) (a .1 .1 .1 .1 .0 .high)
 
 abbrev some-solution-at : ℕ → In 3 some-solution-kinds.ps
 some-solution-at t =
@@ -42,7 +46,7 @@ some-solution-can-hold-requires : (t : ℕ) → some-solution-lts.Need-can-hold-
   take-reads.Asked,
   take-reads.Learnt,
 ) (some-solution-at t) some-solution.Post
-some-solution-can-hold-requires t c κs = ?
+some-solution-can-hold-requires t c κs = c .before .before .before .before .pre .1
 
 -- src/solve.rt:106:13
 some-solution-advise-requires : (t : ℕ) → some-solution-lts.Need-advise-requires (
@@ -59,7 +63,7 @@ some-solution-advise-requires : (t : ℕ) → some-solution-lts.Need-advise-requ
   take-reads.Asked,
   take-reads.Learnt,
 ) (some-solution-at t) some-solution.Post
-some-solution-advise-requires t c κs = ?
+some-solution-advise-requires t c κs = c .before .before .before .before .before .before .pre .1
 
 -- src/solve.rt:109:13
 some-solution-returns : (t : ℕ) → some-solution-lts.Need-returns (
@@ -76,7 +80,7 @@ some-solution-returns : (t : ℕ) → some-solution-lts.Need-returns (
   take-reads.Asked,
   take-reads.Learnt,
 ) (some-solution-at t) some-solution.Post
-some-solution-returns t c = ?
+some-solution-returns t c = offered _ _ _ _ _ (c .before .before .advise .ensures) (c .if2 .taken)
 
 -- src/solve.rt:111:13
 some-solution-pick-undecided-requires : (t : ℕ) → some-solution-lts.Need-pick-undecided-requires (
@@ -93,7 +97,7 @@ some-solution-pick-undecided-requires : (t : ℕ) → some-solution-lts.Need-pic
   take-reads.Asked,
   take-reads.Learnt,
 ) (some-solution-at t) some-solution.Post
-some-solution-pick-undecided-requires t c κs = ?
+some-solution-pick-undecided-requires t c κs = tt
 
 -- src/solve.rt:112:22
 some-solution-enum-known-pick : (t : ℕ) → some-solution-lts.Need-enum-known-pick (
@@ -110,7 +114,7 @@ some-solution-enum-known-pick : (t : ℕ) → some-solution-lts.Need-enum-known-
   take-reads.Asked,
   take-reads.Learnt,
 ) (some-solution-at t) some-solution.Post
-some-solution-enum-known-pick t c = ?
+some-solution-enum-known-pick t c = search needs
 
 -- src/solve.rt:113:13
 some-solution-enum-told : (t : ℕ) → some-solution-lts.Need-enum-told (
@@ -127,7 +131,7 @@ some-solution-enum-told : (t : ℕ) → some-solution-lts.Need-enum-told (
   take-reads.Asked,
   take-reads.Learnt,
 ) (some-solution-at t) some-solution.Post
-some-solution-enum-told t c = ?
+some-solution-enum-told t c = search needs
 
 -- src/solve.rt:113:13
 some-solution-returns-2 : (t : ℕ) → some-solution-lts.Need-returns-2 (
@@ -144,7 +148,7 @@ some-solution-returns-2 : (t : ℕ) → some-solution-lts.Need-returns-2 (
   take-reads.Asked,
   take-reads.Learnt,
 ) (some-solution-at t) some-solution.Post
-some-solution-returns-2 t c = ?
+some-solution-returns-2 t c = all-decided _ (c .before .before .before .before .before .before .before .before .before .before .before .before .pre .1 .0) _ _ (c .before .before .before .before .before .before .before .before .before .before .before .before .pre .1 .1) (decided-true _ _ (c .before .before .before .before .before .before .before .can-hold .ensures) (c .before .before .before .before .before .before .if1 .taken)) (picked-none _ _ _ (c .before .before .pick-undecided .ensures) (c .enum-told .given .1))
 
 -- src/solve.rt:115:13
 some-solution-leave-requires : (t : ℕ) → some-solution-lts.Need-leave-requires (
@@ -161,7 +165,9 @@ some-solution-leave-requires : (t : ℕ) → some-solution-lts.Need-leave-requir
   take-reads.Asked,
   take-reads.Learnt,
 ) (some-solution-at t) some-solution.Post
-some-solution-leave-requires t c κs = ?
+some-solution-leave-requires t c κs =
+    let u = picked-at _ _ _ _ (c .before .before .before .pick-undecided .ensures) (c .before .pick .given .1) in
+    (c .before .before .before .before .before .before .before .before .before .before .before .before .before .pre .1 .1 .high-long, ((omega (arith, u .0), omega arith), open-high _ _ _ (u .1)))
 
 -- src/solve.rt:116:13
 some-solution-some-solution-requires : (t : ℕ) → some-solution-lts.Need-some-solution-requires (
@@ -178,7 +184,11 @@ some-solution-some-solution-requires : (t : ℕ) → some-solution-lts.Need-some
   take-reads.Asked,
   take-reads.Learnt,
 ) (some-solution-at t) some-solution.Post
-some-solution-some-solution-requires t c κs = ?
+some-solution-some-solution-requires t c κs =
+    let u = picked-at _ _ _ _ (c .before .before .before .before .pick-undecided .ensures) (c .before .before .pick .given .1) in (
+      subst (λ (z : ℕ). openPairs (c .leave .result .low) (c .leave .result .high) < z) (c .before .before .before .before .before .before .before .before .before .before .before .before .before .before .pre .0) (leave-less _ (c .before .before .before .before .before .before .before .before .before .before .before .before .before .before .pre .1 .0) _ _ (c .before .before .before .before .before .before .before .before .before .before .before .before .before .before .pre .1 .1) _ (u .1) _ _ (c .leave .ensures .0) (c .leave .ensures .1) (u .0)),
+      (c .before .before .before .before .before .before .before .before .before .before .before .before .before .before .pre .1 .0, leave-keeps _ (c .before .before .before .before .before .before .before .before .before .before .before .before .before .before .pre .1 .0) _ _ (c .before .before .before .before .before .before .before .before .before .before .before .before .before .before .pre .1 .1) _ (u .1) _ _ (c .leave .ensures .0) (c .leave .ensures .1)),
+    )
 
 -- src/solve.rt:118:13
 some-solution-returns-3 : (t : ℕ) → some-solution-lts.Need-returns-3 (
@@ -195,7 +205,9 @@ some-solution-returns-3 : (t : ℕ) → some-solution-lts.Need-returns-3 (
   take-reads.Asked,
   take-reads.Learnt,
 ) (some-solution-at t) some-solution.Post
-some-solution-returns-3 t c = ?
+some-solution-returns-3 t c =
+    let u = picked-at _ _ _ _ (c .before .before .before .before .before .before .pick-undecided .ensures) (c .before .before .before .before .pick .given .1) in
+    without-found _ (c .before .before .before .before .before .before .before .before .before .before .before .before .before .before .before .before .pre .1 .0) _ _ (c .before .before .before .before .before .before .before .before .before .before .before .before .before .before .before .before .pre .1 .1) _ (u .1) _ _ (c .before .before .leave .ensures .0) (c .before .before .leave .ensures .1) _ _ (c .before .some-solution .ensures) (c .if3 .taken)
 
 -- src/solve.rt:120:13
 some-solution-take-requires : (t : ℕ) → some-solution-lts.Need-take-requires (
@@ -212,7 +224,9 @@ some-solution-take-requires : (t : ℕ) → some-solution-lts.Need-take-requires
   take-reads.Asked,
   take-reads.Learnt,
 ) (some-solution-at t) some-solution.Post
-some-solution-take-requires t c κs = ?
+some-solution-take-requires t c κs =
+    let u = picked-at _ _ _ _ (c .before .before .before .before .before .before .pick-undecided .ensures) (c .before .before .before .before .pick .given .1) in
+    (c .before .before .before .before .before .before .before .before .before .before .before .before .before .before .before .before .pre .1 .1 .low-long, (omega (arith, u .0), omega arith))
 
 -- src/solve.rt:121:9
 some-solution-some-solution-requires-2 : (t : ℕ) → some-solution-lts.Need-some-solution-requires-2 (
@@ -229,7 +243,11 @@ some-solution-some-solution-requires-2 : (t : ℕ) → some-solution-lts.Need-so
   take-reads.Asked,
   take-reads.Learnt,
 ) (some-solution-at t) some-solution.Post
-some-solution-some-solution-requires-2 t c κs = ?
+some-solution-some-solution-requires-2 t c κs =
+    let u = picked-at _ _ _ _ (c .before .before .before .before .before .before .before .pick-undecided .ensures) (c .before .before .before .before .before .pick .given .1) in (
+      subst (λ (z : ℕ). openPairs (c .take .result .low) (c .take .result .high) < z) (c .before .before .before .before .before .before .before .before .before .before .before .before .before .before .before .before .before .pre .0) (take-less _ (c .before .before .before .before .before .before .before .before .before .before .before .before .before .before .before .before .before .pre .1 .0) _ _ (c .before .before .before .before .before .before .before .before .before .before .before .before .before .before .before .before .before .pre .1 .1) _ (u .1) _ _ (c .take .ensures .0) (c .take .ensures .1) (u .0)),
+      (c .before .before .before .before .before .before .before .before .before .before .before .before .before .before .before .before .before .pre .1 .0, take-keeps _ (c .before .before .before .before .before .before .before .before .before .before .before .before .before .before .before .before .before .pre .1 .0) _ _ (c .before .before .before .before .before .before .before .before .before .before .before .before .before .before .before .before .before .pre .1 .1) _ (u .1) _ _ (c .take .ensures .0) (c .take .ensures .1)),
+    )
 
 -- src/solve.rt:121:9
 some-solution-returns-4 : (t : ℕ) → some-solution-lts.Need-returns-4 (
@@ -246,7 +264,9 @@ some-solution-returns-4 : (t : ℕ) → some-solution-lts.Need-returns-4 (
   take-reads.Asked,
   take-reads.Learnt,
 ) (some-solution-at t) some-solution.Post
-some-solution-returns-4 t c = ?
+some-solution-returns-4 t c =
+    let u = picked-at _ _ _ _ (c .before .before .before .before .before .before .before .before .pick-undecided .ensures) (c .before .before .before .before .before .before .pick .given .1) in
+    with-answers _ (c .before .before .before .before .before .before .before .before .before .before .before .before .before .before .before .before .before .before .pre .1 .0) _ _ (c .before .before .before .before .before .before .before .before .before .before .before .before .before .before .before .before .before .before .pre .1 .1) _ (u .1) _ _ (c .before .before .before .before .leave .ensures .0) (c .before .before .before .before .leave .ensures .1) _ _ (c .before .before .before .some-solution .ensures) (c .before .before .if3 .left) _ _ (c .before .take .ensures .0) (c .before .take .ensures .1) (c .some-solution2 .result .found) _ (c .some-solution2 .ensures)
 
 -- src/solve.rt:93:1
 some-solution-returns-5 : (t : ℕ) → some-solution-lts.Need-returns-5 (
@@ -263,7 +283,7 @@ some-solution-returns-5 : (t : ℕ) → some-solution-lts.Need-returns-5 (
   take-reads.Asked,
   take-reads.Learnt,
 ) (some-solution-at t) some-solution.Post
-some-solution-returns-5 t c = ?
+some-solution-returns-5 t c = impossible _ (c .before .before .before .before .before .before .pre .1 .0) _ _ (decided-false _ _ (c .before .can-hold .ensures) (c .if1 .left))
 
 pub +some-solution-spec : {M : Type 1} → statement M
 +some-solution-spec = close μ-some-solution λ t. some-solution-lts.spec (
