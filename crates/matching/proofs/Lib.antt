@@ -4,3 +4,4 @@ pub mod Choices
 pub mod Assumed
 pub mod Fronts
 pub mod Searching
+pub mod Walking

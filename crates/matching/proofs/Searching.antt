@@ -72,29 +72,29 @@ pub open-low : (low high : List ℕ) (p : ℕ) → undecided low high p ≡ true
 unfolding undecided
 open-low low high p h = not-true' _ (both-true _ _ h .1)
 
-open-intro : (low high : List ℕ) (p : ℕ) → takes high (p / 64) (p % 64) ≡ true → takes low (p / 64) (p % 64) ≡ false → undecided low high p ≡ true
+pub open-intro : (low high : List ℕ) (p : ℕ) → takes high (p / 64) (p % 64) ≡ true → takes low (p / 64) (p % 64) ≡ false → undecided low high p ≡ true
 unfolding undecided
 open-intro low high p a b = both-intro _ _ a (ap not b)
 
-same-or-not : (l r k q : ℕ) → ((l ≡ k) × (r ≡ q)) ⊎ ((l ≡ k) × (r ≡ q) → ⊥)
+pub same-or-not : (l r k q : ℕ) → ((l ≡ k) × (r ≡ q)) ⊎ ((l ≡ k) × (r ≡ q) → ⊥)
 same-or-not l r k q =
     ⊎-elim (λ a. ⊎-elim (λ b. inl (a, b)) (λ b. inr (λ x. b (x .1))) (eq-or-ne r q)) (λ a. inr (λ x. a (x .0))) (eq-or-ne l k)
 
-at-pair : (a : List ℕ) (l r k q : ℕ) (b : Bool) → (l ≡ k) × (r ≡ q) → takes a k q ≡ b → takes a l r ≡ b
+pub at-pair : (a : List ℕ) (l r k q : ℕ) (b : Bool) → (l ≡ k) × (r ≡ q) → takes a k q ≡ b → takes a l r ≡ b
 at-pair a l r k q b (e, f) h = ap (λ (z : ℕ). takes a z r) e ∙ ap (takes a k) f ∙ h
 
 module _ (before after : List ℕ) (k q : ℕ) where
-  grown : Changed before after k q true → Within before after
+  pub grown : Changed before after k q true → Within before after
   grown c l r e = ⊎-elim (λ x. at-pair after l r k q true x (c .here)) (λ n. c .elsewhere l r n ∙ e) (same-or-not l r k q)
 
-  grown-cases : Changed before after k q true → (l r : ℕ) → takes after l r ≡ true → ((l ≡ k) × (r ≡ q)) ⊎ (takes before l r ≡ true)
+  pub grown-cases : Changed before after k q true → (l r : ℕ) → takes after l r ≡ true → ((l ≡ k) × (r ≡ q)) ⊎ (takes before l r ≡ true)
   grown-cases c l r e = ⊎-elim (λ x. inl x) (λ n. inr (sym (c .elsewhere l r n) ∙ e)) (same-or-not l r k q)
 
-  shrunk : Changed before after k q false → Within after before
+  pub shrunk : Changed before after k q false → Within after before
   shrunk c l r e =
       ⊎-elim (λ x. absurd (true≢false (sym e ∙ at-pair after l r k q false x (c .here)))) (λ n. sym (c .elsewhere l r n) ∙ e) (same-or-not l r k q)
 
-  shrunk-cases : Changed before after k q false → (l r : ℕ) → takes before l r ≡ true → ((l ≡ k) × (r ≡ q)) ⊎ (takes after l r ≡ true)
+  pub shrunk-cases : Changed before after k q false → (l r : ℕ) → takes before l r ≡ true → ((l ≡ k) × (r ≡ q)) ⊎ (takes after l r ≡ true)
   shrunk-cases c l r e = ⊎-elim (λ x. inl x) (λ n. inr (c .elsewhere l r n ∙ e)) (same-or-not l r k q)
 
 same-place : (p r : ℕ) → (r / 64 ≡ p / 64) × (r % 64 ≡ p % 64) → r ≡ p

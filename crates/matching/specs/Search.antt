@@ -1,9 +1,10 @@
 -- What the private functions of the search promise (no operation's contract cites this).
-use Prim.Native.Nat.{ℕ, _<_, _/_, _%_}
+use Prim.Native.Nat.{ℕ, _-_, _<_, _≤_, _/_, _%_, _^_}
 use mathlib.Core.Path.{_≡_}
 use mathlib.Core.List.{List}
 use mathlib.Core.Bool.{Bool, true, false, not}
-use lib.ListN.{length, take}
+use mathlib.Core.Logic.{_⊎_}
+use lib.ListN.{length, take, getD}
 use Rattle.subsumption.specs.declared.refusal.Outcome.the-variants.{Done}
 use Rattle.subsumption.specs.Tables.{Tables, both, pairsOf, leftOf, rightOf, tree, hasVariable}
 use Rattle.subsumption.specs.Subsumption.{Subsumed}
@@ -12,7 +13,7 @@ use Rattle.subsumption.specs.Marks.{markAt}
 use Rattle.subsumption.specs.Check.{assignmentFault}
 use Rattle.matching.specs.declared.interval.Pick.{Pick}
 use Rattle.matching.specs.declared.interval.Pick.the-variants.{At, Nothing}
-use Rattle.matching.specs.Solving.{takes, Solves}
+use Rattle.matching.specs.Solving.{takes, Solves, Earlier, First}
 
 -- A truth value tells whether a statement holds.
 abbrev pub Decided : Type 0 → Bool → Type 0
@@ -82,3 +83,30 @@ Searched t low high false choice = NoSolution t low high
 abbrev pub Offered : Tables → List ℕ → List ℕ → Bool → List ℕ → Type 0
 Offered t low high true choice = SolutionIn t low high choice
 Offered t low high false choice = Unit {0}
+
+-- The first of the solutions between.
+pub record FirstIn (t : Tables) (low high choice : List ℕ) : Type 0 where
+  pub solution : SolutionIn t low high choice
+  pub first :
+      (other : List ℕ) → assignmentFault t other ≡ Done → Between (take (t .variables) low) (take (t .variables) high) other → Solves t other
+      → (other ≡ take (t .variables) choice) ⊎ Earlier (take (t .variables) choice) other
+
+-- Every atom for every variable.
+pub record Full (variables count : ℕ) (choice : List ℕ) : Type 0 where
+  pub long : length choice ≡ 8
+  pub all : (k : ℕ) → k < variables → getD choice k 0 ≡ 2 ^ count - 1
+
+-- The first assignment that solves, or none does.
+pub record Found (t : Tables) (choice : List ℕ) : Type 0 where
+  pub long : length choice ≡ 8
+  pub first : First t (take (t .variables) choice)
+
+abbrev pub FoundBy : Tables → Bool → List ℕ → Type 0
+FoundBy t true choice = Found t choice
+FoundBy t false choice = (other : List ℕ) → assignmentFault t other ≡ Done → Solves t other → ⊥
+
+-- The front of a choice is copied to the front of a buffer.
+pub record Copied (count : ℕ) (choice before after : List ℕ) : Type 0 where
+  pub size : length after ≡ length before
+  pub front : (k : ℕ) → k < count → getD after k 0 ≡ getD choice k 0
+  pub rest : (k : ℕ) → count ≤ k → getD after k 0 ≡ getD before k 0

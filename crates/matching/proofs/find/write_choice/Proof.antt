@@ -1,0 +1,67 @@
+use Rattle.matching.proofs.find.write_choice.Statement.{statement}
+use Rattle.matching.proofs.find.write_choice.Tie as tie
+use Rattle.matching.proofs.find.write_choice.Reads as reads
+use Rattle.matching.proofs.find.write_choice.Lts as lts
+
+abbrev Inv-loop : tie.InvT-loop
+Inv-loop count out₀ choice k₀ out k = ?
+
+abbrev μ-loop : tie.MeasureT-loop
+μ-loop count out₀ choice k₀ out k = ?
+
+-- src/find.rt:87:5
+loop-holds : tie.Need-loop-holds Inv-loop μ-loop
+loop-holds c = ?
+
+-- src/find.rt:88:18
+mul-out : tie.Need-mul-out Inv-loop μ-loop
+mul-out c = ?
+
+-- src/find.rt:88:18
+array-read-out : tie.Need-array-read-out Inv-loop μ-loop
+array-read-out c = ?
+
+-- src/find.rt:88:9
+mul-out-2 : tie.Need-mul-out-2 Inv-loop μ-loop
+mul-out-2 c = ?
+
+-- src/find.rt:88:9
+slice-write-out : tie.Need-slice-write-out Inv-loop μ-loop
+slice-write-out c = ?
+
+-- src/find.rt:89:9
+add-k : tie.Need-add-k Inv-loop μ-loop
+add-k c = ?
+
+-- src/find.rt:87:5
+loop-less : tie.Need-loop-less Inv-loop μ-loop
+loop-less c = ?
+
+-- src/find.rt:87:5
+loop-again : tie.Need-loop-again Inv-loop μ-loop
+loop-again c = ?
+
+-- src/find.rt:81:1
+same-length : tie.Need-same-length Inv-loop μ-loop
+same-length c = ?
+
+-- src/find.rt:81:1
+returns : tie.Need-returns Inv-loop μ-loop
+returns c = ?
+
+pub write-choice-spec : {M : Type 1} → statement M
+write-choice-spec =
+    tie.close
+    (tie.spec
+    Inv-loop
+    μ-loop
+    loop-holds
+    mul-out
+    array-read-out
+    mul-out-2
+    slice-write-out
+    add-k
+    loop-less
+    loop-again
+    same-length
+    returns)
