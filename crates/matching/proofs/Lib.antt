@@ -5,3 +5,4 @@ pub mod Assumed
 pub mod Fronts
 pub mod Searching
 pub mod Walking
+pub mod Answering

@@ -116,7 +116,8 @@ pub fn find_assignment(
     }
     let first = find_first(concepts, inclusions, questions, variables);
     if first.found {
-        write_choice(first.choice, wanted, out);
+        let choice = first.choice;
+        write_choice(choice, wanted, out);
         return Match::Filled;
     }
     Match::Nothing

@@ -1,3 +1,5 @@
+use native.Mathlib.Omega.{arith}
+use Rattle.matching.proofs.Answering.{atoms-counted, never-rejected}
 use borrow.Author.Needs.{needs}
 use Rattle.matching.proofs.find.count_atoms.Statement.{statement}
 use Rattle.matching.proofs.find.count_atoms.Tie as tie
@@ -23,11 +25,11 @@ enum-told c = search needs
 
 -- src/find.rt:32:9
 returns : tie.Need-returns
-returns c = ?
+returns c = absurd (never-rejected _ (c .before .before .before .before .before .before .before .before .pre) 64 (omega arith) _ (c .before .before .before .list-atoms .ensures .0) _ (c .enum-told .given .1))
 
 -- src/find.rt:25:1
 returns-2 : tie.Need-returns-2
-returns-2 c = ?
+returns-2 c = atoms-counted _ (c .before .before .before .before .before .before .before .before .before .pre) 64 (omega arith) _ (c .before .before .before .before .list-atoms .ensures .0) _ (c .before .listed .given .1)
 
 pub count-atoms-spec : {M : Type 1} → statement M
 count-atoms-spec =
