@@ -1,7 +1,7 @@
 -- From the search to the answer: where it starts, and what is written.
 use Prim.Native.Nat.{ℕ, zero, suc, _+_, _*_, _-_, _/_, _%_, _^_, _<_, _≤_}
 use mathlib.Core.Path.{_≡_, refl, sym, ap, _∙_, subst}
-use mathlib.Core.List.{List}
+use mathlib.Core.List.{List, [], _∷_}
 use mathlib.Core.Bool.{Bool, true, false}
 use mathlib.Core.Logic.{_⊎_, inl, inr, ⊎-elim}
 use native.Mathlib.Omega.{arith}
@@ -13,6 +13,7 @@ use lib.Seq.{getD-set-same, getD-set-other, getD-take, getD-drop, length-take-le
 use Rattle.subsumption.specs.declared.refusal.Outcome.{Outcome}
 use Rattle.subsumption.specs.declared.refusal.Outcome.the-variants.{Done, Refused}
 use Rattle.subsumption.specs.declared.refusal.Refusal.{Refusal}
+use Rattle.subsumption.specs.declared.refusal.Refusal.the-variants.{BufferTooShort}
 use Rattle.subsumption.specs.declared.listing.Listed.{Listed}
 use Rattle.subsumption.specs.declared.listing.Listed.the-variants.{Atoms, Rejected}
 use Rattle.subsumption.specs.Tables.{Tables, both}
@@ -22,11 +23,15 @@ use Rattle.subsumption.specs.Listing.{listingFault, listed}
 use Rattle.subsumption.proofs.WellFormed.{WellFormed}
 use Rattle.subsumption.proofs.Bools.{last-cases}
 use Rattle.subsumption.proofs.Bits.{bit-and, both-true, bit-pow, bit-of-zero}
-use Rattle.subsumption.proofs.Refusals.{goes-on, done-le}
+use Rattle.subsumption.proofs.Refusals.{stops, goes-on, done-le, refused-lt}
 use Rattle.subsumption.proofs.Accepted.{wellFormed}
 use Rattle.matching.specs.Solving.{takes, Solves, First}
 use Rattle.matching.specs.Search.{Within, Between, IntervalOf, SolutionIn, NoSolution, FirstIn, Full, Found, FoundBy, Copied}
+use Rattle.matching.specs.declared.find.Match.{Match}
+use Rattle.matching.specs.declared.find.Match.the-variants.{Filled, Nothing, Rejected as No}
+use Rattle.matching.specs.Finding.{findingFault, Finds}
 use Rattle.matching.proofs.Choices.{one-bit}
+use Rattle.matching.proofs.Assumed.{none-by-substitution}
 use Rattle.matching.proofs.Fronts.{front-known, front-within, accepted-bits, accept, within-accepted}
 
 -- ---- all ones
@@ -98,6 +103,21 @@ module _ (t : Tables) (h : tableFault t ≡ Done) (size : ℕ) (room : 64 ≤ si
   never-rejected x f = let g = listed-atoms in let z : _≡_ {A = ℕ} 0 1 = cc in omega arith
 
 -- ---- the interval of all assignments
+pub all-zeros : (k : ℕ) → _≡_ {A = ℕ} (getD (0 ∷ 0 ∷ 0 ∷ 0 ∷ 0 ∷ 0 ∷ 0 ∷ 0 ∷ []) k 0) 0
+all-zeros zero = refl
+all-zeros (suc zero) = refl
+all-zeros (suc (suc zero)) = refl
+all-zeros (suc (suc (suc zero))) = refl
+all-zeros (suc (suc (suc (suc zero)))) = refl
+all-zeros (suc (suc (suc (suc (suc zero))))) = refl
+all-zeros (suc (suc (suc (suc (suc (suc zero)))))) = refl
+all-zeros (suc (suc (suc (suc (suc (suc (suc zero))))))) = refl
+all-zeros (suc (suc (suc (suc (suc (suc (suc (suc k)))))))) = refl
+
+-- the number of atoms as it was counted
+pub full-atoms : (t : Tables) (count : ℕ) (high : List ℕ) → count ≡ length (atoms t) → Full (t .variables) count high → Full (t .variables) (length (atoms t)) high
+full-atoms t count high e f = subst (λ (z : ℕ). Full (t .variables) z high) e f
+
 module _ (t : Tables) (h : tableFault t ≡ Done) (low high : List ℕ) (zeros : (k : ℕ) → getD low k 0 ≡ 0) (long : length low ≡ 8) (full : Full (t .variables) (length (atoms t)) high) where
   none-low : (k q : ℕ) → takes low k q ≡ true → ⊥
   none-low k q e = bit-of-zero q (subst (λ (z : ℕ). bit z q ≡ true) (zeros k) e)
@@ -139,3 +159,54 @@ module _ (t : Tables) (h : tableFault t ≡ Done) (low high : List ℕ) (zeros :
               first = λ other a s. f .first other a (all-between other a) s;
             };
       }
+
+-- ---- the answer
+module _ (t : Tables) (before after : List ℕ) where
+  pub finds-refused : (r : Refusal) → Refused r ≡ findingFault t (length before) → after ≡ before → Finds t before after (findingFault t (length before)) (No r)
+  finds-refused r e k = subst (λ (f : Outcome). Finds t before after f (No r)) e (refl, k)
+
+  module _ (x : Outcome) (e : x ≡ tableFault t) (f : x ≡ Done) (room : t .variables ≤ length before) where
+    passed : Done ≡ findingFault t (length before)
+    unfolding findingFault bufferFault
+    passed = goes-on x _ _ Done e f (done-le (length before) (t .variables) _ room)
+
+    front-copied : (choice : List ℕ) → length choice ≡ 8 → t .variables ≤ 8 → Copied (t .variables) choice before after → take (t .variables) after ≡ take (t .variables) choice
+    front-copied choice l v c =
+        let a : t .variables ≤ length after = omega (arith, c .size) in
+        let d : t .variables ≤ length choice = omega arith in
+        let g : length (take (t .variables) after) ≡ t .variables = length-take-le (t .variables) after a in
+        ext-getD 0 _ _ (g ∙ sym (length-take-le (t .variables) choice d))
+        (λ k m.
+        let n : k < t .variables = omega arith in
+        getD-take _ after k 0 n ∙ c .front k n ∙ sym (getD-take _ choice k 0 n))
+
+    rest-kept : (choice : List ℕ) → Copied (t .variables) choice before after → drop (t .variables) after ≡ drop (t .variables) before
+    rest-kept choice c =
+        ext-getD 0 _ _ (length-drop _ after ∙ ap (λ (z : ℕ). z - t .variables) (c .size) ∙ sym (length-drop _ before))
+        (λ k m. getD-drop _ after k 0 ∙ c .rest (t .variables + k) (omega arith) ∙ sym (getD-drop _ before k 0))
+
+    pub finds-filled :
+        (b : Bool) (choice : List ℕ) → FoundBy t b choice → b ≡ true → Copied (t .variables) choice before after
+        → Finds t before after (findingFault t (length before)) Filled
+    finds-filled b choice g y c =
+        let found : Found t choice = subst (λ (z : Bool). FoundBy t z choice) y g in
+        subst (λ (z : Outcome). Finds t before after z Filled) passed
+        (record {
+          size = c .size;
+          first = subst (First t) (sym (front-copied choice (found .long) (wellFormed t (sym e ∙ f) .few-variables) c)) (found .first);
+          rest = rest-kept choice c;
+        })
+
+    pub finds-nothing :
+        (b : Bool) (choice : List ℕ) → FoundBy t b choice → b ≡ false → after ≡ before → Finds t before after (findingFault t (length before)) Nothing
+    finds-nothing b choice g y k =
+        subst (λ (z : Outcome). Finds t before after z Nothing) passed
+        (record { none = none-by-substitution t (sym e ∙ f) (subst (λ (z : Bool). FoundBy t z choice) y g); kept = k })
+
+pub finding-refused : (t : Tables) (size : ℕ) (x : Outcome) (r : Refusal) → x ≡ tableFault t → x ≡ Refused r → Refused r ≡ findingFault t size
+unfolding findingFault
+finding-refused t size x r e f = stops x _ _ r e f
+
+pub finding-short : (t : Tables) (size : ℕ) (x : Outcome) → x ≡ tableFault t → x ≡ Done → size < t .variables → Refused (BufferTooShort (t .variables)) ≡ findingFault t size
+unfolding findingFault bufferFault
+finding-short t size x e f l = goes-on x _ _ _ e f (refused-lt size (t .variables) _ l)
