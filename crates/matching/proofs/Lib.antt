@@ -13,3 +13,9 @@ pub mod Choosing
 pub mod ChoosingFaults
 pub mod Testing
 pub mod SampleCards
+pub mod Tests
+pub mod Choices
+pub mod Fronts
+pub mod Searching
+pub mod Walking
+pub mod Answering

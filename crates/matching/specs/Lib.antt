@@ -4,3 +4,4 @@ pub mod Finding
 pub mod Chosen
 pub mod Listing
 pub mod Samples
+pub mod Search

@@ -1,8 +1,124 @@
 // Finding the first assignment that makes every question hold.
+use crate::interval::Interval;
+use crate::order::first_solution;
+use crate::solve::Solution;
+use crate::solve::some_solution;
+use subsumption::Listed;
+use subsumption::refusal::Outcome;
 use subsumption::refusal::Refusal;
+ghost use mathlib.Core.Path.{_≡_};
+ghost use Prim.Native.Nat.{_-_, _≤_, _^_};
+ghost use lib.ListN.{length};
+ghost use Rattle.subsumption.specs.declared.refusal.Outcome.the-variants.{Done};
+ghost use Rattle.subsumption.specs.Tables.{tables};
+ghost use Rattle.subsumption.specs.Atoms.{atoms};
+ghost use Rattle.subsumption.specs.Check.{tableFault};
+ghost use Rattle.matching.specs.Search.{Full, FoundBy, Copied};
+ghost use Rattle.matching.specs.Finding.{findingFault, Finds};
 
 pub enum Match {
     Filled,
     Nothing,
     Rejected(Refusal),
+}
+
+fn count_atoms(concepts: &[u16], inclusions: &[u16], questions: &[u16], variables: u16) -> usize
+    requires { ⌜ tableFault (tables (now concepts) (now inclusions) (now questions) variables) ≡ Done ⌝ }
+    ensures { λ r. ⌜ r ≡ length (atoms (tables (now (concepts .entry)) (now (inclusions .entry)) (now (questions .entry)) variables)) ⌝ }
+{
+    let mut ids = [0u16; 64];
+    let listed = subsumption::list_atoms(concepts, inclusions, questions, variables, &mut ids);
+    let Listed::Atoms(count) = listed else {
+        return 0;
+    };
+    count
+}
+
+fn ones(count: usize) -> u64
+    requires { ⌜ count ≤ 64 ⌝ }
+    ensures { λ r. ⌜ r ≡ 2 ^ count - 1 ⌝ }
+{
+    if count == 64 {
+        return 18446744073709551615;
+    }
+    (1 << count) - 1
+}
+
+// Every atom for every variable.
+fn all_atoms(variables: usize, count: usize) -> [u64; 8]
+    requires { ⌜ variables ≤ 8 ⌝ }
+    requires { ⌜ count ≤ 64 ⌝ }
+    ensures { λ r. ⌜ Full variables count r ⌝ }
+{
+    let full = ones(count);
+    let mut choice = [0u64; 8];
+    let mut k: usize = 0;
+    while k < variables {
+        choice[k] = full;
+        k += 1;
+    }
+    choice
+}
+
+// The first solution of accepted tables, if there is one.
+fn find_first(concepts: &[u16], inclusions: &[u16], questions: &[u16], variables: u16) -> Solution
+    requires { ⌜ tableFault (tables (now concepts) (now inclusions) (now questions) variables) ≡ Done ⌝ }
+    ensures { λ r. ⌜ FoundBy (tables (now (concepts .entry)) (now (inclusions .entry)) (now (questions .entry)) variables) (r .found) (r .choice) ⌝ }
+{
+    let count = count_atoms(concepts, inclusions, questions, variables);
+    let low = [0u64; 8];
+    let high = all_atoms(variables as usize, count);
+    let start = Interval { low, high };
+    let some = some_solution(concepts, inclusions, questions, variables, start);
+    let known = some.choice;
+    if some.found {
+        let choice = first_solution(concepts, inclusions, questions, variables, start, known);
+        return Solution {
+            found: true,
+            choice,
+        };
+    }
+    Solution {
+        found: false,
+        choice: known,
+    }
+}
+
+fn write_choice(choice: [u64; 8], count: usize, out: &mut [u64])
+    requires { ⌜ count ≤ 8 ⌝ }
+    requires { ⌜ count ≤ length (now out) ⌝ }
+    ensures { λ _. ⌜ Copied count choice (now (out .entry)) (now (out .exit)) ⌝ }
+{
+    let mut k: usize = 0;
+    while k < count {
+        out[k] = choice[k];
+        k += 1;
+    }
+}
+
+// Finds the first assignment that makes every question hold, or says that no substitution does. It writes one number a variable.
+pub fn find_assignment(
+    concepts: &[u16],
+    inclusions: &[u16],
+    questions: &[u16],
+    variables: u16,
+    out: &mut [u64],
+) -> Match
+    ensures { λ r. ⌜ Finds (tables (now (concepts .entry)) (now (inclusions .entry)) (now (questions .entry)) variables) (now (out .entry)) (now (out .exit)) (findingFault (tables (now (concepts .entry)) (now (inclusions .entry)) (now (questions .entry)) variables) (length (now (out .entry)))) r ⌝ }
+{
+    let checked = subsumption::check_tables(concepts, inclusions, questions, variables);
+    if let Outcome::Refused(r) = checked {
+        return Match::Rejected(r);
+    }
+    let wanted = variables as usize;
+    if out.len() < wanted {
+        return Match::Rejected(Refusal::BufferTooShort(wanted));
+    }
+    let first = find_first(concepts, inclusions, questions, variables);
+    if first.found {
+        let choice = first.choice;
+        write_choice(choice, wanted, out);
+        return Match::Filled;
+    }
+    Match::Nothing
 }
