@@ -6,7 +6,6 @@ mod interval;
 mod order;
 mod questions;
 mod solve;
-mod variables;
 
 pub use chosen::Chosen;
 pub use chosen::list_chosen;

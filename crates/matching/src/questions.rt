@@ -1,5 +1,5 @@
 // Whether the questions of one kind hold under an assignment: one subsumption table and a look at the questions.
-use crate::variables::mark_variables;
+use subsumption::mark_variables;
 use subsumption::tables::pair_at;
 ghost use mathlib.Core.Path.{_≡_};
 ghost use mathlib.Core.Bool.{true, false};

@@ -6,7 +6,6 @@ use Rattle.matching.proofs.questions.questions_hold.Tie as tie
 use Rattle.matching.proofs.questions.questions_hold.Reads as reads
 use Rattle.matching.proofs.questions.questions_hold.Lts as lts
 use Rattle.matching.proofs.questions.all_marked.Reads as all-marked-reads
-use Rattle.matching.proofs.variables.mark_variables.Reads as mark-variables-reads
 use Rattle.subsumption.proofs.write_table.Reads as write-table-reads
 
 -- src/questions.rt:69:9
