@@ -11,13 +11,20 @@ use Rattle.subsumption.specs.declared.listing.Listed.{Listed}
 use Rattle.subsumption.specs.declared.listing.Listed.the-variants.{Atoms, Rejected}
 use Rattle.subsumption.specs.declared.decide.Decision.{Decision}
 use Rattle.subsumption.specs.declared.decide.Decision.the-variants.{Yes, No, Rejected as Unfit}
+use Rattle.subsumption.specs.declared.refusal.Refusal.the-variants.{NoAssignment}
+use Rattle.matching.specs.declared.find.Match.{Match}
+use Rattle.matching.specs.declared.find.Match.the-variants.{Filled, Nothing, Rejected as Unmatched}
+use Rattle.matching.specs.declared.chosen.Chosen.{Chosen}
+use Rattle.matching.specs.declared.chosen.Chosen.the-variants.{Ids, Rejected as Unchosen}
+use Rattle.matching.specs.Finding.{findingFault, Finds, refusalOf}
+use Rattle.matching.specs.Chosen.{chosenOf}
 use Rattle.capi.specs.declared.Answer.{Answer}
 use Rattle.subsumption.specs.Tables.{Tables}
 use Rattle.subsumption.specs.Atoms.{atoms}
 use Rattle.subsumption.specs.Listing.{listed}
 use Rattle.subsumption.specs.Table.{writingFault, Left, Wrote}
 use Rattle.subsumption.specs.Decide.{Answers}
-use Rattle.capi.specs.Answer.{answerOf, WroteAs, TellsAs}
+use Rattle.capi.specs.Answer.{answerOf, WroteAs, TellsAs, FindsAs}
 
 module _ (a : Answer) (x fault : Outcome) (e : x ≡ fault) where
   pub answered-refused : (r : Refusal) (v : ℕ) → x ≡ Refused r → a ≡ answerOf (Refused r) 0 → a ≡ answerOf fault v
@@ -71,3 +78,24 @@ module _ (a : Answer) (t : Tables) (assignment : List ℕ) (left right : ℕ) wh
     λ v. subst (λ (z : Decision). Answers t assignment left right Done z) h s,
   )
   tells-no (Refused q) x s h k = absurd (let z : _≡_ {A = ℕ} 0 1 = cc (s, h) in omega arith)
+
+module _ (a : Answer) (t : Tables) (before after : List ℕ) (x : Match) (f : Finds t before after (findingFault t (length before)) x) where
+  pub finds-refused : (r : Refusal) → x ≡ Unmatched r → a ≡ answerOf (Refused r) 0 → FindsAs t before after a
+  finds-refused r h k = record { match = x; finds = f; answered = k ∙ ap (λ (z : Match). answerOf (refusalOf z) 0) (sym h) }
+
+  pub finds-nothing : x ≡ Nothing → a ≡ answerOf (Refused NoAssignment) 0 → FindsAs t before after a
+  finds-nothing h k = record { match = x; finds = f; answered = k ∙ ap (λ (z : Match). answerOf (refusalOf z) 0) (sym h) }
+
+  pub finds-filled : x ≡ Filled → a ≡ answerOf Done 0 → FindsAs t before after a
+  finds-filled h k = record { match = x; finds = f; answered = k ∙ ap (λ (z : Match). answerOf (refusalOf z) 0) (sym h) }
+
+module _ (a : Answer) (ids : List ℕ) (x : Chosen) where
+  pub chosen-refused : (fault : Outcome) (r : Refusal) → x ≡ chosenOf fault ids → x ≡ Unchosen r → a ≡ answerOf (Refused r) 0 → a ≡ answerOf fault (length ids)
+  unfolding chosenOf
+  chosen-refused Done r e h k = absurd (let z : _≡_ {A = ℕ} 0 1 = cc (e, h) in omega arith)
+  chosen-refused (Refused s) r e h k = let q : s ≡ r = cc (e, h) in subst (λ (z : Refusal). a ≡ answerOf (Refused z) 0) (sym q) k
+
+  pub chosen-done : (fault : Outcome) (n : ℕ) → x ≡ chosenOf fault ids → x ≡ Ids n → a ≡ answerOf Done n → a ≡ answerOf fault (length ids)
+  unfolding chosenOf
+  chosen-done Done n e h k = let q : length ids ≡ n = cc (e, h) in subst (λ (z : ℕ). a ≡ answerOf Done z) (sym q) k
+  chosen-done (Refused s) n e h k = absurd (let z : _≡_ {A = ℕ} 0 1 = cc (e, h) in omega arith)

@@ -11,6 +11,8 @@ use Rattle.subsumption.specs.Subsumption.{Subsumed}
 use Rattle.subsumption.specs.Refusal.{codeOf}
 use Rattle.subsumption.specs.Table.{writingFault, Left}
 use Rattle.subsumption.specs.Decide.{decidingFault}
+use Rattle.matching.specs.declared.find.Match.{Match}
+use Rattle.matching.specs.Finding.{findingFault, Finds, refusalOf}
 
 -- the answer of an operation that ends so, with that value if it is done
 abbrev pub answerOf : Outcome → ℕ → Answer
@@ -26,3 +28,9 @@ abbrev pub TellsAs : Tables → List ℕ → ℕ → ℕ → Outcome → Answer 
 TellsAs t assignment left right Done answer =
     (answer ≡ answerOf Done (answer .value)) × (answer .value ≡ 1 → Subsumed t assignment left right) × (answer .value ≡ 0 → Subsumed t assignment left right → ⊥)
 TellsAs t assignment left right (Refused r) answer = answer ≡ answerOf (Refused r) 0
+
+-- The answer is that of the finder: number 0 and the first assignment written, refusal 10 when no substitution solves, or another refusal.
+pub record FindsAs (t : Tables) (before after : List ℕ) (answer : Answer) : Type 0 where
+  pub match : Match
+  pub finds : Finds t before after (findingFault t (length before)) match
+  pub answered : answer ≡ answerOf (refusalOf match) 0

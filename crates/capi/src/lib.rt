@@ -1,4 +1,6 @@
 // The operations for C and Rust. No logic of its own: each export calls one operation and turns its answer into numbers.
+use matching::Chosen;
+use matching::Match;
 use subsumption::Decision;
 use subsumption::Listed;
 use subsumption::refusal::Outcome;
@@ -12,7 +14,10 @@ ghost use Rattle.subsumption.specs.declared.refusal.Outcome.the-variants.{Done,
 ghost use Rattle.subsumption.specs.Check.{tableFault};
 ghost use Rattle.subsumption.specs.Listing.{listingFault, listedIn};
 ghost use Rattle.subsumption.specs.Decide.{decidingFault};
-ghost use Rattle.capi.specs.Answer.{answerOf, WroteAs, TellsAs};
+ghost use Rattle.subsumption.specs.Atoms.{chosen};
+ghost use Rattle.matching.specs.Finding.{findingFault};
+ghost use Rattle.matching.specs.Chosen.{choosingFault, chosenIn};
+ghost use Rattle.capi.specs.Answer.{answerOf, WroteAs, TellsAs, FindsAs};
 
 // number 0: done; else the refusal's number, with its place and value 0.
 #[repr(C)]
@@ -133,5 +138,53 @@ pub extern "C" fn hc_subsumed(
         Decision::Rejected(r) => refused(r),
         Decision::Yes => done(1),
         Decision::No => done(0),
+    }
+}
+
+// Finds the first assignment that makes every question hold; refusal 10: no substitution does.
+#[no_mangle]
+pub extern "C" fn hc_match(
+    concepts: &[u16],
+    inclusions: &[u16],
+    questions: &[u16],
+    variables: u16,
+    out: &mut [u64],
+) -> Answer
+    ensures { λ a. ⌜ FindsAs (tables (now (concepts .entry)) (now (inclusions .entry)) (now (questions .entry)) variables) (now (out .entry)) (now (out .exit)) a ⌝ }
+{
+    let answer = matching::find_assignment(concepts, inclusions, questions, variables, out);
+    match answer {
+        Match::Rejected(r) => refused(r),
+        Match::Nothing => refused(Refusal::NoAssignment),
+        Match::Filled => done(0),
+    }
+}
+
+// Lists one variable's chosen ids; value: how many.
+#[no_mangle]
+pub extern "C" fn hc_chosen(
+    concepts: &[u16],
+    inclusions: &[u16],
+    questions: &[u16],
+    variables: u16,
+    assignment: &[u64],
+    variable: u16,
+    out: &mut [u16],
+) -> Answer
+    ensures { λ a. ⌜ a ≡ answerOf (choosingFault (tables (now (concepts .entry)) (now (inclusions .entry)) (now (questions .entry)) variables) (now (assignment .entry)) variable (length (now (out .entry)))) (length (chosen (tables (now (concepts .entry)) (now (inclusions .entry)) (now (questions .entry)) variables) (now (assignment .entry)) variable)) ⌝ }
+    ensures { λ a. ⌜ now (out .exit) ≡ chosenIn (choosingFault (tables (now (concepts .entry)) (now (inclusions .entry)) (now (questions .entry)) variables) (now (assignment .entry)) variable (length (now (out .entry)))) (chosen (tables (now (concepts .entry)) (now (inclusions .entry)) (now (questions .entry)) variables) (now (assignment .entry)) variable) (now (out .entry)) ⌝ }
+{
+    let answer = matching::put_chosen(
+        concepts,
+        inclusions,
+        questions,
+        variables,
+        assignment,
+        variable,
+        out,
+    );
+    match answer {
+        Chosen::Rejected(r) => refused(r),
+        Chosen::Ids(n) => done(n as u64),
     }
 }

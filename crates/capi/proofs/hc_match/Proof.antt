@@ -1,0 +1,79 @@
+use Rattle.capi.proofs.Answers.{finds-refused, finds-nothing, finds-filled}
+use borrow.Author.Needs.{needs}
+use Rattle.capi.proofs.hc_match.Statement.{statement}
+use Rattle.capi.proofs.hc_match.Tie as tie
+use Rattle.capi.proofs.hc_match.Reads as reads
+use Rattle.capi.proofs.hc_match.Lts as lts
+use Rattle.capi.proofs.done.Reads as done-reads
+use Rattle.capi.proofs.refused.Reads as refused-reads
+use Rattle.matching.proofs.find_assignment.Reads as find-assignment-reads
+
+-- src/lib.rt:149:9
+find-assignment-requires : tie.Need-find-assignment-requires
+find-assignment-requires c κs = search needs
+
+-- src/lib.rt:151:25
+enum-known-answer : tie.Need-enum-known-answer
+enum-known-answer c = search needs
+
+-- src/lib.rt:151:31
+refused-requires : tie.Need-refused-requires
+refused-requires c κs = search needs
+
+-- src/lib.rt:152:35
+enum-told : tie.Need-enum-told
+enum-told c = search needs
+
+-- src/lib.rt:152:27
+refused-requires-2 : tie.Need-refused-requires-2
+refused-requires-2 c κs = search needs
+
+-- src/lib.rt:153:26
+enum-told-2 : tie.Need-enum-told-2
+enum-told-2 c = search needs
+
+-- src/lib.rt:153:26
+done-requires : tie.Need-done-requires
+done-requires c κs = search needs
+
+-- src/lib.rt:145:1
+same-length : tie.Need-same-length
+same-length c = search needs
+
+-- src/lib.rt:145:1
+returns : tie.Need-returns
+returns c = search finds-refused
+
+-- src/lib.rt:145:1
+same-length-2 : tie.Need-same-length-2
+same-length-2 c = search needs
+
+-- src/lib.rt:145:1
+returns-2 : tie.Need-returns-2
+returns-2 c = search finds-nothing
+
+-- src/lib.rt:145:1
+same-length-3 : tie.Need-same-length-3
+same-length-3 c = search needs
+
+-- src/lib.rt:145:1
+returns-3 : tie.Need-returns-3
+returns-3 c = search finds-filled
+
+pub hc-match-spec : {M : Type 1} → statement M
+hc-match-spec =
+    tie.close
+    (tie.spec
+    find-assignment-requires
+    enum-known-answer
+    refused-requires
+    enum-told
+    refused-requires-2
+    enum-told-2
+    done-requires
+    same-length
+    returns
+    same-length-2
+    returns-2
+    same-length-3
+    returns-3)
