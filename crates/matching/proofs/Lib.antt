@@ -1,1 +1,4 @@
 -- Laws and machinery behind the proofs of the functions.
+pub mod Cells
+pub mod RuleLines
+pub mod RuleDispatch

@@ -1,3 +1,5 @@
 -- What a reader must believe of matching and derivations. proofs/ has the laws.
 pub mod Solving
 pub mod Finding
+pub mod Derivation
+pub mod LineMarks
