@@ -2,3 +2,6 @@
 pub mod Cells
 pub mod RuleLines
 pub mod RuleDispatch
+pub mod RuleMonotone
+pub mod LineChecks
+pub mod Derivations

@@ -1,3 +1,6 @@
 // Matching under subsumption: the matcher, derivations and their checker.
+mod derivation;
 pub mod find;
 mod rules;
+
+pub use derivation::check_derivation;
