@@ -19,3 +19,9 @@ pub mod Fronts
 pub mod Searching
 pub mod Walking
 pub mod Answering
+pub mod Cells
+pub mod RuleLines
+pub mod RuleDispatch
+pub mod RuleMonotone
+pub mod LineChecks
+pub mod Derivations

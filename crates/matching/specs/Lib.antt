@@ -5,3 +5,5 @@ pub mod Chosen
 pub mod Listing
 pub mod Samples
 pub mod Search
+pub mod Derivation
+pub mod LineMarks

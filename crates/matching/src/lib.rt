@@ -1,14 +1,17 @@
 // Matching under subsumption: the matcher, derivations and their checker.
 // The operations, each without a `requires`, are what the crate passes on here.
 mod chosen;
+mod derivation;
 mod find;
 mod interval;
 mod order;
 mod questions;
+mod rules;
 mod solve;
 
 pub use chosen::Chosen;
 pub use chosen::list_chosen;
 pub use chosen::put_chosen;
+pub use derivation::check_derivation;
 pub use find::Match;
 pub use find::find_assignment;

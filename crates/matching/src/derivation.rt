@@ -1,0 +1,214 @@
+// Checking a derivation. The pairs of the lines passed are marked, so that a premise is one look.
+use crate::rules::by_rule;
+use crate::rules::number_at;
+use subsumption::Listed;
+use subsumption::check_asked;
+use subsumption::list_atoms;
+use subsumption::refusal::Outcome;
+use subsumption::refusal::Refusal;
+ghost use mathlib.Core.Path.{_≡_};
+ghost use mathlib.Core.Bool.{true};
+ghost use Prim.Native.Nat.{_+_, _*_, _<_, _≤_};
+ghost use lib.ListN.{length, set};
+ghost use Rattle.subsumption.specs.declared.refusal.Refusal.the-variants.{BadDerivation};
+ghost use Rattle.subsumption.specs.declared.refusal.Outcome.the-variants.{Done};
+ghost use Rattle.subsumption.specs.Tables.{tables, countOf};
+ghost use Rattle.subsumption.specs.Refusal.{refuseIf};
+ghost use Rattle.subsumption.specs.Check.{tableFault, assignmentFault};
+ghost use Rattle.subsumption.specs.Closure.{Ready};
+ghost use Rattle.matching.specs.Derivation.{linesOf, noLines, ruleFault, lastFault, checkingFault};
+ghost use Rattle.matching.specs.LineMarks.{Square, Fetched, MarksOf, LineTest, RulesTest};
+
+// The atoms of accepted tables, in front of the buffer; answers their number.
+pub fn fetch_atoms(
+    concepts: &[u16],
+    inclusions: &[u16],
+    questions: &[u16],
+    variables: u16,
+    out: &mut [u16],
+) -> usize
+    requires { ⌜ tableFault (tables (now concepts) (now inclusions) (now questions) variables) ≡ Done ⌝ }
+    requires { ⌜ 64 ≤ length (now out) ⌝ }
+    ensures { λ r. ⌜ Fetched (tables (now (concepts .entry)) (now (inclusions .entry)) (now (questions .entry)) variables) (now (out .exit)) r ⌝ }
+{
+    let listed = list_atoms(concepts, inclusions, questions, variables, out);
+    if let Listed::Atoms(n) = listed {
+        return n;
+    }
+    0
+}
+
+pub fn mark_pair(marks: &mut [bool], count: usize, i: usize, j: usize)
+    requires { ⌜ Square count (now marks) ⌝ }
+    requires { ⌜ (i < count) × (j < count) ⌝ }
+    ensures { λ _. ⌜ now (marks .exit) ≡ set (now (marks .entry)) (i * count + j) true ⌝ }
+{
+    marks[i * count + j] = true;
+}
+
+fn line_follows(
+    concepts: &[u16],
+    inclusions: &[u16],
+    atoms: &[u16],
+    assignment: &[u64],
+    marks: &[bool],
+    lines: &[u16],
+    k: usize,
+) -> bool
+    requires { ⌜ Ready (now concepts) (now inclusions) (now atoms) (now assignment) ⌝ }
+    requires { ⌜ MarksOf (countOf (now concepts)) (now marks) (now lines) k ⌝ }
+    requires { ⌜ k < linesOf (now lines) ⌝ }
+    ensures { λ r. ⌜ LineTest (now (concepts .entry)) (now (inclusions .entry)) (now (atoms .entry)) (now (assignment .entry)) (now (lines .entry)) k r ⌝ }
+{
+    let count = concepts.len() / 3;
+    let rule = number_at(lines, k * 4);
+    let left = number_at(lines, k * 4 + 1);
+    let right = number_at(lines, k * 4 + 2);
+    let extra = number_at(lines, k * 4 + 3);
+    if count <= left {
+        return false;
+    }
+    if count <= right {
+        return false;
+    }
+    by_rule(
+        concepts,
+        inclusions,
+        atoms,
+        assignment,
+        marks,
+        rule,
+        left,
+        right,
+        extra,
+    )
+}
+
+// The lowest line that breaks its rule.
+fn check_lines(
+    concepts: &[u16],
+    inclusions: &[u16],
+    atoms: &[u16],
+    assignment: &[u64],
+    lines: &[u16],
+    marks: &mut [bool],
+) -> Outcome
+    requires { ⌜ Ready (now concepts) (now inclusions) (now atoms) (now assignment) ⌝ }
+    requires { ⌜ MarksOf (countOf (now concepts)) (now marks) (now lines) 0 ⌝ }
+    ensures { λ r. ⌜ RulesTest (now (concepts .entry)) (now (inclusions .entry)) (now (atoms .entry)) (now (assignment .entry)) (now (lines .entry)) r ⌝ }
+{
+    let count = concepts.len() / 3;
+    let total = lines.len() / 4;
+    let mut k = 0;
+    while k < total {
+        if line_follows(concepts, inclusions, atoms, assignment, marks, lines, k) {
+            let left = number_at(lines, k * 4 + 1);
+            let right = number_at(lines, k * 4 + 2);
+            mark_pair(marks, count, left, right);
+            k += 1;
+            continue;
+        }
+        return Outcome::Refused(Refusal::BadDerivation(k));
+    }
+    Outcome::Done
+}
+
+// The rules of all lines, under accepted tables and an accepted assignment.
+fn check_rules(
+    concepts: &[u16],
+    inclusions: &[u16],
+    questions: &[u16],
+    variables: u16,
+    assignment: &[u64],
+    lines: &[u16],
+) -> Outcome
+    requires { ⌜ tableFault (tables (now concepts) (now inclusions) (now questions) variables) ≡ Done ⌝ }
+    requires { ⌜ assignmentFault (tables (now concepts) (now inclusions) (now questions) variables) (now assignment) ≡ Done ⌝ }
+    ensures { λ r. ⌜ r ≡ ruleFault (tables (now (concepts .entry)) (now (inclusions .entry)) (now (questions .entry)) variables) (now (assignment .entry)) (now (lines .entry)) ⌝ }
+{
+    let mut ids = [0u16; 64];
+    let n = fetch_atoms(concepts, inclusions, questions, variables, &mut ids);
+    let mut marks = [false; 36864];
+    let count = concepts.len() / 3;
+    let size = count * count;
+    check_lines(
+        concepts,
+        inclusions,
+        &ids[..n],
+        assignment,
+        lines,
+        &mut marks[..size],
+    )
+}
+
+// No lines, or a ragged list.
+fn check_shape(lines: &[u16]) -> Outcome
+    ensures { λ r. ⌜ r ≡ refuseIf (noLines (now (lines .entry))) (BadDerivation 0) ⌝ }
+{
+    if lines.len() == 0 {
+        return Outcome::Refused(Refusal::BadDerivation(0));
+    }
+    if lines.len() % 4 != 0 {
+        return Outcome::Refused(Refusal::BadDerivation(0));
+    }
+    Outcome::Done
+}
+
+// The last line is the asked pair.
+fn check_last(left: u16, right: u16, lines: &[u16]) -> Outcome
+    requires { ⌜ refuseIf (noLines (now lines)) (BadDerivation 0) ≡ Done ⌝ }
+    ensures { λ r. ⌜ r ≡ lastFault left right (now (lines .entry)) ⌝ }
+{
+    let total = lines.len() / 4;
+    let last = total - 1;
+    if lines[last * 4 + 1] != left {
+        return Outcome::Refused(Refusal::BadDerivation(total));
+    }
+    if lines[last * 4 + 2] != right {
+        return Outcome::Refused(Refusal::BadDerivation(total));
+    }
+    Outcome::Done
+}
+
+// Checks a derivation of one pair under an assignment.
+pub fn check_derivation(
+    concepts: &[u16],
+    inclusions: &[u16],
+    questions: &[u16],
+    variables: u16,
+    assignment: &[u64],
+    left: u16,
+    right: u16,
+    lines: &[u16],
+) -> Outcome
+    ensures { λ r. ⌜ r ≡ checkingFault (tables (now (concepts .entry)) (now (inclusions .entry)) (now (questions .entry)) variables) (now (assignment .entry)) left right (now (lines .entry)) ⌝ }
+{
+    let asked = check_asked(
+        concepts,
+        inclusions,
+        questions,
+        variables,
+        assignment,
+        left,
+        right,
+    );
+    if let Outcome::Refused(r) = asked {
+        return Outcome::Refused(r);
+    }
+    let shape = check_shape(lines);
+    if let Outcome::Refused(r) = shape {
+        return Outcome::Refused(r);
+    }
+    let rules = check_rules(
+        concepts,
+        inclusions,
+        questions,
+        variables,
+        assignment,
+        lines,
+    );
+    if let Outcome::Refused(r) = rules {
+        return Outcome::Refused(r);
+    }
+    check_last(left, right, lines)
+}
