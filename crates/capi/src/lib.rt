@@ -15,6 +15,7 @@ ghost use Rattle.subsumption.specs.Check.{tableFault};
 ghost use Rattle.subsumption.specs.Listing.{listingFault, listedIn};
 ghost use Rattle.subsumption.specs.Decide.{decidingFault};
 ghost use Rattle.subsumption.specs.Atoms.{chosen};
+ghost use Rattle.matching.specs.Derivation.{checkingFault};
 ghost use Rattle.matching.specs.Finding.{findingFault};
 ghost use Rattle.matching.specs.Chosen.{choosingFault, chosenIn};
 ghost use Rattle.capi.specs.Answer.{answerOf, WroteAs, TellsAs, FindsAs};
@@ -186,5 +187,26 @@ pub extern "C" fn hc_chosen(
     match answer {
         Chosen::Rejected(r) => refused(r),
         Chosen::Ids(n) => done(n as u64),
+    }
+}
+
+// Checks a derivation of one pair under an assignment.
+#[no_mangle]
+pub extern "C" fn hc_check_derivation(
+    concepts: &[u16],
+    inclusions: &[u16],
+    questions: &[u16],
+    variables: u16,
+    assignment: &[u64],
+    left: u16,
+    right: u16,
+    lines: &[u16],
+) -> Answer
+    ensures { λ a. ⌜ a ≡ answerOf (checkingFault (tables (now (concepts .entry)) (now (inclusions .entry)) (now (questions .entry)) variables) (now (assignment .entry)) left right (now (lines .entry))) 0 ⌝ }
+{
+    let answer = matching::check_derivation(concepts, inclusions, questions, variables, assignment, left, right, lines);
+    match answer {
+        Outcome::Refused(r) => refused(r),
+        Outcome::Done => done(0),
     }
 }
