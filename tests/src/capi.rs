@@ -71,6 +71,65 @@ extern "C" {
         left: u16,
         right: u16,
     ) -> Answer;
+
+    fn hc_match(
+        concepts: *const u16,
+        concepts_len: usize,
+        inclusions: *const u16,
+        inclusions_len: usize,
+        questions: *const u16,
+        questions_len: usize,
+        variables: u16,
+        out: *mut u64,
+        out_len: usize,
+    ) -> Answer;
+
+    fn hc_chosen(
+        concepts: *const u16,
+        concepts_len: usize,
+        inclusions: *const u16,
+        inclusions_len: usize,
+        questions: *const u16,
+        questions_len: usize,
+        variables: u16,
+        assignment: *const u64,
+        assignment_len: usize,
+        variable: u16,
+        out: *mut u16,
+        out_len: usize,
+    ) -> Answer;
+
+    fn hc_derive(
+        concepts: *const u16,
+        concepts_len: usize,
+        inclusions: *const u16,
+        inclusions_len: usize,
+        questions: *const u16,
+        questions_len: usize,
+        variables: u16,
+        assignment: *const u64,
+        assignment_len: usize,
+        left: u16,
+        right: u16,
+        out: *mut u16,
+        out_len: usize,
+    ) -> Answer;
+
+    fn hc_check_derivation(
+        concepts: *const u16,
+        concepts_len: usize,
+        inclusions: *const u16,
+        inclusions_len: usize,
+        questions: *const u16,
+        questions_len: usize,
+        variables: u16,
+        assignment: *const u64,
+        assignment_len: usize,
+        left: u16,
+        right: u16,
+        lines: *const u16,
+        lines_len: usize,
+    ) -> Answer;
 }
 
 // Each call below is sound for any slices: the operations have no `requires`, read only what the
@@ -138,6 +197,86 @@ pub fn subsumed(t: TablesRef, assignment: &[u64], pair: (u16, u16)) -> Answer {
             assignment.len(),
             pair.0,
             pair.1,
+        )
+    }
+}
+
+pub fn find(t: TablesRef, out: &mut [u64]) -> Answer {
+    unsafe {
+        hc_match(
+            t.concepts.as_ptr(),
+            t.concepts.len(),
+            t.inclusions.as_ptr(),
+            t.inclusions.len(),
+            t.questions.as_ptr(),
+            t.questions.len(),
+            t.variables,
+            out.as_mut_ptr(),
+            out.len(),
+        )
+    }
+}
+
+pub fn chosen(t: TablesRef, assignment: &[u64], variable: u16, out: &mut [u16]) -> Answer {
+    unsafe {
+        hc_chosen(
+            t.concepts.as_ptr(),
+            t.concepts.len(),
+            t.inclusions.as_ptr(),
+            t.inclusions.len(),
+            t.questions.as_ptr(),
+            t.questions.len(),
+            t.variables,
+            assignment.as_ptr(),
+            assignment.len(),
+            variable,
+            out.as_mut_ptr(),
+            out.len(),
+        )
+    }
+}
+
+pub fn derive(t: TablesRef, assignment: &[u64], pair: (u16, u16), out: &mut [u16]) -> Answer {
+    unsafe {
+        hc_derive(
+            t.concepts.as_ptr(),
+            t.concepts.len(),
+            t.inclusions.as_ptr(),
+            t.inclusions.len(),
+            t.questions.as_ptr(),
+            t.questions.len(),
+            t.variables,
+            assignment.as_ptr(),
+            assignment.len(),
+            pair.0,
+            pair.1,
+            out.as_mut_ptr(),
+            out.len(),
+        )
+    }
+}
+
+pub fn check_derivation(
+    t: TablesRef,
+    assignment: &[u64],
+    pair: (u16, u16),
+    lines: &[u16],
+) -> Answer {
+    unsafe {
+        hc_check_derivation(
+            t.concepts.as_ptr(),
+            t.concepts.len(),
+            t.inclusions.as_ptr(),
+            t.inclusions.len(),
+            t.questions.as_ptr(),
+            t.questions.len(),
+            t.variables,
+            assignment.as_ptr(),
+            assignment.len(),
+            pair.0,
+            pair.1,
+            lines.as_ptr(),
+            lines.len(),
         )
     }
 }

@@ -5,7 +5,7 @@ use crate::capi::{self, Answer};
 use crate::lend::{Lent, LentInputs, Noise};
 use crate::limits::ROW_BYTES;
 use crate::random::Random;
-use crate::reference::{self, Refusal};
+use crate::reference::{self, atoms::chosen as chosen_ids, derivation, Refusal};
 use crate::tables::Case;
 
 /// Noise for the buffers, the same for the same case.
@@ -58,7 +58,90 @@ pub fn decide(case: &Case) -> Answer {
     answer
 }
 
-/// All four operations; for a case pasted back from a failure.
+/// The matcher, against the reference's search.
+pub fn find(case: &Case) -> Answer {
+    find_expecting(case, reference::find(&case.tables, case.match_room))
+}
+
+/// The matcher, against an answer known otherwise.
+pub fn find_expecting(case: &Case, expected: Result<Vec<u64>, Refusal>) -> Answer {
+    let mut random = noise(case);
+    let inputs = LentInputs::new(&case.tables, &case.assignment, &mut random);
+    let mut out: Lent<u64> = Lent::noise(case.match_room, &mut random);
+    let answer = capi::find(inputs.tables(), out.slice_mut());
+    let written = expected.clone().unwrap_or_default();
+    judge(case, "hc_match", answer, expected.map(|_| 0), &inputs);
+    let now = &out.slice()[..written.len()];
+    assert!(now == written, "hc_match wrote {:?}, not {:?}, for\n{}", now, written, case);
+    judge_output(case, "hc_match", &out, &written);
+    answer
+}
+
+pub fn chosen(case: &Case) -> Answer {
+    let mut random = noise(case);
+    let inputs = LentInputs::new(&case.tables, &case.assignment, &mut random);
+    let mut out: Lent<u16> = Lent::noise(case.chosen_room, &mut random);
+    let (assignment, variable) = (inputs.assignment(), case.variable);
+    let answer = capi::chosen(inputs.tables(), assignment, variable, out.slice_mut());
+    let expected = reference::chosen(&case.tables, assignment, variable, case.chosen_room);
+    let written = expected.clone().unwrap_or_default();
+    judge(case, "hc_chosen", answer, expected.map(|list| list.len() as u64), &inputs);
+    judge_output(case, "hc_chosen", &out, &written);
+    answer
+}
+
+pub fn check_derivation(case: &Case) -> Answer {
+    let mut random = noise(case);
+    let inputs = LentInputs::new(&case.tables, &case.assignment, &mut random);
+    let lines: Lent<u16> = Lent::holding(&case.lines, &mut random);
+    let (assignment, pair) = (inputs.assignment(), case.pair);
+    let answer = capi::check_derivation(inputs.tables(), assignment, pair, lines.slice());
+    let expected = reference::check_derivation(&case.tables, assignment, pair, &case.lines);
+    judge(case, "hc_check_derivation", answer, expected.map(|()| 0), &inputs);
+    judge_output(case, "hc_check_derivation", &lines, &[]);
+    answer
+}
+
+/// The writer, whose lines are open: both checkers accept them, no pair stands twice, and all
+/// else is as it was lent. The lines written come with the answer.
+pub fn derive(case: &Case) -> (Answer, Vec<u16>) {
+    let expected = reference::derivable(&case.tables, &case.assignment, case.pair, case.line_room);
+    derive_expecting(case, expected)
+}
+
+/// The writer, where it is known already whether there is a derivation.
+pub fn derive_expecting(case: &Case, expected: Result<(), Refusal>) -> (Answer, Vec<u16>) {
+    let mut random = noise(case);
+    let inputs = LentInputs::new(&case.tables, &case.assignment, &mut random);
+    let mut out: Lent<u16> = Lent::noise(case.line_room, &mut random);
+    let answer = capi::derive(inputs.tables(), inputs.assignment(), case.pair, out.slice_mut());
+    let count = if answer.number == 0 { answer.value } else { 0 };
+    judge(case, "hc_derive", answer, expected.map(|()| count), &inputs);
+    let fits = count <= case.line_room as u64 / 4;
+    assert!(fits, "hc_derive claims {} lines, for\n{}", count, case);
+    let written = out.slice()[..4 * count as usize].to_vec();
+    judge_output(case, "hc_derive", &out, &written);
+    if expected.is_ok() {
+        judge_lines(case, &written);
+    }
+    (answer, written)
+}
+
+fn judge_lines(case: &Case, written: &[u16]) {
+    let chosen = chosen_ids(&case.tables, &case.assignment);
+    let fault = derivation::fault(&case.tables, &chosen, case.pair, written);
+    assert!(fault.is_none(), "hc_derive: fault at {:?} of {:?}, for\n{}", fault, written, case);
+    let answer = capi::check_derivation(case.tables.lend(), &case.assignment, case.pair, written);
+    let name = "hc_check_derivation";
+    assert!(answer == Answer::done(0), "{}: {:?} for {:?}, for\n{}", name, answer, written, case);
+    let mut pairs: Vec<derivation::Pair> =
+        derivation::split(written).into_iter().map(derivation::pair).collect();
+    pairs.sort_unstable();
+    let twice = pairs.windows(2).find(|two| two[0] == two[1]);
+    assert!(twice.is_none(), "hc_derive: {:?} in {:?}, for\n{}", twice, written, case);
+}
+
+/// The four operations on tables, assignment and pair; for a case pasted back from a failure.
 pub fn all(case: &Case) {
     check(case);
     atoms(case);

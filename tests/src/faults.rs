@@ -1,7 +1,7 @@
 //! One table without fault and single faults to put into it, each with the refusal it brings.
 //! Every set of them can be put in at once, to see which check speaks first.
 
-use crate::limits::{ATOM_ROOM, ROW_BYTES};
+use crate::limits::{line_room, ATOM_ROOM, ROW_BYTES};
 use crate::tables::{Case, Tables};
 
 /// In the order of 01's checks: 1 to 7, then 9, 8.
@@ -56,7 +56,8 @@ pub fn base() -> Case {
 }
 
 impl Fault {
-    /// The refusal that this fault alone brings. A short buffer's place is the operation's.
+    /// The refusal that this fault alone brings. A short buffer's place is the operation's; the
+    /// one here is the subsumption table's.
     pub fn refusal(self) -> (u16, u64) {
         match self {
             Fault::Ragged => (1, 2),
@@ -91,6 +92,9 @@ impl Fault {
             Fault::ShortBuffer => {
                 case.table_room = COUNT * ROW_BYTES - 1;
                 case.atom_room = ATOM_ROOM - 1;
+                case.match_room = 1;
+                case.chosen_room = ATOM_ROOM - 1;
+                case.line_room = line_room(COUNT) - 1;
             }
         }
     }

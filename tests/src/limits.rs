@@ -10,5 +10,14 @@ pub const MAX_ROLE: u16 = 99;
 
 /// Bytes of one row of the subsumption table.
 pub const ROW_BYTES: usize = 24;
-/// Numbers that the buffer for the atoms must hold, however few are written.
+/// Numbers that the buffer for the atoms, or for the chosen ids, must hold, however few are
+/// written.
 pub const ATOM_ROOM: usize = 64;
+
+/// Bytes of the longest text that the program judges line by line.
+pub const MAX_TEXT: usize = 8192;
+
+/// Numbers that the buffer for a derivation must hold, however few are written.
+pub fn line_room(concepts: usize) -> usize {
+    4 * concepts * concepts
+}

@@ -2,7 +2,7 @@
 
 use std::fmt;
 
-use crate::limits::{ATOM_ROOM, ROW_BYTES};
+use crate::limits::{line_room, ATOM_ROOM, ROW_BYTES};
 
 /// The raw tables, damaged or not. 01: entries, inclusions, questions, number of blanks.
 #[derive(Clone, Debug, Default, PartialEq, Eq)]
@@ -92,7 +92,7 @@ fn pairs(numbers: &[u16]) -> Vec<(usize, usize)> {
     numbers.chunks_exact(2).map(|pair| (usize::from(pair[0]), usize::from(pair[1]))).collect()
 }
 
-/// All that the four operations are lent. It prints as Rust text, for `compare::all`.
+/// All that the operations are lent. It prints as Rust text, for the functions of `compare`.
 #[derive(Clone, Debug)]
 pub struct Case {
     pub tables: Tables,
@@ -102,18 +102,34 @@ pub struct Case {
     pub atom_room: usize,
     /// Length of the buffer for the subsumption table, in bytes.
     pub table_room: usize,
+    /// Length of the buffer for the matcher's assignment, in numbers.
+    pub match_room: usize,
+    /// The variable whose chosen ids are listed, and the length of the buffer for them.
+    pub variable: u16,
+    pub chosen_room: usize,
+    /// Length of the buffer for a derivation, in numbers.
+    pub line_room: usize,
+    /// A derivation to check.
+    pub lines: Vec<u16>,
 }
 
 impl Case {
-    /// Buffers as long as wanted, the pair (0, 0).
+    /// Buffers as long as wanted, the pair (0, 0), variable 0, no lines.
     pub fn new(tables: Tables, assignment: &[u64]) -> Self {
         let table_room = tables.concept_count() * ROW_BYTES;
+        let match_room = usize::from(tables.variables);
+        let line_room = line_room(tables.concept_count());
         Case {
             tables,
             assignment: assignment.to_vec(),
             pair: (0, 0),
             atom_room: ATOM_ROOM,
             table_room,
+            match_room,
+            variable: 0,
+            chosen_room: ATOM_ROOM,
+            line_room,
+            lines: Vec::new(),
         }
     }
 }
@@ -137,6 +153,11 @@ impl fmt::Display for Case {
         writeln!(f, "pair: {:?},", self.pair)?;
         writeln!(f, "atom_room: {},", self.atom_room)?;
         writeln!(f, "table_room: {},", self.table_room)?;
+        writeln!(f, "match_room: {},", self.match_room)?;
+        writeln!(f, "variable: {},", self.variable)?;
+        writeln!(f, "chosen_room: {},", self.chosen_room)?;
+        writeln!(f, "line_room: {},", self.line_room)?;
+        writeln!(f, "lines: vec!{:?},", self.lines)?;
         write!(f, "}}")
     }
 }

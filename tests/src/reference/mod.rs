@@ -1,12 +1,17 @@
 //! The independent implementation, written from 01 alone: refusals as a list of checks, atoms as
-//! a set of ids, subsumption by building a canonical interpretation and looking at its members.
-//! It aims at being plainly right; it is slow.
+//! a set of ids, subsumption by building a canonical interpretation and looking at its members,
+//! matching by learning clauses from assignments that fail. It aims at being plainly right; most
+//! of it is slow.
 
 pub mod atoms;
+pub mod clauses;
+pub mod derivation;
+pub mod matching;
 pub mod model;
+pub mod patterns;
 pub mod refusals;
 
-use crate::limits::{ATOM_ROOM, ROW_BYTES};
+use crate::limits::{line_room, ATOM_ROOM, ROW_BYTES};
 use crate::tables::{Case, Tables};
 
 /// A refusal of 01's table.
@@ -48,13 +53,59 @@ pub fn subsumed(tables: &Tables, assignment: &[u64], pair: (u16, u16)) -> Result
     Ok(relation[usize::from(pair.0)][usize::from(pair.1)])
 }
 
+/// Operation: find the first assignment that solves all questions.
+pub fn find(tables: &Tables, room: usize) -> Result<Vec<u64>, Refusal> {
+    refusals::of_tables(tables, None)?;
+    refusals::of_room(room, usize::from(tables.variables))?;
+    matching::first_solution(tables).ok_or(Refusal { number: 10, place: 0 })
+}
+
+/// Operation: list the ids chosen for one variable.
+pub fn chosen(
+    tables: &Tables,
+    assignment: &[u64],
+    variable: u16,
+    room: usize,
+) -> Result<Vec<u16>, Refusal> {
+    refusals::of_tables_and_variable(tables, variable)?;
+    refusals::of_assignment(tables, assignment)?;
+    refusals::of_room(room, ATOM_ROOM)?;
+    let chosen = atoms::chosen(tables, assignment);
+    Ok(chosen[usize::from(variable)].iter().map(|&id| id as u16).collect())
+}
+
+/// Operation: write a derivation. Its lines are open, so this says only whether there are any.
+pub fn derivable(
+    tables: &Tables,
+    assignment: &[u64],
+    pair: (u16, u16),
+    room: usize,
+) -> Result<(), Refusal> {
+    let holds = subsumed(tables, assignment, pair)?;
+    refusals::of_room(room, line_room(tables.concept_count()))?;
+    refusals::refuse(11, (!holds).then_some(0))
+}
+
+/// Operation: check a derivation.
+pub fn check_derivation(
+    tables: &Tables,
+    assignment: &[u64],
+    pair: (u16, u16),
+    lines: &[u16],
+) -> Result<(), Refusal> {
+    refusals::of_tables(tables, Some(pair))?;
+    refusals::of_assignment(tables, assignment)?;
+    let chosen = atoms::chosen(tables, assignment);
+    refusals::refuse(12, derivation::fault(tables, &chosen, pair, lines))
+}
+
 /// Row i, column j: i is subsumed by j. The tables and the assignment must be accepted.
 pub fn relation(tables: &Tables, assignment: &[u64]) -> Vec<Vec<bool>> {
     let chosen = atoms::chosen(tables, assignment);
     model::Canonical::build(tables, &chosen).members
 }
 
-/// Whether the four operations would find a fault in the tables or in the assignment.
+/// Whether the operations find no fault in the tables nor in the assignment.
 pub fn accepts(case: &Case) -> bool {
     refusals::of_tables(&case.tables, None).is_ok()
         && refusals::of_assignment(&case.tables, &case.assignment).is_ok()

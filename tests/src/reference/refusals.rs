@@ -17,6 +17,14 @@ pub fn of_tables(tables: &Tables, pair: Option<(u16, u16)>) -> Result<(), Refusa
     refuse(7, too_many.then_some(64))
 }
 
+/// The same with a variable's number beside the tables, judged within check 2 at place 0, the
+/// lowest place there is.
+pub fn of_tables_and_variable(tables: &Tables, variable: u16) -> Result<(), Refusal> {
+    refuse(1, limit_fault(tables))?;
+    refuse(2, (variable >= tables.variables).then_some(0))?;
+    of_tables(tables, None)
+}
+
 /// Check 9, for accepted tables.
 pub fn of_assignment(tables: &Tables, assignment: &[u64]) -> Result<(), Refusal> {
     let variables = usize::from(tables.variables);
@@ -33,7 +41,7 @@ pub fn of_room(room: usize, wanted: usize) -> Result<(), Refusal> {
     refuse(8, (room < wanted).then_some(wanted))
 }
 
-fn refuse(number: u16, place: Option<usize>) -> Result<(), Refusal> {
+pub fn refuse(number: u16, place: Option<usize>) -> Result<(), Refusal> {
     match place {
         None => Ok(()),
         Some(place) => Err(Refusal { number, place: place as u64 }),

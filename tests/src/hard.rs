@@ -1,0 +1,424 @@
+//! Hard problems for the matcher: families that punish a walk over subsets in order, and puzzles
+//! (clauses, colourings) dressed up as tables. Each says what is known of its answer.
+
+use crate::generate;
+use crate::limits::*;
+use crate::random::Random;
+use crate::reference::{self, atoms};
+use crate::tables::Tables;
+
+#[derive(Clone, Debug, PartialEq, Eq)]
+pub enum Known {
+    /// The first solution itself.
+    First(Vec<u64>),
+    Solvable,
+    Unsolvable,
+    Open,
+}
+
+pub struct Hard {
+    pub label: String,
+    pub tables: Tables,
+    pub known: Known,
+}
+
+fn hard(label: String, builder: Builder, known: Known) -> Hard {
+    let tables =
+        Tables::new(&builder.rows, &builder.inclusions, &builder.questions, builder.variables);
+    assert_eq!(reference::check(&tables), Ok(()), "{} is refused:\n{}", label, tables);
+    Hard { label, tables, known }
+}
+
+/// Tables in the making. An id's place decides where its atom stands in the order.
+#[derive(Default)]
+struct Builder {
+    rows: Vec<[u16; 3]>,
+    inclusions: Vec<[u16; 2]>,
+    questions: Vec<[u16; 2]>,
+    names: u16,
+    variables: u16,
+}
+
+impl Builder {
+    fn add(&mut self, row: [u16; 3]) -> u16 {
+        self.rows.push(row);
+        (self.rows.len() - 1) as u16
+    }
+
+    /// A name of its own.
+    fn name(&mut self) -> u16 {
+        self.names += 1;
+        self.add([1, self.names - 1, 0])
+    }
+
+    fn names(&mut self, count: usize) -> Vec<u16> {
+        (0..count).map(|_| self.name()).collect()
+    }
+
+    fn variable(&mut self) -> u16 {
+        self.variables += 1;
+        self.add([4, self.variables - 1, 0])
+    }
+
+    fn some(&mut self, role: u16, inner: u16) -> u16 {
+        self.add([2, role, inner])
+    }
+
+    fn and(&mut self, first: u16, second: u16) -> u16 {
+        self.add([3, first, second])
+    }
+
+    /// The conjunction of all, one by one.
+    fn all(&mut self, ids: &[u16]) -> u16 {
+        let mut ids = ids.iter().copied();
+        let first = ids.next().expect("a conjunction of something");
+        ids.fold(first, |sum, id| self.and(sum, id))
+    }
+
+    /// Makes atoms of ids and changes nothing else.
+    fn atoms(&mut self, ids: &[u16]) {
+        self.inclusions.extend(ids.iter().map(|&id| [id, id]));
+    }
+
+    fn ask(&mut self, left: u16, right: u16) {
+        self.questions.push([left, right]);
+    }
+
+    /// K atoms, and what is below each of them and below nothing else.
+    fn harmless(&mut self, k: usize) -> (Vec<u16>, u16) {
+        let names = self.names(k);
+        self.atoms(&names);
+        let below = self.all(&names);
+        (names, below)
+    }
+
+    /// "Some" of each, for a question whose right side is "some" of a pattern: the pattern must
+    /// hold one of them.
+    fn witnesses(&mut self, role: u16, ids: &[u16]) -> u16 {
+        let some: Vec<u16> = ids.iter().map(|&id| self.some(role, id)).collect();
+        self.all(&some)
+    }
+}
+
+/// K harmless atoms before the one that is needed and forbidden.
+pub fn needed_and_forbidden(k: usize) -> Hard {
+    let mut b = Builder::default();
+    let (_, below) = b.harmless(k);
+    let (needed, x) = (b.name(), b.variable());
+    b.ask(x, needed);
+    b.ask(below, x);
+    hard(format!("needed and forbidden, after {}", k), b, Known::Unsolvable)
+}
+
+/// The same atoms, and a solution that takes only atom 0.
+pub fn only_atom_0(k: usize) -> Hard {
+    let mut b = Builder::default();
+    let (names, below) = b.harmless(k);
+    let x = b.variable();
+    b.ask(x, names[0]);
+    b.ask(below, x);
+    hard(format!("only atom 0 of {}", k), b, Known::First(vec![1]))
+}
+
+/// Two atoms that are possible alone and not together, both needed, after K harmless ones.
+pub fn not_together(k: usize) -> Hard {
+    let mut b = Builder::default();
+    let (_, below) = b.harmless(k);
+    let (one, other) = (b.name(), b.name());
+    let (with_one, with_other) = (b.and(below, one), b.and(below, other));
+    let witnesses = b.witnesses(0, &[with_one, with_other]);
+    let x = b.variable();
+    let some_x = b.some(0, x);
+    b.ask(witnesses, some_x);
+    b.ask(x, one);
+    b.ask(x, other);
+    hard(format!("not together, after {}", k), b, Known::Unsolvable)
+}
+
+/// At most one of three atoms, and two of them needed, after K harmless ones.
+pub fn small_core(k: usize) -> Hard {
+    let mut b = Builder::default();
+    let (_, below) = b.harmless(k);
+    let core = b.names(3);
+    let goal = b.name();
+    for (one, other) in [(0, 1), (0, 2), (1, 2)] {
+        let two = b.and(core[one], core[other]);
+        b.inclusions.push([two, goal]);
+    }
+    let with: Vec<u16> = core.iter().map(|&id| b.and(below, id)).collect();
+    let witnesses = b.witnesses(0, &with);
+    let x = b.variable();
+    let some_x = b.some(0, x);
+    b.ask(witnesses, some_x);
+    b.ask(x, goal);
+    hard(format!("small core, after {}", k), b, Known::Unsolvable)
+}
+
+/// Every variable has K harmless atoms and needs the first of them; the last variable needs a
+/// forbidden one too.
+pub fn conflict_in_the_last(k: usize, variables: usize) -> Hard {
+    let mut b = Builder::default();
+    let (names, below) = b.harmless(k);
+    let forbidden = b.name();
+    let all: Vec<u16> = (0..variables).map(|_| b.variable()).collect();
+    for &x in &all {
+        b.ask(below, x);
+        b.ask(x, names[0]);
+    }
+    b.ask(all[variables - 1], forbidden);
+    let label = format!("conflict in the last of {}, {} each", variables, k);
+    hard(label, b, Known::Unsolvable)
+}
+
+/// A variable in no question before an unsolvable one, or before one that is solved.
+pub fn idle_variable(k: usize, solvable: bool) -> Hard {
+    let mut b = Builder::default();
+    let (names, below) = b.harmless(k);
+    let (_idle, x) = (b.variable(), b.variable());
+    b.ask(below, x);
+    b.ask(x, names[k - 1]);
+    let mut known = Known::First(vec![0, 1 << (k - 1)]);
+    if !solvable {
+        let forbidden = b.name();
+        b.ask(x, forbidden);
+        known = Known::Unsolvable;
+    }
+    let which = if solvable { "a solvable" } else { "an unsolvable" };
+    hard(format!("idle beside {} one, {}", which, k), b, known)
+}
+
+/// Tables at every limit with 8 variables and random questions.
+pub fn random_at_the_limits(seed: u64) -> Hard {
+    let tables = generate::full(&mut Random::new(seed));
+    Hard { label: format!("random at the limits, {}", seed), tables, known: Known::Open }
+}
+
+/// The same with questions that one hidden assignment solves.
+pub fn solvable_at_the_limits(seed: u64) -> Hard {
+    let mut random = Random::new(seed);
+    let mut tables = generate::full(&mut random);
+    let choice = |random: &mut Random| random.number() & random.number();
+    let hidden: Vec<u64> = (0..tables.variables).map(|_| choice(&mut random)).collect();
+    let below = reference::relation(&tables, &hidden);
+    let pattern = atoms::patterns(&tables);
+    tables.questions.clear();
+    while tables.questions.len() < 2 * MAX_QUESTIONS {
+        let (left, right) = (random.below(MAX_CONCEPTS), random.below(MAX_CONCEPTS));
+        // the right side must bring no atom that is not there, so it is a pattern or an atom
+        let known_right = pattern[right] || (8..72).contains(&right);
+        if pattern[left] != pattern[right] && known_right && below[left][right] {
+            tables.questions.extend([left as u16, right as u16]);
+        }
+    }
+    assert_eq!(reference::check(&tables), Ok(()), "{}", tables);
+    Hard { label: format!("solvable at the limits, {}", seed), tables, known: Known::Solvable }
+}
+
+/// A literal is twice its proposition, and one more where it is denied.
+type Clause = [usize; 3];
+
+fn random_clauses(random: &mut Random, propositions: usize, count: usize) -> Vec<Clause> {
+    let clause = |random: &mut Random| {
+        let mut order: Vec<usize> = (0..propositions).collect();
+        random.shuffle(&mut order);
+        [0, 1, 2].map(|k| 2 * order[k] + random.below(2))
+    };
+    (0..count).map(|_| clause(random)).collect()
+}
+
+fn satisfiable(propositions: usize, clauses: &[Clause]) -> Known {
+    let holds = |values: usize, literal: usize| values >> (literal / 2) & 1 != literal & 1;
+    let model = |values: &usize| clauses.iter().all(|c| c.iter().any(|&l| holds(*values, l)));
+    match (0..1 << propositions).find(model) {
+        Some(_) => Known::Solvable,
+        None => Known::Unsolvable,
+    }
+}
+
+/// Clauses over one variable: an atom for each literal. Two witnesses of a role of its own forbid
+/// each proposition and its denial together; a marker beside the variable keeps a clause's own
+/// atom from being taken for one of its literals.
+pub fn clauses_over_one(propositions: usize, count: usize, seed: u64) -> Hard {
+    let clauses = random_clauses(&mut Random::new(seed), propositions, count);
+    let mut b = Builder::default();
+    let literals = b.names(2 * propositions);
+    let (marker, x) = (b.name(), b.variable());
+    let without = all_but_one(&mut b, &literals);
+    for proposition in 0..propositions {
+        let role = proposition as u16;
+        let two = [without[2 * proposition], without[2 * proposition + 1]];
+        let (left, right) = (b.witnesses(role, &two), b.some(role, x));
+        b.ask(left, right);
+    }
+    let marked: Vec<u16> = literals.iter().map(|&literal| b.and(literal, marker)).collect();
+    let marked_x = b.and(x, marker);
+    let goals: Vec<u16> = clauses.iter().map(|clause| goal(&mut b, &marked, clause)).collect();
+    let all = b.all(&goals);
+    b.ask(marked_x, all);
+    let label = format!("{} clauses over one blank, {} propositions", count, propositions);
+    hard(label, b, satisfiable(propositions, &clauses))
+}
+
+/// A name above each literal of the clause.
+fn goal(b: &mut Builder, literals: &[u16], clause: &Clause) -> u16 {
+    let goal = b.name();
+    b.inclusions.extend(clause.iter().map(|&literal| [literals[literal], goal]));
+    goal
+}
+
+/// For each id the conjunction of all others, from the conjunctions of the ids before and behind.
+fn all_but_one(b: &mut Builder, ids: &[u16]) -> Vec<u16> {
+    let mut before = vec![ids[0]];
+    let mut behind = vec![ids[ids.len() - 1]];
+    for k in 1..ids.len() {
+        before.push(b.and(before[k - 1], ids[k]));
+        behind.push(b.and(behind[k - 1], ids[ids.len() - 1 - k]));
+    }
+    let last = ids.len() - 1;
+    let without = |k: usize, b: &mut Builder| match k {
+        0 => behind[last - 1],
+        _ if k == last => before[last - 1],
+        _ => b.and(before[k - 1], behind[last - k - 1]),
+    };
+    (0..ids.len()).map(|k| without(k, b)).collect()
+}
+
+/// Clauses over one variable a proposition, up to 8: two witnesses, yes and no, and the variable
+/// takes at most one of them; literals are "some" of a role of its own.
+pub fn clauses_over_several(propositions: usize, count: usize, seed: u64) -> Hard {
+    let clauses = random_clauses(&mut Random::new(seed), propositions, count);
+    let mut b = Builder::default();
+    let (yes, no) = (b.name(), b.name());
+    let witnesses = b.witnesses(8, &[yes, no]);
+    let (mut literals, mut said) = (Vec::new(), Vec::new());
+    for role in 0..propositions as u16 {
+        let x = b.variable();
+        let some_x = b.some(8, x);
+        b.ask(witnesses, some_x);
+        literals.extend([b.some(role, yes), b.some(role, no)]);
+        said.push(b.some(role, x));
+    }
+    let all_said = b.all(&said);
+    let goals: Vec<u16> = clauses.iter().map(|clause| goal(&mut b, &literals, clause)).collect();
+    let all_goals = b.all(&goals);
+    b.ask(all_said, all_goals);
+    let label = format!("{} clauses over {} blanks", count, propositions);
+    hard(label, b, satisfiable(propositions, &clauses))
+}
+
+/// One variable a node: it takes at most one colour, since only the colours are witnesses, and
+/// at least one, since a colour beside the marker gives the goal; an edge has the pairs of two
+/// colours as witnesses.
+fn colouring(label: String, nodes: usize, colours: usize, edges: &[(usize, usize)]) -> Hard {
+    let mut b = Builder::default();
+    let names = b.names(colours);
+    let (marker, goal) = (b.name(), b.name());
+    for &colour in &names {
+        let marked = b.and(colour, marker);
+        b.inclusions.push([marked, goal]);
+    }
+    let two = two_colours(&mut b, &names);
+    let pairs = b.all(&two);
+    let ends: Vec<(u16, u16)> = (0..nodes)
+        .map(|_| {
+            let x = b.variable();
+            let marked = b.and(x, marker);
+            b.ask(marked, goal);
+            (b.some(0, x), b.some(1, x))
+        })
+        .collect();
+    for &(from, to) in edges {
+        let both = b.and(ends[from].0, ends[to].1);
+        let some_both = b.some(2, both);
+        b.ask(pairs, some_both);
+    }
+    hard(label, b, colourable(nodes, colours, edges))
+}
+
+/// "Some" of each pair of two different colours.
+fn two_colours(b: &mut Builder, names: &[u16]) -> Vec<u16> {
+    let first: Vec<u16> = names.iter().map(|&name| b.some(0, name)).collect();
+    let second: Vec<u16> = names.iter().map(|&name| b.some(1, name)).collect();
+    let mut two = Vec::new();
+    for (k, &one) in first.iter().enumerate() {
+        for (_, &other) in second.iter().enumerate().filter(|&(other, _)| other != k) {
+            let both = b.and(one, other);
+            two.push(b.some(2, both));
+        }
+    }
+    two
+}
+
+fn colourable(nodes: usize, colours: usize, edges: &[(usize, usize)]) -> Known {
+    let colour = |number: usize, node: usize| number / colours.pow(node as u32) % colours;
+    let right =
+        |number: &usize| edges.iter().all(|&(a, b)| colour(*number, a) != colour(*number, b));
+    match (0..colours.pow(nodes as u32)).find(right) {
+        Some(_) => Known::Solvable,
+        None => Known::Unsolvable,
+    }
+}
+
+pub fn random_colouring(nodes: usize, colours: usize, edges: usize, seed: u64) -> Hard {
+    let mut all = complete(nodes);
+    Random::new(seed).shuffle(&mut all);
+    all.truncate(edges);
+    let label = format!("{} colours, {} nodes, {} edges", colours, nodes, edges);
+    colouring(label, nodes, colours, &all)
+}
+
+/// One more pigeon than holes.
+pub fn pigeons(holes: usize) -> Hard {
+    let edges = complete(holes + 1);
+    colouring(format!("{} pigeons, {} holes", holes + 1, holes), holes + 1, holes, &edges)
+}
+
+fn complete(nodes: usize) -> Vec<(usize, usize)> {
+    (0..nodes).flat_map(|to| (0..to).map(move |from| (from, to))).collect()
+}
+
+/// Families whose harmless atoms double the subsets and nothing else, for one K up to 60.
+pub fn with_harmless(k: usize) -> Vec<Hard> {
+    vec![
+        needed_and_forbidden(k),
+        only_atom_0(k),
+        not_together(k),
+        small_core(k),
+        conflict_in_the_last(k, 3),
+        conflict_in_the_last(k, MAX_VARIABLES),
+        idle_variable(k, false),
+        idle_variable(k, true),
+    ]
+}
+
+pub fn at_the_limits(seed: u64) -> Vec<Hard> {
+    vec![random_at_the_limits(seed), solvable_at_the_limits(seed)]
+}
+
+/// Puzzles at small size.
+pub fn puzzles(seed: u64) -> Vec<Hard> {
+    vec![
+        clauses_over_one(4, 8, seed),
+        clauses_over_one(4, 20, seed),
+        clauses_over_several(4, 8, seed),
+        clauses_over_several(4, 20, seed),
+        random_colouring(4, 3, 5, seed),
+        random_colouring(5, 3, 9, seed),
+        pigeons(2),
+        pigeons(3),
+    ]
+}
+
+/// The same puzzles at the size that the tables have room for.
+pub fn large_puzzles(seed: u64) -> Vec<Hard> {
+    vec![
+        clauses_over_one(6, 26, seed),
+        clauses_over_one(7, 28, seed),
+        clauses_over_several(8, 24, seed),
+        clauses_over_several(6, 32, seed),
+        random_colouring(8, 3, 16, seed),
+        random_colouring(8, 4, 24, seed),
+        pigeons(4),
+        pigeons(5),
+    ]
+}

@@ -1,0 +1,156 @@
+//! The program's text (01: house text): a reader, a layout and the whole output, written from 01.
+
+use crate::limits::*;
+use crate::reference::{self, atoms, Refusal};
+use crate::tables::Tables;
+
+const KINDS: [&str; 5] = ["top", "name", "some", "and", "blank"];
+
+/// The text of a problem, or `None` where the layout has no line for it: ragged tables, unknown
+/// kinds, unused fields.
+pub fn layout(tables: &Tables) -> Option<Vec<u8>> {
+    let mut lines = vec![format!("blanks={}", tables.variables)];
+    let ragged =
+        tables.concepts.len() % 3 + tables.inclusions.len() % 2 + tables.questions.len() % 2;
+    if ragged > 0 {
+        return None;
+    }
+    lines.push(format!("entries={}", tables.concept_count()));
+    for id in 0..tables.concept_count() {
+        lines.push(match tables.row(id) {
+            [0, 0, 0] => "top=0".to_string(),
+            [1, name, 0] => format!("name={}", name),
+            [2, role, inner] => format!("some={},{}", role, inner),
+            [3, first, second] => format!("and={},{}", first, second),
+            [4, variable, 0] => format!("blank={}", variable),
+            _ => return None,
+        });
+    }
+    for (key, list) in [("inclusions", &tables.inclusions), ("questions", &tables.questions)] {
+        lines.push(format!("{}={}", key, list.len() / 2));
+        lines.extend(list.chunks_exact(2).map(|pair| format!("below={},{}", pair[0], pair[1])));
+    }
+    Some(lines.iter().flat_map(|line| [line.as_bytes(), b"\n"].concat()).collect())
+}
+
+/// A text and how much of it was read.
+struct Reader<'a> {
+    text: &'a [u8],
+    at: usize,
+}
+
+impl Reader<'_> {
+    fn off_layout<T>(&self) -> Result<T, Refusal> {
+        Err(Refusal { number: 13, place: self.at as u64 })
+    }
+
+    /// The numbers of the next line, if its key is one of `keys` and it has as many numbers as
+    /// that key takes. Nothing is read otherwise.
+    fn line(&mut self, keys: &[(&str, usize)]) -> Result<(usize, Vec<u16>), Refusal> {
+        let rest = &self.text[self.at..];
+        let end = match rest.iter().position(|&byte| byte == b'\n') {
+            Some(end) => end,
+            None => return self.off_layout(),
+        };
+        for (which, (key, count)) in keys.iter().enumerate() {
+            let start = format!("{}=", key);
+            let list = rest[..end].strip_prefix(start.as_bytes());
+            match list.and_then(numbers) {
+                Some(numbers) if numbers.len() == *count => {
+                    self.at += end + 1;
+                    return Ok((which, numbers));
+                }
+                _ => {}
+            }
+        }
+        self.off_layout()
+    }
+
+    /// A line with a count; over its limit it is refusal 1 with the table's place.
+    fn count(&mut self, key: &str, most: usize, place: u64) -> Result<u16, Refusal> {
+        let (_, numbers) = self.line(&[(key, 1)])?;
+        if usize::from(numbers[0]) > most {
+            return Err(Refusal { number: 1, place });
+        }
+        Ok(numbers[0])
+    }
+
+    fn entry(&mut self) -> Result<[u16; 3], Refusal> {
+        let start = self.at;
+        let keys: Vec<(&str, usize)> = KINDS.into_iter().zip([1, 1, 2, 2, 1]).collect();
+        let (kind, numbers) = self.line(&keys)?;
+        if kind == 0 && numbers[0] != 0 {
+            self.at = start;
+            return self.off_layout();
+        }
+        Ok([kind as u16, numbers[0], *numbers.get(1).unwrap_or(&0)])
+    }
+
+    fn pairs(&mut self, count: u16) -> Result<Vec<u16>, Refusal> {
+        let mut ids = Vec::new();
+        for _ in 0..count {
+            ids.extend(self.line(&[("below", 2)])?.1);
+        }
+        Ok(ids)
+    }
+}
+
+fn numbers(list: &[u8]) -> Option<Vec<u16>> {
+    list.split(|&byte| byte == b',').map(number).collect()
+}
+
+/// Digits without a leading zero, up to 65535.
+fn number(digits: &[u8]) -> Option<u16> {
+    let plain = digits.iter().all(u8::is_ascii_digit);
+    if !plain || digits.is_empty() || (digits.len() > 1 && digits[0] == b'0') {
+        return None;
+    }
+    std::str::from_utf8(digits).ok()?.parse().ok()
+}
+
+/// The problem, or the refusal of the earliest faulty line.
+pub fn read(text: &[u8]) -> Result<Tables, Refusal> {
+    if text.len() > MAX_TEXT {
+        return Err(Refusal { number: 13, place: MAX_TEXT as u64 });
+    }
+    let mut reader = Reader { text, at: 0 };
+    let variables = reader.count("blanks", MAX_VARIABLES, 3)?;
+    let entries = reader.count("entries", MAX_CONCEPTS, 0)?;
+    let mut concepts = Vec::new();
+    for _ in 0..entries {
+        concepts.extend(reader.entry()?);
+    }
+    let count = reader.count("inclusions", MAX_INCLUSIONS, 1)?;
+    let inclusions = reader.pairs(count)?;
+    let count = reader.count("questions", MAX_QUESTIONS, 2)?;
+    let questions = reader.pairs(count)?;
+    if reader.at < text.len() {
+        return reader.off_layout();
+    }
+    Ok(Tables { concepts, inclusions, questions, variables })
+}
+
+/// All that the program prints for a text.
+pub fn output(text: &[u8]) -> String {
+    let found = read(text).and_then(|tables| {
+        let assignment = reference::find(&tables, usize::from(tables.variables))?;
+        Ok(filled(&atoms::chosen(&tables, &assignment)))
+    });
+    found.unwrap_or_else(refused)
+}
+
+fn filled(chosen: &[Vec<usize>]) -> String {
+    let mut lines = format!("answer=filled\nblanks={}\n", chosen.len());
+    for ids in chosen {
+        let list: Vec<String> = ids.iter().map(usize::to_string).collect();
+        lines += &format!("fill={}\n", list.join(","));
+    }
+    lines
+}
+
+pub fn refused(refusal: Refusal) -> String {
+    match refusal.number {
+        10 => "answer=none\n".to_string(),
+        number => format!("answer=refused\nnumber={}\nplace={}\n", number, refusal.place),
+    }
+}

@@ -1,0 +1,90 @@
+//! Matching (01: finding a filling), twice: by trying every assignment, and by a search that
+//! learns.
+//!
+//! The search keeps clauses over the pairs (variable, position) that every solution satisfies,
+//! takes their first model in 01's order, and asks the questions under it. A monotone question
+//! that fails (more atoms only help) is made to fail with as many atoms as possible: one of the
+//! others must be taken. An antitone one is made to fail with as few as possible: one of them must
+//! be left. A model under which no question fails is the first solution; clauses without a model
+//! mean that there is none.
+
+use super::clauses::Clauses;
+use super::patterns::Patterns;
+use super::{atoms, relation};
+use crate::tables::Tables;
+
+/// Whether every question holds under the assignment.
+pub fn solves(tables: &Tables, assignment: &[u64]) -> bool {
+    let below = relation(tables, assignment);
+    tables.question_pairs().iter().all(|&(left, right)| below[left][right])
+}
+
+/// The number of pairs (variable, position).
+pub fn choices(tables: &Tables) -> usize {
+    usize::from(tables.variables) * atoms::list(tables).len()
+}
+
+/// The first of all assignments that solves, each tried in 01's order: the pair (0, 0) is the
+/// highest digit, and leaving out is 0.
+pub fn brute_force(tables: &Tables) -> Option<Vec<u64>> {
+    let (choices, atoms) = (choices(tables), atoms::list(tables).len());
+    assert!(choices < 20, "too many assignments to try");
+    let of_number = |number: u32| {
+        let mut assignment = vec![0; usize::from(tables.variables)];
+        for digit in (0..choices).filter(|&digit| number >> (choices - 1 - digit) & 1 == 1) {
+            assignment[digit / atoms] |= 1 << (digit % atoms);
+        }
+        assignment
+    };
+    (0..1u32 << choices).map(of_number).find(|assignment| solves(tables, assignment))
+}
+
+/// The first solution, by the search. The tables must be accepted.
+pub fn first_solution(tables: &Tables) -> Option<Vec<u64>> {
+    let below = relation(tables, &vec![0; usize::from(tables.variables)]);
+    search(&Patterns::new(tables, |i, j| below[i][j]), usize::from(tables.variables))
+}
+
+pub fn search(patterns: &Patterns, variables: usize) -> Option<Vec<u64>> {
+    let atoms = patterns.atom_count();
+    let mut clauses = Clauses::new(variables * atoms);
+    loop {
+        let model = clauses.first_model()?;
+        let mut assignment = vec![0; variables];
+        for pair in (0..model.len()).filter(|&pair| model[pair]) {
+            assignment[pair / atoms] |= 1 << (pair % atoms);
+        }
+        let fails = |&question: &usize| !patterns.holds(question, &assignment);
+        let failing: Vec<usize> = (0..patterns.question_count()).filter(fails).collect();
+        if failing.is_empty() {
+            return Some(assignment);
+        }
+        for question in failing {
+            let more = patterns.is_monotone(question);
+            clauses.add(explain(patterns, question, &assignment, more));
+        }
+    }
+}
+
+/// A clause that the failing assignment breaks and that no solution does. With `more` the
+/// assignment grows as far as the question still fails, else it shrinks.
+fn explain(
+    patterns: &Patterns,
+    question: usize,
+    failing: &[u64],
+    more: bool,
+) -> Vec<(usize, bool)> {
+    let atoms = patterns.atom_count();
+    let mut assignment = failing.to_vec();
+    let mut clause = Vec::new();
+    for variable in patterns.variables(question) {
+        for position in (0..atoms).filter(|p| (failing[variable] >> p & 1 == 1) != more) {
+            assignment[variable] ^= 1 << position;
+            if patterns.holds(question, &assignment) {
+                assignment[variable] ^= 1 << position;
+                clause.push((variable * atoms + position, more));
+            }
+        }
+    }
+    clause
+}
