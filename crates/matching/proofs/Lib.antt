@@ -6,3 +6,4 @@ pub mod Fronts
 pub mod Searching
 pub mod Walking
 pub mod Answering
+pub mod Narrowing
