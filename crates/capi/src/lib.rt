@@ -204,7 +204,16 @@ pub extern "C" fn hc_check_derivation(
 ) -> Answer
     ensures { λ a. ⌜ a ≡ answerOf (checkingFault (tables (now (concepts .entry)) (now (inclusions .entry)) (now (questions .entry)) variables) (now (assignment .entry)) left right (now (lines .entry))) 0 ⌝ }
 {
-    let answer = matching::check_derivation(concepts, inclusions, questions, variables, assignment, left, right, lines);
+    let answer = matching::check_derivation(
+        concepts,
+        inclusions,
+        questions,
+        variables,
+        assignment,
+        left,
+        right,
+        lines,
+    );
     match answer {
         Outcome::Refused(r) => refused(r),
         Outcome::Done => done(0),

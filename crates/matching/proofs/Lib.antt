@@ -25,3 +25,4 @@ pub mod RuleDispatch
 pub mod RuleMonotone
 pub mod LineChecks
 pub mod Derivations
+pub mod Narrowing

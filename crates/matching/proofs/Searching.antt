@@ -16,21 +16,13 @@ use Rattle.subsumption.proofs.WellFormed.{WellFormed}
 use Rattle.subsumption.proofs.Bools.{both-true, both-intro, eq-or-ne, last-cases}
 use Rattle.subsumption.proofs.Accepted.{wellFormed}
 use Rattle.matching.specs.Solving.{takes, Solves}
-use Rattle.matching.specs.Search.{Decided, Hold, Within, Between, Changed, IntervalOf, undecided, Possible, SolutionIn, NoSolution, Picked, Offered, Searched}
+use Rattle.matching.specs.Search.{Decided, Hold, Within, Between, Changed, IntervalOf, undecided, one, counted, openPairs, Possible, SolutionIn, NoSolution, Picked, Offered, Searched, Trimmed}
 use Rattle.matching.specs.declared.interval.Pick.{Pick}
 use Rattle.matching.specs.declared.interval.Pick.the-variants.{At, Nothing}
 use Rattle.matching.proofs.Fronts.{front-known, front-takes, front-within, accepted-bits, within-accepted}
 use Rattle.matching.proofs.Monotone.{monotone, antitone}
 
 -- ---- how many pairs are undecided
-one : Bool → ℕ
-one true = 1
-one false = 0
-
-pub counted : (ℕ → Bool) → ℕ → ℕ
-counted f zero = 0
-counted f (suc n) = one (f n) + counted f n
-
 module _ (f g : ℕ → Bool) where
   one-le : (p : ℕ) → (f p ≡ true → g p ≡ true) → one (f p) ≤ one (g p)
   unfolding one
@@ -55,9 +47,6 @@ module _ (f g : ℕ → Bool) where
       omega (arith, ap one (subst (λ (z : ℕ). f z ≡ false) q e), ap one (subst (λ (z : ℕ). g z ≡ true) q k), counted-le n (λ r m. h r (omega arith))))
       (λ m. omega (arith, one-le n (h n (omega arith)), counted-less n p m e k (λ r x. h r (omega arith))))
       (last-cases p n l)
-
-pub openPairs : List ℕ → List ℕ → ℕ
-openPairs low high = counted (undecided low high) 512
 
 -- ---- one pair
 pub open-high : (low high : List ℕ) (p : ℕ) → undecided low high p ≡ true → takes high (p / 64) (p % 64) ≡ true
@@ -142,21 +131,6 @@ module _ (t : Tables) (h : tableFault t ≡ Done) where
 
       pub low-accepted : assignmentFault t (take (t .variables) low) ≡ Done
       low-accepted = within-accepted t _ _ (i .accepted) (length-take-le _ low low-fits) (front-within (t .variables) low high (i .ordered))
-
-      pub low-alone : IntervalOf t low low
-      low-alone = record { low-long = i .low-long; high-long = i .low-long; accepted = low-accepted; ordered = λ k q e. e }
-
-      pub high-alone : IntervalOf t high high
-      high-alone = record { low-long = i .high-long; high-long = i .high-long; accepted = i .accepted; ordered = λ k q e. e }
-
-      pub solution-between : (choice : List ℕ) → length choice ≡ 8 → Between low high choice → Possible t choice choice → SolutionIn t low high choice
-      solution-between choice l b s = record { long = l; between = b; solves = holds-solve _ (s .antitone) (s .monotone) }
-
-      pub low-offered : Possible t low low → SolutionIn t low high low
-      low-offered = solution-between low (i .low-long) (record { above = λ k q e. e; below = i .ordered })
-
-      pub high-offered : Possible t high high → SolutionIn t low high high
-      high-offered = solution-between high (i .high-long) (record { above = i .ordered; below = λ k q e. e })
 
       -- nothing is undecided: the two sides are one assignment
       pub all-decided : Possible t low high → ((p : ℕ) → p < 512 → undecided low high p ≡ false) → SolutionIn t low high high
@@ -320,6 +294,9 @@ picked-none low high r x e = subst (Picked low high) e x
 pub offered : (t : Tables) (low high : List ℕ) (b : Bool) (choice : List ℕ) → Offered t low high b choice → b ≡ true → SolutionIn t low high choice
 offered t low high b choice x e = subst (λ (z : Bool). Offered t low high z choice) e x
 
+pub not-offered : (t : Tables) (low high : List ℕ) (b : Bool) (choice : List ℕ) → Offered t low high b choice → b ≡ false → Trimmed low high choice
+not-offered t low high b choice x e = subst (λ (z : Bool). Offered t low high z choice) e x
+
 pub searched-found : (t : Tables) (low high : List ℕ) (b : Bool) (choice : List ℕ) → Searched t low high b choice → b ≡ true → SolutionIn t low high choice
 searched-found t low high b choice x e = subst (λ (z : Bool). Searched t low high z choice) e x
 
@@ -327,12 +304,12 @@ pub searched-none : (t : Tables) (low high : List ℕ) (b : Bool) (choice : List
 searched-none t low high b choice x e = subst (λ (z : Bool). Searched t low high z choice) e x
 
 module _ (t : Tables) (h : tableFault t ≡ Done) (low high : List ℕ) (i : IntervalOf t low high) (p : ℕ) (u : undecided low high p ≡ true)
-    (low₁ high₁ : List ℕ) (e : low₁ ≡ low) (c : Changed high high₁ (p / 64) (p % 64) false) (b₁ : Bool) (choice₁ : List ℕ) (s : Searched t low₁ high₁ b₁ choice₁) where
-  pub without-found : b₁ ≡ true → Searched t low high b₁ choice₁
-  without-found x = subst (λ (z : Bool). Searched t low high z choice₁) (sym x) (leave-found t h low high i p u low₁ high₁ e c choice₁ (searched-found t low₁ high₁ b₁ choice₁ s x))
+    (low₂ high₂ : List ℕ) (f : high₂ ≡ high) (d : Changed low low₂ (p / 64) (p % 64) true) (b₂ : Bool) (choice₂ : List ℕ) (s : Searched t low₂ high₂ b₂ choice₂) where
+  pub with-found : b₂ ≡ true → Searched t low high b₂ choice₂
+  with-found x = subst (λ (z : Bool). Searched t low high z choice₂) (sym x) (take-found t h low high i p u low₂ high₂ f d choice₂ (searched-found t low₂ high₂ b₂ choice₂ s x))
 
-  pub with-answers :
-      b₁ ≡ false → (low₂ high₂ : List ℕ) → high₂ ≡ high → Changed low low₂ (p / 64) (p % 64) true → (b : Bool) (choice : List ℕ) → Searched t low₂ high₂ b choice
+  pub without-answers :
+      b₂ ≡ false → (low₁ high₁ : List ℕ) → low₁ ≡ low → Changed high high₁ (p / 64) (p % 64) false → (b : Bool) (choice : List ℕ) → Searched t low₁ high₁ b choice
       → Searched t low high b choice
-  with-answers x low₂ high₂ f d true choice y = take-found t h low high i p u low₂ high₂ f d choice y
-  with-answers x low₂ high₂ f d false choice y = none-split t h low high i p u low₁ high₁ e c low₂ high₂ f d (searched-none t low₁ high₁ b₁ choice₁ s x) y
+  without-answers x low₁ high₁ e c true choice y = leave-found t h low high i p u low₁ high₁ e c choice y
+  without-answers x low₁ high₁ e c false choice y = none-split t h low high i p u low₁ high₁ e c low₂ high₂ f d y (searched-none t low₂ high₂ b₂ choice₂ s x)

@@ -1,5 +1,5 @@
 -- What the private functions of the search promise (no operation's contract cites this).
-use Prim.Native.Nat.{ℕ, _-_, _<_, _≤_, _/_, _%_, _^_}
+use Prim.Native.Nat.{ℕ, zero, suc, _+_, _-_, _<_, _≤_, _/_, _%_, _^_}
 use mathlib.Core.Path.{_≡_}
 use mathlib.Core.List.{List}
 use mathlib.Core.Bool.{Bool, true, false, not}
@@ -11,6 +11,8 @@ use Rattle.subsumption.specs.Subsumption.{Subsumed}
 use Rattle.subsumption.specs.Table.{marked}
 use Rattle.subsumption.specs.Marks.{markAt}
 use Rattle.subsumption.specs.Check.{assignmentFault}
+use Rattle.matching.specs.declared.narrow.Forced.{Forced}
+use Rattle.matching.specs.declared.narrow.Forced.the-variants.{Out, In, Free}
 use Rattle.matching.specs.declared.interval.Pick.{Pick}
 use Rattle.matching.specs.declared.interval.Pick.the-variants.{At, Nothing}
 use Rattle.matching.specs.Solving.{takes, Solves, Earlier, First}
@@ -55,6 +57,18 @@ pub record IntervalOf (t : Tables) (low high : List ℕ) : Type 0 where
 unfoldable pub undecided : List ℕ → List ℕ → ℕ → Bool
 undecided low high p = both (takes high (p / 64) (p % 64)) (not (takes low (p / 64) (p % 64)))
 
+unfoldable pub one : Bool → ℕ
+one true = 1
+one false = 0
+
+-- How many places below a number pass a test; here, how many pairs are undecided.
+unfoldable pub counted : (ℕ → Bool) → ℕ → ℕ
+counted test zero = 0
+counted test (suc n) = one (test n) + counted test n
+
+unfoldable pub openPairs : List ℕ → List ℕ → ℕ
+openPairs low high = counted (undecided low high) 512
+
 -- The first pair that may be taken or left, if there is one.
 abbrev pub Picked : List ℕ → List ℕ → Pick → Type 0
 Picked low high (At p) = (p < 512) × (undecided low high p ≡ true)
@@ -78,11 +92,6 @@ NoSolution t low high =
 abbrev pub Searched : Tables → List ℕ → List ℕ → Bool → List ℕ → Type 0
 Searched t low high true choice = SolutionIn t low high choice
 Searched t low high false choice = NoSolution t low high
-
--- What heuristics offer is a solution if they say so; else they are free.
-abbrev pub Offered : Tables → List ℕ → List ℕ → Bool → List ℕ → Type 0
-Offered t low high true choice = SolutionIn t low high choice
-Offered t low high false choice = Unit {0}
 
 -- The first of the solutions between.
 pub record FirstIn (t : Tables) (low high choice : List ℕ) : Type 0 where
@@ -110,3 +119,40 @@ pub record Copied (count : ℕ) (choice before after : List ℕ) : Type 0 where
   pub size : length after ≡ length before
   pub front : (k : ℕ) → k < count → getD after k 0 ≡ getD choice k 0
   pub rest : (k : ℕ) → count ≤ k → getD after k 0 ≡ getD before k 0
+
+-- A choice between, as long as it should be.
+pub record Trimmed (low high choice : List ℕ) : Type 0 where
+  pub long : length choice ≡ 8
+  pub between : Between low high choice
+
+-- What the heuristics offer lies between, and is a solution if they say so.
+abbrev pub Offered : Tables → List ℕ → List ℕ → Bool → List ℕ → Type 0
+Offered t low high true choice = SolutionIn t low high choice
+Offered t low high false choice = Trimmed low high choice
+
+-- A choice between that still makes the questions without a variable on the right hold.
+pub record Shrunk (t : Tables) (low high choice : List ℕ) : Type 0 where
+  pub long : length choice ≡ 8
+  pub between : Between low high choice
+  pub monotone : Hold t (take (t .variables) choice) false
+
+-- Every solution between leaves the pair out, or every one takes it, or nothing is said.
+abbrev pub Forces : Tables → List ℕ → List ℕ → ℕ → Forced → Type 0
+Forces t low high p Out =
+    (other : List ℕ) → assignmentFault t other ≡ Done → Between (take (t .variables) low) (take (t .variables) high) other → Solves t other
+    → takes other (p / 64) (p % 64) ≡ false
+Forces t low high p In =
+    (other : List ℕ) → assignmentFault t other ≡ Done → Between (take (t .variables) low) (take (t .variables) high) other → Solves t other
+    → takes other (p / 64) (p % 64) ≡ true
+Forces t low high p Free = Unit {0}
+
+-- An interval inside another that has the same solutions.
+pub record Narrower (t : Tables) (low high low₁ high₁ : List ℕ) (changed : Bool) : Type 0 where
+  pub interval : IntervalOf t low₁ high₁
+  pub above : Within low low₁
+  pub below : Within high₁ high
+  pub same :
+      (other : List ℕ) → assignmentFault t other ≡ Done → Between (take (t .variables) low) (take (t .variables) high) other → Solves t other
+      → Between (take (t .variables) low₁) (take (t .variables) high₁) other
+  pub no-more : openPairs low₁ high₁ ≤ openPairs low high
+  pub fewer : changed ≡ true → openPairs low₁ high₁ < openPairs low high

@@ -1,5 +1,6 @@
 // Finding the first assignment that makes every question hold.
 use crate::interval::Interval;
+use crate::interval::ones;
 use crate::order::first_solution;
 use crate::solve::Solution;
 use crate::solve::some_solution;
@@ -7,7 +8,7 @@ use subsumption::Listed;
 use subsumption::refusal::Outcome;
 use subsumption::refusal::Refusal;
 ghost use mathlib.Core.Path.{_≡_};
-ghost use Prim.Native.Nat.{_-_, _≤_, _^_};
+ghost use Prim.Native.Nat.{_≤_};
 ghost use lib.ListN.{length};
 ghost use Rattle.subsumption.specs.declared.refusal.Outcome.the-variants.{Done};
 ghost use Rattle.subsumption.specs.Tables.{tables};
@@ -32,16 +33,6 @@ fn count_atoms(concepts: &[u16], inclusions: &[u16], questions: &[u16], variable
         return 0;
     };
     count
-}
-
-fn ones(count: usize) -> u64
-    requires { ⌜ count ≤ 64 ⌝ }
-    ensures { λ r. ⌜ r ≡ 2 ^ count - 1 ⌝ }
-{
-    if count == 64 {
-        return 18446744073709551615;
-    }
-    (1 << count) - 1
 }
 
 // Every atom for every variable.

@@ -2,7 +2,7 @@
 // the variables' are read. Taking and leaving hand the interval back.
 ghost use mathlib.Core.Path.{_≡_};
 ghost use mathlib.Core.Bool.{true, false};
-ghost use Prim.Native.Nat.{_<_, _/_, _%_};
+ghost use Prim.Native.Nat.{_-_, _<_, _≤_, _/_, _%_, _^_};
 ghost use lib.ListN.{length};
 ghost use Rattle.subsumption.specs.Atoms.{bit};
 ghost use Rattle.matching.specs.Solving.{takes};
@@ -24,6 +24,17 @@ pub fn has_bit(x: u64, q: usize) -> bool
     ensures { λ r. ⌜ r ≡ bit x q ⌝ }
 {
     (x >> q) % 2 == 1
+}
+
+// The lowest bits.
+pub fn ones(count: usize) -> u64
+    requires { ⌜ count ≤ 64 ⌝ }
+    ensures { λ r. ⌜ r ≡ 2 ^ count - 1 ⌝ }
+{
+    if count == 64 {
+        return 18446744073709551615;
+    }
+    (1 << count) - 1
 }
 
 impl Interval {

@@ -4,6 +4,7 @@ mod chosen;
 mod derivation;
 mod find;
 mod interval;
+mod narrow;
 mod order;
 mod questions;
 mod rules;

@@ -3,6 +3,9 @@
 use crate::interval::Interval;
 use crate::interval::Pick;
 use crate::interval::pick_undecided;
+use crate::narrow::conflict;
+use crate::narrow::narrow;
+use crate::narrow::shrink;
 use crate::questions::questions_hold;
 ghost use mathlib.Core.Path.{_≡_};
 ghost use mathlib.Core.Bool.{true, false};
@@ -44,67 +47,42 @@ pub fn can_hold(
     false
 }
 
-// The front of the choice makes every question hold.
-fn is_solution(
-    concepts: &[u16],
-    inclusions: &[u16],
-    questions: &[u16],
-    variables: u16,
-    choice: [u64; 8],
-) -> bool
-    requires { ⌜ tableFault (tables (now concepts) (now inclusions) (now questions) variables) ≡ Done ⌝ }
-    requires { ⌜ IntervalOf (tables (now concepts) (now inclusions) (now questions) variables) choice choice ⌝ }
-    ensures { λ r. ⌜ Decided (Possible (tables (now (concepts .entry)) (now (inclusions .entry)) (now (questions .entry)) variables) choice choice) r ⌝ }
-{
-    let both = Interval {
-        low: choice,
-        high: choice,
-    };
-    can_hold(concepts, inclusions, questions, variables, both)
-}
-
-// What the heuristics say of an interval: a solution, if they find one, and a pair that it is worth splitting at.
-pub struct Advice {
-    pub found: bool,
-    pub choice: [u64; 8],
-    pub place: usize,
-}
-
-fn advise(
+// A small choice that passes the test of the high side; a solution if it passes that of the low side too.
+fn candidate(
     concepts: &[u16],
     inclusions: &[u16],
     questions: &[u16],
     variables: u16,
     interval: Interval,
-) -> Advice
+) -> Solution
     requires { ⌜ tableFault (tables (now concepts) (now inclusions) (now questions) variables) ≡ Done ⌝ }
     requires { ⌜ IntervalOf (tables (now concepts) (now inclusions) (now questions) variables) (interval .low) (interval .high) ⌝ }
+    requires { ⌜ Possible (tables (now concepts) (now inclusions) (now questions) variables) (interval .low) (interval .high) ⌝ }
     ensures { λ r. ⌜ Offered (tables (now (concepts .entry)) (now (inclusions .entry)) (now (questions .entry)) variables) (interval .low) (interval .high) (r .found) (r .choice) ⌝ }
 {
-    let high = interval.high;
-    if is_solution(concepts, inclusions, questions, variables, high) {
-        return Advice {
+    let n = variables as usize;
+    let choice = shrink(concepts, inclusions, questions, variables, interval);
+    if questions_hold(
+        concepts,
+        inclusions,
+        questions,
+        variables,
+        &choice[..n],
+        true,
+    ) {
+        return Solution {
             found: true,
-            choice: high,
-            place: 0,
+            choice,
         };
     }
-    let low = interval.low;
-    if is_solution(concepts, inclusions, questions, variables, low) {
-        return Advice {
-            found: true,
-            choice: low,
-            place: 0,
-        };
-    }
-    Advice {
+    Solution {
         found: false,
-        choice: low,
-        place: 0,
+        choice,
     }
 }
 
-// Some solution between the two sides, or none: no order is promised, so that any pair may be split.
+// Some solution between the two sides, or none: no order is promised, so that any pair may be split. Where the candidate
+// fails, the pairs that the tests force are decided first; then the interval is split at a pair of the conflict.
 pub fn some_solution(
     concepts: &[u16],
     inclusions: &[u16],
@@ -118,28 +96,33 @@ pub fn some_solution(
 {
     let high = interval.high;
     if can_hold(concepts, inclusions, questions, variables, interval) {
-        let advice = advise(concepts, inclusions, questions, variables, interval);
-        let choice = advice.choice;
-        if advice.found {
+        let offer = candidate(concepts, inclusions, questions, variables, interval);
+        let choice = offer.choice;
+        if offer.found {
             return Solution {
                 found: true,
                 choice,
             };
         }
-        let pick = pick_undecided(interval, advice.place);
+        let inner = narrow(concepts, inclusions, questions, variables, interval, choice);
+        if inner.changed {
+            return some_solution(concepts, inclusions, questions, variables, inner.interval());
+        }
+        let hint = conflict(concepts, inclusions, questions, variables, interval, choice);
+        let pick = pick_undecided(interval, hint);
         let Pick::At(p) = pick else {
             return Solution {
                 found: true,
                 choice: high,
             };
         };
-        let without = interval.leave(p / 64, p % 64);
-        let s = some_solution(concepts, inclusions, questions, variables, without);
+        let with = interval.take(p / 64, p % 64);
+        let s = some_solution(concepts, inclusions, questions, variables, with);
         if s.found {
             return s;
         }
-        let with = interval.take(p / 64, p % 64);
-        return some_solution(concepts, inclusions, questions, variables, with);
+        let without = interval.leave(p / 64, p % 64);
+        return some_solution(concepts, inclusions, questions, variables, without);
     }
     Solution {
         found: false,

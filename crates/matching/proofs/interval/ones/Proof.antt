@@ -1,10 +1,10 @@
 use native.Mathlib.Omega.{arith}
 use Rattle.matching.proofs.Answering.{ones-all, ones-room, ones-some}
 use borrow.Author.Needs.{needs}
-use Rattle.matching.proofs.find.ones.Statement.{statement}
-use Rattle.matching.proofs.find.ones.Tie as tie
-use Rattle.matching.proofs.find.ones.Reads as reads
-use Rattle.matching.proofs.find.ones.Lts as lts
+use Rattle.matching.proofs.interval.ones.Statement.{statement}
+use Rattle.matching.proofs.interval.ones.Tie as tie
+use Rattle.matching.proofs.interval.ones.Reads as reads
+use Rattle.matching.proofs.interval.ones.Lts as lts
 
 -- src/find.rt:42:9
 returns : tie.Need-returns
