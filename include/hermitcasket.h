@@ -17,7 +17,22 @@
  * blank-free right side of a question, in rising order. A filling is one 64-bit number for each
  * blank: bit k chooses the part at position k. The empty choice reads as top.
  *
- * Refusals. Checks run in the order 1 to 7, then 9, 8; within one the lowest place wins.
+ * A derivation is lines of four numbers: rule, left, right, extra; left and right are entry ids.
+ * Premises stand on earlier lines:
+ *   1  equal ids, or two name entries of one name; extra 0
+ *   2  the right is top; extra 0
+ *   3  the left is "and"; its first (extra 0) or second (extra 1) inner id is below the right
+ *   4  the right is "and"; the left is below both inner ids; extra 0
+ *   5  two "some" entries of one role; inner below inner; extra 0
+ *   6  extra is an inclusion's place: the left is below its left, and its right below the right
+ *   7  the left is a blank; extra is the id of a chosen part that is below the right
+ *   8  the right is a blank; the left is below each chosen part; extra 0
+ *
+ * Order of fillings: look at the pairs (blank, position), blank 0 first and positions rising. At
+ * the first pair where two fillings differ, the one that leaves the part out is earlier.
+ *
+ * Refusals. Checks run in the order 1 to 7, then 9, 8, 11, 10; 12 comes last. Within one check
+ * the lowest place wins.
  *
  *   number  condition                                          place
  *   1       over a count limit, or a ragged table              0 entries, 1 inclusions,
@@ -33,6 +48,10 @@
  *   8       output buffer too short                            length wanted
  *   9       wrong count of numbers in the filling (tested      count of blanks
  *           first), or a chosen bit past the parts             blank
+ *   10      no filling exists                                  0
+ *   11      derivation wanted, pair not below                  0
+ *   12      no lines or a ragged list; a line breaks its       0; line, from 0; count of lines
+ *           rule; the last line is another pair
  */
 #ifndef HERMITCASKET_H
 #define HERMITCASKET_H
@@ -82,6 +101,35 @@ hc_answer hc_subsumed(const uint16_t *entries, size_t entries_len,
                       uint16_t blanks,
                       const uint64_t *filling, size_t filling_len,
                       uint16_t left, uint16_t right);
+
+/* Finds the first filling that makes every question hold and writes one number a blank to the
+ * front of out, which wants as many numbers as there are blanks. Refusal 10 says that no filling
+ * does, nor any other replacement of the blanks by blank-free concepts. value: 0. */
+hc_answer hc_match(const uint16_t *entries, size_t entries_len,
+                   const uint16_t *inclusions, size_t inclusions_len,
+                   const uint16_t *questions, size_t questions_len,
+                   uint16_t blanks,
+                   uint64_t *out, size_t out_len);
+
+/* Writes the ids chosen for one blank, rising, to the front of out, which wants 64 numbers. A
+ * blank number not below the count is refusal 2, place 0. value: how many, the number of ones in
+ * the blank's choice. */
+hc_answer hc_chosen(const uint16_t *entries, size_t entries_len,
+                    const uint16_t *inclusions, size_t inclusions_len,
+                    const uint16_t *questions, size_t questions_len,
+                    uint16_t blanks,
+                    const uint64_t *filling, size_t filling_len,
+                    uint16_t blank, uint16_t *out, size_t out_len);
+
+/* Checks a derivation of one pair under a filling; lines_len counts numbers, four a line. Number 0
+ * says that every line follows from earlier ones and that the last is the asked pair. value: 0. */
+hc_answer hc_check_derivation(const uint16_t *entries, size_t entries_len,
+                              const uint16_t *inclusions, size_t inclusions_len,
+                              const uint16_t *questions, size_t questions_len,
+                              uint16_t blanks,
+                              const uint64_t *filling, size_t filling_len,
+                              uint16_t left, uint16_t right,
+                              const uint16_t *lines, size_t lines_len);
 
 #ifdef __cplusplus
 }
