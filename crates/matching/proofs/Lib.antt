@@ -5,3 +5,4 @@ pub mod RuleDispatch
 pub mod RuleMonotone
 pub mod LineChecks
 pub mod Derivations
+pub mod LineSearches

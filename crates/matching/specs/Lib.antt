@@ -3,3 +3,4 @@ pub mod Solving
 pub mod Finding
 pub mod Derivation
 pub mod LineMarks
+pub mod LineSearch

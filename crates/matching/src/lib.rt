@@ -2,5 +2,6 @@
 mod derivation;
 pub mod find;
 mod rules;
+mod search;
 
 pub use derivation::check_derivation;
