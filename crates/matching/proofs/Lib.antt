@@ -6,3 +6,6 @@ pub mod RuleMonotone
 pub mod LineChecks
 pub mod Derivations
 pub mod LineSearches
+pub mod LinesWritten
+pub mod Notes
+pub mod Copies

@@ -4,3 +4,5 @@ pub mod Finding
 pub mod Derivation
 pub mod LineMarks
 pub mod LineSearch
+pub mod Deriving
+pub mod Noting

@@ -1,5 +1,6 @@
 // Matching under subsumption: the matcher, derivations and their checker.
 mod derivation;
+mod derive;
 pub mod find;
 mod rules;
 mod search;
