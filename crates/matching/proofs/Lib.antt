@@ -9,3 +9,4 @@ pub mod LineSearches
 pub mod LinesWritten
 pub mod Notes
 pub mod Copies
+pub mod Writing

@@ -10,6 +10,7 @@ use Rattle.subsumption.specs.Subsumption.{Subsumed}
 use Rattle.subsumption.specs.Check.{tableFault}
 use Rattle.subsumption.specs.Rules.{follows}
 use Rattle.matching.specs.Derivation.{ruleAt, leftAt, rightAt, extraAt, pairAt, provedBy, lineFollows}
+use Rattle.matching.specs.Deriving.{DerivationOf}
 use Rattle.matching.specs.LineMarks.{Square, seen, Of, MarksOf}
 
 -- four numbers in front of what follows them
@@ -89,3 +90,7 @@ pub record Copied (count : ℕ) (needed : List Bool) (notes before after : List 
   pub last-some : 0 < k → seen count needed (leftAt notes (k - 1)) (rightAt notes (k - 1)) ≡ true → 0 < w
   pub last-left : 0 < k → seen count needed (leftAt notes (k - 1)) (rightAt notes (k - 1)) ≡ true → leftAt after (w - 1) ≡ leftAt notes (k - 1)
   pub last-right : 0 < k → seen count needed (leftAt notes (k - 1)) (rightAt notes (k - 1)) ≡ true → rightAt after (w - 1) ≡ rightAt notes (k - 1)
+
+-- the lines are a derivation of the pair, for all tables with these concepts, inclusions and atoms
+pub record WrittenFor (concepts inclusions ids assignment : List ℕ) (left right : ℕ) (before after : List ℕ) (n : ℕ) : Type 0 where
+  pub each : (t : Tables) → Of t concepts inclusions ids → DerivationOf t assignment left right before after n

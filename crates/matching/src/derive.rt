@@ -21,7 +21,7 @@ ghost use Rattle.matching.specs.Derivation.{leftAt, rightAt};
 ghost use Rattle.matching.specs.Deriving.{roomFor, derivingFault, DerivationOf, Derives};
 ghost use Rattle.matching.specs.LineMarks.{Square};
 ghost use Rattle.matching.specs.LineSearch.{Grounds};
-ghost use Rattle.matching.specs.Noting.{inFront, LineWritten, Blank, Asked, NotedTo, Copied};
+ghost use Rattle.matching.specs.Noting.{inFront, LineWritten, Blank, Asked, NotedTo, Copied, WrittenFor};
 
 pub enum Derived {
     Lines(usize),
@@ -120,4 +120,128 @@ fn write_needed(notes: &[u16], n: usize, needed: &[bool], count: usize, out: &mu
         }
     }
     written
+}
+
+fn write_lines(
+    concepts: &[u16],
+    inclusions: &[u16],
+    atoms: &[u16],
+    assignment: &[u64],
+    left: usize,
+    right: usize,
+    marks: &mut [bool],
+    notes: &mut [u16],
+    out: &mut [u16],
+) -> usize
+    requires { ⌜ Grounds (now concepts) (now inclusions) (now atoms) (now assignment) ⌝ }
+    requires { ⌜ Asked (now concepts) (now inclusions) (now atoms) (now assignment) left right ⌝ }
+    requires { ⌜ Blank (countOf (now concepts)) (now marks) ⌝ }
+    requires { ⌜ length (now notes) ≡ countOf (now concepts) * countOf (now concepts) * 4 ⌝ }
+    requires { ⌜ countOf (now concepts) * countOf (now concepts) * 4 ≤ length (now out) ⌝ }
+    ensures { λ r. ⌜ WrittenFor (now (concepts .entry)) (now (inclusions .entry)) (now (atoms .entry)) (now (assignment .entry)) left right (now (out .entry)) (now (out .exit)) r ⌝ }
+{
+    let count = concepts.len() / 3;
+    let n = note_lines(
+        concepts,
+        inclusions,
+        atoms,
+        assignment,
+        left,
+        right,
+        marks,
+        notes,
+    );
+    write_needed(notes, n, marks, count, out)
+}
+
+// The derivation of a pair that is subsumed, under accepted tables and an accepted assignment, in a buffer that is long enough.
+fn put_lines(
+    concepts: &[u16],
+    inclusions: &[u16],
+    questions: &[u16],
+    variables: u16,
+    assignment: &[u64],
+    left: u16,
+    right: u16,
+    out: &mut [u16],
+) -> usize
+    requires { ⌜ decidingFault (tables (now concepts) (now inclusions) (now questions) variables) (now assignment) left right ≡ Done ⌝ }
+    requires { ⌜ Subsumed (tables (now concepts) (now inclusions) (now questions) variables) (now assignment) left right ⌝ }
+    requires { ⌜ roomFor (tables (now concepts) (now inclusions) (now questions) variables) ≤ length (now out) ⌝ }
+    ensures { λ r. ⌜ DerivationOf (tables (now (concepts .entry)) (now (inclusions .entry)) (now (questions .entry)) variables) (now (assignment .entry)) left right (now (out .entry)) (now (out .exit)) r ⌝ }
+{
+    let mut ids = [0u16; 64];
+    let n = fetch_atoms(concepts, inclusions, questions, variables, &mut ids);
+    let mut marks = [false; 36864];
+    let mut notes = [0u16; 147456];
+    let count = concepts.len() / 3;
+    let size = count * count;
+    let room = size * 4;
+    write_lines(
+        concepts,
+        inclusions,
+        &ids[..n],
+        assignment,
+        left as usize,
+        right as usize,
+        &mut marks[..size],
+        &mut notes[..room],
+        out,
+    )
+}
+
+// Writes the derivation of one pair under an assignment.
+pub fn derive(
+    concepts: &[u16],
+    inclusions: &[u16],
+    questions: &[u16],
+    variables: u16,
+    assignment: &[u64],
+    left: u16,
+    right: u16,
+    out: &mut [u16],
+) -> Derived
+    ensures { λ r. ⌜ Derives (tables (now (concepts .entry)) (now (inclusions .entry)) (now (questions .entry)) variables) (now (assignment .entry)) left right (now (out .entry)) (now (out .exit))
+        (derivingFault (tables (now (concepts .entry)) (now (inclusions .entry)) (now (questions .entry)) variables) (now (assignment .entry)) left right (length (now (out .entry)))) r ⌝ }
+{
+    let asked = check_asked(
+        concepts,
+        inclusions,
+        questions,
+        variables,
+        assignment,
+        left,
+        right,
+    );
+    if let Outcome::Refused(r) = asked {
+        return Derived::Rejected(r);
+    }
+    let count = concepts.len() / 3;
+    let wanted = count * count * 4;
+    if out.len() < wanted {
+        return Derived::Rejected(Refusal::BufferTooShort(wanted));
+    }
+    let decision = decide_pair(
+        concepts,
+        inclusions,
+        questions,
+        variables,
+        assignment,
+        left,
+        right,
+    );
+    match decision {
+        Decision::Yes => Derived::Lines(put_lines(
+            concepts,
+            inclusions,
+            questions,
+            variables,
+            assignment,
+            left,
+            right,
+            out,
+        )),
+        Decision::No => Derived::Rejected(Refusal::NotSubsumed),
+        Decision::Rejected(r) => Derived::Rejected(r),
+    }
 }

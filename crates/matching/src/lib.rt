@@ -6,3 +6,5 @@ mod rules;
 mod search;
 
 pub use derivation::check_derivation;
+pub use derive::Derived;
+pub use derive::derive;
