@@ -26,3 +26,8 @@ pub mod RuleMonotone
 pub mod LineChecks
 pub mod Derivations
 pub mod Narrowing
+pub mod LineSearches
+pub mod LinesWritten
+pub mod Notes
+pub mod Copies
+pub mod Writing

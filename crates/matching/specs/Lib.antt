@@ -7,3 +7,6 @@ pub mod Samples
 pub mod Search
 pub mod Derivation
 pub mod LineMarks
+pub mod LineSearch
+pub mod Deriving
+pub mod Noting

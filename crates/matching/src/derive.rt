@@ -1,0 +1,247 @@
+// Writing a derivation: lines are noted until the asked pair is found, and the noted lines are written out.
+use crate::derivation::fetch_atoms;
+use crate::derivation::mark_pair;
+use crate::rules::has_mark;
+use crate::search::Next;
+use crate::search::next_line;
+use subsumption::Decision;
+use subsumption::check_asked;
+use subsumption::decide_pair;
+use subsumption::refusal::Outcome;
+use subsumption::refusal::Refusal;
+ghost use mathlib.Core.Path.{_≡_};
+ghost use Prim.Native.Nat.{ℕ, _+_, _*_, _<_, _≤_};
+ghost use lib.Dec.{eqb};
+ghost use lib.ListN.{length};
+ghost use Rattle.subsumption.specs.declared.refusal.Outcome.the-variants.{Done};
+ghost use Rattle.subsumption.specs.Tables.{tables, both, countOf};
+ghost use Rattle.subsumption.specs.Subsumption.{Subsumed};
+ghost use Rattle.subsumption.specs.Decide.{decidingFault};
+ghost use Rattle.matching.specs.Derivation.{leftAt, rightAt};
+ghost use Rattle.matching.specs.Deriving.{roomFor, derivingFault, DerivationOf, Derives};
+ghost use Rattle.matching.specs.LineMarks.{Square};
+ghost use Rattle.matching.specs.LineSearch.{Grounds};
+ghost use Rattle.matching.specs.Noting.{inFront, LineWritten, Blank, Asked, NotedTo, Copied, WrittenFor};
+
+pub enum Derived {
+    Lines(usize),
+    Rejected(Refusal),
+}
+
+// A line in front of the part not yet written.
+fn put_line(rest: &mut [u16], rule: u16, left: u16, right: u16, extra: u16)
+    requires { ⌜ 4 ≤ length (now rest) ⌝ }
+    ensures { λ _. ⌜ now (rest .exit) ≡ inFront rule left right extra (now (rest .entry)) ⌝ }
+{
+    rest[0] = rule;
+    rest[1] = left;
+    rest[2] = right;
+    rest[3] = extra;
+}
+
+// The unwritten rest is lent on for the next line.
+fn write_line(out: &mut [u16], n: usize, rule: u16, left: u16, right: u16, extra: u16)
+    requires { ⌜ (n + 1) * 4 ≤ length (now out) ⌝ }
+    ensures { λ _. ⌜ LineWritten (now (out .entry)) (now (out .exit)) n rule left right extra ⌝ }
+{
+    let at = n * 4;
+    put_line(&mut out[at..], rule, left, right, extra);
+}
+
+fn is_pair(left: usize, right: usize, i: usize, j: usize) -> bool
+    ensures { λ r. ⌜ r ≡ both (eqb left i) (eqb right j) ⌝ }
+{
+    if left != i {
+        return false;
+    }
+    right == j
+}
+
+// Notes lines, each from earlier ones, until the asked pair is found; answers their number.
+fn note_lines(
+    concepts: &[u16],
+    inclusions: &[u16],
+    atoms: &[u16],
+    assignment: &[u64],
+    left: usize,
+    right: usize,
+    marks: &mut [bool],
+    notes: &mut [u16],
+) -> usize
+    requires { ⌜ Grounds (now concepts) (now inclusions) (now atoms) (now assignment) ⌝ }
+    requires { ⌜ Asked (now concepts) (now inclusions) (now atoms) (now assignment) left right ⌝ }
+    requires { ⌜ Blank (countOf (now concepts)) (now marks) ⌝ }
+    requires { ⌜ length (now notes) ≡ countOf (now concepts) * countOf (now concepts) * 4 ⌝ }
+    ensures { λ r. ⌜ NotedTo (now (concepts .entry)) (now (inclusions .entry)) (now (atoms .entry)) (now (assignment .entry)) left right (now (marks .exit)) (now (notes .exit)) r ⌝ }
+{
+    let count = concepts.len() / 3;
+    let mut n = 0;
+    let mut from = 0;
+    loop {
+        let next = next_line(concepts, inclusions, atoms, assignment, marks, from);
+        if let Next::Line(rule, i, j, extra) = next {
+            write_line(notes, n, rule as u16, i as u16, j as u16, extra as u16);
+            mark_pair(marks, count, i, j);
+            n += 1;
+            from = i * count + j + 1;
+            if is_pair(left, right, i, j) {
+                return n;
+            }
+            continue;
+        }
+        // A whole scan without a new pair would mean that the marks are closed, and hold the asked pair.
+        if from == 0 {
+            return 0;
+        }
+        from = 0;
+    }
+}
+
+// Writes the noted lines whose pair is needed; answers their number.
+fn write_needed(notes: &[u16], n: usize, needed: &[bool], count: usize, out: &mut [u16]) -> usize
+    requires { ⌜ Square count (now needed) ⌝ }
+    requires { ⌜ (n * 4 ≤ length (now notes)) × (n * 4 ≤ length (now out)) ⌝ }
+    requires { ⌜ ((k : ℕ) → k < n → leftAt (now notes) k < count) ⌝ }
+    requires { ⌜ ((k : ℕ) → k < n → rightAt (now notes) k < count) ⌝ }
+    ensures { λ r. ⌜ Copied count (now (needed .entry)) (now (notes .entry)) (now (out .entry)) (now (out .exit)) n r ⌝ }
+{
+    let mut written = 0;
+    let mut k = 0;
+    while k < n {
+        let rule = notes[k * 4];
+        let left = notes[k * 4 + 1];
+        let right = notes[k * 4 + 2];
+        let extra = notes[k * 4 + 3];
+        k += 1;
+        if has_mark(needed, count, left as usize, right as usize) {
+            write_line(out, written, rule, left, right, extra);
+            written += 1;
+            continue;
+        }
+    }
+    written
+}
+
+fn write_lines(
+    concepts: &[u16],
+    inclusions: &[u16],
+    atoms: &[u16],
+    assignment: &[u64],
+    left: usize,
+    right: usize,
+    marks: &mut [bool],
+    notes: &mut [u16],
+    out: &mut [u16],
+) -> usize
+    requires { ⌜ Grounds (now concepts) (now inclusions) (now atoms) (now assignment) ⌝ }
+    requires { ⌜ Asked (now concepts) (now inclusions) (now atoms) (now assignment) left right ⌝ }
+    requires { ⌜ Blank (countOf (now concepts)) (now marks) ⌝ }
+    requires { ⌜ length (now notes) ≡ countOf (now concepts) * countOf (now concepts) * 4 ⌝ }
+    requires { ⌜ countOf (now concepts) * countOf (now concepts) * 4 ≤ length (now out) ⌝ }
+    ensures { λ r. ⌜ WrittenFor (now (concepts .entry)) (now (inclusions .entry)) (now (atoms .entry)) (now (assignment .entry)) left right (now (out .entry)) (now (out .exit)) r ⌝ }
+{
+    let count = concepts.len() / 3;
+    let n = note_lines(
+        concepts,
+        inclusions,
+        atoms,
+        assignment,
+        left,
+        right,
+        marks,
+        notes,
+    );
+    write_needed(notes, n, marks, count, out)
+}
+
+// The derivation of a pair that is subsumed, under accepted tables and an accepted assignment, in a buffer that is long enough.
+fn put_lines(
+    concepts: &[u16],
+    inclusions: &[u16],
+    questions: &[u16],
+    variables: u16,
+    assignment: &[u64],
+    left: u16,
+    right: u16,
+    out: &mut [u16],
+) -> usize
+    requires { ⌜ decidingFault (tables (now concepts) (now inclusions) (now questions) variables) (now assignment) left right ≡ Done ⌝ }
+    requires { ⌜ Subsumed (tables (now concepts) (now inclusions) (now questions) variables) (now assignment) left right ⌝ }
+    requires { ⌜ roomFor (tables (now concepts) (now inclusions) (now questions) variables) ≤ length (now out) ⌝ }
+    ensures { λ r. ⌜ DerivationOf (tables (now (concepts .entry)) (now (inclusions .entry)) (now (questions .entry)) variables) (now (assignment .entry)) left right (now (out .entry)) (now (out .exit)) r ⌝ }
+{
+    let mut ids = [0u16; 64];
+    let n = fetch_atoms(concepts, inclusions, questions, variables, &mut ids);
+    let mut marks = [false; 36864];
+    let mut notes = [0u16; 147456];
+    let count = concepts.len() / 3;
+    let size = count * count;
+    let room = size * 4;
+    write_lines(
+        concepts,
+        inclusions,
+        &ids[..n],
+        assignment,
+        left as usize,
+        right as usize,
+        &mut marks[..size],
+        &mut notes[..room],
+        out,
+    )
+}
+
+// Writes the derivation of one pair under an assignment.
+pub fn derive_pair(
+    concepts: &[u16],
+    inclusions: &[u16],
+    questions: &[u16],
+    variables: u16,
+    assignment: &[u64],
+    left: u16,
+    right: u16,
+    out: &mut [u16],
+) -> Derived
+    ensures { λ r. ⌜ Derives (tables (now (concepts .entry)) (now (inclusions .entry)) (now (questions .entry)) variables) (now (assignment .entry)) left right (now (out .entry)) (now (out .exit))
+        (derivingFault (tables (now (concepts .entry)) (now (inclusions .entry)) (now (questions .entry)) variables) (now (assignment .entry)) left right (length (now (out .entry)))) r ⌝ }
+{
+    let asked = check_asked(
+        concepts,
+        inclusions,
+        questions,
+        variables,
+        assignment,
+        left,
+        right,
+    );
+    if let Outcome::Refused(r) = asked {
+        return Derived::Rejected(r);
+    }
+    let count = concepts.len() / 3;
+    let wanted = count * count * 4;
+    if out.len() < wanted {
+        return Derived::Rejected(Refusal::BufferTooShort(wanted));
+    }
+    let decision = decide_pair(
+        concepts,
+        inclusions,
+        questions,
+        variables,
+        assignment,
+        left,
+        right,
+    );
+    match decision {
+        Decision::Yes => Derived::Lines(put_lines(
+            concepts,
+            inclusions,
+            questions,
+            variables,
+            assignment,
+            left,
+            right,
+            out,
+        )),
+        Decision::No => Derived::Rejected(Refusal::NotSubsumed),
+        Decision::Rejected(r) => Derived::Rejected(r),
+    }
+}
