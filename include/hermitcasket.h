@@ -121,6 +121,17 @@ hc_answer hc_chosen(const uint16_t *entries, size_t entries_len,
                     const uint64_t *filling, size_t filling_len,
                     uint16_t blank, uint16_t *out, size_t out_len);
 
+/* Writes a derivation of one pair under a filling to the front of out: lines that
+ * hc_check_derivation accepts, no pair twice, the asked pair last. Which lines is left open. out
+ * wants 4 * entries * entries numbers; numbers past the lines keep their values. Refusal 11 says
+ * that left is not below right. value: how many lines. */
+hc_answer hc_derive(const uint16_t *entries, size_t entries_len,
+                    const uint16_t *inclusions, size_t inclusions_len,
+                    const uint16_t *questions, size_t questions_len,
+                    uint16_t blanks,
+                    const uint64_t *filling, size_t filling_len,
+                    uint16_t left, uint16_t right, uint16_t *out, size_t out_len);
+
 /* Checks a derivation of one pair under a filling; lines_len counts numbers, four a line. Number 0
  * says that every line follows from earlier ones and that the last is the asked pair. value: 0. */
 hc_answer hc_check_derivation(const uint16_t *entries, size_t entries_len,

@@ -4,10 +4,21 @@
 
 pub mod checks;
 pub mod columns;
+pub mod search;
 
 use checks::{Input, Refusal};
+use hermitcasket_tests::tables::Tables;
 
 const ROW_BYTES: usize = 24;
+
+pub fn lend(tables: &Tables) -> Input<'_> {
+    Input {
+        concepts: &tables.concepts,
+        inclusions: &tables.inclusions,
+        questions: &tables.questions,
+        variables: tables.variables,
+    }
+}
 
 pub fn check(input: Input) -> Result<(), Refusal> {
     checks::accept(&input, None).map(|_| ())

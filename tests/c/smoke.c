@@ -20,6 +20,9 @@ int main(void)
 {
     uint16_t atoms[64] = {0};
     uint8_t table[6 * 24] = {0};
+    uint64_t found[1] = {0};
+    uint16_t chosen[64] = {0};
+    uint16_t lines[4 * 6 * 6] = {0};
 
     printf("answer %zu %zu %zu\n", sizeof(hc_answer), offsetof(hc_answer, place),
            offsetof(hc_answer, value));
@@ -35,5 +38,15 @@ int main(void)
     show("count", hc_subsumed(TABLES, filling, 0, 5, 3));
     show("pair", hc_subsumed(TABLES, filling, LEN(filling), 5, 6));
     show("ragged", hc_check(entries, LEN(entries) - 1, inclusions, 2, questions, 4, 1));
+    show("match", hc_match(TABLES, found, LEN(found)));
+    printf("found %llu\n", (unsigned long long)found[0]);
+    show("chosen", hc_chosen(TABLES, filling, LEN(filling), 0, chosen, LEN(chosen)));
+    printf("part %u\n", (unsigned)chosen[0]);
+    hc_answer derived = hc_derive(TABLES, filling, LEN(filling), 2, 3, lines, LEN(lines));
+    printf("derive %u\n", (unsigned)derived.number); /* how many lines is left open */
+    show("checked", hc_check_derivation(TABLES, filling, LEN(filling), 2, 3, lines,
+                                        4 * (size_t)derived.value));
+    show("not below", hc_derive(TABLES, filling, LEN(filling), 3, 2, lines, LEN(lines)));
+    show("no lines", hc_check_derivation(TABLES, filling, LEN(filling), 2, 3, lines, 0));
     return 0;
 }

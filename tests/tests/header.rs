@@ -21,6 +21,14 @@ short 8 144 0
 count 9 1 0
 pair 4 0 0
 ragged 1 0 0
+match 0 0 0
+found 4
+chosen 0 0 1
+part 3
+derive 0
+checked 0 0 0
+not below 11 0 0
+no lines 12 0 0
 ";
 
 fn run(command: &mut Command) -> Output {

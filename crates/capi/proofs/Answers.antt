@@ -12,6 +12,9 @@ use Rattle.subsumption.specs.declared.listing.Listed.the-variants.{Atoms, Rejec
 use Rattle.subsumption.specs.declared.decide.Decision.{Decision}
 use Rattle.subsumption.specs.declared.decide.Decision.the-variants.{Yes, No, Rejected as Unfit}
 use Rattle.subsumption.specs.declared.refusal.Refusal.the-variants.{NoAssignment}
+use Rattle.matching.specs.declared.derive.Derived.{Derived}
+use Rattle.matching.specs.declared.derive.Derived.the-variants.{Lines, Rejected as Underived}
+use Rattle.matching.specs.Deriving.{derivingFault, Derives}
 use Rattle.matching.specs.declared.find.Match.{Match}
 use Rattle.matching.specs.declared.find.Match.the-variants.{Filled, Nothing, Rejected as Unmatched}
 use Rattle.matching.specs.declared.chosen.Chosen.{Chosen}
@@ -24,7 +27,7 @@ use Rattle.subsumption.specs.Atoms.{atoms}
 use Rattle.subsumption.specs.Listing.{listed}
 use Rattle.subsumption.specs.Table.{writingFault, Left, Wrote}
 use Rattle.subsumption.specs.Decide.{Answers}
-use Rattle.capi.specs.Answer.{answerOf, WroteAs, TellsAs, FindsAs}
+use Rattle.capi.specs.Answer.{answerOf, WroteAs, TellsAs, FindsAs, DerivesAs, derivedAnswer}
 
 module _ (a : Answer) (x fault : Outcome) (e : x ≡ fault) where
   pub answered-refused : (r : Refusal) (v : ℕ) → x ≡ Refused r → a ≡ answerOf (Refused r) 0 → a ≡ answerOf fault v
@@ -99,3 +102,11 @@ module _ (a : Answer) (ids : List ℕ) (x : Chosen) where
   unfolding chosenOf
   chosen-done Done n e h k = let q : length ids ≡ n = cc (e, h) in subst (λ (z : ℕ). a ≡ answerOf Done z) (sym q) k
   chosen-done (Refused s) n e h k = absurd (let z : _≡_ {A = ℕ} 0 1 = cc (e, h) in omega arith)
+
+module _ (a : Answer) (t : Tables) (assignment : List ℕ) (left right : ℕ) (before after : List ℕ) (x : Derived)
+    (d : Derives t assignment left right before after (derivingFault t assignment left right (length before)) x) where
+  pub derives-refused : (r : Refusal) → x ≡ Underived r → a ≡ answerOf (Refused r) 0 → DerivesAs t assignment left right before after a
+  derives-refused r h k = record { derived = x; derives = d; answered = k ∙ ap derivedAnswer (sym h) }
+
+  pub derives-lines : (n : ℕ) → x ≡ Lines n → a ≡ answerOf Done n → DerivesAs t assignment left right before after a
+  derives-lines n h k = record { derived = x; derives = d; answered = k ∙ ap derivedAnswer (sym h) }

@@ -11,6 +11,9 @@ use Rattle.subsumption.specs.Subsumption.{Subsumed}
 use Rattle.subsumption.specs.Refusal.{codeOf}
 use Rattle.subsumption.specs.Table.{writingFault, Left}
 use Rattle.subsumption.specs.Decide.{decidingFault}
+use Rattle.matching.specs.declared.derive.Derived.{Derived}
+use Rattle.matching.specs.declared.derive.Derived.the-variants.{Lines, Rejected}
+use Rattle.matching.specs.Deriving.{derivingFault, Derives}
 use Rattle.matching.specs.declared.find.Match.{Match}
 use Rattle.matching.specs.Finding.{findingFault, Finds, refusalOf}
 
@@ -34,3 +37,13 @@ pub record FindsAs (t : Tables) (before after : List ℕ) (answer : Answer) : Ty
   pub match : Match
   pub finds : Finds t before after (findingFault t (length before)) match
   pub answered : answer ≡ answerOf (refusalOf match) 0
+
+abbrev pub derivedAnswer : Derived → Answer
+derivedAnswer (Lines n) = answerOf Done n
+derivedAnswer (Rejected r) = answerOf (Refused r) 0
+
+-- The answer is that of the derivation writer: number 0 and the number of lines, refusal 11 when the pair is not subsumed, or another refusal.
+pub record DerivesAs (t : Tables) (assignment : List ℕ) (left right : ℕ) (before after : List ℕ) (answer : Answer) : Type 0 where
+  pub derived : Derived
+  pub derives : Derives t assignment left right before after (derivingFault t assignment left right (length before)) derived
+  pub answered : answer ≡ derivedAnswer derived

@@ -1,5 +1,6 @@
 // The operations for C and Rust. No logic of its own: each export calls one operation and turns its answer into numbers.
 use matching::Chosen;
+use matching::Derived;
 use matching::Match;
 use subsumption::Decision;
 use subsumption::Listed;
@@ -18,7 +19,7 @@ ghost use Rattle.subsumption.specs.Atoms.{chosen};
 ghost use Rattle.matching.specs.Derivation.{checkingFault};
 ghost use Rattle.matching.specs.Finding.{findingFault};
 ghost use Rattle.matching.specs.Chosen.{choosingFault, chosenIn};
-ghost use Rattle.capi.specs.Answer.{answerOf, WroteAs, TellsAs, FindsAs};
+ghost use Rattle.capi.specs.Answer.{answerOf, WroteAs, TellsAs, FindsAs, DerivesAs};
 
 // number 0: done; else the refusal's number, with its place and value 0.
 #[repr(C)]
@@ -187,6 +188,36 @@ pub extern "C" fn hc_chosen(
     match answer {
         Chosen::Rejected(r) => refused(r),
         Chosen::Ids(n) => done(n as u64),
+    }
+}
+
+// Writes the derivation of one pair under an assignment; value: how many lines.
+#[no_mangle]
+pub extern "C" fn hc_derive(
+    concepts: &[u16],
+    inclusions: &[u16],
+    questions: &[u16],
+    variables: u16,
+    assignment: &[u64],
+    left: u16,
+    right: u16,
+    out: &mut [u16],
+) -> Answer
+    ensures { λ a. ⌜ DerivesAs (tables (now (concepts .entry)) (now (inclusions .entry)) (now (questions .entry)) variables) (now (assignment .entry)) left right (now (out .entry)) (now (out .exit)) a ⌝ }
+{
+    let answer = matching::derive_pair(
+        concepts,
+        inclusions,
+        questions,
+        variables,
+        assignment,
+        left,
+        right,
+        out,
+    );
+    match answer {
+        Derived::Rejected(r) => refused(r),
+        Derived::Lines(n) => done(n as u64),
     }
 }
 

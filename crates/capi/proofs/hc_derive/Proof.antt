@@ -1,0 +1,59 @@
+use Rattle.capi.proofs.Answers.{derives-refused, derives-lines}
+use borrow.Author.Needs.{needs}
+use Rattle.capi.proofs.hc_derive.Statement.{statement}
+use Rattle.capi.proofs.hc_derive.Tie as tie
+use Rattle.capi.proofs.hc_derive.Reads as reads
+use Rattle.capi.proofs.hc_derive.Lts as lts
+use Rattle.capi.proofs.done.Reads as done-reads
+use Rattle.capi.proofs.refused.Reads as refused-reads
+use Rattle.matching.proofs.derive_pair.Reads as derive-pair-reads
+
+-- src/lib.rt:208:9
+derive-pair-requires : tie.Need-derive-pair-requires
+derive-pair-requires c κs = search needs
+
+-- src/lib.rt:210:27
+enum-known-answer : tie.Need-enum-known-answer
+enum-known-answer c = search needs
+
+-- src/lib.rt:210:33
+refused-requires : tie.Need-refused-requires
+refused-requires c κs = search needs
+
+-- src/lib.rt:211:24
+enum-known-answer-2 : tie.Need-enum-known-answer-2
+enum-known-answer-2 c = search needs
+
+-- src/lib.rt:211:30
+done-requires : tie.Need-done-requires
+done-requires c κs = search needs
+
+-- src/lib.rt:195:1
+same-length : tie.Need-same-length
+same-length c = search needs
+
+-- src/lib.rt:195:1
+returns : tie.Need-returns
+returns c = search derives-refused
+
+-- src/lib.rt:195:1
+same-length-2 : tie.Need-same-length-2
+same-length-2 c = search needs
+
+-- src/lib.rt:195:1
+returns-2 : tie.Need-returns-2
+returns-2 c = search derives-lines
+
+pub hc-derive-spec : {M : Type 1} → statement M
+hc-derive-spec =
+    tie.close
+    (tie.spec
+    derive-pair-requires
+    enum-known-answer
+    refused-requires
+    enum-known-answer-2
+    done-requires
+    same-length
+    returns
+    same-length-2
+    returns-2)
