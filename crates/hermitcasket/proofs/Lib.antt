@@ -1,0 +1,4 @@
+-- Laws and machinery behind the proofs of the functions.
+pub mod NumberLaws
+pub mod DigitLaws
+pub mod LineLaws

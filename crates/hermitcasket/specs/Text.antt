@@ -1,0 +1,120 @@
+-- The house text (01, "House text and the program"): what a right text is, and the judgement line by line.
+use Prim.Native.Nat.{ℕ, zero, suc, _+_, _*_}
+use mathlib.Core.Path.{_≡_}
+use mathlib.Core.List.{List, [], _∷_, _++_}
+use mathlib.Core.Bool.{Bool, true, false}
+use lib.Dec.{eqb, ltb}
+use lib.ListN.{length, getD, take, drop}
+use Rattle.subsumption.specs.declared.refusal.Refusal.{Refusal}
+use Rattle.subsumption.specs.declared.refusal.Refusal.the-variants.{Limit, BadText}
+use Rattle.subsumption.specs.Tables.{Tables, tables, countOf, pairsOf}
+use Rattle.hermitcasket.specs.declared.lines.Number.{Number}
+use Rattle.hermitcasket.specs.declared.lines.Number.the-variants.{Value, NoNumber}
+use Rattle.hermitcasket.specs.declared.lines.PairLine.{PairLine}
+use Rattle.hermitcasket.specs.declared.lines.PairLine.the-variants.{Two, NoPair}
+use Rattle.hermitcasket.specs.declared.lines.RowLine.{RowLine}
+use Rattle.hermitcasket.specs.declared.lines.RowLine.the-variants.{Row, NoRow}
+use Rattle.hermitcasket.specs.Lines.{variablesKey, conceptsKey, inclusionsKey, questionsKey, belowKey, numberText, pairText, rowText, numberLine, pairLine, rowLine}
+
+-- ---- what a right text is
+
+-- So many lines, each of the next `width` numbers.
+unfoldable pub linesText : (List ℕ → List ℕ) → ℕ → ℕ → List ℕ → List ℕ
+linesText text width zero numbers = []
+linesText text width (suc count) numbers = text (take width numbers) ++ linesText text width count (drop width numbers)
+
+abbrev pub rowOfNumbers : List ℕ → List ℕ
+rowOfNumbers numbers = rowText (getD numbers 0 0) (getD numbers 1 0) (getD numbers 2 0)
+
+abbrev pub pairOfNumbers : List ℕ → List ℕ
+pairOfNumbers numbers = pairText belowKey (getD numbers 0 0) (getD numbers 1 0)
+
+unfoldable pub layout : Tables → List ℕ
+layout t =
+    numberText variablesKey (t .variables)
+    ++ (numberText conceptsKey (countOf (t .concepts)) ++ (linesText rowOfNumbers 3 (countOf (t .concepts)) (t .concepts)
+    ++ (numberText inclusionsKey (pairsOf (t .inclusions)) ++ (linesText pairOfNumbers 2 (pairsOf (t .inclusions)) (t .inclusions)
+    ++ (numberText questionsKey (pairsOf (t .questions)) ++ linesText pairOfNumbers 2 (pairsOf (t .questions)) (t .questions))))))
+
+-- ---- the judgement
+
+-- The numbers of a line and its length.
+pub data Line : Type 0 where
+  numbers : List ℕ → ℕ → Line
+  off : Line
+
+unfoldable pub rowNumbers : RowLine → Line
+rowNumbers (Row kind a b n) = numbers (kind ∷ a ∷ b ∷ []) n
+rowNumbers NoRow = off
+
+unfoldable pub pairNumbers : PairLine → Line
+pairNumbers (Two a b n) = numbers (a ∷ b ∷ []) n
+pairNumbers NoPair = off
+
+abbrev pub rowAt : List ℕ → Line
+rowAt rest = rowNumbers (rowLine rest)
+
+abbrev pub pairAt : List ℕ → Line
+pairAt rest = pairNumbers (pairLine belowKey rest)
+
+-- The numbers of several lines and the place behind them, or the place where the earliest faulty one starts.
+pub data Part : Type 0 where
+  part : List ℕ → ℕ → Part
+  faulty : ℕ → Part
+
+unfoldable pub prepend : List ℕ → Part → Part
+prepend front (part more at) = part (front ++ more) at
+prepend front (faulty at) = faulty at
+
+unfoldable pub lineThen : ℕ → Line → (ℕ → Part) → Part
+lineThen at off go = faulty at
+lineThen at (numbers front n) go = prepend front (go n)
+
+-- So many lines from the front of the remaining text, which starts at byte `at`.
+unfoldable pub readLines : (List ℕ → Line) → ℕ → ℕ → List ℕ → Part
+readLines line zero at rest = part [] at
+readLines line (suc count) at rest = lineThen at (line rest) (λ n. readLines line count (at + n) (drop n rest))
+
+pub data Judged : Type 0 where
+  accepted : Tables → Judged
+  refused : Refusal → Judged
+
+unfoldable pub pickJudged : Bool → Judged → Judged → Judged
+pickJudged true a b = a
+pickJudged false a b = b
+
+-- A count over its limit is refused on its line with the table's place.
+unfoldable pub countThen : ℕ → ℕ → ℕ → Number → (ℕ → ℕ → Judged) → Judged
+countThen limit table at NoNumber go = refused (BadText at)
+countThen limit table at (Value count n) go = pickJudged (ltb limit count) (refused (Limit table)) (go count (at + n))
+
+unfoldable pub partThen : Part → (List ℕ → ℕ → Judged) → Judged
+partThen (part read at) go = go read at
+partThen (faulty at) go = refused (BadText at)
+
+abbrev pub countAt : List ℕ → ℕ → ℕ → List ℕ → ℕ → (ℕ → ℕ → Judged) → Judged
+countAt key limit table text at go = countThen limit table at (numberLine key (drop at text)) go
+
+abbrev pub linesAt : (List ℕ → Line) → ℕ → List ℕ → ℕ → (List ℕ → ℕ → Judged) → Judged
+linesAt line count text at go = partThen (readLines line count at (drop at text)) go
+
+-- A count line, and that many lines.
+unfoldable pub sectionAt : List ℕ → ℕ → ℕ → (List ℕ → Line) → List ℕ → ℕ → (List ℕ → ℕ → Judged) → Judged
+sectionAt key limit table line text at go = countAt key limit table text at (λ count behind. linesAt line count text behind go)
+
+-- The lines in order, then the end of the text.
+unfoldable pub judgeLines : List ℕ → Judged
+judgeLines text =
+    countAt variablesKey 8 3 text 0
+    (λ variables p.
+    sectionAt conceptsKey 192 0 rowAt text p
+    (λ concepts q.
+    sectionAt inclusionsKey 96 1 pairAt text q
+    (λ inclusions r.
+    sectionAt questionsKey 32 2 pairAt text r
+    (λ questions end.
+    pickJudged (eqb end (length text)) (accepted (tables concepts inclusions questions variables)) (refused (BadText end))))))
+
+-- A longer text is refused before any line is judged.
+unfoldable pub judge : List ℕ → Judged
+judge text = pickJudged (ltb 8192 (length text)) (refused (BadText 8192)) (judgeLines text)

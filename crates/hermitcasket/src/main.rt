@@ -1,0 +1,8 @@
+// The program: one problem in house text from standard input, its answer to standard output.
+mod lines;
+
+fn main() {
+    let mut text = [0u8; 8193];
+    let n = io::read_full(0, &mut text);
+    io::write_all(1, &text[..n]);
+}
