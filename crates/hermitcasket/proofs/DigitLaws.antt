@@ -96,6 +96,6 @@ reads-digits stop v more low small = go (suc v) v more (omega arith) small
             rw (digits-more v h, append-assoc, length-append)
             (ih h ((48 + v % 10) ∷ more)
             ∙ step-digit stop (v / 10) (length (digits (v / 10))) (48 + v % 10) more (λ z. omega arith)
-              (right-digit stop (v / 10) (length (digits (v / 10))) (48 + v % 10) more (omega arith) (omega arith) (λ p z. omega arith) (omega arith))
+            (right-digit stop (v / 10) (length (digits (v / 10))) (48 + v % 10) more (omega arith) (omega arith) (λ p z. omega arith) (omega arith))
             ∙ ap (λ (z : ℕ). numberFrom stop z (suc (length (digits (v / 10)))) more) q
             ∙ ap (λ (z : ℕ). numberFrom stop v z more) l)

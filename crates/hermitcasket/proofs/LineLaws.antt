@@ -2,12 +2,12 @@
 use Prim.Native.Nat.{ℕ, zero, suc, _+_, _-_, _*_, _<_, _≤_}
 use mathlib.Core.Path.{_≡_, refl, sym, ap, _∙_, subst}
 use mathlib.Core.List.{List, [], _∷_, _++_, append-assoc}
-use mathlib.Core.Bool.{Bool, true, false}
+use mathlib.Core.Bool.{Bool, true, false, not}
 use native.Mathlib.Omega.{arith}
 use lib.Dec.{eqb, ltb}
-use lib.ListN.{length, drop, length-append, length-drop}
-use lib.Seq.{drop-append-add, drop-append-seam, drop-drop}
-use borrow.Author.Tests.{eq-eqb, ne-eqb, eqb-true, eqb-false}
+use lib.ListN.{length, take, drop, length-append, length-drop}
+use lib.Seq.{take-all, drop-append-add, drop-append-seam, drop-drop}
+use borrow.Author.Tests.{eq-eqb, ne-eqb, eqb-true, eqb-false, not-true, not-false}
 use Rattle.subsumption.specs.Tables.{both}
 use Rattle.hermitcasket.specs.declared.lines.Number.{Number}
 use Rattle.hermitcasket.specs.declared.lines.Number.the-variants.{Value, NoNumber}
@@ -92,13 +92,15 @@ ended stop b rest front v n w k (some e l q s) p h =
     let vw : v ≡ w = cc in
     let nk : suc n ≡ k = cc in
     subst (λ (z : ℕ). Holds (front ++ (b ∷ rest)) (digits z ++ (stop ∷ [])) k × (z ≤ 65535)) vw
-    (subst (λ (z : ℕ). Holds (front ++ (b ∷ rest)) (digits v ++ (stop ∷ [])) z × (v ≤ 65535)) nk
-    (record {
-      front =
-          rw (e, p, append-assoc)
-          (ap (λ (z : List ℕ). digits v ++ (stop ∷ z)) (sym (ap (λ (z : ℕ). drop z (digits v ++ (stop ∷ rest))) (more v n (sym (ap length e) ∙ l)) ∙ drop-append-add (digits v) (stop ∷ rest) 1)));
-      size = rw length-append (omega (arith, ap length e));
-    }, s))
+    (subst (λ (z : ℕ). Holds (front ++ (b ∷ rest)) (digits v ++ (stop ∷ [])) z × (v ≤ 65535)) nk (
+      record {
+        front =
+            rw (e, p, append-assoc)
+            (ap (λ (z : List ℕ). digits v ++ (stop ∷ z)) (sym (ap (λ (z : ℕ). drop z (digits v ++ (stop ∷ rest))) (more v n (sym (ap length e) ∙ l)) ∙ drop-append-add (digits v) (stop ∷ rest) 1)));
+        size = rw length-append (omega (arith, ap length e));
+      },
+      s,
+    ))
   where
     more : (v n : ℕ) → length (digits v) ≡ n → suc n ≡ length (digits v) + 1
     more v n e = omega arith
@@ -123,3 +125,89 @@ found stop (b ∷ rest) front v n w k s e = go (eqb b stop) refl (wrongDigit v n
     go false p false q ih =
         subst (λ (z : List ℕ). Found z stop w k) (append-assoc front (b ∷ []) rest)
         (ih (shown-more front v n b s (digit-right v n b q)) (second _ _ _ q (second _ _ _ p e)))
+
+-- the part of a slice from k on
+pub rest-whole : (s : List ℕ) (k : ℕ) → take (length s - k) (drop k s) ≡ drop k s
+rest-whole s k = take-all (length s - k) (drop k s) (rw length-drop (omega arith))
+
+pub number-holds : (stop w k : ℕ) (rest : List ℕ) → numberFrom stop 0 0 rest ≡ Value w k → Holds rest (digits w ++ (stop ∷ [])) k
+unfolding Found
+number-holds stop w k rest e = found stop rest [] 0 0 w k (nothing refl refl refl) e .0
+
+pub number-small : (stop w k : ℕ) (rest : List ℕ) → numberFrom stop 0 0 rest ≡ Value w k → w ≤ 65535
+unfolding Found
+number-small stop w k rest e = found stop rest [] 0 0 w k (nothing refl refl refl) e .1
+
+-- ---- what the code of a line of one number shows
+module _ (key rest : List ℕ) (begins : Bool) (same : begins ≡ starts key rest) where
+  begun : not begins ≡ false → starts key rest ≡ true
+  begun h = sym same ∙ not-false begins h
+
+  pub key-within : not begins ≡ false → length key ≤ length rest
+  key-within h = holds-within rest key (length key) (starts-holds key rest (begun h))
+
+  pub number-unkeyed : not begins ≡ true → NoNumber ≡ numberLine key rest
+  unfolding numberLine pickNumber
+  number-unkeyed h = rw (sym same ∙ not-true begins h)
+
+  pub pair-unkeyed : not begins ≡ true → NoPair ≡ pairLine key rest
+  unfolding pairLine pairIf
+  pair-unkeyed h = rw (sym same ∙ not-true begins h)
+
+  module _ (keyed : not begins ≡ false) where
+    pub value-line :
+        (found : Number) (v n : ℕ) → found ≡ numberFrom 10 0 0 (take (length rest - length key) (drop (length key) rest)) → found ≡ Value v n
+        → Value v (length key + n) ≡ numberLine key rest
+    unfolding numberLine pickNumber behind
+    value-line found v n e h = let q = sym (sym h ∙ (rw rest-whole at e)) in rw (begun keyed, q)
+
+    pub value-within :
+        (found : Number) (stop v n : ℕ) → found ≡ numberFrom stop 0 0 (take (length rest - length key) (drop (length key) rest)) → found ≡ Value v n
+        → length key + n ≤ length rest
+    value-within found stop v n e h =
+        let q = sym (rw rest-whole at e) ∙ h in
+        omega (arith, holds-within (drop (length key) rest) _ n (number-holds stop v n (drop (length key) rest) q), length-drop (length key) rest, key-within keyed)
+
+    pub none-line :
+        (found : Number) → found ≡ numberFrom 10 0 0 (take (length rest - length key) (drop (length key) rest)) → found ≡ NoNumber
+        → NoNumber ≡ numberLine key rest
+    unfolding numberLine pickNumber behind
+    none-line found e h = let q = sym (sym h ∙ (rw rest-whole at e)) in rw (begun keyed, q)
+
+    -- ---- of two numbers
+    pub first-none :
+        (found : Number) → found ≡ numberFrom 44 0 0 (take (length rest - length key) (drop (length key) rest)) → found ≡ NoNumber
+        → NoPair ≡ pairLine key rest
+    unfolding pairLine pairIf firstOf
+    first-none found e h = let q = sym (sym h ∙ (rw rest-whole at e)) in rw (begun keyed, q)
+
+    module _
+        (found : Number) (a n : ℕ) (e : found ≡ numberFrom 44 0 0 (take (length rest - length key) (drop (length key) rest)))
+        (h : found ≡ Value a n) where
+      pub first-within : length key + n ≤ length rest
+      first-within = value-within found 44 a n e h
+
+      pub second-none :
+          (second : Number) → second ≡ numberFrom 10 0 0 (take (length rest - (length key + n)) (drop (length key + n) rest)) → second ≡ NoNumber
+          → NoPair ≡ pairLine key rest
+      unfolding pairLine pairIf firstOf secondOf
+      second-none second f k =
+          let q = sym (sym h ∙ (rw rest-whole at e)) in
+          let r = sym (sym k ∙ (rw rest-whole at f)) in
+          rw (begun keyed, q, r)
+
+      pub second-within :
+          (second : Number) (b l : ℕ) → second ≡ numberFrom 10 0 0 (take (length rest - (length key + n)) (drop (length key + n) rest)) → second ≡ Value b l
+          → length key + n + l ≤ length rest
+      second-within second b l f k =
+          let q = sym (rw rest-whole at f) ∙ k in
+          omega (arith, holds-within (drop (length key + n) rest) _ l (number-holds 10 b l (drop (length key + n) rest) q), length-drop (length key + n) rest, first-within)
+
+      pub two-line :
+          (second : Number) (b l : ℕ) → second ≡ numberFrom 10 0 0 (take (length rest - (length key + n)) (drop (length key + n) rest)) → second ≡ Value b l
+          → Two a b (length key + n + l) ≡ pairLine key rest
+      unfolding pairLine pairIf firstOf secondOf
+      two-line second b l f k =
+          let q = sym (sym h ∙ (rw rest-whole at e)) in
+          let r = sym (sym k ∙ (rw rest-whole at f)) in
+          rw (begun keyed, q, r)

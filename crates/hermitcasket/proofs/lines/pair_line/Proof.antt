@@ -1,3 +1,7 @@
+use Prim.Native.Nat.{_+_, _≤_}
+use lib.ListN.{length}
+use native.Mathlib.Omega.{arith}
+use Rattle.hermitcasket.proofs.LineLaws.{pair-unkeyed, key-within, first-none, first-within, second-none, second-within, two-line}
 use borrow.Author.Needs.{needs}
 use Rattle.hermitcasket.proofs.lines.pair_line.Statement.{statement}
 use Rattle.hermitcasket.proofs.lines.pair_line.Tie as tie
@@ -12,15 +16,15 @@ starts-with-requires c κs = search needs
 
 -- src/lines.rt:107:9
 returns : tie.Need-returns
-returns c = ?
+returns c = search pair-unkeyed
 
 -- src/lines.rt:110:29
 sub-read-number : tie.Need-sub-read-number
-sub-read-number c = ?
+sub-read-number c = search key-within
 
 -- src/lines.rt:110:29
 part-read-number-start : tie.Need-part-read-number-start
-part-read-number-start c = ?
+part-read-number-start c = search key-within
 
 -- src/lines.rt:110:29
 part-read-number-end : tie.Need-part-read-number-end
@@ -40,19 +44,21 @@ enum-told c = search needs
 
 -- src/lines.rt:112:9
 returns-2 : tie.Need-returns-2
-returns-2 c = ?
+returns-2 c = search first-none
 
 -- src/lines.rt:114:13
 add-m : tie.Need-add-m
-add-m c = ?
+add-m c = let c' = c .before .before .before .before .before .before .before .before .before in
+    let h : length (c' .args .key .now) + c .before .first .given .0 .1 .0 ≤ length (c' .args .rest .now) = search first-within in
+    omega (arith, c' .good)
 
 -- src/lines.rt:115:30
 sub-read-number-2 : tie.Need-sub-read-number-2
-sub-read-number-2 c = ?
+sub-read-number-2 c = search first-within
 
 -- src/lines.rt:115:30
 part-read-number-start-2 : tie.Need-part-read-number-start-2
-part-read-number-start-2 c = ?
+part-read-number-start-2 c = search first-within
 
 -- src/lines.rt:115:30
 part-read-number-end-2 : tie.Need-part-read-number-end-2
@@ -72,15 +78,17 @@ enum-told-2 c = search needs
 
 -- src/lines.rt:117:9
 returns-3 : tie.Need-returns-3
-returns-3 c = ?
+returns-3 c = search second-none
 
 -- src/lines.rt:119:25
 add-t14 : tie.Need-add-t14
-add-t14 c = ?
+add-t14 c = let c' = c .before .before .before .before .before .before .before .before .before .before .before .before .before .before in
+    let h : length (c' .args .key .now) + c .before .before .before .before .before .before .first .given .0 .1 .0 + c .before .second .given .0 .1 .0 ≤ length (c' .args .rest .now) = search second-within in
+    omega (arith, c' .good)
 
 -- src/lines.rt:102:1
 returns-4 : tie.Need-returns-4
-returns-4 c = ?
+returns-4 c = search two-line
 
 pub pair-line-spec : {M : Type 1} → statement M
 pair-line-spec =

@@ -1,3 +1,4 @@
+use Rattle.hermitcasket.proofs.RowLaws.{row-top, row-name, row-existential, row-conjunction, row-variable, row-none}
 use borrow.Author.Needs.{needs}
 use Rattle.hermitcasket.proofs.lines.row_line.Statement.{statement}
 use Rattle.hermitcasket.proofs.lines.row_line.Tie as tie
@@ -17,7 +18,7 @@ starts-with-requires c κs = search needs
 
 -- src/lines.rt:127:9
 returns : tie.Need-returns
-returns c = ?
+returns c = search row-top
 
 -- src/lines.rt:129:34
 slice-aggregate-number-line : tie.Need-slice-aggregate-number-line
@@ -33,7 +34,7 @@ enum-known-name c = search needs
 
 -- src/lines.rt:131:9
 returns-2 : tie.Need-returns-2
-returns-2 c = ?
+returns-2 c = search row-name
 
 enum-told : tie.Need-enum-told
 enum-told c = search needs
@@ -52,7 +53,7 @@ enum-known-existential c = search needs
 
 -- src/lines.rt:135:9
 returns-3 : tie.Need-returns-3
-returns-3 c = ?
+returns-3 c = search row-existential
 
 enum-told-2 : tie.Need-enum-told-2
 enum-told-2 c = search needs
@@ -71,7 +72,7 @@ enum-known-conjunction c = search needs
 
 -- src/lines.rt:139:9
 returns-4 : tie.Need-returns-4
-returns-4 c = ?
+returns-4 c = search row-conjunction
 
 enum-told-3 : tie.Need-enum-told-3
 enum-told-3 c = search needs
@@ -90,14 +91,14 @@ enum-known-variable c = search needs
 
 -- src/lines.rt:143:9
 returns-5 : tie.Need-returns-5
-returns-5 c = ?
+returns-5 c = search row-variable
 
 enum-told-4 : tie.Need-enum-told-4
 enum-told-4 c = search needs
 
 -- src/lines.rt:123:1
 returns-6 : tie.Need-returns-6
-returns-6 c = ?
+returns-6 c = search row-none
 
 pub row-line-spec : {M : Type 1} → statement M
 row-line-spec =
