@@ -3,3 +3,5 @@ pub mod NumberLaws
 pub mod DigitLaws
 pub mod LineLaws
 pub mod RowLaws
+pub mod RightLines
+pub mod PartLaws

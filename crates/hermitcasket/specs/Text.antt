@@ -1,5 +1,5 @@
 -- The house text (01, "House text and the program"): what a right text is, and the judgement line by line.
-use Prim.Native.Nat.{ℕ, zero, suc, _+_, _*_}
+use Prim.Native.Nat.{ℕ, zero, suc, _+_, _≤_}
 use mathlib.Core.Path.{_≡_}
 use mathlib.Core.List.{List, [], _∷_, _++_}
 use mathlib.Core.Bool.{Bool, true, false}
@@ -35,6 +35,36 @@ layout t =
     ++ (numberText conceptsKey (countOf (t .concepts)) ++ (linesText rowOfNumbers 3 (countOf (t .concepts)) (t .concepts)
     ++ (numberText inclusionsKey (pairsOf (t .inclusions)) ++ (linesText pairOfNumbers 2 (pairsOf (t .inclusions)) (t .inclusions)
     ++ (numberText questionsKey (pairsOf (t .questions)) ++ linesText pairOfNumbers 2 (pairsOf (t .questions)) (t .questions))))))
+
+-- ---- what a text can say: kinds 0 to 4 with unused fields 0, numbers up to 65535, counts up to their limits
+
+abbrev pub RowFits : ℕ → ℕ → ℕ → Type 0
+RowFits zero a b = (a ≡ 0) × (b ≡ 0)
+RowFits (suc zero) a b = (a ≤ 65535) × (b ≡ 0)
+RowFits (suc (suc zero)) a b = (a ≤ 65535) × (b ≤ 65535)
+RowFits (suc (suc (suc zero))) a b = (a ≤ 65535) × (b ≤ 65535)
+RowFits (suc (suc (suc (suc zero)))) a b = (a ≤ 65535) × (b ≡ 0)
+RowFits (suc (suc (suc (suc (suc kind))))) a b = ⊥
+
+-- So many rows, of `width` numbers each, that fit.
+abbrev pub RowsFit : (List ℕ → Type 0) → ℕ → ℕ → List ℕ → Type 0
+RowsFit Fits width zero numbers = numbers ≡ []
+RowsFit Fits width (suc count) numbers = (length (take width numbers) ≡ width) × Fits (take width numbers) × RowsFit Fits width count (drop width numbers)
+
+abbrev pub ConceptFits : List ℕ → Type 0
+ConceptFits numbers = RowFits (getD numbers 0 0) (getD numbers 1 0) (getD numbers 2 0)
+
+abbrev pub PairFits : List ℕ → Type 0
+PairFits numbers = (getD numbers 0 0 ≤ 65535) × (getD numbers 1 0 ≤ 65535)
+
+pub record Sayable (t : Tables) : Type 0 where
+  pub few-variables : t .variables ≤ 8
+  pub few-concepts : countOf (t .concepts) ≤ 192
+  pub few-inclusions : pairsOf (t .inclusions) ≤ 96
+  pub few-questions : pairsOf (t .questions) ≤ 32
+  pub concepts-fit : RowsFit ConceptFits 3 (countOf (t .concepts)) (t .concepts)
+  pub inclusions-fit : RowsFit PairFits 2 (pairsOf (t .inclusions)) (t .inclusions)
+  pub questions-fit : RowsFit PairFits 2 (pairsOf (t .questions)) (t .questions)
 
 -- ---- the judgement
 

@@ -1,5 +1,6 @@
 // The program: one problem in house text from standard input, its answer to standard output.
 mod lines;
+mod text;
 
 fn main() {
     let mut text = [0u8; 8193];
