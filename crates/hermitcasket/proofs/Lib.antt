@@ -5,3 +5,5 @@ pub mod LineLaws
 pub mod RowLaws
 pub mod RightLines
 pub mod PartLaws
+pub mod SectionLaws
+pub mod ReadLaws

@@ -132,18 +132,22 @@ linesAt line count text at go = partThen (readLines line count at (drop at text)
 unfoldable pub sectionAt : List ℕ → ℕ → ℕ → (List ℕ → Line) → List ℕ → ℕ → (List ℕ → ℕ → Judged) → Judged
 sectionAt key limit table line text at go = countAt key limit table text at (λ count behind. linesAt line count text behind go)
 
--- The lines in order, then the end of the text.
+-- The lines in order, from the last to the first: the end of the text, and what goes before it.
+unfoldable pub judgeEnd : List ℕ → Tables → ℕ → Judged
+judgeEnd text t end = pickJudged (eqb end (length text)) (accepted t) (refused (BadText end))
+
+unfoldable pub judgeQuestions : List ℕ → ℕ → List ℕ → List ℕ → ℕ → Judged
+judgeQuestions text variables concepts inclusions at =
+    sectionAt questionsKey 32 2 pairAt text at (λ questions end. judgeEnd text (tables concepts inclusions questions variables) end)
+
+unfoldable pub judgeInclusions : List ℕ → ℕ → List ℕ → ℕ → Judged
+judgeInclusions text variables concepts at = sectionAt inclusionsKey 96 1 pairAt text at (λ inclusions behind. judgeQuestions text variables concepts inclusions behind)
+
+unfoldable pub judgeConcepts : List ℕ → ℕ → ℕ → Judged
+judgeConcepts text variables at = sectionAt conceptsKey 192 0 rowAt text at (λ concepts behind. judgeInclusions text variables concepts behind)
+
 unfoldable pub judgeLines : List ℕ → Judged
-judgeLines text =
-    countAt variablesKey 8 3 text 0
-    (λ variables p.
-    sectionAt conceptsKey 192 0 rowAt text p
-    (λ concepts q.
-    sectionAt inclusionsKey 96 1 pairAt text q
-    (λ inclusions r.
-    sectionAt questionsKey 32 2 pairAt text r
-    (λ questions end.
-    pickJudged (eqb end (length text)) (accepted (tables concepts inclusions questions variables)) (refused (BadText end))))))
+judgeLines text = countAt variablesKey 8 3 text 0 (λ variables behind. judgeConcepts text variables behind)
 
 -- A longer text is refused before any line is judged.
 unfoldable pub judge : List ℕ → Judged
