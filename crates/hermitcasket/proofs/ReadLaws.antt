@@ -16,6 +16,14 @@ use Rattle.hermitcasket.specs.Lines.{variablesKey, conceptsKey, inclusio
 use Rattle.hermitcasket.specs.Text.{Line, rowAt, pairAt, Judged, accepted, refused, pickJudged, countThen, sectionAt, judgeEnd, judgeQuestions, judgeInclusions, judgeConcepts, judgeLines, judge}
 use Rattle.hermitcasket.specs.Reading.{countedThen, sectionThen, SectionFits, Counts, Sectioned, faultOf, judgedBy}
 
+pub fault-through : (s : Section) (count at : ℕ) → s ≡ Through count at → BadText at ≡ faultOf s
+unfolding faultOf
+fault-through s count at h = rw h
+
+pub fault-faulty : (s : Section) (r : Refusal) → s ≡ Faulty r → r ≡ faultOf s
+unfolding faultOf
+fault-faulty s r h = rw h
+
 pub counts-few : (key : List ℕ) (limit table at : ℕ) (rest : List ℕ) (end : ℕ) (s : Section) → Counts key limit table at rest end s → (count place : ℕ) → s ≡ Through count place → count ≤ limit
 counts-few key limit table at rest end s r count place h = subst (λ (z : Section). SectionFits z limit end) h (r .fits) .0
 

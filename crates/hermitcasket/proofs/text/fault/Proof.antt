@@ -1,3 +1,4 @@
+use Rattle.hermitcasket.proofs.ReadLaws.{fault-through, fault-faulty}
 use borrow.Author.Needs.{needs}
 use Rattle.hermitcasket.proofs.text.fault.Statement.{statement}
 use Rattle.hermitcasket.proofs.text.fault.Tie as tie
@@ -14,11 +15,11 @@ enum-known-section-2 c = search needs
 
 -- src/text.rt:135:1
 returns : tie.Need-returns
-returns c = ?
+returns c = search fault-through
 
 -- src/text.rt:135:1
 returns-2 : tie.Need-returns-2
-returns-2 c = ?
+returns-2 c = search fault-faulty
 
 pub fault-spec : {M : Type 1} → statement M
 fault-spec = tie.close (tie.spec enum-known-section enum-known-section-2 returns returns-2)
