@@ -7,3 +7,4 @@ pub mod RightLines
 pub mod PartLaws
 pub mod SectionLaws
 pub mod ReadLaws
+pub mod WriteLaws

@@ -3,3 +3,4 @@ pub mod Digits
 pub mod Lines
 pub mod Text
 pub mod Reading
+pub mod Printing
