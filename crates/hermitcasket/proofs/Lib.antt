@@ -8,3 +8,4 @@ pub mod PartLaws
 pub mod SectionLaws
 pub mod ReadLaws
 pub mod WriteLaws
+pub mod FillLaws
