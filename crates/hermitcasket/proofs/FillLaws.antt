@@ -121,7 +121,7 @@ module _ (atoms : List ℕ) (choice : ℕ) (before : List ℕ) (at : ℕ) where
       (sym (s .left ∙ ap (λ (z : List ℕ). s .text ++ idsText later (pick z rest)) (drop-of-length-le atoms h) ∙ append-nil (s .text))) (s .wrote)
 
 -- ---- the lines of all choices
-module _ (atoms choices before : List ℕ) (at : ℕ) (room : at + length (fillsText atoms choices) ≤ length before) where
+module _ (atoms choices before : List ℕ) (at : ℕ) where
   pub record Filling (out : List ℕ) (end k : ℕ) : Type 0 where
     pub text : List ℕ
     pub wrote : Wrote before at text end out
@@ -132,7 +132,7 @@ module _ (atoms choices before : List ℕ) (at : ℕ) (room : at + length (fills
   pub filling-none : Filling before at 0
   filling-none = record { text = []; wrote = wrote-none before at; left = refl; within = omega arith; long = refl }
 
-  module _ (out : List ℕ) (end k : ℕ) (s : Filling out end k) (h : k < length choices) where
+  module _ (out : List ℕ) (end k : ℕ) (s : Filling out end k) (h : k < length choices) (room : at + length (fillsText atoms choices) ≤ length before) where
     step : fillsText atoms choices ≡ (s .text ++ fillText (pick atoms (getD choices k 0))) ++ fillsText atoms (drop (k + 1) choices)
     unfolding fillsText
     step =

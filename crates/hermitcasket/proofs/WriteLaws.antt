@@ -27,9 +27,9 @@ placed-join before at xs ys h =
     let l = head-length before at xs (omega arith) in
     let t = take-at (take at before ++ xs) (drop (at + length xs) before) (at + length xs) l in
     let d : drop (at + length xs + length ys) ((take at before ++ xs) ++ drop (at + length xs) before) ≡ drop (at + length (xs ++ ys)) before =
-        ap (λ (z : ℕ). drop (z + length ys) ((take at before ++ xs) ++ drop (at + length xs) before)) (sym l)
-        ∙ drop-append-add (take at before ++ xs) (drop (at + length xs) before) (length ys) ∙ drop-drop (length ys) (at + length xs) before
-        ∙ ap (λ (z : ℕ). drop z before) sizes in
+    ap (λ (z : ℕ). drop (z + length ys) ((take at before ++ xs) ++ drop (at + length xs) before)) (sym l)
+    ∙ drop-append-add (take at before ++ xs) (drop (at + length xs) before) (length ys) ∙ drop-drop (length ys) (at + length xs) before
+    ∙ ap (λ (z : ℕ). drop z before) sizes in
     rw (t, d, append-assoc (take at before) xs ys) refl
   where
     sizes : at + length xs + length ys ≡ at + length (xs ++ ys)

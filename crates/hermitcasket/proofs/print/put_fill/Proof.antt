@@ -1,3 +1,8 @@
+use Rattle.hermitcasket.proofs.WriteLaws.{room-1, room-2, room-3, wrote-three}
+use mathlib.Core.List.{[], _∷_}
+use mathlib.Core.Bool.{false}
+use Rattle.subsumption.specs.Atoms.{pick}
+use Rattle.hermitcasket.specs.Printing.{fillKey, idsText, fillText}
 use borrow.Author.Needs.{needs}
 use Rattle.hermitcasket.proofs.print.put_fill.Statement.{statement}
 use Rattle.hermitcasket.proofs.print.put_fill.Tie as tie
@@ -12,11 +17,13 @@ slice-aggregate-put-bytes c = search needs
 
 -- src/print.rt:87:9
 put-bytes-requires : tie.Need-put-bytes-requires
-put-bytes-requires c κs = ?
+unfolding fillText
+put-bytes-requires c κs = room-1 (c .before .before .before .before .args .out .now) (c .before .before .before .before .args .at) (fillKey) (idsText false (pick (c .before .before .before .before .args .atoms .now) (c .before .before .before .before .args .choice))) (10 ∷ []) (c .before .before .before .before .pre)
 
 -- src/print.rt:88:9
 put-ids-requires : tie.Need-put-ids-requires
-put-ids-requires c κs = ?
+unfolding fillText
+put-ids-requires c κs = room-2 _ _ (fillKey) (idsText false (pick (c .before .before .before .before .before .before .before .before .args .atoms .now) (c .before .before .before .before .before .before .before .before .args .choice))) (10 ∷ []) (c .before .before .before .before .before .before .before .before .pre) _ _ (c .before .before .before .put-bytes .ensures)
 
 -- src/print.rt:89:15
 slice-aggregate-put-bytes-2 : tie.Need-slice-aggregate-put-bytes-2
@@ -24,7 +31,8 @@ slice-aggregate-put-bytes-2 c = search needs
 
 -- src/print.rt:89:5
 put-bytes-requires-2 : tie.Need-put-bytes-requires-2
-put-bytes-requires-2 c κs = ?
+unfolding fillText
+put-bytes-requires-2 c κs = room-3 _ _ (fillKey) (idsText false (pick (c .before .before .before .before .before .before .before .before .before .before .before .before .before .args .atoms .now) (c .before .before .before .before .before .before .before .before .before .before .before .before .before .args .choice))) (10 ∷ []) (c .before .before .before .before .before .before .before .before .before .before .before .before .before .pre) _ _ (c .before .before .before .before .before .before .before .before .put-bytes .ensures) _ _ (c .before .before .before .before .put-ids .ensures)
 
 -- src/print.rt:83:1
 same-length : tie.Need-same-length
@@ -32,7 +40,8 @@ same-length c = search needs
 
 -- src/print.rt:83:1
 returns : tie.Need-returns
-returns c = ?
+unfolding fillText
+returns c = wrote-three _ _ (fillKey) (idsText false (pick (c .before .before .before .before .before .before .before .before .before .before .before .before .before .before .before .before .args .atoms .now) (c .before .before .before .before .before .before .before .before .before .before .before .before .before .before .before .before .args .choice))) (10 ∷ []) (c .before .before .before .before .before .before .before .before .before .before .before .before .before .before .before .before .pre) _ _ (c .before .before .before .before .before .before .before .before .before .before .before .put-bytes .ensures) _ _ (c .before .before .before .before .before .before .before .put-ids .ensures) _ _ (c .before .before .put-bytes2 .ensures)
 
 pub put-fill-spec : {M : Type 1} → statement M
 put-fill-spec =
