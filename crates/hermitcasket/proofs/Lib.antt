@@ -9,3 +9,4 @@ pub mod SectionLaws
 pub mod ReadLaws
 pub mod WriteLaws
 pub mod FillLaws
+pub mod SizeLaws

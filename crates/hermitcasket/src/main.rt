@@ -1,4 +1,5 @@
 // The program: one problem in house text from standard input, its answer to standard output.
+mod answer;
 mod lines;
 mod print;
 mod text;
