@@ -10,3 +10,4 @@ pub mod ReadLaws
 pub mod WriteLaws
 pub mod FillLaws
 pub mod SizeLaws
+pub mod AnswerLaws
