@@ -11,3 +11,4 @@ pub mod WriteLaws
 pub mod FillLaws
 pub mod SizeLaws
 pub mod AnswerLaws
+pub mod LayoutLaws
