@@ -1,0 +1,251 @@
+-- An accepted text is the layout of the tables that it says, and they can be said.
+use Prim.Native.Nat.{ℕ, zero, suc, _+_, _*_, _/_, _<_, _≤_}
+use mathlib.Core.Path.{_≡_, refl, sym, ap, _∙_, subst}
+use mathlib.Core.List.{List, [], _∷_, _++_, append-assoc, append-nil}
+use mathlib.Core.Bool.{Bool, true, false}
+use native.Mathlib.Omega.{arith}
+use native.Mathlib.Nat.{zero-add, zero-mul, suc-mul}
+use lib.Dec.{eqb, ltb}
+use lib.ListN.{length, take, drop, length-append}
+use lib.Seq.{take-at, drop-at, drop-drop, drop-length}
+use borrow.Author.Tests.{ltb-true, ltb-false, eqb-true}
+use Rattle.subsumption.specs.declared.refusal.Refusal.{Refusal}
+use Rattle.subsumption.specs.declared.refusal.Refusal.the-variants.{Limit, BadText}
+use Rattle.subsumption.specs.Tables.{Tables, tables, countOf, pairsOf}
+use Rattle.hermitcasket.specs.declared.lines.Number.{Number}
+use Rattle.hermitcasket.specs.declared.lines.Number.the-variants.{Value, NoNumber}
+use Rattle.hermitcasket.specs.declared.lines.PairLine.{PairLine}
+use Rattle.hermitcasket.specs.declared.lines.PairLine.the-variants.{Two, NoPair}
+use Rattle.hermitcasket.specs.declared.lines.RowLine.{RowLine}
+use Rattle.hermitcasket.specs.declared.lines.RowLine.the-variants.{Row, NoRow}
+use Rattle.hermitcasket.specs.Lines.{variablesKey, conceptsKey, inclusionsKey, questionsKey, belowKey, numberText, numberLine, pairLine, rowLine}
+use Rattle.hermitcasket.specs.Text.{linesText, rowOfNumbers, pairOfNumbers, layout, RowFits, RowsFit, ConceptFits, PairFits, Sayable, Line, numbers, off, rowNumbers, pairNumbers, rowAt, pairAt, Part, part, faulty, prepend, lineThen, readLines, Judged, accepted, refused, pickJudged, countThen, partThen, sectionAt, judgeEnd, judgeQuestions, judgeInclusions, judgeConcepts, judgeLines, judge}
+use Rattle.hermitcasket.proofs.LineLaws.{Holds, holds-join}
+use Rattle.hermitcasket.proofs.RightLines.{numberLine-holds, pairLine-holds, pairLine-small, rowLine-holds, rowLine-fits}
+
+not-accepted : {A : Type 0} (r : Refusal) (t : Tables) → refused r ≡ accepted t → A
+not-accepted r t e = absurd (let z : _≡_ {A = ℕ} 0 1 = cc e in omega arith)
+
+holds-none : (rest : List ℕ) → Holds rest [] 0
+holds-none rest = record { front = refl; size = refl }
+
+-- ---- several lines
+module _
+    (line : List ℕ → Line) (text : List ℕ → List ℕ) (Fits : List ℕ → Type 0) (width : ℕ)
+    (shows : (rest xs : List ℕ) (n : ℕ) → line rest ≡ numbers xs n → Holds rest (text xs) n × Fits xs × (length xs ≡ width)) where
+  pub record Read (count at : ℕ) (rest xs : List ℕ) (p : ℕ) : Type 0 where
+    pub used : ℕ
+    pub place : p ≡ at + used
+    pub holds : Holds rest (linesText text width count xs) used
+    pub fits : RowsFit Fits width count xs
+    pub size : length xs ≡ count * width
+
+  unpart : (front : List ℕ) (q : Part) (xs : List ℕ) (p : ℕ) → prepend front q ≡ part xs p → (more : List ℕ) × (q ≡ part more p) × (xs ≡ front ++ more)
+  unfolding prepend
+  unpart front (part more at) xs p e = (more, cc, cc)
+  unpart front (faulty at) xs p e = absurd (let z : _≡_ {A = ℕ} 0 1 = cc in omega arith)
+
+  pub lines-read : (count at : ℕ) (rest xs : List ℕ) (p : ℕ) → readLines line count at rest ≡ part xs p → Read count at rest xs p
+  unfolding readLines linesText lineThen
+  lines-read zero at rest xs p e =
+      let ex : [] ≡ xs = cc in
+      let ep : at ≡ p = cc in
+      record { used = 0; place = omega arith; holds = holds-none rest; fits = sym ex; size = sym (ap length ex) ∙ sym (zero-mul width) }
+  lines-read (suc count) at rest xs p e = go (line rest) refl (λ n more. lines-read count (at + n) (drop n rest) more p)
+    where
+      go :
+          (l : Line) → line rest ≡ l
+          → ((n : ℕ) (more : List ℕ) → readLines line count (at + n) (drop n rest) ≡ part more p → Read count (at + n) (drop n rest) more p)
+          → Read (suc count) at rest xs p
+      go off f ih = absurd (let g : faulty at ≡ part xs p = rw f at e in let z : _≡_ {A = ℕ} 0 1 = cc in omega arith)
+      go (numbers front n) f ih =
+          let u = unpart front (readLines line count (at + n) (drop n rest)) xs p (rw f at e) in
+          let r = ih n (u .0) (u .1) in
+          let s = shows rest front n f in
+          let tk : take width xs ≡ front = ap (λ (z : List ℕ). take width z) (u .2) ∙ take-at front (u .0) width (s .2) in
+          let dp : drop width xs ≡ u .0 = ap (λ (z : List ℕ). drop width z) (u .2) ∙ drop-at front (u .0) width (s .2) in
+          record {
+            used = n + r .used;
+            place = omega (arith, r .place);
+            holds =
+                subst (λ (z : List ℕ). Holds rest (text z ++ linesText text width count (drop width xs)) (n + r .used)) (sym tk)
+                (subst (λ (z : List ℕ). Holds rest (text front ++ linesText text width count z) (n + r .used)) (sym dp)
+                (holds-join rest (text front) (linesText text width count (u .0)) n (r .used) (s .0) (r .holds)));
+            fits = (
+              ap length tk ∙ s .2,
+              subst Fits (sym tk) (s .1),
+              subst (λ (z : List ℕ). RowsFit Fits width count z) (sym dp) (r .fits),
+            );
+            size = ap length (u .2) ∙ length-append front (u .0) ∙ more-size count (length front) (length (u .0)) (s .2) (r .size);
+          }
+        where
+          more-size : (count a b : ℕ) → a ≡ width → b ≡ count * width → a + b ≡ suc count * width
+          more-size count a b h k = omega (arith, suc-mul count width)
+
+rows-show : (rest xs : List ℕ) (n : ℕ) → rowAt rest ≡ numbers xs n → Holds rest (rowOfNumbers xs) n × ConceptFits xs × (length xs ≡ 3)
+unfolding rowNumbers
+rows-show rest xs n e = go (rowLine rest) refl
+  where
+    go : (l : RowLine) → rowLine rest ≡ l → Holds rest (rowOfNumbers xs) n × ConceptFits xs × (length xs ≡ 3)
+    go NoRow f = absurd (let g : off ≡ numbers xs n = rw f at e in let z : _≡_ {A = ℕ} 0 1 = cc in omega arith)
+    go (Row k a b m) f =
+        let g : numbers (k ∷ a ∷ b ∷ []) m ≡ numbers xs n = rw f at e in
+        let ex : k ∷ a ∷ b ∷ [] ≡ xs = cc in
+        let en : m ≡ n = cc in
+        subst (λ (z : List ℕ). Holds rest (rowOfNumbers z) n × ConceptFits z × (length z ≡ 3)) ex
+        (subst (λ (z : ℕ). Holds rest (rowOfNumbers (k ∷ a ∷ b ∷ [])) z) en (rowLine-holds rest k a b m f), rowLine-fits rest k a b m f, refl)
+
+pairs-show : (rest xs : List ℕ) (n : ℕ) → pairAt rest ≡ numbers xs n → Holds rest (pairOfNumbers xs) n × PairFits xs × (length xs ≡ 2)
+unfolding pairNumbers
+pairs-show rest xs n e = go (pairLine belowKey rest) refl
+  where
+    go : (l : PairLine) → pairLine belowKey rest ≡ l → Holds rest (pairOfNumbers xs) n × PairFits xs × (length xs ≡ 2)
+    go NoPair f = absurd (let g : off ≡ numbers xs n = rw f at e in let z : _≡_ {A = ℕ} 0 1 = cc in omega arith)
+    go (Two a b m) f =
+        let g : numbers (a ∷ b ∷ []) m ≡ numbers xs n = rw f at e in
+        let ex : a ∷ b ∷ [] ≡ xs = cc in
+        let en : m ≡ n = cc in
+        subst (λ (z : List ℕ). Holds rest (pairOfNumbers z) n × PairFits z × (length z ≡ 2)) ex
+        (subst (λ (z : ℕ). Holds rest (pairOfNumbers (a ∷ b ∷ [])) z) en (pairLine-holds belowKey rest a b m f), pairLine-small belowKey rest a b m f, refl)
+
+-- ---- counts and sections
+module _ (key : List ℕ) (limit table at : ℕ) (rest : List ℕ) (t : Tables) where
+  pub record Counted (go : ℕ → ℕ → Judged) : Type 0 where
+    pub count : ℕ
+    pub used : ℕ
+    pub holds : Holds rest (numberText key count) used
+    pub few : count ≤ limit
+    pub goes : go count (at + used) ≡ accepted t
+
+  pub count-read : (go : ℕ → ℕ → Judged) → countThen limit table at (numberLine key rest) go ≡ accepted t → Counted go
+  unfolding countThen pickJudged
+  count-read go e = pick (numberLine key rest) refl
+    where
+      pick : (l : Number) → numberLine key rest ≡ l → Counted go
+      pick NoNumber f = not-accepted (BadText at) t (rw f at e)
+      pick (Value count n) f = test (ltb limit count) refl
+        where
+          test : (b : Bool) → ltb limit count ≡ b → Counted go
+          test true h = not-accepted (Limit table) t (rw (f, h) at e)
+          test false h = record { count = count; used = n; holds = numberLine-holds key rest count n f; few = ltb-false limit count h; goes = rw (f, h) at e }
+
+part-read : (q : Part) (go : List ℕ → ℕ → Judged) (t : Tables) → partThen q go ≡ accepted t → (xs : List ℕ) × (p : ℕ) × (q ≡ part xs p) × (go xs p ≡ accepted t)
+unfolding partThen
+part-read (part xs p) go t e = (xs, p, refl, e)
+part-read (faulty p) go t e = not-accepted (BadText p) t e
+
+module _
+    (line : List ℕ → Line) (write : List ℕ → List ℕ) (Fits : List ℕ → Type 0) (width : ℕ)
+    (shows : (rest xs : List ℕ) (n : ℕ) → line rest ≡ numbers xs n → Holds rest (write xs) n × Fits xs × (length xs ≡ width))
+    (key : List ℕ) (limit table : ℕ) (text : List ℕ) (at : ℕ) (t : Tables) where
+  pub record Section (go : List ℕ → ℕ → Judged) : Type 0 where
+    pub count : ℕ
+    pub xs : List ℕ
+    pub used : ℕ
+    pub holds : Holds (drop at text) (numberText key count ++ linesText write width count xs) used
+    pub few : count ≤ limit
+    pub fits : RowsFit Fits width count xs
+    pub size : length xs ≡ count * width
+    pub goes : go xs (at + used) ≡ accepted t
+
+  pub section-read : (go : List ℕ → ℕ → Judged) → sectionAt key limit table line text at go ≡ accepted t → Section go
+  unfolding sectionAt
+  section-read go e =
+      let c = count-read key limit table at (drop at text) t _ e in
+      let q = part-read (readLines line (c .count) (at + c .used) (drop (at + c .used) text)) go t (c .goes) in
+      let r = lines-read line write Fits width shows (c .count) (at + c .used) (drop (at + c .used) text) (q .0) (q .1) (q .2) in
+      record {
+        count = c .count;
+        xs = q .0;
+        used = c .used + r .used;
+        holds =
+            holds-join (drop at text) (numberText key (c .count)) (linesText write width (c .count) (q .0)) (c .used) (r .used) (c .holds)
+            (subst (λ (z : List ℕ). Holds z (linesText write width (c .count) (q .0)) (r .used)) (sym (drop-drop (c .used) at text)) (r .holds));
+        few = c .few;
+        fits = r .fits;
+        size = r .size;
+        goes = subst (λ (z : ℕ). go (q .0) z ≡ accepted t) (places at (c .used) (r .used) (q .1) (r .place)) (q .3);
+      }
+    where
+      places : (a b c p : ℕ) → p ≡ a + b + c → p ≡ a + (b + c)
+      places a b c p e = omega arith
+
+-- ---- the whole text
+regroup : (a b c d e f g : List ℕ) → ((a ++ (b ++ c)) ++ (d ++ e)) ++ (f ++ g) ≡ a ++ (b ++ (c ++ (d ++ (e ++ (f ++ g)))))
+regroup a b c d e f g = simp append-assoc
+
+all-held :
+    (text a b c d e f g : List ℕ) (u0 u1 u2 u3 : ℕ) → Holds text a u0 → Holds (drop (0 + u0) text) (b ++ c) u1 → Holds (drop (0 + u0 + u1) text) (d ++ e) u2
+    → Holds (drop (0 + u0 + u1 + u2) text) (f ++ g) u3 → 0 + u0 + u1 + u2 + u3 ≡ length text → text ≡ a ++ (b ++ (c ++ (d ++ (e ++ (f ++ g)))))
+all-held text a b c d e f g u0 u1 u2 u3 h0 h1 h2 h3 q =
+    let start = subst (λ (z : ℕ). Holds text a z) (sym (zero-add u0)) h0 in
+    let h =
+    holds-join text ((a ++ (b ++ c)) ++ (d ++ e)) (f ++ g) (0 + u0 + u1 + u2) u3
+    (holds-join text (a ++ (b ++ c)) (d ++ e) (0 + u0 + u1) u2 (holds-join text a (b ++ c) (0 + u0) u1 start h1) h2) h3 in
+    h .front ∙ ap (λ (z : List ℕ). (((a ++ (b ++ c)) ++ (d ++ e)) ++ (f ++ g)) ++ z) (ap (λ (z : ℕ). drop z text) q ∙ drop-length text)
+    ∙ append-nil (((a ++ (b ++ c)) ++ (d ++ e)) ++ (f ++ g)) ∙ regroup a b c d e f g
+
+module _
+    (v : ℕ) (C I Q : List ℕ) (c i q : ℕ) (sizeC : length C ≡ c * 3) (sizeI : length I ≡ i * 2) (sizeQ : length Q ≡ q * 2) where
+  counts : (countOf C ≡ c) × (pairsOf I ≡ i) × (pairsOf Q ≡ q)
+  counts = (omega arith, omega arith, omega arith)
+
+  laid-out :
+      layout (tables C I Q v)
+      ≡ numberText variablesKey v
+      ++ (numberText conceptsKey c ++ (linesText rowOfNumbers 3 c C
+      ++ (numberText inclusionsKey i ++ (linesText pairOfNumbers 2 i I ++ (numberText questionsKey q ++ linesText pairOfNumbers 2 q Q)))))
+  unfolding layout
+  laid-out = rw (counts .0, counts .1, counts .2) refl
+
+  sayable : v ≤ 8 → c ≤ 192 → i ≤ 96 → q ≤ 32 → RowsFit ConceptFits 3 c C → RowsFit PairFits 2 i I → RowsFit PairFits 2 q Q → Sayable (tables C I Q v)
+  sayable hv hc hi hq fc fi fq =
+      record {
+        few-variables = hv;
+        few-concepts = omega (arith, counts .0);
+        few-inclusions = omega (arith, counts .1);
+        few-questions = omega (arith, counts .2);
+        concepts-fit = subst (λ (z : ℕ). RowsFit ConceptFits 3 z C) (sym (counts .0)) fc;
+        inclusions-fit = subst (λ (z : ℕ). RowsFit PairFits 2 z I) (sym (counts .1)) fi;
+        questions-fit = subst (λ (z : ℕ). RowsFit PairFits 2 z Q) (sym (counts .2)) fq;
+      }
+
+  whole :
+      (text : List ℕ) (u0 u1 u2 u3 : ℕ) → Holds text (numberText variablesKey v) u0
+      → Holds (drop (0 + u0) text) (numberText conceptsKey c ++ linesText rowOfNumbers 3 c C) u1
+      → Holds (drop (0 + u0 + u1) text) (numberText inclusionsKey i ++ linesText pairOfNumbers 2 i I) u2
+      → Holds (drop (0 + u0 + u1 + u2) text) (numberText questionsKey q ++ linesText pairOfNumbers 2 q Q) u3
+      → 0 + u0 + u1 + u2 + u3 ≡ length text → text ≡ layout (tables C I Q v)
+  whole text u0 u1 u2 u3 h0 h1 h2 h3 e =
+      all-held text (numberText variablesKey v) (numberText conceptsKey c) (linesText rowOfNumbers 3 c C) (numberText inclusionsKey i) (linesText pairOfNumbers 2 i I)
+      (numberText questionsKey q) (linesText pairOfNumbers 2 q Q) u0 u1 u2 u3 h0 h1 h2 h3 e
+      ∙ sym laid-out
+
+end-read : (text : List ℕ) (s t : Tables) (end : ℕ) → judgeEnd text s end ≡ accepted t → (end ≡ length text) × (s ≡ t)
+unfolding judgeEnd pickJudged
+end-read text s t end e = go (eqb end (length text)) refl
+  where
+    go : (b : Bool) → eqb end (length text) ≡ b → (end ≡ length text) × (s ≡ t)
+    go true h = let f : accepted s ≡ accepted t = rw h at e in (eqb-true end (length text) h, cc)
+    go false h = not-accepted (BadText end) t (rw h at e)
+
+lines-accepted : (text : List ℕ) (t : Tables) → judgeLines text ≡ accepted t → (text ≡ layout t) × Sayable t
+unfolding judgeLines judgeConcepts judgeInclusions judgeQuestions
+lines-accepted text t e =
+    let a = count-read variablesKey 8 3 0 text t _ e in
+    let s1 = section-read rowAt rowOfNumbers ConceptFits 3 rows-show conceptsKey 192 0 text (0 + a .used) t _ (a .goes) in
+    let s2 = section-read pairAt pairOfNumbers PairFits 2 pairs-show inclusionsKey 96 1 text (0 + a .used + s1 .used) t _ (s1 .goes) in
+    let s3 = section-read pairAt pairOfNumbers PairFits 2 pairs-show questionsKey 32 2 text (0 + a .used + s1 .used + s2 .used) t _ (s2 .goes) in
+    let z = end-read text (tables (s1 .xs) (s2 .xs) (s3 .xs) (a .count)) t (0 + a .used + s1 .used + s2 .used + s3 .used) (s3 .goes) in
+    subst (λ (y : Tables). (text ≡ layout y) × Sayable y) (z .1) (
+      whole (a .count) (s1 .xs) (s2 .xs) (s3 .xs) (s1 .count) (s2 .count) (s3 .count) (s1 .size) (s2 .size) (s3 .size) text (a .used) (s1 .used) (s2 .used) (s3 .used) (a .holds) (s1 .holds) (s2 .holds) (s3 .holds) (z .0),
+      sayable (a .count) (s1 .xs) (s2 .xs) (s3 .xs) (s1 .count) (s2 .count) (s3 .count) (s1 .size) (s2 .size) (s3 .size) (a .few) (s1 .few) (s2 .few) (s3 .few) (s1 .fits) (s2 .fits) (s3 .fits),
+    )
+
+pub accepted-layout : (text : List ℕ) (t : Tables) → judge text ≡ accepted t → (text ≡ layout t) × Sayable t
+unfolding judge pickJudged
+accepted-layout text t e = go (ltb 8192 (length text)) refl
+  where
+    go : (b : Bool) → ltb 8192 (length text) ≡ b → (text ≡ layout t) × Sayable t
+    go true h = not-accepted (BadText 8192) t (rw h at e)
+    go false h = lines-accepted text t (rw h at e)

@@ -1,0 +1,130 @@
+-- The answer for tables and for a text, by cases.
+use Prim.Native.Nat.{ℕ, _+_, _*_, _<_, _≤_}
+use mathlib.Core.Path.{_≡_, refl, sym, ap, _∙_, subst}
+use mathlib.Core.List.{List, _++_}
+use mathlib.Core.Logic.{_⊎_, inl, inr}
+use native.Mathlib.Omega.{arith}
+use lib.ListN.{length, take, drop, length-append}
+use lib.Seq.{take-append-seam, drop-append-seam, length-take-le}
+use borrow.Author.Tests.{le-ltb}
+use Rattle.subsumption.specs.declared.refusal.Refusal.{Refusal}
+use Rattle.subsumption.specs.declared.refusal.Outcome.{Outcome}
+use Rattle.subsumption.specs.declared.refusal.Outcome.the-variants.{Done, Refused}
+use Rattle.subsumption.specs.Tables.{Tables, tables}
+use Rattle.subsumption.specs.Atoms.{atoms}
+use Rattle.subsumption.specs.Refusal.{codeOf, orElse, refuseIf}
+use Rattle.subsumption.specs.Check.{tableFault, bufferFault}
+use Rattle.matching.specs.declared.find.Match.{Match}
+use Rattle.matching.specs.declared.find.Match.the-variants.{Filled, Nothing, Rejected as NotFound}
+use Rattle.matching.specs.Solving.{Substitution, SolvesBy, First}
+use Rattle.matching.specs.Finding.{findingFault, FilledBy, NoneSolves, Finds}
+use Rattle.hermitcasket.specs.declared.text.Read.{Read}
+use Rattle.hermitcasket.specs.declared.text.Read.the-variants.{Problem, Rejected}
+use Rattle.hermitcasket.specs.Text.{Judged, accepted, refused, judge}
+use Rattle.hermitcasket.specs.Reading.{judgedBy, ReadFits}
+use Rattle.hermitcasket.specs.Printing.{noneLine, filledText, refusedText, placed, Wrote}
+use Rattle.hermitcasket.specs.Answer.{AnsweredTables, AnsweredJudged, Answered, Output}
+
+-- what was written in front is the output
+module _ (Right : List ℕ → Type 0) (before bytes : List ℕ) (size : ℕ) (after : List ℕ) (wrote : Wrote before 0 bytes size after) where
+  whole : after ≡ bytes ++ drop (0 + length bytes) before
+  unfolding placed
+  whole = wrote .buffer
+
+  length-is : size ≡ length bytes
+  length-is = omega (arith, wrote .place)
+
+  pub output : Right bytes → Output Right before size after
+  output h =
+      record {
+        answered =
+            subst (λ (z : List ℕ). Right z)
+            (sym (ap (λ (z : ℕ). take z after) length-is ∙ ap (λ (z : List ℕ). take (length bytes) z) whole ∙ take-append-seam bytes (drop (0 + length bytes) before))) h;
+        within = omega (arith, length-is, ap length whole, length-append bytes (drop (0 + length bytes) before));
+        kept =
+            ap (λ (z : ℕ). drop z after) length-is ∙ ap (λ (z : List ℕ). drop (length bytes) z) whole ∙ drop-append-seam bytes (drop (0 + length bytes) before)
+            ∙ ap (λ (z : ℕ). drop z before) (sym (wrote .place));
+      }
+
+-- ---- tables
+module _
+    (t : Tables) (few : t .variables ≤ 8) (old new : List ℕ) (eight : length old ≡ 8) (found : Match)
+    (finds : Finds t old new (findingFault t (length old)) found) where
+  same-fault : findingFault t (length old) ≡ tableFault t
+  unfolding findingFault bufferFault refuseIf orElse
+  same-fault = rw (le-ltb (length old) (t .variables) (omega arith)) (go (tableFault t))
+    where
+      go : (o : Outcome) → orElse o Done ≡ o
+      go Done = refl
+      go (Refused r) = refl
+
+  by-tables : Finds t old new (tableFault t) found
+  by-tables = subst (λ (z : Outcome). Finds t old new z found) same-fault finds
+
+  pub filled-sound : found ≡ Filled → tableFault t ≡ Done
+  filled-sound e = go (tableFault t) refl
+    where
+      go : (o : Outcome) → tableFault t ≡ o → tableFault t ≡ Done
+      go Done f = f
+      go (Refused r) f = absurd (let g = subst (λ (z : Outcome). Finds t old new z found) f by-tables .0 in let z : _≡_ {A = ℕ} 0 1 = cc (e, g) in omega arith)
+
+  filled-by : found ≡ Filled → FilledBy t old new
+  filled-by e = subst (λ (z : Match). Finds t old new Done z) e (subst (λ (z : Outcome). Finds t old new z found) (filled-sound e) by-tables)
+
+  pub filled-count : found ≡ Filled → t .variables ≤ length new
+  filled-count e = omega (arith, filled-by e .size)
+
+  pub filled-exact : found ≡ Filled → t .variables ≡ length (take (t .variables) new)
+  filled-exact e = sym (length-take-le (t .variables) new (filled-count e))
+
+  pub filled-eight : found ≡ Filled → length (take (t .variables) new) ≤ 8
+  filled-eight e = omega (arith, length-take-le (t .variables) new (filled-count e))
+
+  module _ (before : List ℕ) (size : ℕ) (after : List ℕ) where
+    pub answered-filled : found ≡ Filled → Wrote before 0 (filledText (atoms t) (take (t .variables) new)) size after → Output (AnsweredTables t (tableFault t)) before size after
+    answered-filled e w =
+        output _ before _ size after w
+        (subst (λ (z : Outcome). AnsweredTables t z (filledText (atoms t) (take (t .variables) new))) (sym (filled-sound e)) (inl (take (t .variables) new, filled-by e .first, refl)))
+
+    pub answered-none : found ≡ Nothing → Wrote before 0 noneLine size after → Output (AnsweredTables t (tableFault t)) before size after
+    answered-none e w = output _ before noneLine size after w (go (tableFault t) refl)
+      where
+        go : (o : Outcome) → tableFault t ≡ o → AnsweredTables t (tableFault t) noneLine
+        go Done f =
+            subst (λ (z : Outcome). AnsweredTables t z noneLine) (sym f)
+            (inr (subst (λ (z : Match). Finds t old new Done z) e (subst (λ (z : Outcome). Finds t old new z found) f by-tables) .none, refl))
+        go (Refused r) f = absurd (let g = subst (λ (z : Outcome). Finds t old new z found) f by-tables .0 in let z : _≡_ {A = ℕ} 0 1 = cc (e, g) in omega arith)
+
+    pub answered-refused : (r : Refusal) → found ≡ NotFound r → Wrote before 0 (refusedText (codeOf r)) size after → Output (AnsweredTables t (tableFault t)) before size after
+    answered-refused r e w = output _ before _ size after w (go (tableFault t) refl)
+      where
+        go : (o : Outcome) → tableFault t ≡ o → AnsweredTables t (tableFault t) (refusedText (codeOf r))
+        go Done f = absurd (subst (λ (z : Match). Finds t old new Done z) e (subst (λ (z : Outcome). Finds t old new z found) f by-tables))
+        go (Refused x) f =
+            let g = subst (λ (z : Outcome). Finds t old new z found) f by-tables .0 in
+            let rx : x ≡ r = cc (e, g) in
+            subst (λ (z : Outcome). AnsweredTables t z (refusedText (codeOf r))) (sym f) (ap (λ (z : Refusal). refusedText (codeOf z)) (sym rx))
+
+-- ---- a text
+module _ (text concepts inclusions questions : List ℕ) (read : Read) (judged : judge text ≡ judgedBy read concepts inclusions questions) where
+  module _ (before : List ℕ) (size : ℕ) (after : List ℕ) where
+    pub text-refused : (r : Refusal) → read ≡ Rejected r → Wrote before 0 (refusedText (codeOf r)) size after → Output (Answered text) before size after
+    unfolding judgedBy
+    text-refused r e w =
+        output _ before _ size after w
+        (subst (λ (z : Judged). AnsweredJudged z (refusedText (codeOf r))) (sym (judged ∙ ap (λ (z : Read). judgedBy z concepts inclusions questions) e)) refl)
+
+    pub text-answered :
+        (v c i q : ℕ) → read ≡ Problem v c i q
+        → Output (AnsweredTables (tables (take (c * 3) concepts) (take (i * 2) inclusions) (take (q * 2) questions) v) (tableFault (tables (take (c * 3) concepts) (take (i * 2) inclusions) (take (q * 2) questions) v))) before size after
+        → Output (Answered text) before size after
+    unfolding judgedBy
+    text-answered v c i q e o =
+        record {
+          answered = subst (λ (z : Judged). AnsweredJudged z (take size after)) (sym (judged ∙ ap (λ (z : Read). judgedBy z concepts inclusions questions) e)) (o .answered);
+          within = o .within;
+          kept = o .kept;
+        }
+
+pub read-fits : (read : Read) → ReadFits read → (v c i q : ℕ) → read ≡ Problem v c i q → (v ≤ 8) × (c ≤ 192) × (i ≤ 96) × (q ≤ 32)
+read-fits read h v c i q e = subst ReadFits e h

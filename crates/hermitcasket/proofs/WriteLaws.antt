@@ -1,0 +1,114 @@
+-- Writing to a buffer, piece after piece.
+use Prim.Native.Nat.{ℕ, zero, suc, _+_, _-_, _/_, _%_, _<_, _≤_}
+use mathlib.Core.Path.{_≡_, refl, sym, ap, _∙_, subst}
+use mathlib.Core.List.{List, [], _∷_, _++_, append-assoc, append-nil}
+use native.Mathlib.Omega.{arith}
+use native.Mathlib.Numerals.{add-one}
+use lib.ListN.{length, getD, take, drop, set, length-append, length-drop, take-append-drop}
+use lib.Seq.{length-take-le, take-at, drop-at, drop-drop, drop-append-add, set-split, take-length, paste, paste-suc}
+use Rattle.hermitcasket.specs.Digits.{digits}
+use Rattle.hermitcasket.specs.Printing.{placed, Wrote}
+use Rattle.hermitcasket.proofs.DigitLaws.{digits-one, digits-more}
+
+head-length : (before : List ℕ) (at : ℕ) (xs : List ℕ) → at ≤ length before → length (take at before ++ xs) ≡ at + length xs
+head-length before at xs h = length-append (take at before) xs ∙ ap (λ (z : ℕ). z + length xs) (length-take-le at before h)
+
+pub placed-length : (before : List ℕ) (at : ℕ) (xs : List ℕ) → at + length xs ≤ length before → length (placed at xs before) ≡ length before
+unfolding placed
+placed-length before at xs h =
+    length-append (take at before ++ xs) (drop (at + length xs) before)
+    ∙ (let p = head-length before at xs (omega arith) in let q = length-drop (at + length xs) before in omega (arith, p, q))
+
+placed-join :
+    (before : List ℕ) (at : ℕ) (xs ys : List ℕ) → at + length xs ≤ length before
+    → placed (at + length xs) ys (placed at xs before) ≡ placed at (xs ++ ys) before
+unfolding placed
+placed-join before at xs ys h =
+    let l = head-length before at xs (omega arith) in
+    let t = take-at (take at before ++ xs) (drop (at + length xs) before) (at + length xs) l in
+    let d : drop (at + length xs + length ys) ((take at before ++ xs) ++ drop (at + length xs) before) ≡ drop (at + length (xs ++ ys)) before =
+    ap (λ (z : ℕ). drop (z + length ys) ((take at before ++ xs) ++ drop (at + length xs) before)) (sym l)
+    ∙ drop-append-add (take at before ++ xs) (drop (at + length xs) before) (length ys) ∙ drop-drop (length ys) (at + length xs) before
+    ∙ ap (λ (z : ℕ). drop z before) sizes in
+    rw (t, d, append-assoc (take at before) xs ys) refl
+  where
+    sizes : at + length xs + length ys ≡ at + length (xs ++ ys)
+    sizes = rw length-append (omega arith)
+
+pub wrote-none : (before : List ℕ) (at : ℕ) → Wrote before at [] at before
+unfolding placed
+wrote-none before at =
+    let e : at + 0 ≡ at = omega arith in
+    record { place = omega arith; buffer = sym (ap (λ (z : List ℕ). z ++ drop (at + 0) before) (append-nil (take at before)) ∙ rw e (take-append-drop at before)) }
+
+pub wrote-byte : (before : List ℕ) (at v : ℕ) → at < length before → Wrote before at (v ∷ []) (at + 1) (set before at v)
+unfolding placed
+wrote-byte before at v h =
+    record {
+      place = refl;
+      buffer = set-split before at v h ∙ sym (append-assoc (take at before) (v ∷ []) (drop (at + 1) before) ∙ ap (λ (z : ℕ). take at before ++ (v ∷ drop z before)) (add-one at));
+    }
+
+module _ (before : List ℕ) (at : ℕ) where
+  pub wrote-length : (xs : List ℕ) (end : ℕ) (after : List ℕ) → at + length xs ≤ length before → Wrote before at xs end after → length after ≡ length before
+  wrote-length xs end after h w = ap length (w .buffer) ∙ placed-length before at xs h
+
+  pub wrote-join :
+      (xs ys : List ℕ) (middle : ℕ) (between : List ℕ) (end : ℕ) (after : List ℕ) → at + length xs ≤ length before → Wrote before at xs middle between
+      → Wrote between middle ys end after → Wrote before at (xs ++ ys) end after
+  wrote-join xs ys middle between end after h v w =
+      record {
+        place = omega (arith, v .place, w .place, length-append xs ys);
+        buffer =
+            w .buffer ∙ ap (λ (z : ℕ). placed z ys between) (v .place) ∙ ap (λ (z : List ℕ). placed (at + length xs) ys z) (v .buffer) ∙ placed-join before at xs ys h;
+      }
+
+  -- a copy that is whole
+  pub wrote-paste : (bytes after : List ℕ) (i : ℕ) → after ≡ paste before at bytes i → i ≤ length bytes → length bytes ≤ i → Wrote before at bytes (at + i) after
+  unfolding placed
+  wrote-paste bytes after i e h k =
+      let q : i ≡ length bytes = omega arith in
+      record { place = omega arith; buffer = e ∙ rw (q, take-length) refl }
+
+  -- ---- a number
+  pub wrote-digit : (n : ℕ) → n < 10 → at + length (digits n) ≤ length before → Wrote before at (digits n) (at + 1) (set before at (48 + n))
+  wrote-digit n h k = rw (digits-one n h) (wrote-byte before at (48 + n) (omega (arith, ap length (digits-one n h))))
+
+  pub number-room : (n : ℕ) → 10 ≤ n → at + length (digits n) ≤ length before → at + length (digits (n / 10)) < length before
+  number-room n h k = omega (arith, ap length (digits-more n h), length-append (digits (n / 10)) ((48 + n % 10) ∷ []))
+
+  pub wrote-digits :
+      (n : ℕ) → 10 ≤ n → at + length (digits n) ≤ length before → (next : ℕ) (between : List ℕ) → Wrote before at (digits (n / 10)) next between
+      → Wrote before at (digits n) (next + 1) (set between next (48 + n % 10))
+  wrote-digits n h k next between w =
+      rw (digits-more n h)
+      (wrote-join (digits (n / 10)) ((48 + n % 10) ∷ []) next between _ _ (omega (arith, number-room n h k)) w
+      (wrote-byte between next (48 + n % 10) (omega (arith, number-room n h k, w .place, wrote-length (digits (n / 10)) next between (omega (arith, number-room n h k)) w))))
+
+  pub next-within :
+      (n : ℕ) → 10 ≤ n → at + length (digits n) ≤ length before → (next : ℕ) (between : List ℕ) → Wrote before at (digits (n / 10)) next between → next < length between
+  next-within n h k next between w = omega (arith, number-room n h k, w .place, wrote-length (digits (n / 10)) next between (omega (arith, number-room n h k)) w)
+
+  pub paste-more :
+      (bytes out : List ℕ) (i : ℕ) → out ≡ paste before at bytes i → at + length bytes ≤ length before → i < length bytes
+      → set out (at + i) (getD bytes i 0) ≡ paste before at bytes (i + 1)
+  paste-more bytes out i e h k = ap (λ (z : List ℕ). set z (at + i) (getD bytes i 0)) e ∙ paste-suc before at bytes i 0 (omega arith) k ∙ ap (λ (z : ℕ). paste before at bytes z) (sym (add-one i))
+
+-- ---- a text of three pieces
+module _ (before : List ℕ) (at : ℕ) (x y z : List ℕ) (room : at + length (x ++ (y ++ z)) ≤ length before) where
+  sizes : length (x ++ (y ++ z)) ≡ length x + (length y + length z)
+  sizes = length-append x (y ++ z) ∙ ap (λ (n : ℕ). length x + n) (length-append y z)
+
+  pub room-1 : at + length x ≤ length before
+  room-1 = omega (arith, sizes)
+
+  module _ (a : ℕ) (after-x : List ℕ) (wrote-x : Wrote before at x a after-x) where
+    pub room-2 : a + length y ≤ length after-x
+    room-2 = omega (arith, sizes, wrote-x .place, wrote-length before at x a after-x room-1 wrote-x)
+
+    module _ (b : ℕ) (after-y : List ℕ) (wrote-y : Wrote after-x a y b after-y) where
+      pub room-3 : b + length z ≤ length after-y
+      room-3 = omega (arith, sizes, wrote-x .place, wrote-y .place, wrote-length before at x a after-x room-1 wrote-x, wrote-length after-x a y b after-y room-2 wrote-y)
+
+      pub wrote-three : (e : ℕ) (after-z : List ℕ) → Wrote after-y b z e after-z → Wrote before at (x ++ (y ++ z)) e after-z
+      wrote-three e after-z wrote-z = wrote-join before at x (y ++ z) a after-x e after-z room-1 wrote-x (wrote-join after-x a y z b after-y e after-z room-2 wrote-y wrote-z)

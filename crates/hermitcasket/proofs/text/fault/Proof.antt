@@ -1,0 +1,25 @@
+use Rattle.hermitcasket.proofs.ReadLaws.{fault-through, fault-faulty}
+use borrow.Author.Needs.{needs}
+use Rattle.hermitcasket.proofs.text.fault.Statement.{statement}
+use Rattle.hermitcasket.proofs.text.fault.Tie as tie
+use Rattle.hermitcasket.proofs.text.fault.Reads as reads
+use Rattle.hermitcasket.proofs.text.fault.Lts as lts
+
+-- src/text.rt:139:29
+enum-known-section : tie.Need-enum-known-section
+enum-known-section c = search needs
+
+-- src/text.rt:140:25
+enum-known-section-2 : tie.Need-enum-known-section-2
+enum-known-section-2 c = search needs
+
+-- src/text.rt:135:1
+returns : tie.Need-returns
+returns c = search fault-through
+
+-- src/text.rt:135:1
+returns-2 : tie.Need-returns-2
+returns-2 c = search fault-faulty
+
+pub fault-spec : {M : Type 1} → statement M
+fault-spec = tie.close (tie.spec enum-known-section enum-known-section-2 returns returns-2)

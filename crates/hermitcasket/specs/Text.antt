@@ -1,0 +1,154 @@
+-- The house text (01, "House text and the program"): what a right text is, and the judgement line by line.
+use Prim.Native.Nat.{ℕ, zero, suc, _+_, _≤_}
+use mathlib.Core.Path.{_≡_}
+use mathlib.Core.List.{List, [], _∷_, _++_}
+use mathlib.Core.Bool.{Bool, true, false}
+use lib.Dec.{eqb, ltb}
+use lib.ListN.{length, getD, take, drop}
+use Rattle.subsumption.specs.declared.refusal.Refusal.{Refusal}
+use Rattle.subsumption.specs.declared.refusal.Refusal.the-variants.{Limit, BadText}
+use Rattle.subsumption.specs.Tables.{Tables, tables, countOf, pairsOf}
+use Rattle.hermitcasket.specs.declared.lines.Number.{Number}
+use Rattle.hermitcasket.specs.declared.lines.Number.the-variants.{Value, NoNumber}
+use Rattle.hermitcasket.specs.declared.lines.PairLine.{PairLine}
+use Rattle.hermitcasket.specs.declared.lines.PairLine.the-variants.{Two, NoPair}
+use Rattle.hermitcasket.specs.declared.lines.RowLine.{RowLine}
+use Rattle.hermitcasket.specs.declared.lines.RowLine.the-variants.{Row, NoRow}
+use Rattle.hermitcasket.specs.Lines.{variablesKey, conceptsKey, inclusionsKey, questionsKey, belowKey, numberText, pairText, rowText, numberLine, pairLine, rowLine}
+
+-- ---- what a right text is
+
+-- So many lines, each of the next `width` numbers.
+unfoldable pub linesText : (List ℕ → List ℕ) → ℕ → ℕ → List ℕ → List ℕ
+linesText text width zero numbers = []
+linesText text width (suc count) numbers = text (take width numbers) ++ linesText text width count (drop width numbers)
+
+abbrev pub rowOfNumbers : List ℕ → List ℕ
+rowOfNumbers numbers = rowText (getD numbers 0 0) (getD numbers 1 0) (getD numbers 2 0)
+
+abbrev pub pairOfNumbers : List ℕ → List ℕ
+pairOfNumbers numbers = pairText belowKey (getD numbers 0 0) (getD numbers 1 0)
+
+unfoldable pub layout : Tables → List ℕ
+layout t =
+    numberText variablesKey (t .variables)
+    ++ (numberText conceptsKey (countOf (t .concepts)) ++ (linesText rowOfNumbers 3 (countOf (t .concepts)) (t .concepts)
+    ++ (numberText inclusionsKey (pairsOf (t .inclusions)) ++ (linesText pairOfNumbers 2 (pairsOf (t .inclusions)) (t .inclusions)
+    ++ (numberText questionsKey (pairsOf (t .questions)) ++ linesText pairOfNumbers 2 (pairsOf (t .questions)) (t .questions))))))
+
+-- ---- what a text can say: kinds 0 to 4 with unused fields 0, numbers up to 65535, counts up to their limits
+
+abbrev pub RowFits : ℕ → ℕ → ℕ → Type 0
+RowFits zero a b = (a ≡ 0) × (b ≡ 0)
+RowFits (suc zero) a b = (a ≤ 65535) × (b ≡ 0)
+RowFits (suc (suc zero)) a b = (a ≤ 65535) × (b ≤ 65535)
+RowFits (suc (suc (suc zero))) a b = (a ≤ 65535) × (b ≤ 65535)
+RowFits (suc (suc (suc (suc zero)))) a b = (a ≤ 65535) × (b ≡ 0)
+RowFits (suc (suc (suc (suc (suc kind))))) a b = ⊥
+
+-- So many rows, of `width` numbers each, that fit.
+abbrev pub RowsFit : (List ℕ → Type 0) → ℕ → ℕ → List ℕ → Type 0
+RowsFit Fits width zero numbers = numbers ≡ []
+RowsFit Fits width (suc count) numbers = (length (take width numbers) ≡ width) × Fits (take width numbers) × RowsFit Fits width count (drop width numbers)
+
+abbrev pub ConceptFits : List ℕ → Type 0
+ConceptFits numbers = RowFits (getD numbers 0 0) (getD numbers 1 0) (getD numbers 2 0)
+
+abbrev pub PairFits : List ℕ → Type 0
+PairFits numbers = (getD numbers 0 0 ≤ 65535) × (getD numbers 1 0 ≤ 65535)
+
+pub record Sayable (t : Tables) : Type 0 where
+  pub few-variables : t .variables ≤ 8
+  pub few-concepts : countOf (t .concepts) ≤ 192
+  pub few-inclusions : pairsOf (t .inclusions) ≤ 96
+  pub few-questions : pairsOf (t .questions) ≤ 32
+  pub concepts-fit : RowsFit ConceptFits 3 (countOf (t .concepts)) (t .concepts)
+  pub inclusions-fit : RowsFit PairFits 2 (pairsOf (t .inclusions)) (t .inclusions)
+  pub questions-fit : RowsFit PairFits 2 (pairsOf (t .questions)) (t .questions)
+
+-- ---- the judgement
+
+-- The numbers of a line and its length.
+pub data Line : Type 0 where
+  numbers : List ℕ → ℕ → Line
+  off : Line
+
+unfoldable pub rowNumbers : RowLine → Line
+rowNumbers (Row kind a b n) = numbers (kind ∷ a ∷ b ∷ []) n
+rowNumbers NoRow = off
+
+unfoldable pub pairNumbers : PairLine → Line
+pairNumbers (Two a b n) = numbers (a ∷ b ∷ []) n
+pairNumbers NoPair = off
+
+abbrev pub rowAt : List ℕ → Line
+rowAt rest = rowNumbers (rowLine rest)
+
+abbrev pub pairAt : List ℕ → Line
+pairAt rest = pairNumbers (pairLine belowKey rest)
+
+-- The numbers of several lines and the place behind them, or the place where the earliest faulty one starts.
+pub data Part : Type 0 where
+  part : List ℕ → ℕ → Part
+  faulty : ℕ → Part
+
+unfoldable pub prepend : List ℕ → Part → Part
+prepend front (part more at) = part (front ++ more) at
+prepend front (faulty at) = faulty at
+
+unfoldable pub lineThen : ℕ → Line → (ℕ → Part) → Part
+lineThen at off go = faulty at
+lineThen at (numbers front n) go = prepend front (go n)
+
+-- So many lines from the front of the remaining text, which starts at byte `at`.
+unfoldable pub readLines : (List ℕ → Line) → ℕ → ℕ → List ℕ → Part
+readLines line zero at rest = part [] at
+readLines line (suc count) at rest = lineThen at (line rest) (λ n. readLines line count (at + n) (drop n rest))
+
+pub data Judged : Type 0 where
+  accepted : Tables → Judged
+  refused : Refusal → Judged
+
+unfoldable pub pickJudged : Bool → Judged → Judged → Judged
+pickJudged true a b = a
+pickJudged false a b = b
+
+-- A count over its limit is refused on its line with the table's place.
+unfoldable pub countThen : ℕ → ℕ → ℕ → Number → (ℕ → ℕ → Judged) → Judged
+countThen limit table at NoNumber go = refused (BadText at)
+countThen limit table at (Value count n) go = pickJudged (ltb limit count) (refused (Limit table)) (go count (at + n))
+
+unfoldable pub partThen : Part → (List ℕ → ℕ → Judged) → Judged
+partThen (part read at) go = go read at
+partThen (faulty at) go = refused (BadText at)
+
+abbrev pub countAt : List ℕ → ℕ → ℕ → List ℕ → ℕ → (ℕ → ℕ → Judged) → Judged
+countAt key limit table text at go = countThen limit table at (numberLine key (drop at text)) go
+
+abbrev pub linesAt : (List ℕ → Line) → ℕ → List ℕ → ℕ → (List ℕ → ℕ → Judged) → Judged
+linesAt line count text at go = partThen (readLines line count at (drop at text)) go
+
+-- A count line, and that many lines.
+unfoldable pub sectionAt : List ℕ → ℕ → ℕ → (List ℕ → Line) → List ℕ → ℕ → (List ℕ → ℕ → Judged) → Judged
+sectionAt key limit table line text at go = countAt key limit table text at (λ count behind. linesAt line count text behind go)
+
+-- The lines in order, from the last to the first: the end of the text, and what goes before it.
+unfoldable pub judgeEnd : List ℕ → Tables → ℕ → Judged
+judgeEnd text t end = pickJudged (eqb end (length text)) (accepted t) (refused (BadText end))
+
+unfoldable pub judgeQuestions : List ℕ → ℕ → List ℕ → List ℕ → ℕ → Judged
+judgeQuestions text variables concepts inclusions at =
+    sectionAt questionsKey 32 2 pairAt text at (λ questions end. judgeEnd text (tables concepts inclusions questions variables) end)
+
+unfoldable pub judgeInclusions : List ℕ → ℕ → List ℕ → ℕ → Judged
+judgeInclusions text variables concepts at = sectionAt inclusionsKey 96 1 pairAt text at (λ inclusions behind. judgeQuestions text variables concepts inclusions behind)
+
+unfoldable pub judgeConcepts : List ℕ → ℕ → ℕ → Judged
+judgeConcepts text variables at = sectionAt conceptsKey 192 0 rowAt text at (λ concepts behind. judgeInclusions text variables concepts behind)
+
+unfoldable pub judgeLines : List ℕ → Judged
+judgeLines text = countAt variablesKey 8 3 text 0 (λ variables behind. judgeConcepts text variables behind)
+
+-- A longer text is refused before any line is judged.
+unfoldable pub judge : List ℕ → Judged
+judge text = pickJudged (ltb 8192 (length text)) (refused (BadText 8192)) (judgeLines text)

@@ -1,0 +1,113 @@
+// The program's answer as bytes, in front of a buffer.
+use crate::print::put_filled;
+use crate::print::put_none;
+use crate::print::put_refused;
+use crate::text::Read;
+use crate::text::read_text;
+use matching::Match;
+use subsumption::Listed;
+use subsumption::refusal::Refusal;
+use subsumption::refusal::code_of;
+ghost use mathlib.Core.Path.{_≡_};
+ghost use Prim.Native.Nat.{_≤_};
+ghost use lib.ListN.{length};
+ghost use Rattle.subsumption.specs.declared.refusal.Outcome.the-variants.{Done};
+ghost use Rattle.subsumption.specs.Tables.{tables};
+ghost use Rattle.subsumption.specs.Atoms.{atoms};
+ghost use Rattle.subsumption.specs.Refusal.{codeOf};
+ghost use Rattle.subsumption.specs.Check.{tableFault};
+ghost use Rattle.hermitcasket.specs.Printing.{Wrote, filledText, refusedText};
+ghost use Rattle.hermitcasket.specs.Answer.{AnsweredTables, Answered, Output};
+
+fn answer_refused(refusal: Refusal, out: &mut [u8]) -> usize
+    requires { ⌜ 4096 ≤ length (now out) ⌝ }
+    ensures { λ r. ⌜ Wrote (now (out .entry)) 0 (refusedText (codeOf refusal)) r (now (out .exit)) ⌝ }
+{
+    let code = code_of(refusal);
+    put_refused(code, out)
+}
+
+// Each choice picks from the atoms' ids, which are listed for it.
+fn answer_filled(
+    concepts: &[u16],
+    inclusions: &[u16],
+    questions: &[u16],
+    variables: u16,
+    assignment: &[u64],
+    out: &mut [u8],
+) -> usize
+    requires { ⌜ tableFault (tables (now concepts) (now inclusions) (now questions) variables) ≡ Done ⌝ }
+    requires { ⌜ length (now assignment) ≤ 8 ⌝ }
+    requires { ⌜ 4096 ≤ length (now out) ⌝ }
+    ensures { λ r. ⌜ Wrote (now (out .entry)) 0 (filledText (atoms (tables (now (concepts .entry)) (now (inclusions .entry)) (now (questions .entry)) variables)) (now (assignment .entry))) r (now (out .exit)) ⌝ }
+{
+    let mut ids = [0u16; 64];
+    let listed = subsumption::list_atoms(concepts, inclusions, questions, variables, &mut ids);
+    let Listed::Atoms(count) = listed else {
+        return 0;
+    };
+    put_filled(&ids[..count], assignment, out)
+}
+
+// The answer for the tables that a text says.
+fn answer_tables(
+    concepts: &[u16],
+    inclusions: &[u16],
+    questions: &[u16],
+    variables: u16,
+    out: &mut [u8],
+) -> usize
+    requires { ⌜ variables ≤ 8 ⌝ }
+    requires { ⌜ 4096 ≤ length (now out) ⌝ }
+    ensures { λ r. ⌜ Output (AnsweredTables (tables (now (concepts .entry)) (now (inclusions .entry)) (now (questions .entry)) variables) (tableFault (tables (now (concepts .entry)) (now (inclusions .entry)) (now (questions .entry)) variables))) (now (out .entry)) r (now (out .exit)) ⌝ }
+{
+    let mut assignment = [0u64; 8];
+    let found = matching::find_assignment(
+        concepts,
+        inclusions,
+        questions,
+        variables,
+        &mut assignment,
+    );
+    match found {
+        Match::Filled => {
+            let n = variables as usize;
+            answer_filled(
+                concepts,
+                inclusions,
+                questions,
+                variables,
+                &assignment[..n],
+                out,
+            )
+        }
+        Match::Nothing => put_none(out),
+        Match::Rejected(r) => answer_refused(r, out),
+    }
+}
+
+// The whole program, from the text's bytes to the output's; answers their number.
+pub fn answer(text: &[u8], out: &mut [u8]) -> usize
+    requires { ⌜ 4096 ≤ length (now out) ⌝ }
+    ensures { λ r. ⌜ Output (Answered (now (text .entry))) (now (out .entry)) r (now (out .exit)) ⌝ }
+{
+    let mut concepts = [0u16; 576];
+    let mut inclusions = [0u16; 192];
+    let mut questions = [0u16; 64];
+    let read = read_text(text, &mut concepts, &mut inclusions, &mut questions);
+    match read {
+        Read::Problem(variables, c, i, q) => {
+            let n = c * 3;
+            let m = i * 2;
+            let k = q * 2;
+            answer_tables(
+                &concepts[..n],
+                &inclusions[..m],
+                &questions[..k],
+                variables,
+                out,
+            )
+        }
+        Read::Rejected(r) => answer_refused(r, out),
+    }
+}

@@ -1,0 +1,153 @@
+// Lines of the house text, each read from the front of the text's remaining part; the length used says where the next one starts.
+ghost use mathlib.Core.Path.{_≡_};
+ghost use Prim.Native.Nat.{_≤_};
+ghost use lib.ListN.{length};
+ghost use Rattle.hermitcasket.specs.Lines.{belowKey, starts, wrongDigit, number, numberLine, pairLine, rowLine};
+
+// A number and the length used, its end among it.
+pub enum Number {
+    Value(u16, usize),
+    NoNumber,
+}
+
+pub enum PairLine {
+    Two(u16, u16, usize),
+    NoPair,
+}
+
+// Kind and two numbers, as the concept table has them.
+pub enum RowLine {
+    Row(u16, u16, u16, usize),
+    NoRow,
+}
+
+// The remaining text starts with these bytes.
+pub fn starts_with(rest: &[u8], key: &[u8]) -> bool
+    ensures { λ r. ⌜ r ≡ starts (now (key .entry)) (now (rest .entry)) ⌝ }
+{
+    let mut i: usize = 0;
+    while i < key.len() {
+        if rest.len() <= i {
+            return false;
+        }
+        if rest[i] != key[i] {
+            return false;
+        }
+        i += 1;
+    }
+    true
+}
+
+// A byte that cannot go on a number of which so many digits are read.
+fn is_wrong_digit(value: u32, count: usize, byte: u8) -> bool
+    requires { ⌜ value ≤ 65535 ⌝ }
+    ensures { λ r. ⌜ r ≡ wrongDigit value count byte ⌝ }
+{
+    if byte < 48 {
+        return true;
+    }
+    if 57 < byte {
+        return true;
+    }
+    let next = value * 10 + (byte - 48) as u32;
+    if count == 0 {
+        return 65535 < next;
+    }
+    if value == 0 {
+        return true;
+    }
+    65535 < next
+}
+
+// A number that the byte `stop` ends.
+pub fn read_number(rest: &[u8], stop: u8) -> Number
+    ensures { λ r. ⌜ r ≡ number stop (now (rest .entry)) ⌝ }
+{
+    let mut value: u32 = 0;
+    let mut n: usize = 0;
+    while n < rest.len() {
+        let byte = rest[n];
+        if byte == stop {
+            if n == 0 {
+                return Number::NoNumber;
+            }
+            return Number::Value(value as u16, n + 1);
+        }
+        if is_wrong_digit(value, n, byte) {
+            return Number::NoNumber;
+        }
+        value = value * 10 + (byte - 48) as u32;
+        n += 1;
+    }
+    Number::NoNumber
+}
+
+// A line of one number.
+pub fn number_line(rest: &[u8], key: &[u8]) -> Number
+    requires { ⌜ length (now key) ≤ 16 ⌝ }
+    ensures { λ r. ⌜ r ≡ numberLine (now (key .entry)) (now (rest .entry)) ⌝ }
+{
+    if !starts_with(rest, key) {
+        return Number::NoNumber;
+    }
+    let k = key.len();
+    let found = read_number(&rest[k..], 10);
+    if let Number::Value(value, n) = found {
+        return Number::Value(value, k + n);
+    }
+    Number::NoNumber
+}
+
+// A line of two numbers with a comma between them.
+pub fn pair_line(rest: &[u8], key: &[u8]) -> PairLine
+    requires { ⌜ length (now key) ≤ 16 ⌝ }
+    ensures { λ r. ⌜ r ≡ pairLine (now (key .entry)) (now (rest .entry)) ⌝ }
+{
+    if !starts_with(rest, key) {
+        return PairLine::NoPair;
+    }
+    let k = key.len();
+    let first = read_number(&rest[k..], 44);
+    let Number::Value(a, n) = first else {
+        return PairLine::NoPair;
+    };
+    let m = k + n;
+    let second = read_number(&rest[m..], 10);
+    let Number::Value(b, l) = second else {
+        return PairLine::NoPair;
+    };
+    PairLine::Two(a, b, m + l)
+}
+
+// A line of the concept table: the key says the kind.
+pub fn row_line(rest: &[u8]) -> RowLine
+    ensures { λ r. ⌜ r ≡ rowLine (now (rest .entry)) ⌝ }
+{
+    if starts_with(rest, b"top=0\n") {
+        return RowLine::Row(0, 0, 0, 6);
+    }
+    let name = number_line(rest, b"name=");
+    if let Number::Value(a, n) = name {
+        return RowLine::Row(1, a, 0, n);
+    }
+    let existential = pair_line(rest, b"some=");
+    if let PairLine::Two(a, b, n) = existential {
+        return RowLine::Row(2, a, b, n);
+    }
+    let conjunction = pair_line(rest, b"and=");
+    if let PairLine::Two(a, b, n) = conjunction {
+        return RowLine::Row(3, a, b, n);
+    }
+    let variable = number_line(rest, b"blank=");
+    if let Number::Value(a, n) = variable {
+        return RowLine::Row(4, a, 0, n);
+    }
+    RowLine::NoRow
+}
+
+// An inclusion or a question.
+pub fn below_line(rest: &[u8]) -> PairLine
+    ensures { λ r. ⌜ r ≡ pairLine belowKey (now (rest .entry)) ⌝ }
+{
+    pair_line(rest, b"below=")
+}
