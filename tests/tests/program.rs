@@ -1,0 +1,483 @@
+//! The program itself, run as a process: its answer to every text, right or damaged.
+
+use std::io::{self, Write};
+use std::path::{Path, PathBuf};
+use std::process::{Child, Command, Stdio};
+use std::thread;
+use std::time::Duration;
+
+use hermitcasket_tests::damage;
+use hermitcasket_tests::generate;
+use hermitcasket_tests::hard;
+use hermitcasket_tests::house_text::{self, layout, output, refused};
+use hermitcasket_tests::limits::MAX_TEXT;
+use hermitcasket_tests::random::{cases, full_run, seed, Random, Size};
+use hermitcasket_tests::reference::Refusal;
+use hermitcasket_tests::tables::Tables;
+
+const SAMPLE: &str = "\
+blanks=1
+entries=6
+name=5
+name=7
+some=1,0
+name=9
+blank=0
+and=1,4
+inclusions=1
+below=2,3
+questions=2
+below=5,3
+below=2,4
+";
+
+/// Every kind of line, twice the pairs, and an answer with two lists.
+const WIDE: &str = "\
+blanks=2
+entries=8
+top=0
+name=999
+some=99,1
+and=2,1
+blank=1
+blank=0
+and=4,5
+name=12
+inclusions=2
+below=1,7
+below=2,0
+questions=3
+below=6,3
+below=3,4
+below=3,5
+";
+
+fn start() -> Child {
+    let package = Path::new(env!("CARGO_MANIFEST_DIR"));
+    let program: PathBuf = package.join("../target/bin/hermitcasket");
+    let missing = "is missing: run rt check hermitcasket first";
+    assert!(program.is_file(), "{} {}", program.display(), missing);
+    let mut command = Command::new(&program);
+    command.stdin(Stdio::piped()).stdout(Stdio::piped()).stderr(Stdio::piped());
+    command.spawn().unwrap_or_else(|error| panic!("{:?}: {}", command, error))
+}
+
+/// All that the program prints when it is given the pieces one after another.
+fn print_in_pieces(pieces: &[&[u8]], pause: Duration) -> String {
+    let mut child = start();
+    let mut input = child.stdin.take().expect("a pipe");
+    for piece in pieces {
+        match input.write_all(piece).and_then(|()| input.flush()) {
+            // it may stop reading once the text is too long
+            Err(error) if error.kind() == io::ErrorKind::BrokenPipe => break,
+            written => written.expect("a pipe takes the text"),
+        }
+        thread::sleep(pause);
+    }
+    drop(input);
+    let ended = child.wait_with_output().expect("the program ends");
+    assert!(ended.status.code().is_some(), "{}", ended.status);
+    assert!(ended.stderr.is_empty(), "{}", String::from_utf8_lossy(&ended.stderr));
+    String::from_utf8(ended.stdout).expect("the output is plain text")
+}
+
+fn print(text: &[u8]) -> String {
+    print_in_pieces(&[text], Duration::ZERO)
+}
+
+/// The program prints what the reference does; what that is comes back.
+fn agree(text: &[u8]) -> String {
+    let wanted = output(text);
+    let printed = print(text);
+    assert!(printed == wanted, "prints\n{}not\n{}for {}", printed, wanted, shown(text));
+    wanted
+}
+
+/// The text as Rust text, long ones cut.
+fn shown(text: &[u8]) -> String {
+    let head: String =
+        text.iter().take(3000).flat_map(|b| b.escape_ascii()).map(char::from).collect();
+    format!("b\"{}\" ({} bytes)", head, text.len())
+}
+
+fn off_layout(place: usize) -> String {
+    refused(Refusal { number: 13, place: place as u64 })
+}
+
+#[test]
+fn samples() {
+    assert_eq!(agree(SAMPLE.as_bytes()), "answer=filled\nblanks=1\nfill=3\n");
+    // card I
+    let none = SAMPLE.replace("below=2,4", "below=0,4");
+    assert_eq!(agree(none.as_bytes()), "answer=none\n");
+    // card J
+    let unasked = SAMPLE.replace("questions=2\nbelow=5,3\nbelow=2,4\n", "questions=0\n");
+    assert_eq!(agree(unasked.as_bytes()), "answer=filled\nblanks=1\nfill=\n");
+    let wide = agree(WIDE.as_bytes());
+    assert_eq!(wide, "answer=filled\nblanks=2\nfill=\nfill=1,2\n");
+    let empty = "blanks=0\nentries=0\ninclusions=0\nquestions=0\n";
+    assert_eq!(agree(empty.as_bytes()), "answer=filled\nblanks=0\n");
+    assert_eq!(agree(b""), "answer=refused\nnumber=13\nplace=0\n");
+}
+
+/// The examples of 01's refusal table that a text can bring, and the limit cards.
+#[test]
+fn refusals_of_the_tables() {
+    let ask = |text: &str| agree(text.as_bytes());
+    let said = |number: u16, place: u64| refused(Refusal { number, place });
+    assert_eq!(ask("blanks=9\n"), said(1, 3));
+    assert_eq!(ask("blanks=0\nentries=1\nname=1000\ninclusions=0\nquestions=0\n"), said(2, 0));
+    assert_eq!(ask("blanks=0\nentries=1\nsome=1,0\ninclusions=0\nquestions=0\n"), said(3, 0));
+    assert_eq!(ask("blanks=0\nentries=0\ninclusions=1\nbelow=0,0\nquestions=0\n"), said(4, 0));
+    let blank = "blanks=1\nentries=1\nblank=0\n";
+    assert_eq!(ask(&(blank.to_string() + "inclusions=1\nbelow=0,0\nquestions=0\n")), said(5, 0));
+    assert_eq!(ask(&(blank.to_string() + "inclusions=0\nquestions=1\nbelow=0,0\n")), said(6, 0));
+    let parts = |count: u16| {
+        let rows: Vec<[u16; 3]> = (0..count).map(|name| [1, name, 0]).collect();
+        let inclusions: Vec<[u16; 2]> = (0..count).map(|id| [id, id]).collect();
+        layout(&Tables::new(&rows, &inclusions, &[], 0)).expect("a layout")
+    };
+    assert_eq!(agree(&parts(65)), said(7, 64));
+    assert_eq!(agree(&parts(64)), "answer=filled\nblanks=0\n");
+}
+
+/// Every limit and one more; later lines are not looked at.
+#[test]
+fn counts_at_their_limits() {
+    let text = |blanks: usize, entries: usize, inclusions: usize, questions: usize| {
+        let mut text = format!("blanks={}\nentries={}\n", blanks, entries);
+        text += &"top=0\n".repeat(entries);
+        text += &format!("inclusions={}\n{}", inclusions, "below=0,0\n".repeat(inclusions));
+        text + &format!("questions={}\n{}", questions, "below=0,0\n".repeat(questions))
+    };
+    let filled = agree(text(8, 192, 96, 32).as_bytes());
+    assert_eq!(filled, format!("answer=filled\nblanks=8\n{}", "fill=\n".repeat(8)));
+    let cases =
+        [(9, 192, 96, 32, 3), (8, 193, 96, 32, 0), (8, 192, 97, 32, 1), (8, 192, 96, 33, 2)];
+    for (blanks, entries, inclusions, questions, place) in cases {
+        let whole = text(blanks, entries, inclusions, questions);
+        let wanted = refused(Refusal { number: 1, place });
+        assert_eq!(agree(whole.as_bytes()), wanted);
+        // the count's line decides, whatever follows it
+        let key = ["entries=193\n", "inclusions=97\n", "questions=33\n", "blanks=9\n"];
+        let key = key[place as usize];
+        let end = whole.find(key).expect("the count") + key.len();
+        assert_eq!(agree(&whole.as_bytes()[..end]), wanted);
+        assert_eq!(agree([&whole.as_bytes()[..end], b"\0 garbage"].concat().as_slice()), wanted);
+        // without its byte 10 it is no line
+        let cut = &whole[..end - 1];
+        let start = end - key.len();
+        assert_eq!(agree(cut.as_bytes()), off_layout(start));
+    }
+    for count in [10, 255, 256, 264, 65535] {
+        let wanted = refused(Refusal { number: 1, place: 3 });
+        assert_eq!(agree(format!("blanks={}\n", count).as_bytes()), wanted);
+    }
+}
+
+/// Wrong keys for a right line "key=rest".
+fn wrong_keys(key: &str, rest: &str) -> Vec<String> {
+    vec![
+        String::new(),
+        format!("x{}={}", key, rest),
+        format!("={}", rest),
+        rest.to_string(),
+        key.to_string(),
+        format!("{}:{}", key, rest),
+        format!("{}s={}", key, rest),
+        format!("{}={}", &key[1..], rest),
+        format!("{}={}", &key[..key.len() - 1], rest),
+        format!("{}={}", key.to_uppercase(), rest),
+        format!("{}=={}", key, rest),
+        format!("other={}", rest),
+    ]
+}
+
+/// Wrong first numbers, where `second` is empty or a comma and the second number.
+fn wrong_numbers(key: &str, first: &str, second: &str) -> Vec<String> {
+    let numbers = [
+        String::new(),
+        format!(",{}", first),
+        format!("0{}", first),
+        "00".to_string(),
+        format!("+{}", first),
+        format!("-{}", first),
+        "65536".to_string(),
+        "131072".to_string(),
+        "18446744073709551616".to_string(),
+        "99999999999999999999999".to_string(),
+        "x".to_string(),
+        format!("0x{}", first),
+        format!("{}.0", first),
+    ];
+    let mut lines: Vec<String> =
+        numbers.iter().map(|number| format!("{}={}{}", key, number, second)).collect();
+    lines.push(format!("{}={}{},", key, first, second));
+    lines.push(format!("{}={}{},0", key, first, second));
+    lines
+}
+
+/// Wrong second numbers and commas.
+fn wrong_pairs(key: &str, a: &str, b: &str) -> Vec<String> {
+    vec![
+        format!("{}={}", key, a),
+        format!("{}={},", key, a),
+        format!("{}={}, {}", key, a, b),
+        format!("{}={} ,{}", key, a, b),
+        format!("{}={},0{}", key, a, b),
+        format!("{}={},65536", key, a),
+        format!("{}={};{}", key, a, b),
+        format!("{}={},,{}", key, a, b),
+        format!("{}={}\0,{}", key, a, b),
+    ]
+}
+
+/// Bytes that belong in no line.
+fn odd_bytes(line: &str, key: &str, rest: &str) -> Vec<Vec<u8>> {
+    let texts = [
+        format!(" {}", line),
+        format!("{} ", line),
+        format!("{} ={}", key, rest),
+        format!("{}= {}", key, rest),
+        format!("{}\r", line),
+        format!("\t{}", line),
+        format!("{}\0", line),
+        format!("\0{}", line),
+        format!("{}=\0{}", key, rest),
+    ];
+    let mut lines: Vec<Vec<u8>> = texts.into_iter().map(String::into_bytes).collect();
+    for at in [0, key.len(), line.len() - 1] {
+        let mut bytes = line.as_bytes().to_vec();
+        bytes[at] |= 0x80;
+        lines.push(bytes);
+    }
+    lines.push([line.as_bytes(), b"\xff"].concat());
+    lines
+}
+
+/// Lines that break the layout wherever they stand, made from a right line.
+fn broken(line: &str) -> Vec<Vec<u8>> {
+    let (key, rest) = line.split_once('=').expect("a right line");
+    let mut texts = wrong_keys(key, rest);
+    match rest.split_once(',') {
+        None => texts.extend(wrong_numbers(key, rest, "")),
+        Some((a, b)) => {
+            texts.extend(wrong_numbers(key, a, &format!(",{}", b)));
+            texts.extend(wrong_pairs(key, a, b));
+        }
+    }
+    let mut lines: Vec<Vec<u8>> = texts.into_iter().map(String::into_bytes).collect();
+    lines.extend(odd_bytes(line, key, rest));
+    lines
+}
+
+/// The text's lines, each with the byte where it starts.
+fn lines(text: &str) -> Vec<(usize, &str)> {
+    let mut at = 0;
+    let mut list = Vec::new();
+    for line in text.lines() {
+        list.push((at, line));
+        at += line.len() + 1;
+    }
+    list
+}
+
+/// Every fault at every line is 13 at the byte where that line starts.
+#[test]
+fn every_fault_at_every_line() {
+    for (text, share) in [(SAMPLE, 1), (WIDE, 5)] {
+        for (k, (start, line)) in lines(text).into_iter().enumerate() {
+            let rest = &text[start + line.len()..];
+            for fault in broken(line).iter().skip(k % share).step_by(share) {
+                let damaged = [&text.as_bytes()[..start], fault, rest.as_bytes()].concat();
+                assert_eq!(agree(&damaged), off_layout(start), "{}", shown(&damaged));
+            }
+        }
+    }
+}
+
+/// Well-formed numbers out of range are for the tables' checks; "top" takes 0 only.
+#[test]
+fn telling_numbers_at_every_line() {
+    for (start, line) in lines(WIDE) {
+        let (key, rest) = line.split_once('=').expect("a right line");
+        for number in ["0", "1", "8", "9", "99", "100", "192", "193", "999", "1000", "65535"] {
+            let changed: Vec<String> = match rest.split_once(',') {
+                None => vec![format!("{}={}", key, number)],
+                Some((a, b)) => {
+                    vec![format!("{}={},{}", key, number, b), format!("{}={},{}", key, a, number)]
+                }
+            };
+            for line_now in changed {
+                let text = [&WIDE[..start], &line_now, &WIDE[start + line.len()..]].concat();
+                let said = agree(text.as_bytes());
+                if key == "top" && number != "0" {
+                    assert_eq!(said, off_layout(start), "{}", text);
+                }
+            }
+        }
+    }
+}
+
+/// The text cut at every byte, and every line left out, said twice, or out of its place.
+#[test]
+fn cuts_and_moved_lines() {
+    let sample = SAMPLE.as_bytes();
+    for end in 0..sample.len() {
+        let started = sample[..end].iter().rposition(|&byte| byte == b'\n').map_or(0, |at| at + 1);
+        assert_eq!(agree(&sample[..end]), off_layout(started), "cut at {}", end);
+    }
+    let all = lines(SAMPLE);
+    let join = |list: &[(usize, &str)]| -> Vec<u8> {
+        list.iter().flat_map(|(_, line)| [line.as_bytes(), b"\n"].concat()).collect()
+    };
+    for k in 0..all.len() {
+        let mut fewer = all.clone();
+        fewer.remove(k);
+        agree(&join(&fewer));
+        let mut twice = all.clone();
+        twice.insert(k, all[k]);
+        agree(&join(&twice));
+        let mut moved = all.clone();
+        moved.swap(k, (k + 1) % all.len());
+        agree(&join(&moved));
+    }
+}
+
+/// Bytes after the last line are a line that is not due.
+#[test]
+fn bytes_after_the_end() {
+    for more in ["\n", " ", "x", "\0", "below=0,0\n", "questions=0\n", "blanks=1\n", "\r\n"] {
+        let text = SAMPLE.to_string() + more;
+        assert_eq!(agree(text.as_bytes()), off_layout(SAMPLE.len()), "{:?}", more);
+    }
+    assert_eq!(agree((SAMPLE.to_string() + SAMPLE).as_bytes()), off_layout(SAMPLE.len()));
+    assert_eq!(agree(b"\xef\xbb\xbfblanks=0\n"), off_layout(0));
+}
+
+/// Up to 8192 bytes the lines decide; over it the length does, before any line.
+#[test]
+fn lengths_around_the_limit() {
+    let starts =
+        [(SAMPLE, off_layout(SAMPLE.len())), ("", off_layout(0)), ("blanks=9\n", said_9())];
+    for (start, at_limit) in starts {
+        for filler in [b'\n', b'0', 0] {
+            for length in [MAX_TEXT - 1, MAX_TEXT, MAX_TEXT + 1, MAX_TEXT + 2, 10_000, 100_000] {
+                let mut text = start.as_bytes().to_vec();
+                text.resize(length, filler);
+                let wanted =
+                    if length > MAX_TEXT { off_layout(MAX_TEXT) } else { at_limit.clone() };
+                assert_eq!(agree(&text), wanted, "{} bytes", length);
+            }
+        }
+    }
+}
+
+fn said_9() -> String {
+    refused(Refusal { number: 1, place: 3 })
+}
+
+/// The same answer however the bytes arrive.
+#[test]
+fn input_in_small_pieces() {
+    let pause = Duration::from_micros(300);
+    for size in [1, 2, 7, 64] {
+        for text in [SAMPLE, WIDE] {
+            let pieces: Vec<&[u8]> = text.as_bytes().chunks(size).collect();
+            assert_eq!(print_in_pieces(&pieces, pause), output(text.as_bytes()), "{}", size);
+        }
+    }
+    // 8192 and 8193 bytes, the last one alone
+    for length in [MAX_TEXT, MAX_TEXT + 1] {
+        let mut text = SAMPLE.as_bytes().to_vec();
+        text.resize(length, b'\n');
+        let (most, last) = text.split_at(length - 1);
+        assert_eq!(print_in_pieces(&[most, last], 20 * pause), output(&text), "{}", length);
+    }
+    let cut = &SAMPLE.as_bytes()[..SAMPLE.len() - 1];
+    assert_eq!(print_in_pieces(&[cut, b"\n"], 20 * pause), output(SAMPLE.as_bytes()));
+    assert_eq!(print_in_pieces(&[cut], 20 * pause), output(cut));
+}
+
+/// A layout reads back as the problem it lays out, and only that.
+#[test]
+fn layouts_read_back() {
+    let seed = seed("program, layouts");
+    for size in [Size::Small, Size::Medium, Size::Large] {
+        for k in 0..cases(size) / 8 {
+            let tables = generate::valid(&mut Random::for_case(seed, k), size);
+            let text = layout(&tables).expect("accepted tables have a layout");
+            assert_eq!(house_text::read(&text).as_ref(), Ok(&tables), "{}", tables);
+        }
+    }
+}
+
+/// Random problems, many with faults that a text can hold.
+#[test]
+fn random_problems_agree() {
+    let seed = seed("program, problems");
+    let (mut seen, mut run) = (std::collections::BTreeSet::new(), 0);
+    for (size, share) in [(Size::Small, 12), (Size::Medium, 10), (Size::Large, 10)] {
+        for k in 0..cases(size) / share {
+            let mut random = Random::for_case(seed, k);
+            let mut tables = generate::valid(&mut random, size);
+            if random.percent(50) {
+                damage::tables(&mut random, &mut tables);
+            }
+            if let Some(text) = layout(&tables) {
+                let said = agree(&text);
+                seen.insert(said.lines().take(2).collect::<Vec<_>>().join(" "));
+                run += 1;
+            }
+        }
+    }
+    let kinds = ["none", "filled", "=1", "=2", "=3", "=4", "=5", "=6", "=7"];
+    let all_seen = kinds.iter().all(|kind| seen.iter().any(|said| said.contains(kind)));
+    assert!(all_seen || !full_run(), "{} problems: {:?}", run, seen);
+}
+
+/// One to three bytes changed, put in or left out, or pieces of the text moved.
+fn damage_text(random: &mut Random, text: &mut Vec<u8>) {
+    const TELLING: &[u8] = b"\n\n\r ,=0019-\0\x80\xffabt";
+    for _ in 0..random.between(1, 3) {
+        let at = random.below(text.len().max(1));
+        match random.below(6) {
+            0 => text.insert(at, *random.pick(TELLING)),
+            1 if !text.is_empty() => drop(text.remove(at)),
+            2 if !text.is_empty() => text[at] = *random.pick(TELLING),
+            3 if !text.is_empty() => text[at] = text[at].wrapping_add(random.between(1, 255) as u8),
+            4 => text.truncate(at),
+            _ => {
+                let until = at + random.below(text.len() - at + 1);
+                let piece = text[at..until].to_vec();
+                let to = random.below(text.len() + 1);
+                text.splice(to..to, piece);
+            }
+        }
+    }
+}
+
+#[test]
+fn random_damaged_texts_agree() {
+    let seed = seed("program, texts");
+    let mut off = 0;
+    for k in 0..cases(Size::Small) / 12 {
+        let mut random = Random::for_case(seed, k);
+        let size = if random.percent(90) { Size::Small } else { Size::Medium };
+        let tables = generate::valid(&mut random, size);
+        let mut text = layout(&tables).expect("accepted tables have a layout");
+        damage_text(&mut random, &mut text);
+        off += usize::from(agree(&text).contains("number=13"));
+    }
+    assert!(off > 0 || !full_run());
+}
+
+/// The hard families, as texts.
+#[test]
+fn hard_families() {
+    for k in [5, 60] {
+        for problem in hard::with_harmless(k) {
+            agree(&layout(&problem.tables).expect("a layout"));
+        }
+    }
+}
