@@ -12,3 +12,4 @@ pub mod FillLaws
 pub mod SizeLaws
 pub mod AnswerLaws
 pub mod LayoutLaws
+pub mod LayoutRead
