@@ -13,3 +13,4 @@ pub mod SizeLaws
 pub mod AnswerLaws
 pub mod LayoutLaws
 pub mod LayoutRead
+pub mod Texts
