@@ -99,17 +99,21 @@ module _ (atoms : List ℕ) (choice : ℕ) (before : List ℕ) (at : ℕ) where
           length-append (s .text) (idText later (getD atoms p 0)),
         )
 
-    pub id-room : end + length (idText later (getD atoms p 0)) ≤ length out
-    id-room = omega (arith, lengths, s .wrote .place, s .long)
+    own-room : end + length (idText later (getD atoms p 0)) ≤ length out
+    own-room = omega (arith, lengths, s .wrote .place, s .long)
 
-    pub picked-yes : (end' : ℕ) (out' : List ℕ) → Wrote out end (idText later (getD atoms p 0)) end' out' → Picked out' (rest / 2) end' true (p + 1)
-    picked-yes end' out' w =
+    pub id-room : (id : ℕ) → id ≡ getD atoms p 0 → end + length (idText later id) ≤ length out
+    id-room id q = rw q own-room
+
+    pub picked-yes : (id : ℕ) → id ≡ getD atoms p 0 → (end' : ℕ) (out' : List ℕ) → Wrote out end (idText later id) end' out' → Picked out' (rest / 2) end' true (p + 1)
+    picked-yes id q end' out' v =
+        let w = subst (λ (z : ℕ). Wrote out end (idText later z) end' out') q v in
         record {
           text = s .text ++ idText later (getD atoms p 0);
           wrote = wrote-join before at (s .text) (idText later (getD atoms p 0)) end out end' out' (omega (arith, lengths)) (s .wrote) w;
           left = next;
           within = omega arith;
-          long = wrote-length out end (idText later (getD atoms p 0)) end' out' id-room w ∙ s .long;
+          long = wrote-length out end (idText later (getD atoms p 0)) end' out' own-room w ∙ s .long;
         }
 
   pub picked-done :

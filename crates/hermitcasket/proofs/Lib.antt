@@ -13,3 +13,5 @@ pub mod SizeLaws
 pub mod AnswerLaws
 pub mod LayoutLaws
 pub mod ProgramLaws
+pub mod LayoutRead
+pub mod Texts

@@ -1,8 +1,9 @@
 // The output, written to a buffer: each function answers the place behind what it wrote.
 use subsumption::refusal::Code;
 ghost use mathlib.Core.Bool.{false};
-ghost use Prim.Native.Nat.{_+_, _≤_};
-ghost use lib.ListN.{length};
+ghost use mathlib.Core.Path.{_≡_};
+ghost use Prim.Native.Nat.{_+_, _<_, _≤_};
+ghost use lib.ListN.{length, getD};
 ghost use Rattle.subsumption.specs.Atoms.{pick};
 ghost use Rattle.hermitcasket.specs.Digits.{digits};
 ghost use Rattle.hermitcasket.specs.Lines.{numberText};
@@ -56,6 +57,14 @@ fn put_id(id: u16, later: bool, at: usize, out: &mut [u8]) -> usize
     put_number(id as usize, at, out)
 }
 
+// The id of the atom at a position.
+fn id_at(atoms: &[u16], p: usize) -> u16
+    requires { ⌜ p < length (now atoms) ⌝ }
+    ensures { λ r. ⌜ r ≡ getD (now (atoms .entry)) p 0 ⌝ }
+{
+    atoms[p]
+}
+
 // The atoms that a choice takes.
 fn put_ids(atoms: &[u16], choice: u64, at: usize, out: &mut [u8]) -> usize
     requires { ⌜ at + length (idsText false (pick (now atoms) choice)) ≤ length (now out) ⌝ }
@@ -66,7 +75,7 @@ fn put_ids(atoms: &[u16], choice: u64, at: usize, out: &mut [u8]) -> usize
     let mut later = false;
     let mut p: usize = 0;
     while p < atoms.len() {
-        let id = atoms[p];
+        let id = id_at(atoms, p);
         let taken = rest % 2;
         rest = rest / 2;
         p += 1;

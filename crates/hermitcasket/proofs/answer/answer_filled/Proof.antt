@@ -10,43 +10,33 @@ use Rattle.hermitcasket.proofs.answer.answer_filled.Lts as lts
 use Rattle.hermitcasket.proofs.print.put_filled.Reads as put-filled-reads
 use Rattle.subsumption.proofs.list_atoms.Reads as list-atoms-reads
 
--- src/answer.rt:40:86
 slice-aggregate-list-atoms : tie.Need-slice-aggregate-list-atoms
 slice-aggregate-list-atoms c = search needs
 
--- src/answer.rt:40:9
 list-atoms-requires : tie.Need-list-atoms-requires
 list-atoms-requires c κs = search needs
 
--- src/answer.rt:41:23
 enum-known-listed : tie.Need-enum-known-listed
 enum-known-listed c = search needs
 
--- src/answer.rt:42:9
 enum-told : tie.Need-enum-told
 enum-told c = search needs
 
--- src/answer.rt:42:9
 returns : tie.Need-returns
 returns c = never-rejected _ (c .before .before .before .before .before .before .before .before .before .before .pre .0) (replicate 64 0) _ (omega arith) _ (c .before .before .before .list-atoms .ensures) _ (c .enum-told .given .1)
 
--- src/answer.rt:44:16
 array-share-prefix-ids : tie.Need-array-share-prefix-ids
 array-share-prefix-ids c = ids-within _ (c .before .before .before .before .before .before .before .before .before .before .before .pre .0) (replicate 64 0) _ (omega arith) _ (c .before .before .before .before .list-atoms .ensures) _ (c .before .listed .given .1)
 
--- src/answer.rt:44:16
 slice-aggregate-put-filled : tie.Need-slice-aggregate-put-filled
 slice-aggregate-put-filled c = ids-count _ (c .before .before .before .before .before .before .before .before .before .before .before .before .pre .0) (replicate 64 0) _ (omega arith) _ (c .before .before .before .before .before .list-atoms .ensures) _ (c .before .before .listed .given .1)
 
--- src/answer.rt:44:5
 put-filled-requires : tie.Need-put-filled-requires
 put-filled-requires c κs = ids-room _ (c .before .before .before .before .before .before .before .before .before .before .before .before .before .pre .0) (replicate 64 0) _ (omega arith) _ (c .before .before .before .before .before .before .list-atoms .ensures) _ (c .before .before .before .listed .given .1) (c .before .before .before .before .before .before .before .before .before .before .before .before .before .args .assignment .now) (c .before .before .before .before .before .before .before .before .before .before .before .before .before .args .out .now) (c .before .before .before .before .before .before .before .before .before .before .before .before .before .pre .1 .0) (c .before .before .before .before .before .before .before .before .before .before .before .before .before .pre .1 .1)
 
--- src/answer.rt:26:1
 same-length : tie.Need-same-length
 same-length c = search needs
 
--- src/answer.rt:26:1
 returns-2 : tie.Need-returns-2
 returns-2 c = wrote-filled _ (c .before .before .before .before .before .before .before .before .before .before .before .before .before .before .before .before .pre .0) (replicate 64 0) _ (omega arith) _ (c .before .before .before .before .before .before .before .before .before .list-atoms .ensures) _ (c .before .before .before .before .before .before .listed .given .1) _ _ _ _ (c .before .before .put-filled .ensures)
 

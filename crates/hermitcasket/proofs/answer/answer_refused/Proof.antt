@@ -9,19 +9,15 @@ use Rattle.hermitcasket.proofs.answer.answer_refused.Lts as lts
 use Rattle.hermitcasket.proofs.print.put_refused.Reads as put-refused-reads
 use Rattle.subsumption.proofs.refusal.code_of.Reads as code-of-reads
 
--- src/answer.rt:21:9
 code-of-requires : tie.Need-code-of-requires
 code-of-requires c κs = search needs
 
--- src/answer.rt:22:5
 put-refused-requires : tie.Need-put-refused-requires
 put-refused-requires c κs = refused-room (c .before .code-of .result) (c .before .before .before .args .out .now) (omega (arith, c .before .code-of .ok)) (omega (arith, c .before .code-of .ok)) (c .before .before .before .pre)
 
--- src/answer.rt:17:1
 same-length : tie.Need-same-length
 same-length c = search needs
 
--- src/answer.rt:17:1
 returns : tie.Need-returns
 returns c = search wrote-code
 

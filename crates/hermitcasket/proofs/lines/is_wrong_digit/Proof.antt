@@ -5,35 +5,27 @@ use Rattle.hermitcasket.proofs.lines.is_wrong_digit.Tie as tie
 use Rattle.hermitcasket.proofs.lines.is_wrong_digit.Reads as reads
 use Rattle.hermitcasket.proofs.lines.is_wrong_digit.Lts as lts
 
--- src/lines.rt:47:9
 returns : tie.Need-returns
 returns c = search wrong-low
 
--- src/lines.rt:50:9
 returns-2 : tie.Need-returns-2
 returns-2 c = search wrong-high
 
--- src/lines.rt:52:16
 mul-next : tie.Need-mul-next
 mul-next c = search needs
 
--- src/lines.rt:52:29
 cast-next : tie.Need-cast-next
 cast-next c = search needs
 
--- src/lines.rt:52:16
 add-next : tie.Need-add-next
 add-next c = search needs
 
--- src/lines.rt:54:9
 returns-3 : tie.Need-returns-3
 returns-3 c = search wrong-large-first
 
--- src/lines.rt:57:9
 returns-4 : tie.Need-returns-4
 returns-4 c = search wrong-zero
 
--- src/lines.rt:42:1
 returns-5 : tie.Need-returns-5
 returns-5 c = search wrong-large-after
 

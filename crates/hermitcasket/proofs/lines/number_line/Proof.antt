@@ -10,48 +10,38 @@ use Rattle.hermitcasket.proofs.lines.number_line.Lts as lts
 use Rattle.hermitcasket.proofs.lines.read_number.Reads as read-number-reads
 use Rattle.hermitcasket.proofs.lines.starts_with.Reads as starts-with-reads
 
--- src/lines.rt:90:9
 starts-with-requires : tie.Need-starts-with-requires
 starts-with-requires c κs = search needs
 
--- src/lines.rt:91:9
 returns : tie.Need-returns
 returns c = search number-unkeyed
 
--- src/lines.rt:94:29
 sub-read-number : tie.Need-sub-read-number
 sub-read-number c = search key-within
 
--- src/lines.rt:94:29
 part-read-number-start : tie.Need-part-read-number-start
 part-read-number-start c = search key-within
 
--- src/lines.rt:94:29
 part-read-number-end : tie.Need-part-read-number-end
 part-read-number-end c = search needs
 
--- src/lines.rt:94:9
 read-number-requires : tie.Need-read-number-requires
 read-number-requires c κs = search needs
 
--- src/lines.rt:95:26
 enum-known-found : tie.Need-enum-known-found
 enum-known-found c = search needs
 
--- src/lines.rt:96:37
 add-t13 : tie.Need-add-t13
 add-t13 c = let c' = c .before .before .before .before .before .before .before .before .before in
     let h : length (c' .args .key .now) + c .before .found .given .0 .1 .0 ≤ length (c' .args .rest .now) = search value-within in
     omega (arith, c' .good)
 
--- src/lines.rt:96:9
 returns-2 : tie.Need-returns-2
 returns-2 c = search value-line
 
 enum-told : tie.Need-enum-told
 enum-told c = search needs
 
--- src/lines.rt:86:1
 returns-3 : tie.Need-returns-3
 returns-3 c = search none-line
 

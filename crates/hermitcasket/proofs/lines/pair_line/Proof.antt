@@ -10,83 +10,64 @@ use Rattle.hermitcasket.proofs.lines.pair_line.Lts as lts
 use Rattle.hermitcasket.proofs.lines.read_number.Reads as read-number-reads
 use Rattle.hermitcasket.proofs.lines.starts_with.Reads as starts-with-reads
 
--- src/lines.rt:106:9
 starts-with-requires : tie.Need-starts-with-requires
 starts-with-requires c κs = search needs
 
--- src/lines.rt:107:9
 returns : tie.Need-returns
 returns c = search pair-unkeyed
 
--- src/lines.rt:110:29
 sub-read-number : tie.Need-sub-read-number
 sub-read-number c = search key-within
 
--- src/lines.rt:110:29
 part-read-number-start : tie.Need-part-read-number-start
 part-read-number-start c = search key-within
 
--- src/lines.rt:110:29
 part-read-number-end : tie.Need-part-read-number-end
 part-read-number-end c = search needs
 
--- src/lines.rt:110:9
 read-number-requires : tie.Need-read-number-requires
 read-number-requires c κs = search needs
 
--- src/lines.rt:111:23
 enum-known-first : tie.Need-enum-known-first
 enum-known-first c = search needs
 
--- src/lines.rt:112:9
 enum-told : tie.Need-enum-told
 enum-told c = search needs
 
--- src/lines.rt:112:9
 returns-2 : tie.Need-returns-2
 returns-2 c = search first-none
 
--- src/lines.rt:114:13
 add-m : tie.Need-add-m
 add-m c = let c' = c .before .before .before .before .before .before .before .before .before in
     let h : length (c' .args .key .now) + c .before .first .given .0 .1 .0 ≤ length (c' .args .rest .now) = search first-within in
     omega (arith, c' .good)
 
--- src/lines.rt:115:30
 sub-read-number-2 : tie.Need-sub-read-number-2
 sub-read-number-2 c = search first-within
 
--- src/lines.rt:115:30
 part-read-number-start-2 : tie.Need-part-read-number-start-2
 part-read-number-start-2 c = search first-within
 
--- src/lines.rt:115:30
 part-read-number-end-2 : tie.Need-part-read-number-end-2
 part-read-number-end-2 c = search needs
 
--- src/lines.rt:115:9
 read-number-requires-2 : tie.Need-read-number-requires-2
 read-number-requires-2 c κs = search needs
 
--- src/lines.rt:116:23
 enum-known-second : tie.Need-enum-known-second
 enum-known-second c = search needs
 
--- src/lines.rt:117:9
 enum-told-2 : tie.Need-enum-told-2
 enum-told-2 c = search needs
 
--- src/lines.rt:117:9
 returns-3 : tie.Need-returns-3
 returns-3 c = search second-none
 
--- src/lines.rt:119:25
 add-t14 : tie.Need-add-t14
 add-t14 c = let c' = c .before .before .before .before .before .before .before .before .before .before .before .before .before .before in
     let h : length (c' .args .key .now) + c .before .before .before .before .before .before .first .given .0 .1 .0 + c .before .second .given .0 .1 .0 ≤ length (c' .args .rest .now) = search second-within in
     omega (arith, c' .good)
 
--- src/lines.rt:102:1
 returns-4 : tie.Need-returns-4
 returns-4 c = search two-line
 

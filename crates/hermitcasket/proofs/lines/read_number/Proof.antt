@@ -16,67 +16,51 @@ Inv-loop rest stop value₀ n₀ value n = Numbered stop rest value n
 abbrev μ-loop : tie.MeasureT-loop
 μ-loop rest stop value₀ n₀ value n = length rest - n
 
--- src/lines.rt:66:5
 loop-holds : tie.Need-loop-holds Inv-loop μ-loop
 loop-holds c = numbered-none _ _
 
--- src/lines.rt:67:20
 shared-slice-read-byte : tie.Need-shared-slice-read-byte Inv-loop μ-loop
 shared-slice-read-byte c = omega arith
 
--- src/lines.rt:70:17
 returns : tie.Need-returns Inv-loop μ-loop
 returns c = search numbered-empty
 
--- src/lines.rt:72:34
 cast-t11 : tie.Need-cast-t11 Inv-loop μ-loop
 cast-t11 c = omega arith
 
--- src/lines.rt:72:48
 add-t12 : tie.Need-add-t12 Inv-loop μ-loop
 add-t12 c = omega arith
 
--- src/lines.rt:72:13
 returns-2 : tie.Need-returns-2 Inv-loop μ-loop
 returns-2 c = search numbered-stop
 
--- src/lines.rt:74:12
 is-wrong-digit-requires : tie.Need-is-wrong-digit-requires Inv-loop μ-loop
 is-wrong-digit-requires c κs = omega arith
 
--- src/lines.rt:75:13
 returns-3 : tie.Need-returns-3 Inv-loop μ-loop
 returns-3 c = search numbered-wrong
 
--- src/lines.rt:77:17
 mul-value : tie.Need-mul-value Inv-loop μ-loop
 mul-value c = omega arith
 
--- src/lines.rt:77:31
 sub-value : tie.Need-sub-value Inv-loop μ-loop
 sub-value c = digit-right _ _ _ (sym (c .before .is-wrong-digit .ensures) ∙ c .if3 .left) .low
 
--- src/lines.rt:77:30
 cast-value : tie.Need-cast-value Inv-loop μ-loop
 cast-value c = omega (arith, digit-right _ _ _ (sym (c .before .is-wrong-digit .ensures) ∙ c .if3 .left))
 
--- src/lines.rt:77:17
 add-value : tie.Need-add-value Inv-loop μ-loop
 add-value c = omega (arith, digit-right _ _ _ (sym (c .before .is-wrong-digit .ensures) ∙ c .if3 .left))
 
--- src/lines.rt:78:9
 add-n : tie.Need-add-n Inv-loop μ-loop
 add-n c = omega arith
 
--- src/lines.rt:66:5
 loop-less : tie.Need-loop-less Inv-loop μ-loop
 loop-less c = omega arith
 
--- src/lines.rt:66:5
 loop-again : tie.Need-loop-again Inv-loop μ-loop
 loop-again c = search numbered-more
 
--- src/lines.rt:61:1
 returns-4 : tie.Need-returns-4 Inv-loop μ-loop
 returns-4 c = search numbered-end
 

@@ -8,95 +8,75 @@ use Rattle.hermitcasket.proofs.lines.number_line.Reads as number-line-r
 use Rattle.hermitcasket.proofs.lines.pair_line.Reads as pair-line-reads
 use Rattle.hermitcasket.proofs.lines.starts_with.Reads as starts-with-reads
 
--- src/lines.rt:126:26
 slice-aggregate-starts-with : tie.Need-slice-aggregate-starts-with
 slice-aggregate-starts-with c = search needs
 
--- src/lines.rt:126:8
 starts-with-requires : tie.Need-starts-with-requires
 starts-with-requires c κs = search needs
 
--- src/lines.rt:127:9
 returns : tie.Need-returns
 returns c = search row-top
 
--- src/lines.rt:129:34
 slice-aggregate-number-line : tie.Need-slice-aggregate-number-line
 slice-aggregate-number-line c = search needs
 
--- src/lines.rt:129:9
 number-line-requires : tie.Need-number-line-requires
 number-line-requires c κs = search needs
 
--- src/lines.rt:130:26
 enum-known-name : tie.Need-enum-known-name
 enum-known-name c = search needs
 
--- src/lines.rt:131:9
 returns-2 : tie.Need-returns-2
 returns-2 c = search row-name
 
 enum-told : tie.Need-enum-told
 enum-told c = search needs
 
--- src/lines.rt:133:39
 slice-aggregate-pair-line : tie.Need-slice-aggregate-pair-line
 slice-aggregate-pair-line c = search needs
 
--- src/lines.rt:133:9
 pair-line-requires : tie.Need-pair-line-requires
 pair-line-requires c κs = search needs
 
--- src/lines.rt:134:26
 enum-known-existential : tie.Need-enum-known-existential
 enum-known-existential c = search needs
 
--- src/lines.rt:135:9
 returns-3 : tie.Need-returns-3
 returns-3 c = search row-existential
 
 enum-told-2 : tie.Need-enum-told-2
 enum-told-2 c = search needs
 
--- src/lines.rt:137:39
 slice-aggregate-pair-line-2 : tie.Need-slice-aggregate-pair-line-2
 slice-aggregate-pair-line-2 c = search needs
 
--- src/lines.rt:137:9
 pair-line-requires-2 : tie.Need-pair-line-requires-2
 pair-line-requires-2 c κs = search needs
 
--- src/lines.rt:138:26
 enum-known-conjunction : tie.Need-enum-known-conjunction
 enum-known-conjunction c = search needs
 
--- src/lines.rt:139:9
 returns-4 : tie.Need-returns-4
 returns-4 c = search row-conjunction
 
 enum-told-3 : tie.Need-enum-told-3
 enum-told-3 c = search needs
 
--- src/lines.rt:141:38
 slice-aggregate-number-line-2 : tie.Need-slice-aggregate-number-line-2
 slice-aggregate-number-line-2 c = search needs
 
--- src/lines.rt:141:9
 number-line-requires-2 : tie.Need-number-line-requires-2
 number-line-requires-2 c κs = search needs
 
--- src/lines.rt:142:26
 enum-known-variable : tie.Need-enum-known-variable
 enum-known-variable c = search needs
 
--- src/lines.rt:143:9
 returns-5 : tie.Need-returns-5
 returns-5 c = search row-variable
 
 enum-told-4 : tie.Need-enum-told-4
 enum-told-4 c = search needs
 
--- src/lines.rt:123:1
 returns-6 : tie.Need-returns-6
 returns-6 c = search row-none
 

@@ -14,39 +14,30 @@ Inv-loop rest key i₀ i = Agree key rest i
 abbrev μ-loop : tie.MeasureT-loop
 μ-loop rest key i₀ i = length key - i
 
--- src/lines.rt:29:5
 loop-holds : tie.Need-loop-holds Inv-loop μ-loop
 loop-holds c = agree-none _ _
 
--- src/lines.rt:31:13
 returns : tie.Need-returns Inv-loop μ-loop
 returns c = search agree-short
 
--- src/lines.rt:33:12
 shared-slice-read-if2 : tie.Need-shared-slice-read-if2 Inv-loop μ-loop
 shared-slice-read-if2 c = omega arith
 
--- src/lines.rt:33:23
 shared-slice-read-if2-2 : tie.Need-shared-slice-read-if2-2 Inv-loop μ-loop
 shared-slice-read-if2-2 c = omega arith
 
--- src/lines.rt:34:13
 returns-2 : tie.Need-returns-2 Inv-loop μ-loop
 returns-2 c = search agree-differ
 
--- src/lines.rt:36:9
 add-i : tie.Need-add-i Inv-loop μ-loop
 add-i c = omega arith
 
--- src/lines.rt:29:5
 loop-less : tie.Need-loop-less Inv-loop μ-loop
 loop-less c = omega arith
 
--- src/lines.rt:29:5
 loop-again : tie.Need-loop-again Inv-loop μ-loop
 loop-again c = search agree-more
 
--- src/lines.rt:25:1
 returns-3 : tie.Need-returns-3 Inv-loop μ-loop
 returns-3 c = search agree-done
 

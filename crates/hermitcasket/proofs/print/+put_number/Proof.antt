@@ -23,7 +23,6 @@ abbrev put-number-below : ℕ → In 1 put-number-kinds.ps
 put-number-below t =
     and 1 put-number-kinds.ps (falls 1 put-number-kinds.ps _<_ μ-put-number t) put-number.Pre
 
--- src/print.rt:29:24
 put-number-cast-out :
     (t : ℕ) →
     put-number-lts.Need-cast-out
@@ -32,7 +31,6 @@ put-number-cast-out :
     put-number.Post
 put-number-cast-out t c = search needs
 
--- src/print.rt:29:19
 put-number-add-out :
     (t : ℕ) →
     put-number-lts.Need-add-out
@@ -41,28 +39,24 @@ put-number-add-out :
     put-number.Post
 put-number-add-out t c = search needs
 
--- src/print.rt:29:9
 put-number-slice-write-out : (t : ℕ) → put-number-lts.Need-slice-write-out (
   put-number-below t,
   put-number.Post,
 ) (put-number-at t) put-number.Post
 put-number-slice-write-out t c = omega (arith, digits-some (c .before .before .args .n))
 
--- src/print.rt:30:16
 put-number-add-result : (t : ℕ) → put-number-lts.Need-add-result (
   put-number-below t,
   put-number.Post,
 ) (put-number-at t) put-number.Post
 put-number-add-result t c = omega (arith, digits-some (c .before .before .args .n), c .before .before .good)
 
--- src/print.rt:30:9
 put-number-same-length : (t : ℕ) → put-number-lts.Need-same-length (
   put-number-below t,
   put-number.Post,
 ) (put-number-at t) put-number.Post
 put-number-same-length t c = simp length-set
 
--- src/print.rt:30:9
 put-number-returns :
     (t : ℕ) →
     put-number-lts.Need-returns
@@ -71,49 +65,42 @@ put-number-returns :
     put-number.Post
 put-number-returns t c = search wrote-digit
 
--- src/print.rt:32:9
 put-number-put-number-requires : (t : ℕ) → put-number-lts.Need-put-number-requires (
   put-number-below t,
   put-number.Post,
 ) (put-number-at t) put-number.Post
 put-number-put-number-requires t c κs = (omega arith, omega (arith, number-room (c .before .before .before .args .out .now) (c .before .before .before .args .at) (c .before .before .before .args .n) (c .before .if1 .left) (c .before .before .before .pre .1)))
 
--- src/print.rt:33:22
 put-number-cast-out-2 : (t : ℕ) → put-number-lts.Need-cast-out-2 (
   put-number-below t,
   put-number.Post,
 ) (put-number-at t) put-number.Post
 put-number-cast-out-2 t c = search needs
 
--- src/print.rt:33:17
 put-number-add-out-2 : (t : ℕ) → put-number-lts.Need-add-out-2 (
   put-number-below t,
   put-number.Post,
 ) (put-number-at t) put-number.Post
 put-number-add-out-2 t c = search needs
 
--- src/print.rt:33:5
 put-number-slice-write-out-2 : (t : ℕ) → put-number-lts.Need-slice-write-out-2 (
   put-number-below t,
   put-number.Post,
 ) (put-number-at t) put-number.Post
 put-number-slice-write-out-2 t c = search next-within
 
--- src/print.rt:34:5
 put-number-add-result-2 : (t : ℕ) → put-number-lts.Need-add-result-2 (
   put-number-below t,
   put-number.Post,
 ) (put-number-at t) put-number.Post
 put-number-add-result-2 t c = omega (arith, c .before .before .put-number .ensures .place, number-room (c .before .before .before .before .before .before .args .out .now) (c .before .before .before .before .before .before .args .at) (c .before .before .before .before .before .before .args .n) (c .before .before .before .before .if1 .left) (c .before .before .before .before .before .before .pre .1), c .before .before .before .before .before .before .good)
 
--- src/print.rt:24:1
 put-number-same-length-2 : (t : ℕ) → put-number-lts.Need-same-length-2 (
   put-number-below t,
   put-number.Post,
 ) (put-number-at t) put-number.Post
 put-number-same-length-2 t c = search needs
 
--- src/print.rt:24:1
 put-number-returns-2 : (t : ℕ) → put-number-lts.Need-returns-2 (
   put-number-below t,
   put-number.Post,

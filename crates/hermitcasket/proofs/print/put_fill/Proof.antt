@@ -11,34 +11,27 @@ use Rattle.hermitcasket.proofs.print.put_fill.Lts as lts
 use Rattle.hermitcasket.proofs.print.put_bytes.Reads as put-bytes-reads
 use Rattle.hermitcasket.proofs.print.put_ids.Reads as put-ids-reads
 
--- src/print.rt:87:23
 slice-aggregate-put-bytes : tie.Need-slice-aggregate-put-bytes
 slice-aggregate-put-bytes c = search needs
 
--- src/print.rt:87:9
 put-bytes-requires : tie.Need-put-bytes-requires
 unfolding fillText
 put-bytes-requires c κs = room-1 (c .before .before .before .before .args .out .now) (c .before .before .before .before .args .at) (fillKey) (idsText false (pick (c .before .before .before .before .args .atoms .now) (c .before .before .before .before .args .choice))) (10 ∷ []) (c .before .before .before .before .pre)
 
--- src/print.rt:88:9
 put-ids-requires : tie.Need-put-ids-requires
 unfolding fillText
 put-ids-requires c κs = room-2 _ _ (fillKey) (idsText false (pick (c .before .before .before .before .before .before .before .before .args .atoms .now) (c .before .before .before .before .before .before .before .before .args .choice))) (10 ∷ []) (c .before .before .before .before .before .before .before .before .pre) _ _ (c .before .before .before .put-bytes .ensures)
 
--- src/print.rt:89:15
 slice-aggregate-put-bytes-2 : tie.Need-slice-aggregate-put-bytes-2
 slice-aggregate-put-bytes-2 c = search needs
 
--- src/print.rt:89:5
 put-bytes-requires-2 : tie.Need-put-bytes-requires-2
 unfolding fillText
 put-bytes-requires-2 c κs = room-3 _ _ (fillKey) (idsText false (pick (c .before .before .before .before .before .before .before .before .before .before .before .before .before .args .atoms .now) (c .before .before .before .before .before .before .before .before .before .before .before .before .before .args .choice))) (10 ∷ []) (c .before .before .before .before .before .before .before .before .before .before .before .before .before .pre) _ _ (c .before .before .before .before .before .before .before .before .put-bytes .ensures) _ _ (c .before .before .before .before .put-ids .ensures)
 
--- src/print.rt:83:1
 same-length : tie.Need-same-length
 same-length c = search needs
 
--- src/print.rt:83:1
 returns : tie.Need-returns
 unfolding fillText
 returns c = wrote-three _ _ (fillKey) (idsText false (pick (c .before .before .before .before .before .before .before .before .before .before .before .before .before .before .before .before .args .atoms .now) (c .before .before .before .before .before .before .before .before .before .before .before .before .before .before .before .before .args .choice))) (10 ∷ []) (c .before .before .before .before .before .before .before .before .before .before .before .before .before .before .before .before .pre) _ _ (c .before .before .before .before .before .before .before .before .before .before .before .put-bytes .ensures) _ _ (c .before .before .before .before .before .before .before .put-ids .ensures) _ _ (c .before .before .put-bytes2 .ensures)

@@ -12,34 +12,27 @@ use Rattle.hermitcasket.proofs.print.put_bytes.Reads as put-bytes-reads
 use Rattle.hermitcasket.proofs.print.put_fills.Reads as put-fills-reads
 use Rattle.hermitcasket.proofs.print.put_line.Reads as put-line-reads
 
--- src/print.rt:110:23
 slice-aggregate-put-bytes : tie.Need-slice-aggregate-put-bytes
 slice-aggregate-put-bytes c = search needs
 
--- src/print.rt:110:9
 put-bytes-requires : tie.Need-put-bytes-requires
 unfolding filledText
 put-bytes-requires c κs = room-1 (c .before .before .before .before .before .args .out .now) (0) (filledLine) (numberText variablesKey (length (c .before .before .before .before .before .args .assignment .now))) (fillsText (c .before .before .before .before .before .args .atoms .now) (c .before .before .before .before .before .args .assignment .now)) (c .before .before .before .before .before .pre)
 
--- src/print.rt:111:22
 slice-aggregate-put-line : tie.Need-slice-aggregate-put-line
 slice-aggregate-put-line c = search needs
 
--- src/print.rt:111:9
 put-line-requires : tie.Need-put-line-requires
 unfolding filledText
 put-line-requires c κs = room-2 _ _ (filledLine) (numberText variablesKey (length (c .before .before .before .before .before .before .before .before .before .before .args .assignment .now))) (fillsText (c .before .before .before .before .before .before .before .before .before .before .args .atoms .now) (c .before .before .before .before .before .before .before .before .before .before .args .assignment .now)) (c .before .before .before .before .before .before .before .before .before .before .pre) _ _ (c .before .before .before .before .put-bytes .ensures)
 
--- src/print.rt:112:5
 put-fills-requires : tie.Need-put-fills-requires
 unfolding filledText
 put-fills-requires c κs = room-3 _ _ (filledLine) (numberText variablesKey (length (c .before .before .before .before .before .before .before .before .before .before .before .before .before .before .args .assignment .now))) (fillsText (c .before .before .before .before .before .before .before .before .before .before .before .before .before .before .args .atoms .now) (c .before .before .before .before .before .before .before .before .before .before .before .before .before .before .args .assignment .now)) (c .before .before .before .before .before .before .before .before .before .before .before .before .before .before .pre) _ _ (c .before .before .before .before .before .before .before .before .put-bytes .ensures) _ _ (c .before .before .before .put-line .ensures)
 
--- src/print.rt:106:1
 same-length : tie.Need-same-length
 same-length c = search needs
 
--- src/print.rt:106:1
 returns : tie.Need-returns
 unfolding filledText
 returns c = wrote-three _ _ (filledLine) (numberText variablesKey (length (c .before .before .before .before .before .before .before .before .before .before .before .before .before .before .before .before .before .args .assignment .now))) (fillsText (c .before .before .before .before .before .before .before .before .before .before .before .before .before .before .before .before .before .args .atoms .now) (c .before .before .before .before .before .before .before .before .before .before .before .before .before .before .before .before .before .args .assignment .now)) (c .before .before .before .before .before .before .before .before .before .before .before .before .before .before .before .before .before .pre) _ _ (c .before .before .before .before .before .before .before .before .before .before .before .put-bytes .ensures) _ _ (c .before .before .before .before .before .before .put-line .ensures) _ _ (c .before .before .put-fills .ensures)

@@ -15,39 +15,30 @@ Inv-loop atoms assignment at out₀ end₀ k₀ out end k = Filling atoms assign
 abbrev μ-loop : tie.MeasureT-loop
 μ-loop atoms assignment at out₀ end₀ k₀ out end k = length assignment - k
 
--- src/print.rt:99:5
 loop-holds : tie.Need-loop-holds Inv-loop μ-loop
 loop-holds c = filling-none _ _ _ _
 
--- src/print.rt:100:31
 mul-put-fill : tie.Need-mul-put-fill Inv-loop μ-loop
 mul-put-fill c = search needs
 
--- src/print.rt:100:31
 shared-slice-read-put-fill : tie.Need-shared-slice-read-put-fill Inv-loop μ-loop
 shared-slice-read-put-fill c = search needs
 
--- src/print.rt:100:9
 put-fill-requires : tie.Need-put-fill-requires Inv-loop μ-loop
 put-fill-requires c κs = search fill-room
 
--- src/print.rt:101:9
 add-k : tie.Need-add-k Inv-loop μ-loop
 add-k c = search needs
 
--- src/print.rt:99:5
 loop-less : tie.Need-loop-less Inv-loop μ-loop
 loop-less c = search needs
 
--- src/print.rt:99:5
 loop-again : tie.Need-loop-again Inv-loop μ-loop
 loop-again c = search filling-more
 
--- src/print.rt:93:1
 same-length : tie.Need-same-length Inv-loop μ-loop
 same-length c = c .before .loop .inv .long
 
--- src/print.rt:93:1
 returns : tie.Need-returns Inv-loop μ-loop
 returns c = search filling-done
 

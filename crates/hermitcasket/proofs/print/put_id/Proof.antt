@@ -7,35 +7,27 @@ use Rattle.hermitcasket.proofs.print.put_id.Lts as lts
 use Rattle.hermitcasket.proofs.print.put_bytes.Reads as put-bytes-reads
 use Rattle.hermitcasket.proofs.print.put_number.Reads as put-number-reads
 
--- src/print.rt:53:27
 slice-aggregate-put-bytes : tie.Need-slice-aggregate-put-bytes
 slice-aggregate-put-bytes c = search needs
 
--- src/print.rt:53:13
 put-bytes-requires : tie.Need-put-bytes-requires
 put-bytes-requires c κs = search comma-room
 
--- src/print.rt:54:9
 put-number-requires : tie.Need-put-number-requires
 put-number-requires c κs = search later-room
 
--- src/print.rt:54:9
 same-length : tie.Need-same-length
 same-length c = search needs
 
--- src/print.rt:54:9
 returns : tie.Need-returns
 returns c = search wrote-later
 
--- src/print.rt:56:5
 put-number-requires-2 : tie.Need-put-number-requires-2
 put-number-requires-2 c κs = search first-room
 
--- src/print.rt:48:1
 same-length-2 : tie.Need-same-length-2
 same-length-2 c = search needs
 
--- src/print.rt:48:1
 returns-2 : tie.Need-returns-2
 returns-2 c = search wrote-first
 

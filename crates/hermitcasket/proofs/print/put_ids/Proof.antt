@@ -15,47 +15,33 @@ Inv-loop atoms choice at out₀ rest₀ end₀ later₀ p₀ out rest end later 
 abbrev μ-loop : tie.MeasureT-loop
 μ-loop atoms choice at out₀ rest₀ end₀ later₀ p₀ out rest end later p = length atoms - p
 
--- src/print.rt:68:5
 loop-holds : tie.Need-loop-holds Inv-loop μ-loop
 loop-holds c = picked-none _ _ _ _
 
--- src/print.rt:69:18
-mul-id : tie.Need-mul-id Inv-loop μ-loop
-mul-id c = search needs
+id-at-requires : tie.Need-id-at-requires Inv-loop μ-loop
+id-at-requires c κs = search needs
 
--- src/print.rt:69:18
-shared-slice-read-id : tie.Need-shared-slice-read-id Inv-loop μ-loop
-shared-slice-read-id c = search needs
-
--- src/print.rt:72:9
 add-p : tie.Need-add-p Inv-loop μ-loop
 add-p c = search needs
 
--- src/print.rt:68:5
 loop-less : tie.Need-loop-less Inv-loop μ-loop
 loop-less c = search needs
 
--- src/print.rt:68:5
 loop-again : tie.Need-loop-again Inv-loop μ-loop
 loop-again c = search picked-no
 
--- src/print.rt:76:9
 put-id-requires : tie.Need-put-id-requires Inv-loop μ-loop
 put-id-requires c κs = search id-room
 
--- src/print.rt:68:5
 loop-less-2 : tie.Need-loop-less-2 Inv-loop μ-loop
 loop-less-2 c = search needs
 
--- src/print.rt:68:5
 loop-again-2 : tie.Need-loop-again-2 Inv-loop μ-loop
 loop-again-2 c = search picked-yes
 
--- src/print.rt:60:1
 same-length : tie.Need-same-length Inv-loop μ-loop
 same-length c = c .before .loop .inv .long
 
--- src/print.rt:60:1
 returns : tie.Need-returns Inv-loop μ-loop
 returns c = search picked-done
 
@@ -66,8 +52,7 @@ put-ids-spec =
     Inv-loop
     μ-loop
     loop-holds
-    mul-id
-    shared-slice-read-id
+    id-at-requires
     add-p
     loop-less
     loop-again

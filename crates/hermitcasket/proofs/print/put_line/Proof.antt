@@ -10,30 +10,24 @@ use Rattle.hermitcasket.proofs.print.put_line.Lts as lts
 use Rattle.hermitcasket.proofs.print.put_bytes.Reads as put-bytes-reads
 use Rattle.hermitcasket.proofs.print.put_number.Reads as put-number-reads
 
--- src/print.rt:42:9
 put-bytes-requires : tie.Need-put-bytes-requires
 unfolding numberText
 put-bytes-requires c κs = room-1 (c .before .before .before .args .out .now) (c .before .before .before .args .at) (c .before .before .before .args .key .now) (digits (c .before .before .before .args .n)) (10 ∷ []) (c .before .before .before .pre)
 
--- src/print.rt:43:9
 put-number-requires : tie.Need-put-number-requires
 unfolding numberText
 put-number-requires c κs = room-2 _ _ (c .before .before .before .before .before .before .before .args .key .now) (digits (c .before .before .before .before .before .before .before .args .n)) (10 ∷ []) (c .before .before .before .before .before .before .before .pre) _ _ (c .before .before .before .put-bytes .ensures)
 
--- src/print.rt:44:15
 slice-aggregate-put-bytes : tie.Need-slice-aggregate-put-bytes
 slice-aggregate-put-bytes c = search needs
 
--- src/print.rt:44:5
 put-bytes-requires-2 : tie.Need-put-bytes-requires-2
 unfolding numberText
 put-bytes-requires-2 c κs = room-3 _ _ (c .before .before .before .before .before .before .before .before .before .before .before .before .args .key .now) (digits (c .before .before .before .before .before .before .before .before .before .before .before .before .args .n)) (10 ∷ []) (c .before .before .before .before .before .before .before .before .before .before .before .before .pre) _ _ (c .before .before .before .before .before .before .before .before .put-bytes .ensures) _ _ (c .before .before .before .before .put-number .ensures)
 
--- src/print.rt:38:1
 same-length : tie.Need-same-length
 same-length c = search needs
 
--- src/print.rt:38:1
 returns : tie.Need-returns
 unfolding numberText
 returns c = wrote-three _ _ (c .before .before .before .before .before .before .before .before .before .before .before .before .before .before .before .args .key .now) (digits (c .before .before .before .before .before .before .before .before .before .before .before .before .before .before .before .args .n)) (10 ∷ []) (c .before .before .before .before .before .before .before .before .before .before .before .before .before .before .before .pre) _ _ (c .before .before .before .before .before .before .before .before .before .before .before .put-bytes .ensures) _ _ (c .before .before .before .before .before .before .before .put-number .ensures) _ _ (c .before .before .put-bytes2 .ensures)

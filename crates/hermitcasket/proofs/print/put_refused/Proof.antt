@@ -10,42 +10,33 @@ use Rattle.hermitcasket.proofs.print.put_refused.Lts as lts
 use Rattle.hermitcasket.proofs.print.put_bytes.Reads as put-bytes-reads
 use Rattle.hermitcasket.proofs.print.put_line.Reads as put-line-reads
 
--- src/print.rt:121:23
 slice-aggregate-put-bytes : tie.Need-slice-aggregate-put-bytes
 slice-aggregate-put-bytes c = search needs
 
--- src/print.rt:121:9
 put-bytes-requires : tie.Need-put-bytes-requires
 unfolding refusedText
 put-bytes-requires c κs = room-1 (c .before .before .before .args .out .now) (0) (refusedLine) (numberText numberKey (c .before .before .before .args .code .number)) (numberText placeKey (c .before .before .before .args .code .place)) (c .before .before .before .pre)
 
--- src/print.rt:122:22
 slice-aggregate-put-line : tie.Need-slice-aggregate-put-line
 slice-aggregate-put-line c = search needs
 
--- src/print.rt:122:34
 cast-put-line : tie.Need-cast-put-line
 cast-put-line c = search needs
 
--- src/print.rt:122:9
 put-line-requires : tie.Need-put-line-requires
 unfolding refusedText
 put-line-requires c κs = room-2 _ _ (refusedLine) (numberText numberKey (c .before .before .before .before .before .before .before .before .args .code .number)) (numberText placeKey (c .before .before .before .before .before .before .before .before .args .code .place)) (c .before .before .before .before .before .before .before .before .pre) _ _ (c .before .before .before .before .put-bytes .ensures)
 
--- src/print.rt:123:14
 slice-aggregate-put-line-2 : tie.Need-slice-aggregate-put-line-2
 slice-aggregate-put-line-2 c = search needs
 
--- src/print.rt:123:5
 put-line-requires-2 : tie.Need-put-line-requires-2
 unfolding refusedText
 put-line-requires-2 c κs = room-3 _ _ (refusedLine) (numberText numberKey (c .before .before .before .before .before .before .before .before .before .before .before .before .before .args .code .number)) (numberText placeKey (c .before .before .before .before .before .before .before .before .before .before .before .before .before .args .code .place)) (c .before .before .before .before .before .before .before .before .before .before .before .before .before .pre) _ _ (c .before .before .before .before .before .before .before .before .before .put-bytes .ensures) _ _ (c .before .before .before .before .put-line .ensures)
 
--- src/print.rt:115:1
 same-length : tie.Need-same-length
 same-length c = search needs
 
--- src/print.rt:115:1
 returns : tie.Need-returns
 unfolding refusedText
 returns c = wrote-three _ _ (refusedLine) (numberText numberKey (c .before .before .before .before .before .before .before .before .before .before .before .before .before .before .before .before .args .code .number)) (numberText placeKey (c .before .before .before .before .before .before .before .before .before .before .before .before .before .before .before .before .args .code .place)) (c .before .before .before .before .before .before .before .before .before .before .before .before .before .before .before .before .pre) _ _ (c .before .before .before .before .before .before .before .before .before .before .before .before .put-bytes .ensures) _ _ (c .before .before .before .before .before .before .before .put-line .ensures) _ _ (c .before .before .put-line2 .ensures)

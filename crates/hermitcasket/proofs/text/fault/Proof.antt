@@ -5,19 +5,15 @@ use Rattle.hermitcasket.proofs.text.fault.Tie as tie
 use Rattle.hermitcasket.proofs.text.fault.Reads as reads
 use Rattle.hermitcasket.proofs.text.fault.Lts as lts
 
--- src/text.rt:139:29
 enum-known-section : tie.Need-enum-known-section
 enum-known-section c = search needs
 
--- src/text.rt:140:25
 enum-known-section-2 : tie.Need-enum-known-section-2
 enum-known-section-2 c = search needs
 
--- src/text.rt:135:1
 returns : tie.Need-returns
 returns c = search fault-through
 
--- src/text.rt:135:1
 returns-2 : tie.Need-returns-2
 returns-2 c = search fault-faulty
 

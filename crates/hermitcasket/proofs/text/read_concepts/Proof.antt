@@ -10,51 +10,39 @@ use Rattle.hermitcasket.proofs.text.read_concepts.Lts as lts
 use Rattle.hermitcasket.proofs.text.read_count.Reads as read-count-reads
 use Rattle.hermitcasket.proofs.text.read_rows.Reads as read-rows-reads
 
--- src/text.rt:102:30
 sub-read-count : tie.Need-sub-read-count
 sub-read-count c = search needs
 
--- src/text.rt:102:30
 part-read-count-start : tie.Need-part-read-count-start
 part-read-count-start c = search needs
 
--- src/text.rt:102:30
 part-read-count-end : tie.Need-part-read-count-end
 part-read-count-end c = search needs
 
--- src/text.rt:102:47
 slice-aggregate-read-count : tie.Need-slice-aggregate-read-count
 slice-aggregate-read-count c = search needs
 
--- src/text.rt:102:9
 read-count-requires : tie.Need-read-count-requires
 read-count-requires c κs = search needs
 
--- src/text.rt:103:26
 enum-known-counted : tie.Need-enum-known-counted
 enum-known-counted c = search needs
 
--- src/text.rt:104:9
 enum-told : tie.Need-enum-told
 enum-told c = search needs
 
--- src/text.rt:104:9
 returns : tie.Need-returns
 returns c = search section-refused
 
--- src/text.rt:106:27
 sub-read-rows : tie.Need-sub-read-rows
 sub-read-rows c = search counted-within
 
--- src/text.rt:106:27
 part-read-rows-start : tie.Need-part-read-rows-start
 part-read-rows-start c = search counted-within
 
--- src/text.rt:106:27
 part-read-rows-end : tie.Need-part-read-rows-end
 part-read-rows-end c = search needs
 
--- src/text.rt:106:9
 read-rows-requires : tie.Need-read-rows-requires
 read-rows-requires c κs = (
   search lines-room,
@@ -62,27 +50,21 @@ read-rows-requires c κs = (
       omega (arith, c .before .before .before .before .before .before .before .before .before .before .pre)),
 )
 
--- src/text.rt:108:21
 enum-known-lines : tie.Need-enum-known-lines
 enum-known-lines c = search needs
 
--- src/text.rt:109:20
 enum-known-lines-2 : tie.Need-enum-known-lines-2
 enum-known-lines-2 c = search needs
 
--- src/text.rt:98:1
 same-length : tie.Need-same-length
 same-length c = search needs
 
--- src/text.rt:98:1
 returns-2 : tie.Need-returns-2
 returns-2 c = search section-through
 
--- src/text.rt:98:1
 same-length-2 : tie.Need-same-length-2
 same-length-2 c = search needs
 
--- src/text.rt:98:1
 returns-3 : tie.Need-returns-3
 returns-3 c = search section-off
 

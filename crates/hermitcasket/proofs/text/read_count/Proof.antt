@@ -9,38 +9,30 @@ use Rattle.hermitcasket.proofs.text.read_count.Reads as reads
 use Rattle.hermitcasket.proofs.text.read_count.Lts as lts
 use Rattle.hermitcasket.proofs.lines.number_line.Reads as number-line-reads
 
--- src/text.rt:87:9
 number-line-requires : tie.Need-number-line-requires
 number-line-requires c κs = search needs
 
--- src/text.rt:88:23
 enum-known-found : tie.Need-enum-known-found
 enum-known-found c = search needs
 
--- src/text.rt:89:32
 enum-told : tie.Need-enum-told
 enum-told c = search needs
 
--- src/text.rt:89:9
 returns : tie.Need-returns
 returns c = search count-none
 
--- src/text.rt:92:9
 returns-2 : tie.Need-returns-2
 returns-2 c = search count-over
 
--- src/text.rt:94:22
 cast-t12 : tie.Need-cast-t12
 cast-t12 c = search needs
 
--- src/text.rt:94:38
 add-t13 : tie.Need-add-t13
 add-t13 c =
     let s = c .before .before .before .before .before .before .before in
     let h : c .before .before .found .given .0 .1 .0 ≤ length (s .args .rest .now) = search number-within in
     omega (arith, s .pre)
 
--- src/text.rt:82:1
 returns-3 : tie.Need-returns-3
 returns-3 c = search count-through
 

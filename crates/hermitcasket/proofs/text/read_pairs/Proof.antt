@@ -17,98 +17,75 @@ Inv-loop rest at count out₀ used₀ i₀ out used i = (length out ≡ length o
 abbrev μ-loop : tie.MeasureT-loop
 μ-loop rest at count out₀ used₀ i₀ out used i = count - i
 
--- src/text.rt:54:5
 loop-holds : tie.Need-loop-holds Inv-loop μ-loop
 loop-holds c = (refl, lined-none _ _ _ _ _ _)
 
--- src/text.rt:55:31
 sub-below-line : tie.Need-sub-below-line Inv-loop μ-loop
 sub-below-line c = search needs
 
--- src/text.rt:55:31
 part-below-line-start : tie.Need-part-below-line-start Inv-loop μ-loop
 part-below-line-start c = search needs
 
--- src/text.rt:55:31
 part-below-line-end : tie.Need-part-below-line-end Inv-loop μ-loop
 part-below-line-end c = search needs
 
--- src/text.rt:55:13
 below-line-requires : tie.Need-below-line-requires Inv-loop μ-loop
 below-line-requires c κs = search needs
 
--- src/text.rt:56:27
 enum-known-line : tie.Need-enum-known-line Inv-loop μ-loop
 enum-known-line c = search needs
 
--- src/text.rt:57:31
 enum-told : tie.Need-enum-told Inv-loop μ-loop
 enum-told c = search needs
 
--- src/text.rt:57:31
 add-t17 : tie.Need-add-t17 Inv-loop μ-loop
 add-t17 c = search needs
 
--- src/text.rt:57:13
 same-length : tie.Need-same-length Inv-loop μ-loop
 same-length c = search needs
 
--- src/text.rt:57:13
 returns : tie.Need-returns Inv-loop μ-loop
 returns c = (search pairs-off, tt)
 
--- src/text.rt:59:17
 mul-m : tie.Need-mul-m Inv-loop μ-loop
 mul-m c = search needs
 
--- src/text.rt:60:9
 mul-out : tie.Need-mul-out Inv-loop μ-loop
 mul-out c = search needs
 
--- src/text.rt:60:9
 slice-write-out : tie.Need-slice-write-out Inv-loop μ-loop
 slice-write-out c = search needs
 
--- src/text.rt:61:13
 add-out : tie.Need-add-out Inv-loop μ-loop
 add-out c = search needs
 
--- src/text.rt:61:9
 mul-out-2 : tie.Need-mul-out-2 Inv-loop μ-loop
 mul-out-2 c = search needs
 
--- src/text.rt:61:9
 slice-write-out-2 : tie.Need-slice-write-out-2 Inv-loop μ-loop
 slice-write-out-2 c = simp length-set (omega arith)
 
--- src/text.rt:62:9
 add-used : tie.Need-add-used Inv-loop μ-loop
 add-used c =
     let l = c .before .before .before .before .before .before .loop in
     let h : l .used + c .before .line .given .0 .1 .1 .0 ≤ length (c .before .before .before .before .before .before .before .before .before .args .rest .now) = search pairs-within in
     omega (arith, c .before .before .before .before .before .before .before .before .before .pre)
 
--- src/text.rt:63:9
 add-i : tie.Need-add-i Inv-loop μ-loop
 add-i c = search needs
 
--- src/text.rt:54:5
 loop-less : tie.Need-loop-less Inv-loop μ-loop
 loop-less c = search needs
 
--- src/text.rt:54:5
 loop-again : tie.Need-loop-again Inv-loop μ-loop
 loop-again c = (simp length-set (c .before .before .before .before .before .before .loop .inv .0), search pairs-more)
 
--- src/text.rt:65:17
 add-t21 : tie.Need-add-t21 Inv-loop μ-loop
 add-t21 c = search needs
 
--- src/text.rt:46:1
 same-length-2 : tie.Need-same-length-2 Inv-loop μ-loop
 same-length-2 c = search needs
 
--- src/text.rt:46:1
 returns-2 : tie.Need-returns-2 Inv-loop μ-loop
 returns-2 c = (search lined-done, omega arith)
 

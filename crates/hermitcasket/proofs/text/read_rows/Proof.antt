@@ -17,110 +17,84 @@ Inv-loop rest at count out₀ used₀ i₀ out used i = (length out ≡ length o
 abbrev μ-loop : tie.MeasureT-loop
 μ-loop rest at count out₀ used₀ i₀ out used i = count - i
 
--- src/text.rt:30:5
 loop-holds : tie.Need-loop-holds Inv-loop μ-loop
 loop-holds c = (refl, lined-none _ _ _ _ _ _)
 
--- src/text.rt:31:29
 sub-row-line : tie.Need-sub-row-line Inv-loop μ-loop
 sub-row-line c = search needs
 
--- src/text.rt:31:29
 part-row-line-start : tie.Need-part-row-line-start Inv-loop μ-loop
 part-row-line-start c = search needs
 
--- src/text.rt:31:29
 part-row-line-end : tie.Need-part-row-line-end Inv-loop μ-loop
 part-row-line-end c = search needs
 
--- src/text.rt:31:13
 row-line-requires : tie.Need-row-line-requires Inv-loop μ-loop
 row-line-requires c κs = search needs
 
--- src/text.rt:32:26
 enum-known-line : tie.Need-enum-known-line Inv-loop μ-loop
 enum-known-line c = search needs
 
--- src/text.rt:33:31
 enum-told : tie.Need-enum-told Inv-loop μ-loop
 enum-told c = search needs
 
--- src/text.rt:33:31
 add-t18 : tie.Need-add-t18 Inv-loop μ-loop
 add-t18 c = search needs
 
--- src/text.rt:33:13
 same-length : tie.Need-same-length Inv-loop μ-loop
 same-length c = search needs
 
--- src/text.rt:33:13
 returns : tie.Need-returns Inv-loop μ-loop
 returns c = (search rows-off, tt)
 
--- src/text.rt:35:17
 mul-m : tie.Need-mul-m Inv-loop μ-loop
 mul-m c = search needs
 
--- src/text.rt:36:9
 mul-out : tie.Need-mul-out Inv-loop μ-loop
 mul-out c = search needs
 
--- src/text.rt:36:9
 slice-write-out : tie.Need-slice-write-out Inv-loop μ-loop
 slice-write-out c = search needs
 
--- src/text.rt:37:13
 add-out : tie.Need-add-out Inv-loop μ-loop
 add-out c = search needs
 
--- src/text.rt:37:9
 mul-out-2 : tie.Need-mul-out-2 Inv-loop μ-loop
 mul-out-2 c = search needs
 
--- src/text.rt:37:9
 slice-write-out-2 : tie.Need-slice-write-out-2 Inv-loop μ-loop
 slice-write-out-2 c = simp length-set (omega arith)
 
--- src/text.rt:38:13
 add-out-2 : tie.Need-add-out-2 Inv-loop μ-loop
 add-out-2 c = search needs
 
--- src/text.rt:38:9
 mul-out-3 : tie.Need-mul-out-3 Inv-loop μ-loop
 mul-out-3 c = search needs
 
--- src/text.rt:38:9
 slice-write-out-3 : tie.Need-slice-write-out-3 Inv-loop μ-loop
 slice-write-out-3 c = simp length-set (omega arith)
 
--- src/text.rt:39:9
 add-used : tie.Need-add-used Inv-loop μ-loop
 add-used c =
     let l = c .before .before .before .before .before .before .loop in
     let h : l .used + c .before .line .given .0 .1 .1 .1 .0 ≤ length (c .before .before .before .before .before .before .before .before .before .args .rest .now) = search rows-within in
     omega (arith, c .before .before .before .before .before .before .before .before .before .pre)
 
--- src/text.rt:40:9
 add-i : tie.Need-add-i Inv-loop μ-loop
 add-i c = search needs
 
--- src/text.rt:30:5
 loop-less : tie.Need-loop-less Inv-loop μ-loop
 loop-less c = search needs
 
--- src/text.rt:30:5
 loop-again : tie.Need-loop-again Inv-loop μ-loop
 loop-again c = (simp length-set (c .before .before .before .before .before .before .loop .inv .0), search rows-more)
 
--- src/text.rt:42:17
 add-t23 : tie.Need-add-t23 Inv-loop μ-loop
 add-t23 c = search needs
 
--- src/text.rt:22:1
 same-length-2 : tie.Need-same-length-2 Inv-loop μ-loop
 same-length-2 c = search needs
 
--- src/text.rt:22:1
 returns-2 : tie.Need-returns-2 Inv-loop μ-loop
 returns-2 c = (search lined-done, omega arith)
 

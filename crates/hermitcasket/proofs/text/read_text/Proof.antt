@@ -11,159 +11,120 @@ use Rattle.hermitcasket.proofs.text.read_concepts.Reads as read-concept
 use Rattle.hermitcasket.proofs.text.read_count.Reads as read-count-reads
 use Rattle.hermitcasket.proofs.text.read_section.Reads as read-section-reads
 
--- src/text.rt:158:9
 returns : tie.Need-returns
 returns c = (search read-long, tt)
 
--- src/text.rt:160:39
 slice-aggregate-read-count : tie.Need-slice-aggregate-read-count
 slice-aggregate-read-count c = search needs
 
--- src/text.rt:160:9
 read-count-requires : tie.Need-read-count-requires
 read-count-requires c κs = search needs
 
--- src/text.rt:161:26
 enum-known-counted : tie.Need-enum-known-counted
 enum-known-counted c = search needs
 
--- src/text.rt:162:31
 enum-told : tie.Need-enum-told
 enum-told c = search needs
 
--- src/text.rt:162:31
 fault-requires : tie.Need-fault-requires
 fault-requires c κs = search needs
 
--- src/text.rt:162:9
 returns-2 : tie.Need-returns-2
 returns-2 c = (search fault-1, tt)
 
--- src/text.rt:164:9
 read-concepts-requires : tie.Need-read-concepts-requires
 read-concepts-requires c κs = (omega (arith, counts-within _ _ _ _ _ _ _ (c .before .before .before .before .read-count .ensures) _ _ (c .before .before .counted .given .1)), (omega arith, omega (arith, c .before .before .before .before .before .before .before .before .before .before .before .pre)))
 
--- src/text.rt:165:26
 enum-known-rows : tie.Need-enum-known-rows
 enum-known-rows c = search needs
 
--- src/text.rt:166:31
 enum-told-2 : tie.Need-enum-told-2
 enum-told-2 c = search needs
 
--- src/text.rt:166:31
 fault-requires-2 : tie.Need-fault-requires-2
 fault-requires-2 c κs = search needs
 
--- src/text.rt:166:9
 same-length : tie.Need-same-length
 same-length c = search needs
 
--- src/text.rt:166:9
 returns-3 : tie.Need-returns-3
 returns-3 c = (search fault-2, tt)
 
--- src/text.rt:168:39
 slice-aggregate-read-section : tie.Need-slice-aggregate-read-section
 slice-aggregate-read-section c = search needs
 
--- src/text.rt:168:9
 read-section-requires : tie.Need-read-section-requires
 read-section-requires c κs = (search section-within, (c .before .before .before .before .before .before .before .before .before .before .before .before .before .before .if1 .left, (omega arith, omega (arith, c .before .before .before .before .before .before .before .before .before .before .before .before .before .before .before .before .before .before .before .pre))))
 
--- src/text.rt:169:26
 enum-known-given : tie.Need-enum-known-given
 enum-known-given c = search needs
 
--- src/text.rt:170:31
 enum-told-3 : tie.Need-enum-told-3
 enum-told-3 c = search needs
 
--- src/text.rt:170:31
 fault-requires-3 : tie.Need-fault-requires-3
 fault-requires-3 c κs = search needs
 
--- src/text.rt:170:9
 same-length-2 : tie.Need-same-length-2
 same-length-2 c = search needs
 
--- src/text.rt:170:9
 same-length-3 : tie.Need-same-length-3
 same-length-3 c = search needs
 
--- src/text.rt:170:9
 returns-4 : tie.Need-returns-4
 returns-4 c = (search fault-3, tt)
 
--- src/text.rt:172:39
 slice-aggregate-read-section-2 : tie.Need-slice-aggregate-read-section-2
 slice-aggregate-read-section-2 c = search needs
 
--- src/text.rt:172:9
 read-section-requires-2 : tie.Need-read-section-requires-2
 read-section-requires-2 c κs = (section-within _ _ _ _ _ _ _ _ _ _ (c .before .before .before .before .before .before .before .read-section .ensures) _ _ (c .before .before .before .given .given .1), (c .before .before .before .before .before .before .before .before .before .before .before .before .before .before .before .before .before .before .before .before .before .before .if1 .left, (omega arith, omega (arith, c .before .before .before .before .before .before .before .before .before .before .before .before .before .before .before .before .before .before .before .before .before .before .before .before .before .before .before .pre))))
 
--- src/text.rt:173:26
 enum-known-asked : tie.Need-enum-known-asked
 enum-known-asked c = search needs
 
--- src/text.rt:174:31
 enum-told-4 : tie.Need-enum-told-4
 enum-told-4 c = search needs
 
--- src/text.rt:174:31
 fault-requires-4 : tie.Need-fault-requires-4
 fault-requires-4 c κs = search needs
 
--- src/text.rt:174:9
 same-length-4 : tie.Need-same-length-4
 same-length-4 c = search needs
 
--- src/text.rt:174:9
 same-length-5 : tie.Need-same-length-5
 same-length-5 c = search needs
 
--- src/text.rt:174:9
 same-length-6 : tie.Need-same-length-6
 same-length-6 c = search needs
 
--- src/text.rt:174:9
 returns-5 : tie.Need-returns-5
 returns-5 c = (fault-4 _ (c .before .before .before .before .before .before .before .before .before .before .before .before .before .before .before .before .before .before .before .before .before .before .before .before .before .before .before .before .if1 .left) _ (c .before .before .before .before .before .before .before .before .before .before .before .before .before .before .before .before .before .before .before .before .before .before .before .before .before .before .read-count .ensures) _ _ (c .before .before .before .before .before .before .before .before .before .before .before .before .before .before .before .before .before .before .before .before .before .before .before .before .counted .given .1) _ _ (c .before .before .before .before .before .before .before .before .before .before .before .before .before .before .before .before .before .before .before .before .before .read-concepts .ensures) _ _ (c .before .before .before .before .before .before .before .before .before .before .before .before .before .before .before .before .before .rows .given .1) _ _ (c .before .before .before .before .before .before .before .before .before .before .before .before .before .read-section .ensures) _ _ (c .before .before .before .before .before .before .before .before .before .given .given .1) _ _ (c .before .before .before .before .before .read-section2 .ensures) _ _ (c .before .enum-told4 .given .1) (c .fault4 .ensures), tt)
 
--- src/text.rt:177:9
 same-length-7 : tie.Need-same-length-7
 same-length-7 c = search needs
 
--- src/text.rt:177:9
 same-length-8 : tie.Need-same-length-8
 same-length-8 c = search needs
 
--- src/text.rt:177:9
 same-length-9 : tie.Need-same-length-9
 same-length-9 c = search needs
 
--- src/text.rt:177:9
 returns-6 : tie.Need-returns-6
 returns-6 c = (read-more _ (c .before .before .before .before .before .before .before .before .before .before .before .before .before .before .before .before .before .before .before .before .before .before .before .before .before .before .before .before .before .if1 .left) _ (c .before .before .before .before .before .before .before .before .before .before .before .before .before .before .before .before .before .before .before .before .before .before .before .before .before .before .before .read-count .ensures) _ _ (c .before .before .before .before .before .before .before .before .before .before .before .before .before .before .before .before .before .before .before .before .before .before .before .before .before .counted .given .1) _ _ (c .before .before .before .before .before .before .before .before .before .before .before .before .before .before .before .before .before .before .before .before .before .before .read-concepts .ensures) _ _ (c .before .before .before .before .before .before .before .before .before .before .before .before .before .before .before .before .before .before .rows .given .1) _ _ (c .before .before .before .before .before .before .before .before .before .before .before .before .before .before .read-section .ensures) _ _ (c .before .before .before .before .before .before .before .before .before .before .given .given .1) _ _ (c .before .before .before .before .before .before .read-section2 .ensures) _ _ (c .before .before .asked .given .1) (c .if2 .taken), tt)
 
--- src/text.rt:179:19
 cast-t40 : tie.Need-cast-t40
 cast-t40 c = let h : c .before .before .before .before .before .before .before .before .before .before .before .before .before .before .before .before .before .before .before .before .before .before .before .before .before .counted .given .0 .0 ≤ 8 = counts-few _ _ _ _ _ _ _ (c .before .before .before .before .before .before .before .before .before .before .before .before .before .before .before .before .before .before .before .before .before .before .before .before .before .before .before .read-count .ensures) _ _ (c .before .before .before .before .before .before .before .before .before .before .before .before .before .before .before .before .before .before .before .before .before .before .before .before .before .counted .given .1) in omega arith
 
--- src/text.rt:145:1
 same-length-10 : tie.Need-same-length-10
 same-length-10 c = search needs
 
--- src/text.rt:145:1
 same-length-11 : tie.Need-same-length-11
 same-length-11 c = search needs
 
--- src/text.rt:145:1
 same-length-12 : tie.Need-same-length-12
 same-length-12 c = search needs
 
--- src/text.rt:145:1
 returns-7 : tie.Need-returns-7
 returns-7 c = (
   read-all _ (c .before .before .before .before .before .before .before .before .before .before .before .before .before .before .before .before .before .before .before .before .before .before .before .before .before .before .before .before .before .if1 .left) _ (c .before .before .before .before .before .before .before .before .before .before .before .before .before .before .before .before .before .before .before .before .before .before .before .before .before .before .before .read-count .ensures) _ _ (c .before .before .before .before .before .before .before .before .before .before .before .before .before .before .before .before .before .before .before .before .before .before .before .before .before .counted .given .1) _ _ (c .before .before .before .before .before .before .before .before .before .before .before .before .before .before .before .before .before .before .before .before .before .before .read-concepts .ensures) _ _ (c .before .before .before .before .before .before .before .before .before .before .before .before .before .before .before .before .before .before .rows .given .1) _ _ (c .before .before .before .before .before .before .before .before .before .before .before .before .before .before .read-section .ensures) _ _ (c .before .before .before .before .before .before .before .before .before .before .given .given .1) _ _ (c .before .before .before .before .before .before .read-section2 .ensures) _ _ (c .before .before .asked .given .1) (search),

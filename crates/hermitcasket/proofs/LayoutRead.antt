@@ -1,0 +1,269 @@
+-- Each layout within the counts is accepted, and reading it gives the tables back.
+use Prim.Native.Nat.{ℕ, zero, suc, _+_, _*_, _<_, _≤_}
+use mathlib.Core.Path.{_≡_, refl, sym, ap, _∙_, subst}
+use mathlib.Core.List.{List, [], _∷_, _++_, append-assoc, append-nil}
+use mathlib.Core.Bool.{Bool, true, false}
+use native.Mathlib.Omega.{arith}
+use native.Mathlib.Numerals.{add-one}
+use native.Mathlib.Nat.{zero-add}
+use lib.Dec.{eqb, ltb}
+use lib.ListN.{length, getD, take, drop, length-append, take-append-drop}
+use lib.Seq.{drop-append-add, drop-append-seam, drop-drop, drop-length}
+use borrow.Author.Tests.{le-ltb, eq-eqb, ne-eqb}
+use Rattle.subsumption.specs.Tables.{Tables, tables, both, countOf, pairsOf}
+use Rattle.hermitcasket.specs.declared.lines.Number.{Number}
+use Rattle.hermitcasket.specs.declared.lines.Number.the-variants.{Value, NoNumber}
+use Rattle.hermitcasket.specs.declared.lines.PairLine.{PairLine}
+use Rattle.hermitcasket.specs.declared.lines.PairLine.the-variants.{Two, NoPair}
+use Rattle.hermitcasket.specs.declared.lines.RowLine.{RowLine}
+use Rattle.hermitcasket.specs.declared.lines.RowLine.the-variants.{Row, NoRow}
+use Rattle.hermitcasket.specs.Digits.{digits}
+use Rattle.hermitcasket.specs.Lines.{variablesKey, conceptsKey, inclusionsKey, questionsKey, belowKey, topText, nameKey, someKey, andKey, variableKey, numberText, pairText, rowText, starts, pickNumber, numberFrom, behind as shifted, numberLine, secondOf, firstOf, pairIf, pairLine, topRow, oneRow, twoRow, orRow, rowLine}
+use Rattle.hermitcasket.specs.Text.{linesText, rowOfNumbers, pairOfNumbers, layout, RowFits, RowsFit, ConceptFits, PairFits, Sayable, Line, numbers, off, rowNumbers, pairNumbers, rowAt, pairAt, Part, part, faulty, prepend, lineThen, readLines, Judged, accepted, refused, pickJudged, countThen, partThen, sectionAt, judgeEnd, judgeQuestions, judgeInclusions, judgeConcepts, judgeLines, judge}
+use Rattle.hermitcasket.proofs.DigitLaws.{digits-some, reads-digits}
+use Rattle.hermitcasket.proofs.LineLaws.{starts-right}
+
+-- ---- one line
+number-right : (stop v : ℕ) (more : List ℕ) → stop < 48 → v ≤ 65535 → numberFrom stop 0 0 (digits v ++ (stop ∷ more)) ≡ Value v (length (digits v) + 1)
+unfolding numberFrom pickNumber
+number-right stop v more low small =
+    reads-digits stop v (stop ∷ more) low small ∙ rw (eq-eqb stop stop refl, ne-eqb (length (digits v)) 0 (λ e. omega (arith, digits-some v)), add-one) refl
+
+numberLine-of : (key : List ℕ) (v : ℕ) (more : List ℕ) → v ≤ 65535 → numberLine key (key ++ (digits v ++ (10 ∷ more))) ≡ Value v (length key + (length (digits v) + 1))
+unfolding numberLine pickNumber shifted
+numberLine-of key v more h = rw (starts-right key (digits v ++ (10 ∷ more)), drop-append-seam key (digits v ++ (10 ∷ more)), number-right 10 v more (omega arith) h) refl
+
+pub numberLine-right : (key : List ℕ) (v : ℕ) (more : List ℕ) → v ≤ 65535 → numberLine key (numberText key v ++ more) ≡ Value v (length (numberText key v))
+unfolding numberText
+numberLine-right key v more h =
+    ap (numberLine key) (append-assoc key (digits v ++ (10 ∷ [])) more ∙ ap (λ (z : List ℕ). key ++ z) (append-assoc (digits v) (10 ∷ []) more)) ∙ numberLine-of key v more h
+    ∙ ap (λ (z : ℕ). Value v z) (sym (length-append key (digits v ++ (10 ∷ [])) ∙ ap (λ (z : ℕ). length key + z) (length-append (digits v) (10 ∷ []))))
+
+pairLine-of :
+    (key : List ℕ) (a b : ℕ) (more : List ℕ) → a ≤ 65535 → b ≤ 65535
+    → pairLine key (key ++ (digits a ++ (44 ∷ (digits b ++ (10 ∷ more))))) ≡ Two a b (length key + (length (digits a) + 1) + (length (digits b) + 1))
+unfolding pairLine pairIf firstOf secondOf
+pairLine-of key a b more ha hb =
+    let y = digits b ++ (10 ∷ more) in
+    let x = digits a ++ (44 ∷ y) in
+    let second : drop (length key + (length (digits a) + 1)) (key ++ x) ≡ y = drop-append-add key x (length (digits a) + 1) ∙ drop-append-add (digits a) (44 ∷ y) 1 in
+    rw (starts-right key x, drop-append-seam key x, number-right 44 a y (omega arith) ha, second, number-right 10 b more (omega arith) hb) refl
+
+pub pairLine-right :
+    (key : List ℕ) (a b : ℕ) (more : List ℕ) → a ≤ 65535 → b ≤ 65535 → pairLine key (pairText key a b ++ more) ≡ Two a b (length (pairText key a b))
+unfolding pairText
+pairLine-right key a b more ha hb =
+    ap (pairLine key)
+    (append-assoc key (digits a ++ (44 ∷ (digits b ++ (10 ∷ [])))) more
+    ∙ ap (λ (z : List ℕ). key ++ z) (append-assoc (digits a) (44 ∷ (digits b ++ (10 ∷ []))) more ∙ ap (λ (z : List ℕ). digits a ++ (44 ∷ z)) (append-assoc (digits b) (10 ∷ []) more)))
+    ∙ pairLine-of key a b more ha hb ∙ ap (λ (z : ℕ). Two a b z) sizes
+  where
+    sizes : length key + (length (digits a) + 1) + (length (digits b) + 1) ≡ length (key ++ (digits a ++ (44 ∷ (digits b ++ (10 ∷ [])))))
+    sizes =
+        omega (
+          arith,
+          length-append key (digits a ++ (44 ∷ (digits b ++ (10 ∷ [])))),
+          length-append (digits a) (44 ∷ (digits b ++ (10 ∷ []))),
+          length-append (digits b) (10 ∷ []),
+        )
+
+no-number : (key rest : List ℕ) → starts key rest ≡ false → numberLine key rest ≡ NoNumber
+unfolding numberLine pickNumber
+no-number key rest h = rw h
+
+no-pair : (key rest : List ℕ) → starts key rest ≡ false → pairLine key rest ≡ NoPair
+unfolding pairLine pairIf
+no-pair key rest h = rw h
+
+module _ (a b : ℕ) (more : List ℕ) where
+  name-1 : starts topText (numberText nameKey a ++ more) ≡ false
+  unfolding starts both numberText
+  name-1 = refl
+
+  some-1 : starts topText (pairText someKey a b ++ more) ≡ false
+  unfolding starts both pairText
+  some-1 = refl
+
+  some-2 : starts nameKey (pairText someKey a b ++ more) ≡ false
+  unfolding starts both pairText
+  some-2 = refl
+
+  and-1 : starts topText (pairText andKey a b ++ more) ≡ false
+  unfolding starts both pairText
+  and-1 = refl
+
+  and-2 : starts nameKey (pairText andKey a b ++ more) ≡ false
+  unfolding starts both pairText
+  and-2 = refl
+
+  and-3 : starts someKey (pairText andKey a b ++ more) ≡ false
+  unfolding starts both pairText
+  and-3 = refl
+
+  variable-1 : starts topText (numberText variableKey a ++ more) ≡ false
+  unfolding starts both numberText
+  variable-1 = refl
+
+  variable-2 : starts nameKey (numberText variableKey a ++ more) ≡ false
+  unfolding starts both numberText
+  variable-2 = refl
+
+  variable-3 : starts someKey (numberText variableKey a ++ more) ≡ false
+  unfolding starts both numberText
+  variable-3 = refl
+
+  variable-4 : starts andKey (numberText variableKey a ++ more) ≡ false
+  unfolding starts both numberText
+  variable-4 = refl
+
+pub rowLine-right : (kind a b : ℕ) (more : List ℕ) → RowFits kind a b → rowLine (rowText kind a b ++ more) ≡ Row kind a b (length (rowText kind a b))
+unfolding rowLine orRow topRow oneRow twoRow rowText
+rowLine-right zero a b more h = rw (starts-right topText more, h .0, h .1) refl
+rowLine-right (suc zero) a b more h = rw (name-1 a b more, numberLine-right nameKey a more (h .0), h .1) refl
+rowLine-right (suc (suc zero)) a b more h = rw (some-1 a b more, no-number nameKey _ (some-2 a b more), pairLine-right someKey a b more (h .0) (h .1)) refl
+rowLine-right (suc (suc (suc zero))) a b more h =
+    rw (and-1 a b more, no-number nameKey _ (and-2 a b more), no-pair someKey _ (and-3 a b more), pairLine-right andKey a b more (h .0) (h .1)) refl
+rowLine-right (suc (suc (suc (suc zero)))) a b more h =
+    rw (variable-1 a b more, no-number nameKey _ (variable-2 a b more), no-pair someKey _ (variable-3 a b more), no-pair andKey _ (variable-4 a b more), numberLine-right variableKey a more (h .0), h .1) refl
+rowLine-right (suc (suc (suc (suc (suc kind))))) a b more h = absurd h
+
+rows-right : (xs more : List ℕ) → length xs ≡ 3 → ConceptFits xs → rowAt (rowOfNumbers xs ++ more) ≡ numbers xs (length (rowOfNumbers xs))
+unfolding rowNumbers
+rows-right [] more l h = absurd (omega arith)
+rows-right (x ∷ []) more l h = absurd (omega arith)
+rows-right (x ∷ y ∷ []) more l h = absurd (omega arith)
+rows-right (x ∷ y ∷ z ∷ []) more l h = rw (rowLine-right x y z more h) refl
+rows-right (x ∷ y ∷ z ∷ w ∷ xs) more l h = absurd (omega arith)
+
+pairs-right : (xs more : List ℕ) → length xs ≡ 2 → PairFits xs → pairAt (pairOfNumbers xs ++ more) ≡ numbers xs (length (pairOfNumbers xs))
+unfolding pairNumbers
+pairs-right [] more l h = absurd (omega arith)
+pairs-right (x ∷ []) more l h = absurd (omega arith)
+pairs-right (x ∷ y ∷ []) more l h = rw (pairLine-right belowKey x y more (h .0) (h .1)) refl
+pairs-right (x ∷ y ∷ z ∷ xs) more l h = absurd (omega arith)
+
+-- ---- several lines
+module _
+    (line : List ℕ → Line) (write : List ℕ → List ℕ) (Fits : List ℕ → Type 0) (width : ℕ)
+    (reads : (xs more : List ℕ) → length xs ≡ width → Fits xs → line (write xs ++ more) ≡ numbers xs (length (write xs))) where
+  step :
+      (front after more xs ys : List ℕ) (count at p : ℕ) → line (front ++ (after ++ more)) ≡ numbers xs (length front)
+      → readLines line count (at + length front) (after ++ more) ≡ part ys p → readLines line (suc count) at ((front ++ after) ++ more) ≡ part (xs ++ ys) p
+  unfolding readLines lineThen prepend
+  step front after more xs ys count at p e f = rw (append-assoc front after more) (rw e (rw (drop-append-seam front (after ++ more), f) refl))
+
+  lines-right :
+      (count at : ℕ) (xs more : List ℕ) → RowsFit Fits width count xs
+      → readLines line count at (linesText write width count xs ++ more) ≡ part xs (at + length (linesText write width count xs))
+  unfolding readLines linesText
+  lines-right zero at xs more h = let e : at ≡ at + 0 = omega arith in rw h (ap (λ (z : ℕ). part [] z) e)
+  lines-right (suc count) at xs more h =
+      step (write (take width xs)) (linesText write width count (drop width xs)) more (take width xs) (drop width xs) count at _
+      (reads (take width xs) (linesText write width count (drop width xs) ++ more) (h .0) (h .1))
+      (lines-right count (at + length (write (take width xs))) (drop width xs) more (h .2))
+      ∙ ap (λ (z : List ℕ). part z (at + length (write (take width xs)) + length (linesText write width count (drop width xs)))) (take-append-drop width xs)
+      ∙ ap (λ (z : ℕ). part xs z) places
+    where
+      places : at + length (write (take width xs)) + length (linesText write width count (drop width xs)) ≡ at + length (write (take width xs) ++ linesText write width count (drop width xs))
+      places = rw length-append (omega arith)
+
+  -- ---- a section
+  pub section-right :
+      (key : List ℕ) (limit table : ℕ) (text : List ℕ) (at count : ℕ) (xs more : List ℕ) (go : List ℕ → ℕ → Judged)
+      → drop at text ≡ numberText key count ++ (linesText write width count xs ++ more) → count ≤ limit → limit ≤ 65535 → RowsFit Fits width count xs
+      → sectionAt key limit table line text at go ≡ go xs (at + length (numberText key count) + length (linesText write width count xs))
+  unfolding sectionAt countThen pickJudged partThen
+  section-right key limit table text at count xs more go e l m h =
+      rw (e, numberLine-right key count (linesText write width count xs ++ more) (omega arith), le-ltb limit count l)
+      (rw (behind-it, lines-right count (at + length (numberText key count)) xs more h) refl)
+    where
+      behind-it : drop (at + length (numberText key count)) text ≡ linesText write width count xs ++ more
+      behind-it =
+          sym (drop-drop (length (numberText key count)) at text) ∙ ap (λ (z : List ℕ). drop (length (numberText key count)) z) e
+          ∙ drop-append-seam (numberText key count) (linesText write width count xs ++ more)
+
+-- what is left behind a section
+behind : (text : List ℕ) (at : ℕ) (a b more : List ℕ) → drop at text ≡ a ++ (b ++ more) → drop (at + length a + length b) text ≡ more
+behind text at a b more e =
+    sym (drop-drop (length b) (at + length a) text ∙ refl)
+    ∙ ap (λ (z : List ℕ). drop (length b) z) (sym (drop-drop (length a) at text) ∙ ap (λ (z : List ℕ). drop (length a) z) e ∙ drop-append-seam a (b ++ more))
+    ∙ drop-append-seam b more
+
+-- ---- the whole text
+module _ (t : Tables) (s : Sayable t) where
+  a : List ℕ
+  a = numberText variablesKey (t .variables)
+
+  b : List ℕ
+  b = numberText conceptsKey (countOf (t .concepts))
+
+  c : List ℕ
+  c = linesText rowOfNumbers 3 (countOf (t .concepts)) (t .concepts)
+
+  d : List ℕ
+  d = numberText inclusionsKey (pairsOf (t .inclusions))
+
+  e : List ℕ
+  e = linesText pairOfNumbers 2 (pairsOf (t .inclusions)) (t .inclusions)
+
+  f : List ℕ
+  f = numberText questionsKey (pairsOf (t .questions))
+
+  g : List ℕ
+  g = linesText pairOfNumbers 2 (pairsOf (t .questions)) (t .questions)
+
+  text-is : layout t ≡ a ++ (b ++ (c ++ (d ++ (e ++ (f ++ g)))))
+  unfolding layout a b c d e f g
+  text-is = refl
+
+  from-a : drop (0 + length a) (layout t) ≡ b ++ (c ++ (d ++ (e ++ (f ++ g))))
+  from-a = ap (λ (z : ℕ). drop z (layout t)) (zero-add (length a)) ∙ ap (λ (z : List ℕ). drop (length a) z) text-is ∙ drop-append-seam a (b ++ (c ++ (d ++ (e ++ (f ++ g)))))
+
+  from-c : drop (0 + length a + length b + length c) (layout t) ≡ d ++ (e ++ (f ++ g))
+  from-c = behind (layout t) (0 + length a) b c (d ++ (e ++ (f ++ g))) from-a
+
+  from-e : drop (0 + length a + length b + length c + length d + length e) (layout t) ≡ f ++ (g ++ [])
+  from-e = behind (layout t) (0 + length a + length b + length c) d e (f ++ g) from-c ∙ ap (λ (z : List ℕ). f ++ z) (sym (append-nil g))
+
+  end-is : 0 + length a + length b + length c + length d + length e + length f + length g ≡ length (layout t)
+  end-is =
+      omega (
+        arith,
+        ap length text-is,
+        length-append a (b ++ (c ++ (d ++ (e ++ (f ++ g))))),
+        length-append b (c ++ (d ++ (e ++ (f ++ g)))),
+        length-append c (d ++ (e ++ (f ++ g))),
+        length-append d (e ++ (f ++ g)),
+        length-append e (f ++ g),
+        length-append f g,
+      )
+
+  first : judgeLines (layout t) ≡ judgeConcepts (layout t) (t .variables) (0 + length a)
+  unfolding judgeLines countThen pickJudged a
+  first =
+      rw (text-is, numberLine-right variablesKey (t .variables) (b ++ (c ++ (d ++ (e ++ (f ++ g))))) (omega (arith, s .few-variables)), le-ltb 8 (t .variables) (s .few-variables)) refl
+
+  second : judgeConcepts (layout t) (t .variables) (0 + length a) ≡ judgeInclusions (layout t) (t .variables) (t .concepts) (0 + length a + length b + length c)
+  unfolding judgeConcepts b c
+  second =
+      section-right rowAt rowOfNumbers ConceptFits 3 rows-right conceptsKey 192 0 (layout t) (0 + length a) (countOf (t .concepts)) (t .concepts) (d ++ (e ++ (f ++ g))) _ from-a
+      (s .few-concepts) (omega arith) (s .concepts-fit)
+
+  third :
+      judgeInclusions (layout t) (t .variables) (t .concepts) (0 + length a + length b + length c)
+      ≡ judgeQuestions (layout t) (t .variables) (t .concepts) (t .inclusions) (0 + length a + length b + length c + length d + length e)
+  unfolding judgeInclusions d e
+  third =
+      section-right pairAt pairOfNumbers PairFits 2 pairs-right inclusionsKey 96 1 (layout t) (0 + length a + length b + length c) (pairsOf (t .inclusions)) (t .inclusions) (f ++ g) _ from-c
+      (s .few-inclusions) (omega arith) (s .inclusions-fit)
+
+  fourth : judgeQuestions (layout t) (t .variables) (t .concepts) (t .inclusions) (0 + length a + length b + length c + length d + length e) ≡ accepted t
+  unfolding judgeQuestions judgeEnd pickJudged f g
+  fourth =
+      section-right pairAt pairOfNumbers PairFits 2 pairs-right questionsKey 32 2 (layout t) (0 + length a + length b + length c + length d + length e) (pairsOf (t .questions)) (t .questions) [] _ from-e
+      (s .few-questions) (omega arith) (s .questions-fit)
+      ∙ rw (eq-eqb _ (length (layout t)) end-is) refl
+
+  pub layout-accepted : length (layout t) ≤ 8192 → judge (layout t) ≡ accepted t
+  unfolding judge pickJudged
+  layout-accepted h = rw (le-ltb 8192 (length (layout t)) h) (first ∙ second ∙ third ∙ fourth)
