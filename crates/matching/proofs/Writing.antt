@@ -22,8 +22,8 @@ use Rattle.subsumption.proofs.Bools.{anyBelow-intro}
 use Rattle.subsumption.proofs.Refusals.{stops, goes-on, is-done, refused-lt, done-le}
 use Rattle.subsumption.proofs.Accepted.{wellFormed}
 use Rattle.subsumption.proofs.Deciding.{asked-tables, asked-assignment, asked-left, asked-right, asked-few}
-use Rattle.matching.specs.declared.derive.Derived.{Derived}
-use Rattle.matching.specs.declared.derive.Derived.the-variants.{Lines, Rejected}
+use Rattle.matching.specs.declared.writer.Derived.{Derived}
+use Rattle.matching.specs.declared.writer.Derived.the-variants.{Lines, Rejected}
 use Rattle.matching.specs.Derivation.{pairAt, provedBy}
 use Rattle.matching.specs.Deriving.{roomFor, derivingFault, DerivationOf, Derives}
 use Rattle.matching.specs.LineMarks.{Square, seen, Of, Fetched}

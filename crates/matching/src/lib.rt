@@ -1,10 +1,10 @@
 // Matching under subsumption: the matcher, derivations and their checker.
 mod derivation;
-mod derive;
 pub mod find;
 mod rules;
 mod search;
+mod writer;
 
 pub use derivation::check_derivation;
-pub use derive::Derived;
-pub use derive::derive;
+pub use writer::Derived;
+pub use writer::derive;

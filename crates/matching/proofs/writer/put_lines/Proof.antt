@@ -8,62 +8,62 @@ use Rattle.matching.proofs.Cells.{square-small}
 use Rattle.matching.proofs.Notes.{blank-marks}
 use Rattle.matching.proofs.LineChecks.{fetched-of, fetched-room}
 use borrow.Author.Needs.{needs}
-use Rattle.matching.proofs.derive.put_lines.Statement.{statement}
-use Rattle.matching.proofs.derive.put_lines.Tie as tie
-use Rattle.matching.proofs.derive.put_lines.Reads as reads
-use Rattle.matching.proofs.derive.put_lines.Lts as lts
+use Rattle.matching.proofs.writer.put_lines.Statement.{statement}
+use Rattle.matching.proofs.writer.put_lines.Tie as tie
+use Rattle.matching.proofs.writer.put_lines.Reads as reads
+use Rattle.matching.proofs.writer.put_lines.Lts as lts
 use Rattle.matching.proofs.derivation.fetch_atoms.Reads as fetch-atoms-reads
-use Rattle.matching.proofs.derive.write_lines.Reads as write-lines-reads
+use Rattle.matching.proofs.writer.write_lines.Reads as write-lines-reads
 
--- src/derive.rt:174:69
+-- src/writer.rt:174:69
 slice-aggregate-fetch-atoms : tie.Need-slice-aggregate-fetch-atoms
 slice-aggregate-fetch-atoms c = search needs
 
--- src/derive.rt:174:9
+-- src/writer.rt:174:9
 fetch-atoms-requires : tie.Need-fetch-atoms-requires
 fetch-atoms-requires c κs = (asked-tables _ _ _ _ (c .before .before .before .before .before .before .pre .0), search needs)
 
--- src/derive.rt:178:16
+-- src/writer.rt:178:16
 mul-size : tie.Need-mul-size
 mul-size c = omega (arith, square-small _ (asked-few _ _ _ _ (c .before .before .before .before .before .before .before .before .pre .0)))
 
--- src/derive.rt:179:16
+-- src/writer.rt:179:16
 mul-room : tie.Need-mul-room
 mul-room c = omega (arith, square-small _ (asked-few _ _ _ _ (c .before .before .before .before .before .before .before .before .pre .0)))
 
--- src/derive.rt:183:9
+-- src/writer.rt:183:9
 array-share-prefix-ids : tie.Need-array-share-prefix-ids
 array-share-prefix-ids c = omega (arith, fetched-room _ _ _ (asked-tables _ _ _ _ (c .before .before .before .before .before .before .before .before .pre .0)) (c .before .fetch-atoms .ensures))
 
--- src/derive.rt:183:9
+-- src/writer.rt:183:9
 slice-aggregate-write-lines : tie.Need-slice-aggregate-write-lines
 slice-aggregate-write-lines c = sym (length-take-le _ _ (omega (arith, fetched-room _ _ _ (asked-tables _ _ _ _ (c .before .before .before .before .before .before .before .before .before .pre .0)) (c .before .before .fetch-atoms .ensures), c .before .before .fetch-atoms .kept .1 .1 .1 .1 .0)))
 
--- src/derive.rt:187:9
+-- src/writer.rt:187:9
 array-borrow-prefix-marks : tie.Need-array-borrow-prefix-marks
 array-borrow-prefix-marks c = omega (arith, square-small _ (asked-few _ _ _ _ (c .before .before .before .before .before .before .before .before .before .pre .0)))
 
--- src/derive.rt:187:9
+-- src/writer.rt:187:9
 slice-aggregate-write-lines-2 : tie.Need-slice-aggregate-write-lines-2
 slice-aggregate-write-lines-2 c = sym (blank-marks _ (asked-few _ _ _ _ (c .before .before .before .before .before .before .before .before .before .before .pre .0)) .square .long)
 
--- src/derive.rt:188:9
+-- src/writer.rt:188:9
 array-borrow-prefix-notes : tie.Need-array-borrow-prefix-notes
 array-borrow-prefix-notes c = omega (arith, square-small _ (asked-few _ _ _ _ (c .before .before .before .before .before .before .before .before .before .before .pre .0)))
 
--- src/derive.rt:188:9
+-- src/writer.rt:188:9
 slice-aggregate-write-lines-3 : tie.Need-slice-aggregate-write-lines-3
 slice-aggregate-write-lines-3 c = sym (notes-long _ (asked-few _ _ _ _ (c .before .before .before .before .before .before .before .before .before .before .before .pre .0)))
 
--- src/derive.rt:180:5
+-- src/writer.rt:180:5
 write-lines-requires : tie.Need-write-lines-requires
 write-lines-requires c κs = (asked-grounds _ _ _ _ _ _ (c .before .before .before .before .before .before .before .before .before .before .before .before .pre .0) (c .before .before .before .before .before .fetch-atoms .ensures), (asked-subsumed _ _ _ _ _ _ (c .before .before .before .before .before .before .before .before .before .before .before .before .pre .0) (c .before .before .before .before .before .fetch-atoms .ensures) (c .before .before .before .before .before .before .before .before .before .before .before .before .pre .1 .0), (blank-marks _ (asked-few _ _ _ _ (c .before .before .before .before .before .before .before .before .before .before .before .before .pre .0)), (notes-long _ (asked-few _ _ _ _ (c .before .before .before .before .before .before .before .before .before .before .before .before .pre .0)), c .before .before .before .before .before .before .before .before .before .before .before .before .pre .1 .1))))
 
--- src/derive.rt:158:1
+-- src/writer.rt:158:1
 same-length : tie.Need-same-length
 same-length c = search needs
 
--- src/derive.rt:158:1
+-- src/writer.rt:158:1
 returns : tie.Need-returns
 returns c = c .before .before .before .before .write-lines .ensures .each (tables (c .before .before .before .before .before .before .before .before .before .before .before .before .before .before .before .before .before .args .concepts .now) (c .before .before .before .before .before .before .before .before .before .before .before .before .before .before .before .before .before .args .inclusions .now) (c .before .before .before .before .before .before .before .before .before .before .before .before .before .before .before .before .before .args .questions .now) (c .before .before .before .before .before .before .before .before .before .before .before .before .before .before .before .before .before .args .variables)) (fetched-of _ _ _ (c .before .before .before .before .before .before .before .before .before .before .fetch-atoms .ensures))
 
