@@ -1,6 +1,7 @@
 // Matching under subsumption: the matcher, derivations and their checker.
 mod derivation;
 pub mod find;
+mod needed;
 mod rules;
 mod search;
 mod writer;
