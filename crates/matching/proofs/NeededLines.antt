@@ -1,18 +1,18 @@
 -- Backwards over the noted lines: what the needed lines use is needed.
-use Prim.Native.Nat.{ℕ, zero, suc, _+_, _-_, _*_, _<_, _≤_}
-use mathlib.Core.Path.{_≡_, refl, sym, ap, ap₂, _∙_, subst}
+use Prim.Native.Nat.{ℕ, _-_, _<_, _≤_}
+use mathlib.Core.Path.{_≡_, sym, ap₂, _∙_, subst}
 use mathlib.Core.List.{List}
 use mathlib.Core.Bool.{Bool, true, false, true≢false}
-use mathlib.Core.Logic.{_⊎_, inl, inr, ⊎-elim}
+use mathlib.Core.Logic.{_⊎_, ⊎-elim}
 use native.Mathlib.Omega.{arith}
 use Rattle.subsumption.specs.Tables.{Tables, both, countOf}
 use Rattle.subsumption.specs.Closure.{Ready}
 use Rattle.subsumption.specs.Rules.{byRule, follows}
 use Rattle.subsumption.proofs.Bools.{both-true, both-intro, eq-or-ne}
 use Rattle.matching.specs.Derivation.{ruleAt, leftAt, rightAt, extraAt, provedBy, lineFollows}
-use Rattle.matching.specs.LineMarks.{Square, seen, Of}
+use Rattle.matching.specs.LineMarks.{seen, Of}
 use Rattle.matching.specs.Noting.{Noted, Enough}
-use Rattle.matching.specs.Needing.{Grown, Needs}
+use Rattle.matching.specs.Needing.{Needs}
 use Rattle.matching.proofs.RuleMonotone.{of-reads, follows-mono}
 use Rattle.matching.proofs.Copies.{proved-later}
 

@@ -2,19 +2,17 @@
 use Prim.Native.Nat.{ℕ, zero, suc, _+_, _*_, _/_, _%_, _^_, _<_, _≤_}
 use mathlib.Core.Path.{_≡_, refl, sym, ap, ap₂, _∙_, subst}
 use mathlib.Core.List.{List, List·Memᴰ}
-use mathlib.Core.Bool.{Bool, true, false, false≢true, true≢false}
+use mathlib.Core.Bool.{Bool, true, false, false≢true}
 use mathlib.Core.Logic.{_⊎_, inl, inr, ⊎-elim}
 use native.Mathlib.Omega.{arith}
-use lib.Dec.{eqb, ltb}
 use lib.ListN.{length, getD, set}
-use borrow.Author.Tests.{eq-eqb, eqb-true, ltb-true}
+use borrow.Author.Tests.{ltb-true}
 use Rattle.subsumption.specs.declared.tables.Row.{Row}
 use Rattle.subsumption.specs.declared.tables.Pair.{Pair}
-use Rattle.subsumption.specs.Tables.{Tables, or, both, Node, topAt, nameAt, existsAt, andAt, varAt, decode, node, countOf, pairsOf, leftOf, rightOf}
+use Rattle.subsumption.specs.Tables.{Tables, or, both, Node, topAt, nameAt, existsAt, andAt, varAt, node, countOf, pairsOf, leftOf, rightOf}
 use Rattle.subsumption.specs.TableRows.{rowOf, pairOf}
-use Rattle.subsumption.specs.Atoms.{atoms, chosen, pick}
-use Rattle.subsumption.specs.Closure.{Ready}
-use Rattle.subsumption.specs.Rules.{every, contains, onPicked, onBoth, onInner, onVariable, byRule}
+use Rattle.subsumption.specs.Atoms.{chosen, pick}
+use Rattle.subsumption.specs.Rules.{every, contains, onPicked, byRule}
 use Rattle.subsumption.proofs.Bools.{both-true, both-intro, eq-or-ne}
 use Rattle.subsumption.proofs.Nodes.{var-node, and-node, exists-node}
 use Rattle.subsumption.proofs.Chosen.{chosen-known}

@@ -1,15 +1,10 @@
 use native.Mathlib.Omega.{arith}
-use borrow.Author.Needs.{needs}
 use Prim.Native.Nat.{_≤_, _-_}
 use mathlib.Core.Path.{_≡_, refl, _∙_}
 use lib.ListN.{length}
 use Rattle.matching.proofs.Premises.{MarkedBelow, below-none, below-skip, below-more, below-done}
 use Rattle.matching.proofs.needed.mark_all.Statement.{statement}
 use Rattle.matching.proofs.needed.mark_all.Tie as tie
-use Rattle.matching.proofs.needed.mark_all.Reads as reads
-use Rattle.matching.proofs.needed.mark_all.Lts as lts
-use Rattle.matching.proofs.derivation.mark_pair.Reads as mark-pair-reads
-use Rattle.matching.proofs.rules.number_at.Reads as number-at-reads
 
 abbrev Inv-loop : tie.InvT-loop
 Inv-loop atoms choice needed₀ count left q₀ needed q = (q ≤ length atoms) × ((length needed ≡ length needed₀) × MarkedBelow atoms choice count needed₀ needed left q)
@@ -17,47 +12,36 @@ Inv-loop atoms choice needed₀ count left q₀ needed q = (q ≤ length atoms) 
 abbrev μ-loop : tie.MeasureT-loop
 μ-loop atoms choice needed₀ count left q₀ needed q = length atoms - q
 
--- src/needed.rt:35:5
 loop-holds : tie.Need-loop-holds Inv-loop μ-loop
 loop-holds c = (omega arith, (refl, below-none _ _ _ _ _ (c .before .before .pre .0)))
 
--- src/needed.rt:36:23
 shr-picked : tie.Need-shr-picked Inv-loop μ-loop
 shr-picked c = omega (arith, c .before .before .before .before .pre .1 .0 .few-atoms)
 
--- src/needed.rt:37:13
 number-at-requires : tie.Need-number-at-requires Inv-loop μ-loop
 number-at-requires c κs = omega arith
 
--- src/needed.rt:38:9
 add-q : tie.Need-add-q Inv-loop μ-loop
 add-q c = omega arith
 
--- src/needed.rt:35:5
 loop-less : tie.Need-loop-less Inv-loop μ-loop
 loop-less c = omega arith
 
--- src/needed.rt:35:5
 loop-again : tie.Need-loop-again Inv-loop μ-loop
 loop-again c = (omega arith, (c .before .before .before .loop .inv .1 .0, below-skip _ _ _ _ _ _ _ (c .before .before .before .loop .inv .1 .1) (c .if1 .taken)))
 
--- src/needed.rt:42:9
 mark-pair-requires : tie.Need-mark-pair-requires Inv-loop μ-loop
 mark-pair-requires c κs = (c .before .before .before .before .loop .inv .1 .1 .grown .square, (c .before .before .before .before .before .before .before .pre .1 .1, omega (arith, c .before .before .before .before .before .before .before .pre .1 .0 .atoms-known (c .before .before .before .before .loop .q) (omega arith), c .before .before .number-at .ensures)))
 
--- src/needed.rt:35:5
 loop-less-2 : tie.Need-loop-less-2 Inv-loop μ-loop
 loop-less-2 c = omega arith
 
--- src/needed.rt:35:5
 loop-again-2 : tie.Need-loop-again-2 Inv-loop μ-loop
 loop-again-2 c = (omega arith, (c .before .before .mark-pair .kept .0 ∙ c .before .before .before .before .before .before .before .loop .inv .1 .0, below-more _ _ _ _ _ _ _ _ _ (c .before .before .before .before .before .before .before .loop .inv .1 .1) (c .before .before .before .before .before .before .before .before .before .before .pre .1 .0 .atoms-known) (c .before .before .before .before .before .before .loop-test .taken) (c .before .before .before .before .before .before .before .before .before .before .pre .1 .1) (c .before .before .before .before .before .number-at .ensures) (c .before .before .before .before .if1 .left) (c .before .before .mark-pair .ensures)))
 
--- src/needed.rt:28:1
 same-length : tie.Need-same-length Inv-loop μ-loop
 same-length c = c .before .loop .inv .1 .0
 
--- src/needed.rt:28:1
 returns : tie.Need-returns Inv-loop μ-loop
 returns c = below-done _ _ _ _ _ _ _ (c .before .loop .inv .1 .1) (c .loop-test .left)
 

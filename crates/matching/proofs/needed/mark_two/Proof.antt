@@ -1,25 +1,17 @@
-use native.Mathlib.Omega.{arith}
 use Rattle.matching.proofs.Premises.{two-marked, grown-set}
 use borrow.Author.Needs.{needs}
 use Rattle.matching.proofs.needed.mark_two.Statement.{statement}
 use Rattle.matching.proofs.needed.mark_two.Tie as tie
-use Rattle.matching.proofs.needed.mark_two.Reads as reads
-use Rattle.matching.proofs.needed.mark_two.Lts as lts
-use Rattle.matching.proofs.derivation.mark_pair.Reads as mark-pair-reads
 
--- src/needed.rt:24:5
 mark-pair-requires : tie.Need-mark-pair-requires
 mark-pair-requires c κs = (c .before .before .pre .0, c .before .before .pre .1 .0)
 
--- src/needed.rt:25:5
 mark-pair-requires-2 : tie.Need-mark-pair-requires-2
 mark-pair-requires-2 c κs = (grown-set _ _ _ _ _ (c .before .before .before .before .before .before .pre .0) (c .before .before .before .before .before .before .pre .1 .0 .0) (c .before .before .before .before .before .before .pre .1 .0 .1) (c .before .before .before .mark-pair .ensures) .square, c .before .before .before .before .before .before .pre .1 .1)
 
--- src/needed.rt:18:1
 same-length : tie.Need-same-length
 same-length c = search needs
 
--- src/needed.rt:18:1
 returns : tie.Need-returns
 returns c = two-marked _ _ _ _ _ _ _ _ (c .before .before .before .before .before .before .before .before .before .pre .0) (c .before .before .before .before .before .before .before .before .before .pre .1 .0 .0) (c .before .before .before .before .before .before .before .before .before .pre .1 .0 .1) (c .before .before .before .before .before .before .before .before .before .pre .1 .1 .0) (c .before .before .before .before .before .before .before .before .before .pre .1 .1 .1) (c .before .before .before .before .before .before .mark-pair .ensures) (c .before .before .mark-pair2 .ensures)
 

@@ -1,6 +1,6 @@
 use native.Mathlib.Omega.{arith}
 use Rattle.matching.proofs.Writing.{asked-grounds, asked-subsumed, notes-long}
-use mathlib.Core.Path.{sym, refl}
+use mathlib.Core.Path.{sym}
 use lib.Seq.{length-take-le}
 use Rattle.subsumption.specs.Tables.{tables}
 use Rattle.subsumption.proofs.Deciding.{asked-tables, asked-few}
@@ -10,68 +10,49 @@ use Rattle.matching.proofs.LineChecks.{fetched-of, fetched-room}
 use borrow.Author.Needs.{needs}
 use Rattle.matching.proofs.writer.put_lines.Statement.{statement}
 use Rattle.matching.proofs.writer.put_lines.Tie as tie
-use Rattle.matching.proofs.writer.put_lines.Reads as reads
-use Rattle.matching.proofs.writer.put_lines.Lts as lts
-use Rattle.matching.proofs.derivation.fetch_atoms.Reads as fetch-atoms-reads
-use Rattle.matching.proofs.writer.write_lines.Reads as write-lines-reads
 
--- src/writer.rt:180:69
 slice-aggregate-fetch-atoms : tie.Need-slice-aggregate-fetch-atoms
 slice-aggregate-fetch-atoms c = search needs
 
--- src/writer.rt:180:9
 fetch-atoms-requires : tie.Need-fetch-atoms-requires
 fetch-atoms-requires c κs = (asked-tables _ _ _ _ (c .before .before .before .before .before .before .pre .0), search needs)
 
--- src/writer.rt:185:16
 mul-size : tie.Need-mul-size
 mul-size c = omega (arith, square-small _ (asked-few _ _ _ _ (c .before .before .before .before .before .before .before .before .pre .0)))
 
--- src/writer.rt:186:16
 mul-room : tie.Need-mul-room
 mul-room c = omega (arith, square-small _ (asked-few _ _ _ _ (c .before .before .before .before .before .before .before .before .pre .0)))
 
--- src/writer.rt:190:9
 array-share-prefix-ids : tie.Need-array-share-prefix-ids
 array-share-prefix-ids c = omega (arith, fetched-room _ _ _ (asked-tables _ _ _ _ (c .before .before .before .before .before .before .before .before .pre .0)) (c .before .fetch-atoms .ensures))
 
--- src/writer.rt:190:9
 slice-aggregate-write-lines : tie.Need-slice-aggregate-write-lines
 slice-aggregate-write-lines c = sym (length-take-le _ _ (omega (arith, fetched-room _ _ _ (asked-tables _ _ _ _ (c .before .before .before .before .before .before .before .before .before .pre .0)) (c .before .before .fetch-atoms .ensures), c .before .before .fetch-atoms .kept .1 .1 .1 .1 .0)))
 
--- src/writer.rt:194:9
 array-borrow-prefix-marks : tie.Need-array-borrow-prefix-marks
 array-borrow-prefix-marks c = omega (arith, square-small _ (asked-few _ _ _ _ (c .before .before .before .before .before .before .before .before .before .pre .0)))
 
--- src/writer.rt:194:9
 slice-aggregate-write-lines-2 : tie.Need-slice-aggregate-write-lines-2
 slice-aggregate-write-lines-2 c = sym (blank-marks _ (asked-few _ _ _ _ (c .before .before .before .before .before .before .before .before .before .before .pre .0)) .square .long)
 
--- src/writer.rt:195:9
 array-borrow-prefix-needed : tie.Need-array-borrow-prefix-needed
 array-borrow-prefix-needed c = omega (arith, square-small _ (asked-few _ _ _ _ (c .before .before .before .before .before .before .before .before .before .before .pre .0)))
 
--- src/writer.rt:195:9
 slice-aggregate-write-lines-3 : tie.Need-slice-aggregate-write-lines-3
 slice-aggregate-write-lines-3 c = sym (blank-marks _ (asked-few _ _ _ _ (c .before .before .before .before .before .before .before .before .before .before .before .pre .0)) .square .long)
 
--- src/writer.rt:196:9
 array-borrow-prefix-notes : tie.Need-array-borrow-prefix-notes
 array-borrow-prefix-notes c = omega (arith, square-small _ (asked-few _ _ _ _ (c .before .before .before .before .before .before .before .before .before .before .before .pre .0)))
 
--- src/writer.rt:196:9
 slice-aggregate-write-lines-4 : tie.Need-slice-aggregate-write-lines-4
 slice-aggregate-write-lines-4 c = sym (notes-long _ (asked-few _ _ _ _ (c .before .before .before .before .before .before .before .before .before .before .before .before .pre .0)))
 
--- src/writer.rt:187:5
 write-lines-requires : tie.Need-write-lines-requires
 write-lines-requires c κs = (asked-grounds _ _ _ _ _ _ (c .before .before .before .before .before .before .before .before .before .before .before .before .before .pre .0) (c .before .before .before .before .before .before .fetch-atoms .ensures), (asked-subsumed _ _ _ _ _ _ (c .before .before .before .before .before .before .before .before .before .before .before .before .before .pre .0) (c .before .before .before .before .before .before .fetch-atoms .ensures) (c .before .before .before .before .before .before .before .before .before .before .before .before .before .pre .1 .0), (blank-marks _ (asked-few _ _ _ _ (c .before .before .before .before .before .before .before .before .before .before .before .before .before .pre .0)), (blank-marks _ (asked-few _ _ _ _ (c .before .before .before .before .before .before .before .before .before .before .before .before .before .pre .0)), (notes-long _ (asked-few _ _ _ _ (c .before .before .before .before .before .before .before .before .before .before .before .before .before .pre .0)), c .before .before .before .before .before .before .before .before .before .before .before .before .before .pre .1 .1)))))
 
--- src/writer.rt:164:1
 same-length : tie.Need-same-length
 same-length c = search needs
 
--- src/writer.rt:164:1
 returns : tie.Need-returns
 returns c = c .before .before .before .before .before .write-lines .ensures .each (tables (c .before .before .before .before .before .before .before .before .before .before .before .before .before .before .before .before .before .before .before .args .concepts .now) (c .before .before .before .before .before .before .before .before .before .before .before .before .before .before .before .before .before .before .before .args .inclusions .now) (c .before .before .before .before .before .before .before .before .before .before .before .before .before .before .before .before .before .before .before .args .questions .now) (c .before .before .before .before .before .before .before .before .before .before .before .before .before .before .before .before .before .before .before .args .variables)) (fetched-of _ _ _ (c .before .before .before .before .before .before .before .before .before .before .before .before .fetch-atoms .ensures))
 
