@@ -12,8 +12,8 @@ use Rattle.subsumption.specs.declared.listing.Listed.the-variants.{Atoms, Rejec
 use Rattle.subsumption.specs.declared.decide.Decision.{Decision}
 use Rattle.subsumption.specs.declared.decide.Decision.the-variants.{Yes, No, Rejected as Unfit}
 use Rattle.subsumption.specs.declared.refusal.Refusal.the-variants.{NoAssignment}
-use Rattle.matching.specs.declared.derive.Derived.{Derived}
-use Rattle.matching.specs.declared.derive.Derived.the-variants.{Lines, Rejected as Underived}
+use Rattle.matching.specs.declared.writer.Derived.{Derived}
+use Rattle.matching.specs.declared.writer.Derived.the-variants.{Lines, Rejected as Underived}
 use Rattle.matching.specs.Deriving.{derivingFault, Derives}
 use Rattle.matching.specs.declared.find.Match.{Match}
 use Rattle.matching.specs.declared.find.Match.the-variants.{Filled, Nothing, Rejected as Unmatched}

@@ -11,8 +11,8 @@ use Rattle.subsumption.specs.Subsumption.{Subsumed}
 use Rattle.subsumption.specs.Refusal.{codeOf}
 use Rattle.subsumption.specs.Table.{writingFault, Left}
 use Rattle.subsumption.specs.Decide.{decidingFault}
-use Rattle.matching.specs.declared.derive.Derived.{Derived}
-use Rattle.matching.specs.declared.derive.Derived.the-variants.{Lines, Rejected}
+use Rattle.matching.specs.declared.writer.Derived.{Derived}
+use Rattle.matching.specs.declared.writer.Derived.the-variants.{Lines, Rejected}
 use Rattle.matching.specs.Deriving.{derivingFault, Derives}
 use Rattle.matching.specs.declared.find.Match.{Match}
 use Rattle.matching.specs.Finding.{findingFault, Finds, refusalOf}

@@ -205,7 +205,7 @@ pub extern "C" fn hc_derive(
 ) -> Answer
     ensures { λ a. ⌜ DerivesAs (tables (now (concepts .entry)) (now (inclusions .entry)) (now (questions .entry)) variables) (now (assignment .entry)) left right (now (out .entry)) (now (out .exit)) a ⌝ }
 {
-    let answer = matching::derive_pair(
+    let answer = matching::derive(
         concepts,
         inclusions,
         questions,

@@ -1,30 +1,29 @@
 -- Copying the needed lines.
-use Prim.Native.Nat.{ℕ, zero, suc, _+_, _-_, _*_, _/_, _%_, _<_, _≤_}
+use Prim.Native.Nat.{ℕ, zero, suc, _+_, _-_, _*_, _<_, _≤_}
 use mathlib.Core.Path.{_≡_, refl, sym, ap, ap₂, _∙_, subst}
 use mathlib.Core.List.{List}
-use mathlib.Core.Bool.{Bool, true, false, not, false≢true, true≢false}
+use mathlib.Core.Bool.{Bool, true, false, not, true≢false}
 use mathlib.Core.Logic.{⊎-elim}
 use native.Mathlib.Omega.{arith}
 use lib.Dec.{eqb}
-use lib.ListN.{length, getD, take, drop, length-drop}
+use lib.ListN.{length, take, length-drop}
 use lib.Seq.{length-take-le, getD-take, getD-drop, ext-getD}
 use borrow.Author.Tests.{eqb-true, eq-eqb}
 use Rattle.subsumption.specs.declared.refusal.Refusal.{Refusal}
-use Rattle.subsumption.specs.declared.refusal.Refusal.the-variants.{BadDerivation}
 use Rattle.subsumption.specs.declared.refusal.Outcome.the-variants.{Done}
-use Rattle.subsumption.specs.Tables.{Tables, or, both, anyBelow, countOf}
+use Rattle.subsumption.specs.Tables.{Tables, or, both, countOf}
 use Rattle.subsumption.specs.Closure.{Ready}
-use Rattle.subsumption.specs.Refusal.{orElse, refuseIf, firstAt}
+use Rattle.subsumption.specs.Refusal.{firstAt}
 use Rattle.subsumption.specs.Rules.{follows}
-use Rattle.subsumption.proofs.Bools.{both-true, both-intro, both-none, both-skip, or-first, or-second, or-skip, last-cases, anyBelow-intro, anyBelow-elim}
+use Rattle.subsumption.proofs.Bools.{both-true, both-intro, both-none, both-skip, or-first, or-skip, last-cases, anyBelow-intro, anyBelow-elim}
 use Rattle.subsumption.proofs.Refusals.{both-done, done-if}
-use Rattle.matching.specs.Derivation.{linesOf, ruleAt, leftAt, rightAt, extraAt, pairAt, provedBy, lineFollows, noLines, ruleFault, lastFault, derivationFault}
-use Rattle.matching.specs.LineMarks.{Square, seen, Of}
+use Rattle.matching.specs.Derivation.{linesOf, ruleAt, leftAt, rightAt, extraAt, pairAt, provedBy, lineFollows, ruleFault, derivationFault}
+use Rattle.matching.specs.LineMarks.{seen, Of}
 use Rattle.matching.specs.Deriving.{DerivationOf}
-use Rattle.matching.specs.Noting.{LineWritten, Noted, NotedTo, Enough, Copy, Copied}
+use Rattle.matching.specs.Noting.{LineWritten, NotedTo, Enough, Copy, Copied}
 use Rattle.matching.proofs.LineChecks.{proved-none, proved-more, shape-whole, last-both}
-use Rattle.matching.proofs.RuleMonotone.{Reads, of-reads, follows-same, follows-mono}
-use Rattle.matching.proofs.LinesWritten.{Agree, agree-less, pair-agree, proved-agree, line-agree}
+use Rattle.matching.proofs.RuleMonotone.{Reads, of-reads, follows-same}
+use Rattle.matching.proofs.LinesWritten.{Agree, proved-agree, line-agree}
 
 pair-known : (lines : List ℕ) (i j k : ℕ) → pairAt lines i j k ≡ true → (i ≡ leftAt lines k) × (j ≡ rightAt lines k)
 unfolding pairAt
@@ -257,17 +256,3 @@ module _ (t : Tables) (concepts inclusions ids assignment : List ℕ) (left righ
         rest = ext-getD 0 _ _ (rw (length-drop, length-drop, c .size) refl)
             (λ i h. getD-drop (w * 4) after i 0 ∙ c .rest (w * 4 + i) (omega arith) ∙ sym (getD-drop (w * 4) before i 0));
       }
-
--- the marked pairs are enough
-pub marks-enough :
-    (concepts inclusions ids assignment : List ℕ) (marks : List Bool) (notes : List ℕ) (n : ℕ) → Ready concepts inclusions ids assignment → Noted concepts inclusions ids assignment marks notes n
-    → Enough concepts inclusions ids assignment marks notes 0 n
-unfolding lineFollows
-marks-enough concepts inclusions ids assignment marks notes n r d =
-    record {
-      each = λ k _ h _ t of.
-          follows-mono t assignment (of-reads t concepts inclusions ids assignment of r) (provedBy notes k) (λ i j. both (provedBy notes k i j) (seen (countOf concepts) marks i j))
-          (λ i j u v e. both-intro _ _ e
-          (d .marked .same i j (subst (λ (z : List ℕ). i < countOf z) (of .concepts-are) u) (subst (λ (z : List ℕ). j < countOf z) (of .concepts-are) v) ∙ proved-later notes k n i j (omega arith) e))
-          _ _ _ _ (d .follow k h t of);
-    }

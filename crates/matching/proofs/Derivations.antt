@@ -1,26 +1,21 @@
 -- Laws of derivations: whatever is accepted is subsumed.
-use Prim.Native.Nat.{ℕ, zero, suc, _+_, _-_, _*_, _/_, _<_, _≤_}
-use mathlib.Core.Path.{_≡_, refl, sym, ap, _∙_, subst}
+use Prim.Native.Nat.{ℕ, zero, suc, _-_, _<_}
+use mathlib.Core.Path.{_≡_, sym, subst}
 use mathlib.Core.List.{List}
-use mathlib.Core.Bool.{Bool, true, false, not}
-use mathlib.Core.Logic.{⊎-elim}
+use mathlib.Core.Bool.{true, not}
 use native.Mathlib.Omega.{arith}
-use lib.ListN.{length, getD}
 use borrow.Author.Tests.{eqb-true, not-false}
-use Rattle.subsumption.specs.declared.refusal.Refusal.the-variants.{BadDerivation}
 use Rattle.subsumption.specs.declared.refusal.Outcome.the-variants.{Done}
-use Rattle.subsumption.specs.Tables.{Tables, both, anyBelow, countOf}
+use Rattle.subsumption.specs.Tables.{Tables}
 use Rattle.subsumption.specs.Subsumption.{Subsumed}
-use Rattle.subsumption.specs.Refusal.{orElse, refuseIf, firstAt}
 use Rattle.subsumption.specs.Check.{tableFault}
-use Rattle.subsumption.proofs.Bools.{both-true, anyBelow-elim, last-cases}
+use Rattle.subsumption.proofs.Bools.{both-true, anyBelow-elim}
 use Rattle.subsumption.proofs.Refusals.{passed-first, passed-second, passed-if, passed-at}
 use Rattle.subsumption.proofs.WellFormed.{WellFormed}
 use Rattle.subsumption.proofs.Accepted.{wellFormed}
 use Rattle.subsumption.proofs.Deciding.{asked-tables}
 use Rattle.subsumption.proofs.RuleSoundness.{follows-sound}
-use Rattle.subsumption.specs.Decide.{decidingFault}
-use Rattle.matching.specs.Derivation.{linesOf, leftAt, rightAt, pairAt, provedBy, lineFollows, noLines, ruleFault, lastFault, derivationFault, checkingFault}
+use Rattle.matching.specs.Derivation.{linesOf, leftAt, rightAt, pairAt, provedBy, lineFollows, ruleFault, lastFault, derivationFault, checkingFault}
 use Rattle.matching.proofs.LineChecks.{some-lines}
 
 module _ (t : Tables) (assignment lines : List ℕ) (wf : WellFormed t) (n : ℕ) (h : (k : ℕ) → k < n → lineFollows t assignment lines k ≡ true) where

@@ -31,3 +31,5 @@ pub mod LinesWritten
 pub mod Notes
 pub mod Copies
 pub mod Writing
+pub mod Premises
+pub mod NeededLines

@@ -1,5 +1,5 @@
 -- Checking lines one after the other, the pairs passed marked.
-use Prim.Native.Nat.{ℕ, zero, suc, _+_, _-_, _*_, _/_, _%_, _<_, _≤_}
+use Prim.Native.Nat.{ℕ, _+_, _-_, _*_, _%_, _<_, _≤_}
 use mathlib.Core.Path.{_≡_, refl, sym, ap, _∙_, subst}
 use mathlib.Core.List.{List, _++_}
 use mathlib.Core.Bool.{Bool, true, false, not, false≢true}
@@ -7,24 +7,24 @@ use mathlib.Core.Logic.{⊎-elim}
 use native.Mathlib.Omega.{arith}
 use native.Mathlib.Numerals.{add-one}
 use lib.Dec.{eqb, ltb}
-use lib.ListN.{length, getD, set, take, drop, replicate, length-replicate, getD-replicate}
+use lib.ListN.{length, set, take, drop, replicate, length-replicate, getD-replicate}
 use lib.Seq.{take-append-seam, getD-take, length-take-le}
-use borrow.Author.Tests.{eq-eqb, ne-eqb, lt-ltb, le-ltb, eqb-true, eqb-false, ltb-true, not-false}
+use borrow.Author.Tests.{eq-eqb, ne-eqb, lt-ltb, le-ltb, eqb-true, eqb-false, not-false}
 use Rattle.subsumption.specs.declared.refusal.Refusal.{Refusal}
 use Rattle.subsumption.specs.declared.refusal.Refusal.the-variants.{BadDerivation}
 use Rattle.subsumption.specs.declared.refusal.Outcome.{Outcome}
 use Rattle.subsumption.specs.declared.refusal.Outcome.the-variants.{Done, Refused}
 use Rattle.subsumption.specs.declared.listing.Listed.{Listed}
 use Rattle.subsumption.specs.declared.listing.Listed.the-variants.{Atoms, Rejected}
-use Rattle.subsumption.specs.Tables.{Tables, tables, or, both, anyBelow, countOf}
+use Rattle.subsumption.specs.Tables.{Tables, or, both, anyBelow, countOf}
 use Rattle.subsumption.specs.Atoms.{atoms}
 use Rattle.subsumption.specs.Closure.{Ready}
-use Rattle.subsumption.specs.Refusal.{orElse, refuseIf, firstAt}
+use Rattle.subsumption.specs.Refusal.{refuseIf}
 use Rattle.subsumption.specs.Check.{tableFault, assignmentFault, bufferFault}
 use Rattle.subsumption.specs.Listing.{listingFault, listed, listedIn}
 use Rattle.subsumption.specs.Rules.{byRule, follows}
 use Rattle.subsumption.specs.Decide.{decidingFault}
-use Rattle.subsumption.proofs.Bools.{both-true, both-intro, both-none, both-skip, or-cases, or-first, or-second, or-skip, or-false, eq-or-ne}
+use Rattle.subsumption.proofs.Bools.{both-intro, both-none, both-skip, or-first, or-second, or-skip, or-false, eq-or-ne}
 use Rattle.subsumption.proofs.Refusals.{both-done, done-le, stops, goes-on, refused-if, done-if, passed-if}
 use Rattle.subsumption.proofs.Scans.{Scan, scan-none, scan-more, scan-found, scan-done}
 use Rattle.subsumption.proofs.Accepted.{wellFormed}
@@ -32,7 +32,7 @@ use Rattle.subsumption.proofs.Deciding.{ready}
 use Rattle.matching.specs.Derivation.{linesOf, ruleAt, leftAt, rightAt, extraAt, pairAt, provedBy, lineFollows, noLines, ruleFault, lastFault, derivationFault, checkingFault}
 use Rattle.matching.specs.LineMarks.{Square, seen, Of, ByRule, Fetched, MarksOf, LineTest, RulesTest}
 use Rattle.matching.proofs.Cells.{seen-set-same, seen-set-row, seen-set-column, square-set, cell-below, square-small}
-use Rattle.matching.proofs.RuleMonotone.{Reads, of-reads, follows-same}
+use Rattle.matching.proofs.RuleMonotone.{of-reads, follows-same}
 
 -- ---- the atoms
 listing-done : (t : Tables) (size : ℕ) → tableFault t ≡ Done → 64 ≤ size → listingFault t size ≡ Done

@@ -2,24 +2,20 @@
 use Prim.Native.Nat.{ℕ, zero, suc, _+_, _-_, _*_, _/_, _%_, _<_, _≤_}
 use mathlib.Core.Path.{_≡_, refl, sym, ap, _∙_, subst}
 use mathlib.Core.List.{List}
-use mathlib.Core.Bool.{Bool, true, false, false≢true, true≢false}
+use mathlib.Core.Bool.{Bool, true, false, true≢false}
 use mathlib.Core.Logic.{⊎-elim}
 use native.Mathlib.Omega.{arith}
-use native.Mathlib.Nat.{div-add-mod', mod-lt, div-lt-iff-lt-mul, zero-mul}
-use lib.Dec.{eqb, ltb}
-use lib.ListN.{length, getD}
+use native.Mathlib.Nat.{mod-lt, div-lt-iff-lt-mul, zero-mul}
 use borrow.Author.Tests.{ne-eqb, le-ltb}
 use Rattle.subsumption.specs.declared.tables.Row.{Row}
-use Rattle.subsumption.specs.Tables.{Tables, both, Node, topAt, nameAt, existsAt, andAt, varAt, decode, node, countOf, pairsOf, leftOf, rightOf}
+use Rattle.subsumption.specs.Tables.{Tables, Node, topAt, nameAt, existsAt, andAt, varAt, node, countOf, pairsOf}
 use Rattle.subsumption.specs.TableRows.{rowOf}
-use Rattle.subsumption.specs.Atoms.{atoms, chosen}
-use Rattle.subsumption.specs.Closure.{Ready}
-use Rattle.subsumption.specs.Rules.{contains, onPicked, onVariable, byRule}
+use Rattle.subsumption.specs.Rules.{onPicked, byRule}
 use Rattle.subsumption.proofs.Bools.{both-true, both-none, last-cases, le-or-lt}
 use Rattle.subsumption.proofs.Chosen.{chosen-known}
 use Rattle.subsumption.proofs.RuleTests.{onVariable-elim, contains-elim}
 use Rattle.subsumption.proofs.Nodes.{var-node}
-use Rattle.matching.specs.LineMarks.{Square, seen, Of, ByRule}
+use Rattle.matching.specs.LineMarks.{seen, Of, ByRule}
 use Rattle.matching.specs.declared.search.Extra.{Extra}
 use Rattle.matching.specs.declared.search.Extra.the-variants.{At, None}
 use Rattle.matching.specs.declared.search.Why.{Why}

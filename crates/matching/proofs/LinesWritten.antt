@@ -2,16 +2,14 @@
 use Prim.Native.Nat.{ℕ, zero, suc, _+_, _-_, _*_, _<_, _≤_}
 use mathlib.Core.Path.{_≡_, refl, sym, ap, ap₂, _∙_, subst}
 use mathlib.Core.List.{List, [], _∷_, _++_, append-nil}
-use mathlib.Core.Bool.{Bool, true, false}
-use mathlib.Core.Logic.{⊎-elim}
+use mathlib.Core.Bool.{Bool, false}
 use native.Mathlib.Omega.{arith}
 use lib.Dec.{eqb}
 use lib.ListN.{length, getD, set, take, drop, length-append, length-drop, List·getD-append}
 use borrow.Rule.Slice.PartMut.{putMid, postOf, post-is}
 use lib.Seq.{take-all, drop-drop, drop-length, length-take-le, getD-append-add, getD-take, getD-drop}
 use borrow.Author.Tests.{ne-eqb, eq-eqb}
-use Rattle.subsumption.specs.Tables.{Tables, or, both, anyBelow, countOf}
-use Rattle.subsumption.specs.Closure.{Ready}
+use Rattle.subsumption.specs.Tables.{Tables, or, both, anyBelow}
 use Rattle.subsumption.specs.Rules.{follows}
 use Rattle.subsumption.proofs.Bools.{both-none, both-skip}
 use Rattle.matching.specs.Derivation.{ruleAt, leftAt, rightAt, extraAt, pairAt, provedBy, lineFollows}
@@ -87,9 +85,6 @@ module _ (before : List ℕ) (n rule left right extra : ℕ) (h : (n + 1) * 4 �
 -- ---- lists that agree on their first n lines
 pub record Agree (a b : List ℕ) (n : ℕ) : Type 0 where
   pub each : (p : ℕ) → p < n * 4 → getD a p 0 ≡ getD b p 0
-
-pub agree-less : (a b : List ℕ) (n k : ℕ) → k ≤ n → Agree a b n → Agree a b k
-agree-less a b n k h g = record { each = λ p l. g .each p (omega arith) }
 
 module _ (a b : List ℕ) (n : ℕ) (g : Agree a b n) where
   pub pair-agree : (i j k : ℕ) → k < n → pairAt a i j k ≡ pairAt b i j k

@@ -2,30 +2,28 @@
 use Prim.Native.Nat.{ℕ, zero, suc, _+_, _-_, _*_, _<_, _≤_}
 use mathlib.Core.Path.{_≡_, refl, sym, ap, _∙_, subst}
 use mathlib.Core.List.{List, [], _∷_}
-use mathlib.Core.Bool.{Bool, true, false, false≢true, true≢false}
+use mathlib.Core.Bool.{Bool, true, false, true≢false}
 use mathlib.Core.Logic.{⊎-elim}
 use native.Mathlib.Omega.{arith}
-use native.Mathlib.Numerals.{add-one}
 use lib.Dec.{eqb}
 use lib.ListN.{length, getD, set, take, replicate}
 use borrow.Author.Tests.{ltb-true}
-use Rattle.subsumption.specs.declared.refusal.Outcome.the-variants.{Done}
-use Rattle.subsumption.specs.Tables.{Tables, or, both, countOf}
+use Rattle.subsumption.specs.Tables.{or, both, countOf}
 use Rattle.subsumption.specs.Closure.{Ready}
-use Rattle.subsumption.specs.Rules.{byRule, follows}
+use Rattle.subsumption.specs.Rules.{follows}
 use Rattle.subsumption.proofs.Bools.{both-true, last-cases, or-skip}
 use Rattle.subsumption.proofs.Accepted.{wellFormed}
 use Rattle.subsumption.proofs.RuleCompleteness.{follows-complete}
 use Rattle.matching.specs.declared.search.Next.{Next}
 use Rattle.matching.specs.declared.search.Next.the-variants.{Line, Nothing}
-use Rattle.matching.specs.Derivation.{ruleAt, leftAt, rightAt, extraAt, pairAt, provedBy, lineFollows}
-use Rattle.matching.specs.LineMarks.{Square, seen, Of, MarksOf, LineTest}
-use Rattle.matching.specs.LineSearch.{Grounds, QuietFrom, New, Found}
+use Rattle.matching.specs.Derivation.{leftAt, rightAt, pairAt, provedBy, lineFollows}
+use Rattle.matching.specs.LineMarks.{seen, MarksOf, LineTest}
+use Rattle.matching.specs.LineSearch.{QuietFrom, New, Found}
 use Rattle.matching.specs.Noting.{LineWritten, unset, Blank, Asked, Noted, NotedTo}
 use Rattle.matching.proofs.Cells.{cell-room, cell-below, square-small}
-use Rattle.matching.proofs.LineChecks.{marks-none, marks-more, line-rule, proved-none, proved-more, empty-square, empty-seen}
+use Rattle.matching.proofs.LineChecks.{marks-none, marks-more, line-rule, proved-more, empty-square, empty-seen}
 use Rattle.matching.proofs.RuleMonotone.{of-reads}
-use Rattle.matching.proofs.LinesWritten.{Agree, agree-less, proved-agree, line-agree}
+use Rattle.matching.proofs.LinesWritten.{Agree, proved-agree, line-agree}
 
 -- ---- how many marks are not set
 pub unset-set : (marks : List Bool) (p : ℕ) → p < length marks → getD marks p false ≡ false → unset (set marks p true) + 1 ≡ unset marks

@@ -1,21 +1,20 @@
 -- From the tests of the rules to the rule of a line, and what the tests ask of the rows.
-use Prim.Native.Nat.{ℕ, zero, suc, _+_, _*_, _<_, _≤_}
+use Prim.Native.Nat.{ℕ, zero, suc, _<_}
 use mathlib.Core.Path.{_≡_, refl, sym, ap, ap₂, _∙_, subst}
 use mathlib.Core.List.{List}
-use mathlib.Core.Bool.{Bool, true, false}
+use mathlib.Core.Bool.{Bool, false}
 use native.Mathlib.Omega.{arith}
 use lib.Dec.{eqb, ltb}
 use lib.ListN.{length, getD}
-use borrow.Author.Tests.{ne-eqb, eq-eqb}
+use borrow.Author.Tests.{ne-eqb}
 use Rattle.subsumption.specs.declared.tables.Row.{Row}
-use Rattle.subsumption.specs.Tables.{Tables, or, both, Node, topAt, nameAt, existsAt, andAt, varAt, decode, node, countOf, pairsOf, leftOf, rightOf}
+use Rattle.subsumption.specs.Tables.{or, both, Node, topAt, nameAt, existsAt, andAt, varAt, node, countOf, pairsOf, leftOf, rightOf}
 use Rattle.subsumption.specs.TableRows.{rowOf}
 use Rattle.subsumption.specs.Atoms.{atoms, chosen, pick}
 use Rattle.subsumption.specs.Closure.{Rising, Ready}
 use Rattle.subsumption.specs.Marks.{Known}
 use Rattle.subsumption.specs.Rules.{every, contains, sameName, isTop, onPicked, onBoth, onInner, onVariable, byRule}
-use Rattle.subsumption.proofs.Bools.{both-none}
-use Rattle.matching.specs.LineMarks.{Square, seen, nodeOf, KnownAtoms, Numbered, Of, ByRule}
+use Rattle.matching.specs.LineMarks.{seen, nodeOf, KnownAtoms, Numbered, ByRule}
 
 row-node : (concepts : List ℕ) (i : ℕ) (row : Row) → row ≡ rowOf concepts i → nodeOf row ≡ node concepts i
 unfolding node
@@ -47,10 +46,6 @@ module _ (concepts inclusions ids assignment : List ℕ) (ready : Ready concepts
 
   pub inclusions-in : Known (countOf concepts) inclusions
   inclusions-in = record { left-known = ready .left-known; right-known = ready .right-known }
-
--- a test of the variable a, once its choice is known
-pub choice-read : (test : ℕ → ℕ → Bool) (choice a : ℕ) (assignment : List ℕ) (r : Bool) → choice ≡ getD assignment a 0 → r ≡ test choice a → r ≡ test (getD assignment a 0) a
-choice-read test choice a assignment r e h = subst (λ (z : ℕ). r ≡ test z a) e h
 
 module _ (concepts inclusions ids assignment : List ℕ) (marks : List Bool) (left right extra : ℕ) where
   proved : ℕ → ℕ → Bool

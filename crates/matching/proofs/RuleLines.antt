@@ -1,24 +1,24 @@
 -- The tests of the rules, as the code goes through them: one law for each branch.
-use Prim.Native.Nat.{ℕ, zero, suc, _+_, _*_, _/_, _%_, _^_, _<_, _≤_}
+use Prim.Native.Nat.{ℕ, zero, suc, _+_, _/_, _%_, _^_, _<_, _≤_}
 use mathlib.Core.Path.{_≡_, refl, sym, ap, _∙_, subst}
 use mathlib.Core.List.{List, List·Memᴰ}
 use mathlib.Core.Bool.{Bool, true, false, false≢true}
-use mathlib.Core.Logic.{_⊎_, inl, inr, ⊎-elim}
+use mathlib.Core.Logic.{_⊎_, ⊎-elim}
 use native.Mathlib.Omega.{arith}
 use lib.Dec.{eqb, ltb}
 use lib.ListN.{length, getD}
 use borrow.Author.Tests.{eqb-true, eq-eqb, ne-eqb, lt-ltb, le-ltb}
 use Rattle.subsumption.specs.declared.tables.Pair.{Pair}
-use Rattle.subsumption.specs.Tables.{or, both, Node, topAt, nameAt, existsAt, andAt, varAt, decode, node, countOf, pairsOf, leftOf, rightOf}
+use Rattle.subsumption.specs.Tables.{or, both, andAt, decode, pairsOf, leftOf, rightOf}
 use Rattle.subsumption.specs.TableRows.{pairOf}
 use Rattle.subsumption.specs.Atoms.{bit, pick}
-use Rattle.subsumption.specs.Closure.{Rising, Ready}
+use Rattle.subsumption.specs.Closure.{Rising}
 use Rattle.subsumption.specs.Marks.{Known}
 use Rattle.subsumption.specs.Rules.{every, contains, sameName, isTop, onPicked, onBoth, onInner, onVariable}
-use Rattle.subsumption.proofs.Bools.{both-none, both-skip, same-bool, last-cases}
-use Rattle.subsumption.proofs.Chosen.{Picked, pick-member, pick-intro}
+use Rattle.subsumption.proofs.Bools.{both-none, both-skip, last-cases}
+use Rattle.subsumption.proofs.Chosen.{pick-member, pick-intro}
 use Rattle.subsumption.proofs.RuleTests.{every-elim, every-intro, contains-elim, contains-intro}
-use Rattle.matching.specs.LineMarks.{seen, nodeOf, KnownAtoms, Numbered}
+use Rattle.matching.specs.LineMarks.{KnownAtoms, Numbered}
 
 -- ---- rule 1
 module _ (left right lk la lb rk ra rb : ℕ) where

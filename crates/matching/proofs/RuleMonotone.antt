@@ -1,17 +1,17 @@
 -- A line that follows from some pairs follows from more, and a test reads pairs of ids only.
 use Prim.Native.Nat.{ℕ, zero, suc, _<_}
 use mathlib.Core.Path.{_≡_, refl, _∙_, subst, sym}
-use mathlib.Core.List.{List, List·Memᴰ}
+use mathlib.Core.List.{List}
 use mathlib.Core.Bool.{Bool, true, false, false≢true}
 use native.Mathlib.Omega.{arith}
 use borrow.Author.Tests.{eq-eqb, ltb-true}
 use Rattle.subsumption.specs.Tables.{Tables, both, Node, topAt, nameAt, existsAt, andAt, varAt, node, countOf, pairsOf, leftOf, rightOf}
-use Rattle.subsumption.specs.Atoms.{atoms, chosen}
+use Rattle.subsumption.specs.Atoms.{chosen}
 use Rattle.subsumption.specs.Closure.{Rising, Ready}
-use Rattle.subsumption.specs.Rules.{every, contains, sameName, isTop, onPicked, onBoth, onInner, onVariable, byRule, follows}
+use Rattle.subsumption.specs.Rules.{every, contains, onPicked, onBoth, onInner, onVariable, byRule, follows}
 use Rattle.subsumption.proofs.Bools.{both-true, both-intro, same-bool}
 use Rattle.subsumption.proofs.Chosen.{chosen-known}
-use Rattle.subsumption.proofs.RuleTests.{every-elim, every-intro, contains-elim, onPicked-elim, onBoth-elim, onInner-elim, onVariable-elim}
+use Rattle.subsumption.proofs.RuleTests.{every-elim, every-intro, contains-elim, onBoth-elim, onInner-elim, onVariable-elim}
 use Rattle.matching.specs.LineMarks.{Of}
 
 picked-mono :

@@ -1,10 +1,9 @@
 -- Writing a derivation, from the checks to the lines.
-use Prim.Native.Nat.{ℕ, zero, suc, _+_, _-_, _*_, _<_, _≤_}
-use mathlib.Core.Path.{_≡_, refl, sym, ap, ap₂, _∙_, subst}
+use Prim.Native.Nat.{ℕ, _-_, _*_, _<_, _≤_}
+use mathlib.Core.Path.{_≡_, refl, sym, _∙_, subst}
 use mathlib.Core.List.{List}
-use mathlib.Core.Bool.{Bool, true, false}
+use mathlib.Core.Bool.{Bool, true}
 use native.Mathlib.Omega.{arith}
-use lib.Dec.{ltb}
 use lib.ListN.{length, take, replicate, length-replicate}
 use lib.Seq.{length-take-le}
 use Rattle.subsumption.specs.declared.refusal.Refusal.{Refusal}
@@ -13,32 +12,21 @@ use Rattle.subsumption.specs.declared.refusal.Outcome.{Outcome}
 use Rattle.subsumption.specs.declared.refusal.Outcome.the-variants.{Done, Refused}
 use Rattle.subsumption.specs.declared.decide.Decision.{Decision}
 use Rattle.subsumption.specs.declared.decide.Decision.the-variants.{Yes, No, Rejected as Undecided}
-use Rattle.subsumption.specs.Tables.{Tables, tables, anyBelow, countOf, pairsOf}
+use Rattle.subsumption.specs.Tables.{Tables, countOf}
 use Rattle.subsumption.specs.Subsumption.{Subsumed}
-use Rattle.subsumption.specs.Refusal.{orElse, refuseIf}
-use Rattle.subsumption.specs.Check.{bufferFault, tableFault}
+use Rattle.subsumption.specs.Check.{bufferFault}
 use Rattle.subsumption.specs.Decide.{decidingFault, Decides, Answers}
-use Rattle.subsumption.proofs.Bools.{anyBelow-intro}
-use Rattle.subsumption.proofs.Refusals.{stops, goes-on, is-done, refused-lt, done-le}
+use Rattle.subsumption.proofs.Refusals.{stops, goes-on, refused-lt, done-le}
 use Rattle.subsumption.proofs.Accepted.{wellFormed}
-use Rattle.subsumption.proofs.Deciding.{asked-tables, asked-assignment, asked-left, asked-right, asked-few}
-use Rattle.matching.specs.declared.derive.Derived.{Derived}
-use Rattle.matching.specs.declared.derive.Derived.the-variants.{Lines, Rejected}
-use Rattle.matching.specs.Derivation.{pairAt, provedBy}
+use Rattle.subsumption.proofs.Deciding.{asked-tables, asked-assignment, asked-left, asked-right}
+use Rattle.matching.specs.declared.writer.Derived.the-variants.{Lines, Rejected}
 use Rattle.matching.specs.Deriving.{roomFor, derivingFault, DerivationOf, Derives}
-use Rattle.matching.specs.LineMarks.{Square, seen, Of, Fetched}
+use Rattle.matching.specs.LineMarks.{seen, Fetched}
 use Rattle.matching.specs.LineSearch.{Grounds}
-use Rattle.matching.specs.Noting.{Asked, Noted, NotedTo, Enough, Copied, WrittenFor}
+use Rattle.matching.specs.Noting.{Asked, NotedTo, Enough, Copied, WrittenFor}
 use Rattle.matching.proofs.Cells.{square-small}
 use Rattle.matching.proofs.LineChecks.{fetched-of, fetched-ready}
-use Rattle.matching.proofs.Copies.{derivation-written, marks-enough}
-
-pub asked-marked :
-    (concepts inclusions ids assignment : List ℕ) (left right : ℕ) (marks : List Bool) (notes : List ℕ) (n : ℕ) → NotedTo concepts inclusions ids assignment left right marks notes n
-    → left < countOf concepts → right < countOf concepts → seen (countOf concepts) marks left right ≡ true
-unfolding provedBy
-asked-marked concepts inclusions ids assignment left right marks notes n d h l =
-    d .noted .marked .same left right h l ∙ anyBelow-intro n (pairAt notes left right) (n - 1) (omega (arith, d .some)) (d .last)
+use Rattle.matching.proofs.Copies.{derivation-written}
 
 pub noted-few : (concepts inclusions ids assignment : List ℕ) (left right : ℕ) (marks : List Bool) (notes : List ℕ) (n : ℕ) → NotedTo concepts inclusions ids assignment left right marks notes n → n ≤ countOf concepts * countOf concepts
 noted-few concepts inclusions ids assignment left right marks notes n d = omega (arith, d .noted .room)

@@ -6,8 +6,8 @@ use lib.ListN.{length, take, drop}
 use Rattle.subsumption.specs.declared.refusal.Refusal.the-variants.{NotSubsumed}
 use Rattle.subsumption.specs.declared.refusal.Outcome.{Outcome}
 use Rattle.subsumption.specs.declared.refusal.Outcome.the-variants.{Done, Refused}
-use Rattle.matching.specs.declared.derive.Derived.{Derived}
-use Rattle.matching.specs.declared.derive.Derived.the-variants.{Lines, Rejected}
+use Rattle.matching.specs.declared.writer.Derived.{Derived}
+use Rattle.matching.specs.declared.writer.Derived.the-variants.{Lines, Rejected}
 use Rattle.subsumption.specs.Tables.{Tables, countOf}
 use Rattle.subsumption.specs.Subsumption.{Subsumed}
 use Rattle.subsumption.specs.Refusal.{orElse}

@@ -10,3 +10,4 @@ pub mod LineMarks
 pub mod LineSearch
 pub mod Deriving
 pub mod Noting
+pub mod Needing

@@ -6,8 +6,7 @@ use mathlib.Core.Bool.{Bool, true, false}
 use lib.ListN.{length, getD, take}
 use Rattle.subsumption.specs.declared.tables.Row.{Row}
 use Rattle.subsumption.specs.Tables.{Tables, Node, topAt, nameAt, existsAt, andAt, varAt, decode, countOf}
-use Rattle.subsumption.specs.Atoms.{atoms, pick}
-use Rattle.subsumption.specs.Closure.{Rising}
+use Rattle.subsumption.specs.Atoms.{atoms}
 use Rattle.subsumption.specs.Rules.{byRule}
 use Rattle.subsumption.specs.declared.refusal.Outcome.{Outcome}
 use Rattle.matching.specs.Derivation.{leftAt, rightAt, provedBy, lineFollows, ruleFault}

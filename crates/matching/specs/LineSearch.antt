@@ -12,7 +12,7 @@ use Rattle.matching.specs.declared.search.Why.{Why}
 use Rattle.matching.specs.declared.search.Why.the-variants.{By, Unknown}
 use Rattle.matching.specs.declared.search.Next.{Next}
 use Rattle.matching.specs.declared.search.Next.the-variants.{Line, Nothing}
-use Rattle.matching.specs.LineMarks.{Square, seen, Of, ByRule}
+use Rattle.matching.specs.LineMarks.{seen, Of, ByRule}
 
 -- what the search asks: the checks have passed, and the atoms are at hand
 pub record Grounds (concepts inclusions ids assignment : List ℕ) : Type 0 where

@@ -6,11 +6,11 @@ use Rattle.capi.proofs.hc_derive.Reads as reads
 use Rattle.capi.proofs.hc_derive.Lts as lts
 use Rattle.capi.proofs.done.Reads as done-reads
 use Rattle.capi.proofs.refused.Reads as refused-reads
-use Rattle.matching.proofs.derive_pair.Reads as derive-pair-reads
+use Rattle.matching.proofs.derive.Reads as derive-reads
 
 -- src/lib.rt:208:9
-derive-pair-requires : tie.Need-derive-pair-requires
-derive-pair-requires c κs = search needs
+derive-requires : tie.Need-derive-requires
+derive-requires c κs = search needs
 
 -- src/lib.rt:210:27
 enum-known-answer : tie.Need-enum-known-answer
@@ -48,7 +48,7 @@ pub hc-derive-spec : {M : Type 1} → statement M
 hc-derive-spec =
     tie.close
     (tie.spec
-    derive-pair-requires
+    derive-requires
     enum-known-answer
     refused-requires
     enum-known-answer-2

@@ -4,63 +4,46 @@ use Rattle.subsumption.proofs.Refusals.{is-done}
 use borrow.Author.Needs.{needs}
 use Rattle.matching.proofs.derivation.check_derivation.Statement.{statement}
 use Rattle.matching.proofs.derivation.check_derivation.Tie as tie
-use Rattle.matching.proofs.derivation.check_derivation.Reads as reads
-use Rattle.matching.proofs.derivation.check_derivation.Lts as lts
-use Rattle.matching.proofs.derivation.check_last.Reads as check-last-reads
-use Rattle.matching.proofs.derivation.check_rules.Reads as check-rules-reads
-use Rattle.matching.proofs.derivation.check_shape.Reads as check-shape-reads
-use Rattle.subsumption.proofs.check_asked.Reads as check-asked-reads
 
--- src/derivation.rt:176:9
 check-asked-requires : tie.Need-check-asked-requires
 check-asked-requires c κs = search needs
 
--- src/derivation.rt:185:29
 enum-known-asked : tie.Need-enum-known-asked
 enum-known-asked c = search needs
 
--- src/derivation.rt:186:9
 returns : tie.Need-returns
 returns c = search asked-stops
 
 enum-told : tie.Need-enum-told
 enum-told c = search needs
 
--- src/derivation.rt:188:9
 check-shape-requires : tie.Need-check-shape-requires
 check-shape-requires c κs = search needs
 
--- src/derivation.rt:189:29
 enum-known-shape : tie.Need-enum-known-shape
 enum-known-shape c = search needs
 
--- src/derivation.rt:190:9
 returns-2 : tie.Need-returns-2
 returns-2 c = search shape-stops
 
 enum-told-2 : tie.Need-enum-told-2
 enum-told-2 c = search needs
 
--- src/derivation.rt:192:9
 check-rules-requires : tie.Need-check-rules-requires
 check-rules-requires c κs = (asked-tables _ _ _ _ (is-done _ _ (c .before .before .before .before .before .check-asked .ensures) (c .before .before .before .enum-told .given .1)), asked-assignment _ _ _ _ (is-done _ _ (c .before .before .before .before .before .check-asked .ensures) (c .before .before .before .enum-told .given .1)))
 
--- src/derivation.rt:193:29
 enum-known-rules : tie.Need-enum-known-rules
 enum-known-rules c = search needs
 
--- src/derivation.rt:194:9
 returns-3 : tie.Need-returns-3
 returns-3 c = search rules-stops
 
 enum-told-3 : tie.Need-enum-told-3
 enum-told-3 c = search needs
 
--- src/derivation.rt:196:5
 check-last-requires : tie.Need-check-last-requires
 check-last-requires c κs = is-done _ _ (c .before .before .before .before .before .check-shape .ensures) (c .before .before .before .enum-told2 .given .1)
 
--- src/derivation.rt:164:1
 returns-4 : tie.Need-returns-4
 returns-4 c = search last-decides
 

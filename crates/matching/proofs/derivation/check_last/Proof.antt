@@ -3,54 +3,40 @@ use Rattle.matching.proofs.LineChecks.{some-lines, last-left, last-righ
 use borrow.Author.Needs.{needs}
 use Rattle.matching.proofs.derivation.check_last.Statement.{statement}
 use Rattle.matching.proofs.derivation.check_last.Tie as tie
-use Rattle.matching.proofs.derivation.check_last.Reads as reads
-use Rattle.matching.proofs.derivation.check_last.Lts as lts
 
--- src/derivation.rt:153:16
 sub-last : tie.Need-sub-last
 sub-last c = omega (arith, some-lines _ (c .pre))
 
--- src/derivation.rt:154:14
 mul-if1 : tie.Need-mul-if1
 mul-if1 c = search needs
 
--- src/derivation.rt:154:14
 add-if1 : tie.Need-add-if1
 add-if1 c = search needs
 
--- src/derivation.rt:154:8
 mul-if1-2 : tie.Need-mul-if1-2
 mul-if1-2 c = search needs
 
--- src/derivation.rt:154:8
 shared-slice-read-if1 : tie.Need-shared-slice-read-if1
 shared-slice-read-if1 c = omega (arith, some-lines _ (c .before .pre))
 
--- src/derivation.rt:155:9
 returns : tie.Need-returns
 returns c = last-left _ _ _ (c .if1 .taken)
 
--- src/derivation.rt:157:14
 mul-if2 : tie.Need-mul-if2
 mul-if2 c = search needs
 
--- src/derivation.rt:157:14
 add-if2 : tie.Need-add-if2
 add-if2 c = search needs
 
--- src/derivation.rt:157:8
 mul-if2-2 : tie.Need-mul-if2-2
 mul-if2-2 c = search needs
 
--- src/derivation.rt:157:8
 shared-slice-read-if2 : tie.Need-shared-slice-read-if2
 shared-slice-read-if2 c = omega (arith, some-lines _ (c .before .before .before .pre))
 
--- src/derivation.rt:158:9
 returns-2 : tie.Need-returns-2
 returns-2 c = last-right _ _ _ (c .before .before .if1 .left) (c .if2 .taken)
 
--- src/derivation.rt:148:1
 returns-3 : tie.Need-returns-3
 returns-3 c = last-both _ _ _ (c .before .before .if1 .left) (c .if2 .left)
 

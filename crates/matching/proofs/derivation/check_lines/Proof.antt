@@ -1,6 +1,6 @@
 use native.Mathlib.Omega.{arith}
 use Prim.Native.Nat.{_≤_, _-_}
-use mathlib.Core.Path.{_≡_, refl, _∙_, sym}
+use mathlib.Core.Path.{_≡_, refl, _∙_}
 use lib.ListN.{length}
 use Rattle.subsumption.specs.Tables.{countOf}
 use Rattle.matching.specs.Derivation.{linesOf}
@@ -8,11 +8,6 @@ use Rattle.matching.specs.LineMarks.{MarksOf}
 use Rattle.matching.proofs.LineChecks.{Passed, passed-none, passed-more, marks-more, rules-broken, rules-kept}
 use Rattle.matching.proofs.derivation.check_lines.Statement.{statement}
 use Rattle.matching.proofs.derivation.check_lines.Tie as tie
-use Rattle.matching.proofs.derivation.check_lines.Reads as reads
-use Rattle.matching.proofs.derivation.check_lines.Lts as lts
-use Rattle.matching.proofs.derivation.line_follows.Reads as line-follows-reads
-use Rattle.matching.proofs.derivation.mark_pair.Reads as mark-pair-reads
-use Rattle.matching.proofs.rules.number_at.Reads as number-at-reads
 
 abbrev Inv-loop : tie.InvT-loop
 Inv-loop concepts inclusions atoms assignment lines marks₀ count total k₀ marks k = (k ≤ linesOf lines) × ((length marks ≡ length marks₀) × (MarksOf (countOf concepts) marks lines k × Passed concepts inclusions atoms assignment lines k))
@@ -20,67 +15,51 @@ Inv-loop concepts inclusions atoms assignment lines marks₀ count total k₀ ma
 abbrev μ-loop : tie.MeasureT-loop
 μ-loop concepts inclusions atoms assignment lines marks₀ count total k₀ marks k = linesOf lines - k
 
--- src/derivation.rt:93:5
 loop-holds : tie.Need-loop-holds Inv-loop μ-loop
 loop-holds c = (omega arith, (refl, (c .before .before .before .before .before .before .pre .1, passed-none _ _ _ _ _)))
 
--- src/derivation.rt:94:12
 line-follows-requires : tie.Need-line-follows-requires Inv-loop μ-loop
 line-follows-requires c κs = (c .before .before .before .before .before .before .before .before .before .pre .0, (c .before .before .loop .inv .1 .1 .0, omega arith))
 
--- src/derivation.rt:95:41
 mul-number-at : tie.Need-mul-number-at Inv-loop μ-loop
 mul-number-at c = omega arith
 
--- src/derivation.rt:95:41
 add-number-at : tie.Need-add-number-at Inv-loop μ-loop
 add-number-at c = omega arith
 
--- src/derivation.rt:95:17
 number-at-requires : tie.Need-number-at-requires Inv-loop μ-loop
 number-at-requires c κs = omega arith
 
--- src/derivation.rt:96:42
 mul-number-at-2 : tie.Need-mul-number-at-2 Inv-loop μ-loop
 mul-number-at-2 c = omega arith
 
--- src/derivation.rt:96:42
 add-number-at-2 : tie.Need-add-number-at-2 Inv-loop μ-loop
 add-number-at-2 c = omega arith
 
--- src/derivation.rt:96:17
 number-at-requires-2 : tie.Need-number-at-requires-2 Inv-loop μ-loop
 number-at-requires-2 c κs = omega arith
 
--- src/derivation.rt:97:13
 mark-pair-requires : tie.Need-mark-pair-requires Inv-loop μ-loop
 mark-pair-requires c κs = (c .before .before .before .before .before .before .before .loop .inv .1 .1 .0 .square, (omega (arith, c .before .before .before .before .line-follows .ensures .left-known (c .before .before .before .if1 .taken), c .before .before .number-at .ensures), omega (arith, c .before .before .before .before .line-follows .ensures .right-known (c .before .before .before .if1 .taken), c .before .number-at2 .ensures)))
 
--- src/derivation.rt:98:13
 add-k : tie.Need-add-k Inv-loop μ-loop
 add-k c = omega arith
 
--- src/derivation.rt:93:5
 loop-less : tie.Need-loop-less Inv-loop μ-loop
 loop-less c = omega arith
 
--- src/derivation.rt:93:5
 loop-again : tie.Need-loop-again Inv-loop μ-loop
 loop-again c = (omega arith, (c .before .before .mark-pair .kept .0 ∙ c .before .before .before .before .before .before .before .before .before .before .loop .inv .1 .0, (marks-more _ _ _ _ (c .before .before .before .before .before .before .before .before .before .before .loop .inv .1 .1 .0) _ _ _ (c .before .before .before .before .before .number-at .ensures) (c .before .before .before .before .number-at2 .ensures) (omega (arith, c .before .before .before .before .before .before .before .line-follows .ensures .left-known (c .before .before .before .before .before .before .if1 .taken), c .before .before .before .before .before .number-at .ensures)) (omega (arith, c .before .before .before .before .before .before .before .line-follows .ensures .right-known (c .before .before .before .before .before .before .if1 .taken), c .before .before .before .before .number-at2 .ensures)) (c .before .before .mark-pair .ensures), passed-more _ _ _ _ _ _ _ (c .before .before .before .before .before .before .before .before .before .before .loop .inv .1 .1 .1) (omega arith) (c .before .before .before .before .before .before .before .line-follows .ensures) (c .before .before .before .before .before .before .if1 .taken))))
 
--- src/derivation.rt:101:9
 same-length : tie.Need-same-length Inv-loop μ-loop
 same-length c = c .before .before .before .before .loop .inv .1 .0
 
--- src/derivation.rt:101:9
 returns : tie.Need-returns Inv-loop μ-loop
 returns c = rules-broken _ _ _ _ _ _ _ (c .before .before .before .before .loop .inv .1 .1 .1) (omega arith) (c .before .line-follows .ensures) (c .if1 .left)
 
--- src/derivation.rt:78:1
 same-length-2 : tie.Need-same-length-2 Inv-loop μ-loop
 same-length-2 c = c .before .loop .inv .1 .0
 
--- src/derivation.rt:78:1
 returns-2 : tie.Need-returns-2 Inv-loop μ-loop
 returns-2 c = rules-kept _ _ _ _ _ _ (c .before .loop .inv .1 .1 .1) (omega arith)
 

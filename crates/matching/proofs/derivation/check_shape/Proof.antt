@@ -1,18 +1,13 @@
 use Rattle.matching.proofs.LineChecks.{shape-empty, shape-ragged, shape-whole}
 use Rattle.matching.proofs.derivation.check_shape.Statement.{statement}
 use Rattle.matching.proofs.derivation.check_shape.Tie as tie
-use Rattle.matching.proofs.derivation.check_shape.Reads as reads
-use Rattle.matching.proofs.derivation.check_shape.Lts as lts
 
--- src/derivation.rt:139:9
 returns : tie.Need-returns
 returns c = search shape-empty
 
--- src/derivation.rt:142:9
 returns-2 : tie.Need-returns-2
 returns-2 c = search shape-ragged
 
--- src/derivation.rt:135:1
 returns-3 : tie.Need-returns-3
 returns-3 c = search shape-whole
 

@@ -2,34 +2,25 @@ use Rattle.matching.proofs.LineChecks.{fetched, fetched-not}
 use borrow.Author.Needs.{needs}
 use Rattle.matching.proofs.derivation.fetch_atoms.Statement.{statement}
 use Rattle.matching.proofs.derivation.fetch_atoms.Tie as tie
-use Rattle.matching.proofs.derivation.fetch_atoms.Reads as reads
-use Rattle.matching.proofs.derivation.fetch_atoms.Lts as lts
-use Rattle.subsumption.proofs.list_atoms.Reads as list-atoms-reads
 
--- src/derivation.rt:34:9
 list-atoms-requires : tie.Need-list-atoms-requires
 list-atoms-requires c κs = search needs
 
--- src/derivation.rt:35:26
 enum-known-listed : tie.Need-enum-known-listed
 enum-known-listed c = search needs
 
--- src/derivation.rt:36:9
 same-length : tie.Need-same-length
 same-length c = search needs
 
--- src/derivation.rt:36:9
 returns : tie.Need-returns
 returns c = search fetched
 
 enum-told : tie.Need-enum-told
 enum-told c = search needs
 
--- src/derivation.rt:23:1
 same-length-2 : tie.Need-same-length-2
 same-length-2 c = search needs
 
--- src/derivation.rt:23:1
 returns-2 : tie.Need-returns-2
 returns-2 c = search fetched-not
 

@@ -1,70 +1,50 @@
-use native.Mathlib.Omega.{arith}
 use Rattle.matching.proofs.LineChecks.{line-left, line-right, line-rule}
 use borrow.Author.Needs.{needs}
 use Rattle.matching.proofs.derivation.line_follows.Statement.{statement}
 use Rattle.matching.proofs.derivation.line_follows.Tie as tie
-use Rattle.matching.proofs.derivation.line_follows.Reads as reads
-use Rattle.matching.proofs.derivation.line_follows.Lts as lts
-use Rattle.matching.proofs.rules.by_rule.Reads as by-rule-reads
-use Rattle.matching.proofs.rules.number_at.Reads as number-at-reads
 
--- src/derivation.rt:64:33
 mul-number-at : tie.Need-mul-number-at
 mul-number-at c = search needs
 
--- src/derivation.rt:64:9
 number-at-requires : tie.Need-number-at-requires
 number-at-requires c κs = search needs
 
--- src/derivation.rt:65:33
 mul-number-at-2 : tie.Need-mul-number-at-2
 mul-number-at-2 c = search needs
 
--- src/derivation.rt:65:33
 add-number-at : tie.Need-add-number-at
 add-number-at c = search needs
 
--- src/derivation.rt:65:9
 number-at-requires-2 : tie.Need-number-at-requires-2
 number-at-requires-2 c κs = search needs
 
--- src/derivation.rt:66:34
 mul-number-at-3 : tie.Need-mul-number-at-3
 mul-number-at-3 c = search needs
 
--- src/derivation.rt:66:34
 add-number-at-2 : tie.Need-add-number-at-2
 add-number-at-2 c = search needs
 
--- src/derivation.rt:66:9
 number-at-requires-3 : tie.Need-number-at-requires-3
 number-at-requires-3 c κs = search needs
 
--- src/derivation.rt:67:34
 mul-number-at-4 : tie.Need-mul-number-at-4
 mul-number-at-4 c = search needs
 
--- src/derivation.rt:67:34
 add-number-at-3 : tie.Need-add-number-at-3
 add-number-at-3 c = search needs
 
--- src/derivation.rt:67:9
 number-at-requires-4 : tie.Need-number-at-requires-4
 number-at-requires-4 c κs = search needs
 
--- src/derivation.rt:69:9
 returns : tie.Need-returns
 returns c = line-left _ _ _ _ (c .before .before .before .before .before .before .before .before .before .before .before .args .marks .now) _ _ (c .before .before .before .before .before .before .before .before .before .before .before .pre .0) (c .before .before .before .before .before .before .before .before .before .before .before .pre .1 .0) _ (c .before .before .before .number-at2 .ensures) (c .if1 .taken)
 
--- src/derivation.rt:72:9
 returns-2 : tie.Need-returns-2
 returns-2 c = line-right _ _ _ _ (c .before .before .before .before .before .before .before .before .before .before .before .before .args .marks .now) _ _ (c .before .before .before .before .before .before .before .before .before .before .before .before .pre .0) (c .before .before .before .before .before .before .before .before .before .before .before .before .pre .1 .0) _ (c .before .before .before .number-at3 .ensures) (c .if2 .taken)
 
--- src/derivation.rt:74:5
 by-rule-requires : tie.Need-by-rule-requires
 by-rule-requires c κs = (c .before .before .before .before .before .before .before .before .before .before .before .before .pre .0, (c .before .before .before .before .before .before .before .before .before .before .before .before .pre .1 .0 .square, (c .before .if1 .left, c .if2 .left)))
 
--- src/derivation.rt:49:1
 returns-3 : tie.Need-returns-3
 returns-3 c = line-rule _ _ _ _ (c .before .before .before .before .before .before .before .before .before .before .before .before .before .args .marks .now) _ _ (c .before .before .before .before .before .before .before .before .before .before .before .before .before .pre .0) (c .before .before .before .before .before .before .before .before .before .before .before .before .before .pre .1 .0) _ _ _ _ _ (c .before .before .before .before .before .before .number-at .ensures) (c .before .before .before .before .before .number-at2 .ensures) (c .before .before .before .before .number-at3 .ensures) (c .before .before .before .number-at4 .ensures) (c .before .before .if1 .left) (c .before .if2 .left) (c .by-rule .ensures)
 

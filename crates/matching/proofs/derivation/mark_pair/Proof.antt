@@ -3,26 +3,19 @@ use Rattle.matching.proofs.Cells.{cell-room, cell-small}
 use borrow.Author.Needs.{needs}
 use Rattle.matching.proofs.derivation.mark_pair.Statement.{statement}
 use Rattle.matching.proofs.derivation.mark_pair.Tie as tie
-use Rattle.matching.proofs.derivation.mark_pair.Reads as reads
-use Rattle.matching.proofs.derivation.mark_pair.Lts as lts
 
--- src/derivation.rt:46:11
 mul-marks : tie.Need-mul-marks
 mul-marks c = omega (arith, cell-small _ _ _ _ (c .pre .0) (c .pre .1 .0) (c .pre .1 .1))
 
--- src/derivation.rt:46:11
 add-marks : tie.Need-add-marks
 add-marks c = omega (arith, cell-small _ _ _ _ (c .pre .0) (c .pre .1 .0) (c .pre .1 .1))
 
--- src/derivation.rt:46:5
 slice-write-marks : tie.Need-slice-write-marks
 slice-write-marks c = cell-room _ _ _ _ (c .pre .0) (c .pre .1 .0) (c .pre .1 .1)
 
--- src/derivation.rt:41:1
 same-length : tie.Need-same-length
 same-length c = search needs
 
--- src/derivation.rt:41:1
 returns : tie.Need-returns
 returns c = search needs
 

@@ -1,16 +1,12 @@
 use native.Mathlib.Omega.{arith}
 use Prim.Native.Nat.{_≤_, _-_}
 use mathlib.Core.Path.{_≡_, _∙_, sym}
-use lib.ListN.{length, getD}
+use lib.ListN.{length}
 use mathlib.Core.Bool.{true}
 use Rattle.matching.specs.LineMarks.{seen}
 use Rattle.matching.proofs.RuleLines.{AllBelow, all-none, all-skip, all-more, marked-all, marked-not}
 use Rattle.matching.proofs.rules.all_marked.Statement.{statement}
 use Rattle.matching.proofs.rules.all_marked.Tie as tie
-use Rattle.matching.proofs.rules.all_marked.Reads as reads
-use Rattle.matching.proofs.rules.all_marked.Lts as lts
-use Rattle.matching.proofs.rules.has_mark.Reads as has-mark-reads
-use Rattle.matching.proofs.rules.number_at.Reads as number-at-reads
 
 abbrev Inv-loop : tie.InvT-loop
 Inv-loop atoms choice marks count left q₀ q = (q ≤ length atoms) × AllBelow atoms choice (λ p. seen count marks left p ≡ true) q
@@ -18,47 +14,36 @@ Inv-loop atoms choice marks count left q₀ q = (q ≤ length atoms) × AllBelow
 abbrev μ-loop : tie.MeasureT-loop
 μ-loop atoms choice marks count left q₀ q = length atoms - q
 
--- src/rules.rt:193:5
 loop-holds : tie.Need-loop-holds Inv-loop μ-loop
 loop-holds c = (omega arith, all-none _ _ _)
 
--- src/rules.rt:194:23
 shr-picked : tie.Need-shr-picked Inv-loop μ-loop
 shr-picked c = omega (arith, c .before .before .before .before .pre .1 .0 .few-atoms)
 
--- src/rules.rt:195:13
 number-at-requires : tie.Need-number-at-requires Inv-loop μ-loop
 number-at-requires c κs = omega arith
 
--- src/rules.rt:196:9
 add-q : tie.Need-add-q Inv-loop μ-loop
 add-q c = omega arith
 
--- src/rules.rt:193:5
 loop-less : tie.Need-loop-less Inv-loop μ-loop
 loop-less c = omega arith
 
--- src/rules.rt:193:5
 loop-again : tie.Need-loop-again Inv-loop μ-loop
 loop-again c = (omega arith, all-skip _ _ _ _ (c .before .before .before .loop .inv .1) (c .if1 .taken))
 
--- src/rules.rt:200:12
 has-mark-requires : tie.Need-has-mark-requires Inv-loop μ-loop
 has-mark-requires c κs = (c .before .before .before .before .before .before .pre .0, (c .before .before .before .before .before .before .pre .1 .1, omega (arith, c .before .before .before .before .before .before .pre .1 .0 .atoms-known (c .before .before .before .loop .q) (omega arith), c .before .number-at .ensures)))
 
--- src/rules.rt:193:5
 loop-less-2 : tie.Need-loop-less-2 Inv-loop μ-loop
 loop-less-2 c = omega arith
 
--- src/rules.rt:193:5
 loop-again-2 : tie.Need-loop-again-2 Inv-loop μ-loop
 loop-again-2 c = (omega arith, all-more _ _ _ _ _ (c .before .before .before .before .before .loop .inv .1) (c .before .before .before .number-at .ensures) (sym (c .before .has-mark .ensures) ∙ c .if2 .taken))
 
--- src/rules.rt:203:9
 returns : tie.Need-returns Inv-loop μ-loop
 returns c = marked-not (c .before .before .before .before .before .before .before .before .args .atoms .now) _ (seen (c .before .before .before .before .before .before .before .before .args .count) (c .before .before .before .before .before .before .before .before .args .marks .now) (c .before .before .before .before .before .before .before .before .args .left)) (c .before .before .before .before .before .loop .q) _ _ (omega arith) (c .before .before .if1 .left) (c .before .before .before .number-at .ensures) (c .before .has-mark .ensures) (c .if2 .left)
 
--- src/rules.rt:186:1
 returns-2 : tie.Need-returns-2 Inv-loop μ-loop
 returns-2 c = marked-all (c .before .before .before .before .args .atoms .now) _ (seen (c .before .before .before .before .args .count) (c .before .before .before .before .args .marks .now) (c .before .before .before .before .args .left)) _ (c .before .loop .inv .1) (omega arith)
 

@@ -1,34 +1,24 @@
 use native.Mathlib.Omega.{arith}
-use Rattle.matching.specs.LineMarks.{seen}
 use Rattle.matching.proofs.RuleLines.{variable-none, variable-test, variable-numbered}
 use borrow.Author.Needs.{needs}
 use Rattle.matching.proofs.rules.by_all.Statement.{statement}
 use Rattle.matching.proofs.rules.by_all.Tie as tie
-use Rattle.matching.proofs.rules.by_all.Reads as reads
-use Rattle.matching.proofs.rules.by_all.Lts as lts
-use Rattle.matching.proofs.rules.all_marked.Reads as all-marked-reads
 
--- src/rules.rt:224:9
 returns : tie.Need-returns
 returns c = variable-none _ _ _ _ (c .if1 .taken)
 
--- src/rules.rt:226:13
 cast-k : tie.Need-cast-k
 cast-k c = search needs
 
--- src/rules.rt:227:23
 mul-all-marked : tie.Need-mul-all-marked
 mul-all-marked c = omega (arith, variable-numbered _ _ _ _ (c .before .if1 .left) (c .before .before .before .before .before .before .pre .1 .1 .0))
 
--- src/rules.rt:227:23
 shared-slice-read-all-marked : tie.Need-shared-slice-read-all-marked
 shared-slice-read-all-marked c = variable-numbered _ _ _ _ (c .before .before .if1 .left) (c .before .before .before .before .before .before .before .pre .1 .1 .0)
 
--- src/rules.rt:227:5
 all-marked-requires : tie.Need-all-marked-requires
 all-marked-requires c κs = (c .before .before .before .before .before .before .before .pre .0, (c .before .before .before .before .before .before .before .pre .1 .0, c .before .before .before .before .before .before .before .pre .1 .1 .1))
 
--- src/rules.rt:209:1
 returns-2 : tie.Need-returns-2
 returns-2 c = variable-test _ _ _ _ _ (c .before .before .before .if1 .left) (c .all-marked .ensures)
 

@@ -3,35 +3,25 @@ use Rattle.matching.proofs.RuleLines.{both-kind, both-first, both-secon
 use borrow.Author.Needs.{needs}
 use Rattle.matching.proofs.rules.by_both.Statement.{statement}
 use Rattle.matching.proofs.rules.by_both.Tie as tie
-use Rattle.matching.proofs.rules.by_both.Reads as reads
-use Rattle.matching.proofs.rules.by_both.Lts as lts
-use Rattle.matching.proofs.rules.has_mark.Reads as has-mark-reads
 
--- src/rules.rt:84:9
 returns : tie.Need-returns
 returns c = search both-kind
 
--- src/rules.rt:86:37
 cast-has-mark : tie.Need-cast-has-mark
 cast-has-mark c = search needs
 
--- src/rules.rt:86:8
 has-mark-requires : tie.Need-has-mark-requires
 has-mark-requires c κs = (c .before .before .before .before .pre .0, (c .before .before .before .before .pre .1 .1, and-rising _ _ _ _ (c .before .if1 .left) (c .before .before .before .before .pre .1 .0) .0))
 
--- src/rules.rt:87:45
 cast-has-mark-2 : tie.Need-cast-has-mark-2
 cast-has-mark-2 c = search needs
 
--- src/rules.rt:87:9
 has-mark-requires-2 : tie.Need-has-mark-requires-2
 has-mark-requires-2 c κs = (c .before .before .before .before .before .before .before .pre .0, (c .before .before .before .before .before .before .before .pre .1 .1, and-rising _ _ _ _ (c .before .before .before .before .if1 .left) (c .before .before .before .before .before .before .before .pre .1 .0) .1))
 
--- src/rules.rt:87:9
 returns-2 : tie.Need-returns-2
 returns-2 c = search both-second
 
--- src/rules.rt:77:1
 returns-3 : tie.Need-returns-3
 returns-3 c = search both-first
 

@@ -4,40 +4,28 @@ use Rattle.matching.proofs.RuleLines.{inclusion-past, inclusion-first, 
 use borrow.Author.Needs.{needs}
 use Rattle.matching.proofs.rules.by_inclusion.Statement.{statement}
 use Rattle.matching.proofs.rules.by_inclusion.Tie as tie
-use Rattle.matching.proofs.rules.by_inclusion.Reads as reads
-use Rattle.matching.proofs.rules.by_inclusion.Lts as lts
-use Rattle.matching.proofs.rules.has_mark.Reads as has-mark-reads
-use Rattle.subsumption.proofs.tables.pair_at.Reads as pair-at-reads
 
--- src/rules.rt:127:9
 returns : tie.Need-returns
 returns c = inclusion-past (seen (c .before .before .before .args .count) (c .before .before .before .args .marks .now)) (c .before .before .before .args .inclusions .now) _ _ (c .before .before .before .args .extra) (omega arith)
 
--- src/rules.rt:129:9
 pair-at-requires : tie.Need-pair-at-requires
 pair-at-requires c κs = search needs
 
--- src/rules.rt:130:37
 cast-has-mark : tie.Need-cast-has-mark
 cast-has-mark c = search needs
 
--- src/rules.rt:130:8
 has-mark-requires : tie.Need-has-mark-requires
 has-mark-requires c κs = (c .before .before .before .before .before .pre .0, (c .before .before .before .before .before .pre .1 .1 .0, pair-left _ _ _ _ (c .before .before .before .before .before .pre .1 .0) (omega arith) (c .before .pair-at .ensures)))
 
--- src/rules.rt:131:39
 cast-has-mark-2 : tie.Need-cast-has-mark-2
 cast-has-mark-2 c = search needs
 
--- src/rules.rt:131:9
 has-mark-requires-2 : tie.Need-has-mark-requires-2
 has-mark-requires-2 c κs = (c .before .before .before .before .before .before .before .before .pre .0, (pair-right _ _ _ _ (c .before .before .before .before .before .before .before .before .pre .1 .0) (omega arith) (c .before .before .before .before .pair-at .ensures), c .before .before .before .before .before .before .before .before .pre .1 .1 .1))
 
--- src/rules.rt:131:9
 returns-2 : tie.Need-returns-2
 returns-2 c = inclusion-second (seen (c .before .before .before .before .before .before .before .before .before .args .count) (c .before .before .before .before .before .before .before .before .before .args .marks .now)) (c .before .before .before .before .before .before .before .before .before .args .inclusions .now) _ _ (c .before .before .before .before .before .before .before .before .before .args .extra) _ _ _ (omega arith) (c .before .before .before .before .before .pair-at .ensures) (c .before .before .before .has-mark .ensures) (c .before .before .if2 .taken) (c .has-mark2 .ensures)
 
--- src/rules.rt:112:1
 returns-3 : tie.Need-returns-3
 returns-3 c = inclusion-first (seen (c .before .before .before .before .before .before .before .args .count) (c .before .before .before .before .before .before .before .args .marks .now)) (c .before .before .before .before .before .before .before .args .inclusions .now) _ _ (c .before .before .before .before .before .before .before .args .extra) _ _ (omega arith) (c .before .before .before .pair-at .ensures) (c .before .has-mark .ensures) (c .if2 .left)
 

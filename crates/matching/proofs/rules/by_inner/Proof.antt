@@ -2,35 +2,25 @@ use Rattle.matching.proofs.RuleLines.{inner-left, inner-right, inner-ro
 use borrow.Author.Needs.{needs}
 use Rattle.matching.proofs.rules.by_inner.Statement.{statement}
 use Rattle.matching.proofs.rules.by_inner.Tie as tie
-use Rattle.matching.proofs.rules.by_inner.Reads as reads
-use Rattle.matching.proofs.rules.by_inner.Lts as lts
-use Rattle.matching.proofs.rules.has_mark.Reads as has-mark-reads
 
--- src/rules.rt:100:9
 returns : tie.Need-returns
 returns c = search inner-left
 
--- src/rules.rt:103:9
 returns-2 : tie.Need-returns-2
 returns-2 c = search inner-right
 
--- src/rules.rt:106:9
 returns-3 : tie.Need-returns-3
 returns-3 c = search inner-role
 
--- src/rules.rt:108:28
 cast-has-mark : tie.Need-cast-has-mark
 cast-has-mark c = search needs
 
--- src/rules.rt:108:42
 cast-has-mark-2 : tie.Need-cast-has-mark-2
 cast-has-mark-2 c = search needs
 
--- src/rules.rt:108:5
 has-mark-requires : tie.Need-has-mark-requires
 has-mark-requires c κs = search (exists-rising, needs)
 
--- src/rules.rt:93:1
 returns-4 : tie.Need-returns-4
 returns-4 c = search inner-mark
 

@@ -3,39 +3,28 @@ use Rattle.matching.proofs.RuleLines.{member-none, member-first, member
 use borrow.Author.Needs.{needs}
 use Rattle.matching.proofs.rules.by_member.Statement.{statement}
 use Rattle.matching.proofs.rules.by_member.Tie as tie
-use Rattle.matching.proofs.rules.by_member.Reads as reads
-use Rattle.matching.proofs.rules.by_member.Lts as lts
-use Rattle.matching.proofs.rules.has_mark.Reads as has-mark-reads
 
--- src/rules.rt:65:9
 returns : tie.Need-returns
 returns c = search member-none
 
--- src/rules.rt:68:39
 cast-has-mark : tie.Need-cast-has-mark
 cast-has-mark c = search needs
 
--- src/rules.rt:68:9
 has-mark-requires : tie.Need-has-mark-requires
 has-mark-requires c κs = (c .before .before .before .before .before .pre .0, (and-rising _ _ _ _ (c .before .before .if1 .left) (c .before .before .before .before .before .pre .1 .0) .0, c .before .before .before .before .before .pre .1 .1))
 
--- src/rules.rt:68:9
 returns-2 : tie.Need-returns-2
 returns-2 c = search member-first
 
--- src/rules.rt:71:39
 cast-has-mark-2 : tie.Need-cast-has-mark-2
 cast-has-mark-2 c = search needs
 
--- src/rules.rt:71:9
 has-mark-requires-2 : tie.Need-has-mark-requires-2
 has-mark-requires-2 c κs = (c .before .before .before .before .before .before .pre .0, (and-rising _ _ _ _ (c .before .before .before .if1 .left) (c .before .before .before .before .before .before .pre .1 .0) .1, c .before .before .before .before .before .before .pre .1 .1))
 
--- src/rules.rt:71:9
 returns-3 : tie.Need-returns-3
 returns-3 c = search member-second
 
--- src/rules.rt:58:1
 returns-4 : tie.Need-returns-4
 returns-4 c = search member-past
 

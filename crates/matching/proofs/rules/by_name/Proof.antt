@@ -1,22 +1,16 @@
 use Rattle.matching.proofs.RuleLines.{name-same, name-left, name-right, name-both}
 use Rattle.matching.proofs.rules.by_name.Statement.{statement}
 use Rattle.matching.proofs.rules.by_name.Tie as tie
-use Rattle.matching.proofs.rules.by_name.Reads as reads
-use Rattle.matching.proofs.rules.by_name.Lts as lts
 
--- src/rules.rt:36:9
 returns : tie.Need-returns
 returns c = search name-same
 
--- src/rules.rt:39:9
 returns-2 : tie.Need-returns-2
 returns-2 c = search name-left
 
--- src/rules.rt:42:9
 returns-3 : tie.Need-returns-3
 returns-3 c = search name-right
 
--- src/rules.rt:32:1
 returns-4 : tie.Need-returns-4
 returns-4 c = search name-both
 

@@ -1,97 +1,65 @@
-use native.Mathlib.Omega.{arith}
 use Rattle.matching.proofs.RuleDispatch.{row-rising, row-numbered, atoms-in, inclusions-in, rule-member, rule-inclusion, rule-choice, rule-name, rule-top, rule-both, rule-inner, rule-all, rule-extra, rule-unknown}
 use borrow.Author.Needs.{needs}
 use Rattle.matching.proofs.rules.by_rule.Statement.{statement}
 use Rattle.matching.proofs.rules.by_rule.Tie as tie
-use Rattle.matching.proofs.rules.by_rule.Reads as reads
-use Rattle.matching.proofs.rules.by_rule.Lts as lts
-use Rattle.matching.proofs.rules.by_all.Reads as by-all-reads
-use Rattle.matching.proofs.rules.by_both.Reads as by-both-reads
-use Rattle.matching.proofs.rules.by_choice.Reads as by-choice-reads
-use Rattle.matching.proofs.rules.by_inclusion.Reads as by-inclusion-reads
-use Rattle.matching.proofs.rules.by_inner.Reads as by-inner-reads
-use Rattle.matching.proofs.rules.by_member.Reads as by-member-reads
-use Rattle.matching.proofs.rules.by_name.Reads as by-name-reads
-use Rattle.matching.proofs.rules.by_top.Reads as by-top-reads
-use Rattle.subsumption.proofs.tables.row_at.Reads as row-at-reads
 
--- src/rules.rt:248:9
 row-at-requires : tie.Need-row-at-requires
 row-at-requires c κs = c .before .before .before .before .before .pre .1 .1 .0
 
--- src/rules.rt:249:9
 row-at-requires-2 : tie.Need-row-at-requires-2
 row-at-requires-2 c κs = c .before .before .before .before .before .before .pre .1 .1 .1
 
--- src/rules.rt:251:9
 by-member-requires : tie.Need-by-member-requires
 by-member-requires c κs = (c .before .before .before .before .before .before .before .before .pre .1 .0, (row-rising _ _ _ _ (c .before .before .before .before .before .before .before .before .pre .0) _ _ (c .before .before .before .before .before .before .before .before .pre .1 .1 .0) (c .before .before .row-at .ensures), c .before .before .before .before .before .before .before .before .pre .1 .1 .1))
 
--- src/rules.rt:251:9
 returns : tie.Need-returns
 returns c = rule-member _ _ _ _ _ _ _ _ _ _ _ _ (c .before .before .before .row-at .ensures) (c .before .before .row-at2 .ensures) (c .before .if1 .taken) (c .by-member .ensures)
 
--- src/rules.rt:254:9
 by-inclusion-requires : tie.Need-by-inclusion-requires
 by-inclusion-requires c κs = (c .before .before .before .before .before .before .before .before .before .pre .1 .0, (inclusions-in _ _ _ _ (c .before .before .before .before .before .before .before .before .before .pre .0), c .before .before .before .before .before .before .before .before .before .pre .1 .1))
 
--- src/rules.rt:254:9
 returns-2 : tie.Need-returns-2
 returns-2 c = rule-inclusion _ _ _ _ _ _ _ _ _ _ _ _ (c .before .before .before .before .row-at .ensures) (c .before .before .before .row-at2 .ensures) (c .before .if2 .taken) (c .by-inclusion .ensures)
 
--- src/rules.rt:257:9
 by-choice-requires : tie.Need-by-choice-requires
 by-choice-requires c κs = (c .before .before .before .before .before .before .before .before .before .before .pre .1 .0, (atoms-in _ _ _ _ (c .before .before .before .before .before .before .before .before .before .before .pre .0), (row-numbered _ _ _ _ (c .before .before .before .before .before .before .before .before .before .before .pre .0) _ _ (c .before .before .before .before .row-at .ensures), c .before .before .before .before .before .before .before .before .before .before .pre .1 .1 .1)))
 
--- src/rules.rt:257:9
 returns-3 : tie.Need-returns-3
 returns-3 c = rule-choice _ _ _ _ _ _ _ _ _ _ _ _ (c .before .before .before .before .before .row-at .ensures) (c .before .before .before .before .row-at2 .ensures) (c .before .if3 .taken) (c .by-choice .ensures)
 
--- src/rules.rt:260:9
 returns-4 : tie.Need-returns-4
 returns-4 c = rule-extra _ _ _ _ _ _ _ _ _ (c .before .before .before .if1 .left) (c .before .before .if2 .left) (c .before .if3 .left) (c .if4 .taken)
 
--- src/rules.rt:263:9
 by-name-requires : tie.Need-by-name-requires
 by-name-requires c κs = search needs
 
--- src/rules.rt:263:9
 returns-5 : tie.Need-returns-5
 returns-5 c = rule-name _ _ _ _ _ _ _ _ _ _ _ _ (c .before .before .before .before .before .before .before .row-at .ensures) (c .before .before .before .before .before .before .row-at2 .ensures) (c .before .if5 .taken) (c .before .before .if4 .left) (c .by-name .ensures)
 
--- src/rules.rt:266:9
 by-top-requires : tie.Need-by-top-requires
 by-top-requires c κs = search needs
 
--- src/rules.rt:266:9
 returns-6 : tie.Need-returns-6
 returns-6 c = rule-top _ _ _ _ _ _ _ _ _ _ _ _ (c .before .before .before .before .before .before .before .before .row-at .ensures) (c .before .before .before .before .before .before .before .row-at2 .ensures) (c .before .if6 .taken) (c .before .before .before .if4 .left) (c .by-top .ensures)
 
--- src/rules.rt:269:9
 by-both-requires : tie.Need-by-both-requires
 by-both-requires c κs = (c .before .before .before .before .before .before .before .before .before .before .before .before .before .before .pre .1 .0, (row-rising _ _ _ _ (c .before .before .before .before .before .before .before .before .before .before .before .before .before .before .pre .0) _ _ (c .before .before .before .before .before .before .before .before .before .before .before .before .before .before .pre .1 .1 .1) (c .before .before .before .before .before .before .before .row-at2 .ensures), c .before .before .before .before .before .before .before .before .before .before .before .before .before .before .pre .1 .1 .0))
 
--- src/rules.rt:269:9
 returns-7 : tie.Need-returns-7
 returns-7 c = rule-both _ _ _ _ _ _ _ _ _ _ _ _ (c .before .before .before .before .before .before .before .before .before .row-at .ensures) (c .before .before .before .before .before .before .before .before .row-at2 .ensures) (c .before .if7 .taken) (c .before .before .before .before .if4 .left) (c .by-both .ensures)
 
--- src/rules.rt:272:9
 by-inner-requires : tie.Need-by-inner-requires
 by-inner-requires c κs = (c .before .before .before .before .before .before .before .before .before .before .before .before .before .before .before .pre .1 .0, (row-rising _ _ _ _ (c .before .before .before .before .before .before .before .before .before .before .before .before .before .before .before .pre .0) _ _ (c .before .before .before .before .before .before .before .before .before .before .before .before .before .before .before .pre .1 .1 .0) (c .before .before .before .before .before .before .before .before .before .row-at .ensures), row-rising _ _ _ _ (c .before .before .before .before .before .before .before .before .before .before .before .before .before .before .before .pre .0) _ _ (c .before .before .before .before .before .before .before .before .before .before .before .before .before .before .before .pre .1 .1 .1) (c .before .before .before .before .before .before .before .before .row-at2 .ensures)))
 
--- src/rules.rt:272:9
 returns-8 : tie.Need-returns-8
 returns-8 c = rule-inner _ _ _ _ _ _ _ _ _ _ _ _ (c .before .before .before .before .before .before .before .before .before .before .row-at .ensures) (c .before .before .before .before .before .before .before .before .before .row-at2 .ensures) (c .before .if8 .taken) (c .before .before .before .before .before .if4 .left) (c .by-inner .ensures)
 
--- src/rules.rt:275:9
 by-all-requires : tie.Need-by-all-requires
 by-all-requires c κs = (c .before .before .before .before .before .before .before .before .before .before .before .before .before .before .before .before .pre .1 .0, (atoms-in _ _ _ _ (c .before .before .before .before .before .before .before .before .before .before .before .before .before .before .before .before .pre .0), (row-numbered _ _ _ _ (c .before .before .before .before .before .before .before .before .before .before .before .before .before .before .before .before .pre .0) _ _ (c .before .before .before .before .before .before .before .before .before .row-at2 .ensures), c .before .before .before .before .before .before .before .before .before .before .before .before .before .before .before .before .pre .1 .1 .0)))
 
--- src/rules.rt:275:9
 returns-9 : tie.Need-returns-9
 returns-9 c = rule-all _ _ _ _ _ _ _ _ _ _ _ _ (c .before .before .before .before .before .before .before .before .before .before .before .row-at .ensures) (c .before .before .before .before .before .before .before .before .before .before .row-at2 .ensures) (c .before .if9 .taken) (c .before .before .before .before .before .before .if4 .left) (c .by-all .ensures)
 
--- src/rules.rt:231:1
 returns-10 : tie.Need-returns-10
 returns-10 c = rule-unknown _ _ _ _ _ _ _ _ _ (c .before .before .before .before .before .before .before .before .if1 .left) (c .before .before .before .before .before .before .before .if2 .left) (c .before .before .before .before .before .before .if3 .left) (c .before .before .before .before .if5 .left) (c .before .before .before .if6 .left) (c .before .before .if7 .left) (c .before .if8 .left) (c .if9 .left)
 

@@ -1,14 +1,10 @@
 use Rattle.matching.proofs.RuleLines.{top-zero, top-other}
 use Rattle.matching.proofs.rules.by_top.Statement.{statement}
 use Rattle.matching.proofs.rules.by_top.Tie as tie
-use Rattle.matching.proofs.rules.by_top.Reads as reads
-use Rattle.matching.proofs.rules.by_top.Lts as lts
 
--- src/rules.rt:52:9
 returns : tie.Need-returns
 returns c = search top-zero
 
--- src/rules.rt:48:1
 returns-2 : tie.Need-returns-2
 returns-2 c = search top-other
 

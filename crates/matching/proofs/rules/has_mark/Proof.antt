@@ -4,22 +4,16 @@ use Rattle.matching.specs.LineMarks.{seen}
 use Rattle.matching.proofs.Cells.{cell-room, cell-small}
 use Rattle.matching.proofs.rules.has_mark.Statement.{statement}
 use Rattle.matching.proofs.rules.has_mark.Tie as tie
-use Rattle.matching.proofs.rules.has_mark.Reads as reads
-use Rattle.matching.proofs.rules.has_mark.Lts as lts
 
--- src/rules.rt:28:11
 mul-result : tie.Need-mul-result
 mul-result c = omega (arith, cell-small _ _ _ _ (c .pre .0) (c .pre .1 .0) (c .pre .1 .1))
 
--- src/rules.rt:28:11
 add-result : tie.Need-add-result
 add-result c = omega (arith, cell-small _ _ _ _ (c .pre .0) (c .pre .1 .0) (c .pre .1 .1))
 
--- src/rules.rt:28:5
 shared-slice-read-result : tie.Need-shared-slice-read-result
 shared-slice-read-result c = cell-room _ _ _ _ (c .before .pre .0) (c .before .pre .1 .0) (c .before .pre .1 .1)
 
--- src/rules.rt:23:1
 returns : tie.Need-returns
 unfolding seen
 returns c = refl

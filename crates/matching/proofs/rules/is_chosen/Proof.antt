@@ -1,14 +1,10 @@
 use native.Mathlib.Omega.{arith}
 use Prim.Native.Nat.{_≤_, _-_}
-use mathlib.Core.Path.{_≡_, _∙_, sym}
-use lib.ListN.{length, getD}
-use mathlib.Core.Bool.{true}
+use mathlib.Core.Path.{_≡_}
+use lib.ListN.{length}
 use Rattle.matching.proofs.RuleLines.{AllBelow, all-none, all-skip, all-more, chosen-found, chosen-none}
 use Rattle.matching.proofs.rules.is_chosen.Statement.{statement}
 use Rattle.matching.proofs.rules.is_chosen.Tie as tie
-use Rattle.matching.proofs.rules.is_chosen.Reads as reads
-use Rattle.matching.proofs.rules.is_chosen.Lts as lts
-use Rattle.matching.proofs.rules.number_at.Reads as number-at-reads
 
 abbrev Inv-loop : tie.InvT-loop
 Inv-loop atoms choice id q₀ q = (q ≤ length atoms) × AllBelow atoms choice (λ p. p ≡ id → ⊥) q
@@ -16,43 +12,33 @@ Inv-loop atoms choice id q₀ q = (q ≤ length atoms) × AllBelow atoms choice 
 abbrev μ-loop : tie.MeasureT-loop
 μ-loop atoms choice id q₀ q = length atoms - q
 
--- src/rules.rt:142:5
 loop-holds : tie.Need-loop-holds Inv-loop μ-loop
 loop-holds c = (omega arith, all-none _ _ _)
 
--- src/rules.rt:143:23
 shr-picked : tie.Need-shr-picked Inv-loop μ-loop
 shr-picked c = omega arith
 
--- src/rules.rt:144:13
 number-at-requires : tie.Need-number-at-requires Inv-loop μ-loop
 number-at-requires c κs = omega arith
 
--- src/rules.rt:145:9
 add-q : tie.Need-add-q Inv-loop μ-loop
 add-q c = omega arith
 
--- src/rules.rt:142:5
 loop-less : tie.Need-loop-less Inv-loop μ-loop
 loop-less c = omega arith
 
--- src/rules.rt:142:5
 loop-again : tie.Need-loop-again Inv-loop μ-loop
 loop-again c = (omega arith, all-skip _ _ _ _ (c .before .before .before .loop .inv .1) (c .if1 .taken))
 
--- src/rules.rt:150:13
 returns : tie.Need-returns Inv-loop μ-loop
 returns c = chosen-found (c .before .before .before .before .before .before .args .atoms .now) _ (c .before .before .before .before .loop .q) _ _ (omega arith) (c .before .if1 .left) (c .before .before .number-at .ensures) (c .if2 .taken)
 
--- src/rules.rt:142:5
 loop-less-2 : tie.Need-loop-less-2 Inv-loop μ-loop
 loop-less-2 c = omega arith
 
--- src/rules.rt:142:5
 loop-again-2 : tie.Need-loop-again-2 Inv-loop μ-loop
 loop-again-2 c = (omega arith, all-more _ _ _ _ _ (c .before .before .before .before .loop .inv .1) (c .before .before .number-at .ensures) (c .if2 .left))
 
--- src/rules.rt:137:1
 returns-2 : tie.Need-returns-2 Inv-loop μ-loop
 returns-2 c = chosen-none (c .before .before .before .args .atoms .now) _ _ _ (c .before .loop .inv .1) (omega arith)
 

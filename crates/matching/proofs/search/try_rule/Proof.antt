@@ -1,15 +1,9 @@
 use native.Mathlib.Omega.{arith}
-use Prim.Native.Nat.{_≤_, _-_, _*_}
-use lib.ListN.{length}
-use Rattle.subsumption.specs.Tables.{countOf}
-use Rattle.matching.specs.LineSearch.{NoExtra, NoRule, QuietFrom}
+use Prim.Native.Nat.{_-_}
+use Rattle.matching.specs.LineSearch.{NoExtra}
 use Rattle.matching.proofs.LineSearches.{extra-none, extra-more, extra-found, extra-done}
 use Rattle.matching.proofs.search.try_rule.Statement.{statement}
 use Rattle.matching.proofs.search.try_rule.Tie as tie
-use Rattle.matching.proofs.search.try_rule.Reads as reads
-use Rattle.matching.proofs.search.try_rule.Lts as lts
-use Rattle.matching.proofs.rules.by_rule.Reads as by-rule-reads
-use Rattle.matching.proofs.search.extras.Reads as extras-reads
 
 abbrev Inv-loop : tie.InvT-loop
 Inv-loop concepts inclusions atoms assignment marks rule left right bound extra₀ extra = NoExtra concepts inclusions atoms assignment marks rule left right extra
@@ -17,35 +11,27 @@ Inv-loop concepts inclusions atoms assignment marks rule left right bound extra�
 abbrev μ-loop : tie.MeasureT-loop
 μ-loop concepts inclusions atoms assignment marks rule left right bound extra₀ extra = bound - extra
 
--- src/search.rt:66:9
 extras-requires : tie.Need-extras-requires Inv-loop μ-loop
 extras-requires c κs = ((c .before .before .before .before .before .pre .0 .ready .few, c .before .before .before .before .before .pre .0 .few-pairs), c .before .before .before .before .before .pre .1 .1 .0 .0)
 
--- src/search.rt:68:5
 loop-holds : tie.Need-loop-holds Inv-loop μ-loop
 loop-holds c = extra-none _ _ _ _ _ _ _ _
 
--- src/search.rt:69:12
 by-rule-requires : tie.Need-by-rule-requires Inv-loop μ-loop
 by-rule-requires c κs = (c .before .before .before .before .before .before .before .before .pre .0 .ready, (c .before .before .before .before .before .before .before .before .pre .1 .0, c .before .before .before .before .before .before .before .before .pre .1 .1 .0))
 
--- src/search.rt:70:13
 returns : tie.Need-returns Inv-loop μ-loop
 returns c = extra-found _ _ _ _ _ _ _ _ _ _ _ (c .before .before .before .before .before .before .before .before .before .before .pre .1 .1 .1) (c .before .before .loop-test .taken) (c .before .before .before .before .extras .ensures) (c .before .by-rule .ensures) (c .if1 .taken)
 
--- src/search.rt:72:9
 add-extra : tie.Need-add-extra Inv-loop μ-loop
 add-extra c = omega (arith, c .before .before .before .before .extras .ensures .low)
 
--- src/search.rt:68:5
 loop-less : tie.Need-loop-less Inv-loop μ-loop
 loop-less c = omega arith
 
--- src/search.rt:68:5
 loop-again : tie.Need-loop-again Inv-loop μ-loop
 loop-again c = extra-more _ _ _ _ _ _ _ _ _ _ (c .before .before .before .loop .inv) (c .before .by-rule .ensures) (c .if1 .left)
 
--- src/search.rt:50:1
 returns-2 : tie.Need-returns-2 Inv-loop μ-loop
 returns-2 c = extra-done _ _ _ _ _ _ _ _ _ _ (c .before .loop .inv) (c .loop-test .left) (c .before .before .extras .ensures)
 

@@ -2,32 +2,24 @@ use native.Mathlib.Omega.{arith}
 use lib.ListN.{length-set}
 use Rattle.matching.proofs.LinesWritten.{put-front}
 use borrow.Author.Needs.{needs}
-use Rattle.matching.proofs.derive.put_line.Statement.{statement}
-use Rattle.matching.proofs.derive.put_line.Tie as tie
-use Rattle.matching.proofs.derive.put_line.Reads as reads
-use Rattle.matching.proofs.derive.put_line.Lts as lts
+use Rattle.matching.proofs.writer.put_line.Statement.{statement}
+use Rattle.matching.proofs.writer.put_line.Tie as tie
 
--- src/derive.rt:36:5
 slice-write-rest : tie.Need-slice-write-rest
 slice-write-rest c = search needs
 
--- src/derive.rt:37:5
 slice-write-rest-2 : tie.Need-slice-write-rest-2
 slice-write-rest-2 c = simp length-set (omega arith)
 
--- src/derive.rt:38:5
 slice-write-rest-3 : tie.Need-slice-write-rest-3
 slice-write-rest-3 c = simp length-set (omega arith)
 
--- src/derive.rt:39:5
 slice-write-rest-4 : tie.Need-slice-write-rest-4
 slice-write-rest-4 c = search needs
 
--- src/derive.rt:32:1
 same-length : tie.Need-same-length
 same-length c = search needs
 
--- src/derive.rt:32:1
 returns : tie.Need-returns
 returns c = put-front (c .args .rest .now) _ _ _ _ (c .pre)
 

@@ -1,40 +1,29 @@
 use Rattle.matching.proofs.LinesWritten.{write-front}
 use borrow.Author.Needs.{needs}
-use Rattle.matching.proofs.derive.write_line.Statement.{statement}
-use Rattle.matching.proofs.derive.write_line.Tie as tie
-use Rattle.matching.proofs.derive.write_line.Reads as reads
-use Rattle.matching.proofs.derive.write_line.Lts as lts
-use Rattle.matching.proofs.derive.put_line.Reads as put-line-reads
+use Rattle.matching.proofs.writer.write_line.Statement.{statement}
+use Rattle.matching.proofs.writer.write_line.Tie as tie
 
--- src/derive.rt:47:14
 mul-at : tie.Need-mul-at
 mul-at c = search needs
 
--- src/derive.rt:48:14
 mul-put-line : tie.Need-mul-put-line
 mul-put-line c = search needs
 
--- src/derive.rt:48:14
 sub-put-line : tie.Need-sub-put-line
 sub-put-line c = search needs
 
--- src/derive.rt:48:14
 part-put-line-start : tie.Need-part-put-line-start
 part-put-line-start c = search needs
 
--- src/derive.rt:48:14
 part-put-line-end : tie.Need-part-put-line-end
 part-put-line-end c = search needs
 
--- src/derive.rt:48:5
 put-line-requires : tie.Need-put-line-requires
 put-line-requires c κs = search needs
 
--- src/derive.rt:43:1
 same-length : tie.Need-same-length
 same-length c = search needs
 
--- src/derive.rt:43:1
 returns : tie.Need-returns
 returns c = write-front (c .before .before .before .before .before .args .out .now) (c .before .before .before .before .before .args .n) _ _ _ _ (c .before .before .before .before .before .pre) _ (c .before .before .put-line .ensures)
 

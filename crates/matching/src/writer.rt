@@ -1,6 +1,7 @@
-// Writing a derivation: lines are noted until the asked pair is found, and the noted lines are written out.
+// Writing a derivation: lines are noted until the asked pair is found; of them, those that it needs are written.
 use crate::derivation::fetch_atoms;
 use crate::derivation::mark_pair;
+use crate::needed::need_lines;
 use crate::rules::has_mark;
 use crate::search::Next;
 use crate::search::next_line;
@@ -122,6 +123,7 @@ fn write_needed(notes: &[u16], n: usize, needed: &[bool], count: usize, out: &mu
     written
 }
 
+// Notes, goes backwards for what is needed, and forwards to write it.
 fn write_lines(
     concepts: &[u16],
     inclusions: &[u16],
@@ -130,12 +132,14 @@ fn write_lines(
     left: usize,
     right: usize,
     marks: &mut [bool],
+    needed: &mut [bool],
     notes: &mut [u16],
     out: &mut [u16],
 ) -> usize
     requires { ⌜ Grounds (now concepts) (now inclusions) (now atoms) (now assignment) ⌝ }
     requires { ⌜ Asked (now concepts) (now inclusions) (now atoms) (now assignment) left right ⌝ }
     requires { ⌜ Blank (countOf (now concepts)) (now marks) ⌝ }
+    requires { ⌜ Blank (countOf (now concepts)) (now needed) ⌝ }
     requires { ⌜ length (now notes) ≡ countOf (now concepts) * countOf (now concepts) * 4 ⌝ }
     requires { ⌜ countOf (now concepts) * countOf (now concepts) * 4 ≤ length (now out) ⌝ }
     ensures { λ r. ⌜ WrittenFor (now (concepts .entry)) (now (inclusions .entry)) (now (atoms .entry)) (now (assignment .entry)) left right (now (out .entry)) (now (out .exit)) r ⌝ }
@@ -151,7 +155,18 @@ fn write_lines(
         marks,
         notes,
     );
-    write_needed(notes, n, marks, count, out)
+    mark_pair(needed, count, left, right);
+    need_lines(
+        concepts,
+        inclusions,
+        atoms,
+        assignment,
+        notes,
+        n,
+        marks,
+        needed,
+    );
+    write_needed(notes, n, needed, count, out)
 }
 
 // The derivation of a pair that is subsumed, under accepted tables and an accepted assignment, in a buffer that is long enough.
@@ -173,6 +188,7 @@ fn put_lines(
     let mut ids = [0u16; 64];
     let n = fetch_atoms(concepts, inclusions, questions, variables, &mut ids);
     let mut marks = [false; 36864];
+    let mut needed = [false; 36864];
     let mut notes = [0u16; 147456];
     let count = concepts.len() / 3;
     let size = count * count;
@@ -185,13 +201,14 @@ fn put_lines(
         left as usize,
         right as usize,
         &mut marks[..size],
+        &mut needed[..size],
         &mut notes[..room],
         out,
     )
 }
 
 // Writes the derivation of one pair under an assignment.
-pub fn derive_pair(
+pub fn derive(
     concepts: &[u16],
     inclusions: &[u16],
     questions: &[u16],

@@ -5,79 +5,59 @@ use Rattle.subsumption.proofs.Deciding.{asked-few}
 use Rattle.subsumption.proofs.Refusals.{is-done}
 use Rattle.matching.proofs.Cells.{square-small}
 use borrow.Author.Needs.{needs}
-use Rattle.matching.proofs.derive.derive_pair.Statement.{statement}
-use Rattle.matching.proofs.derive.derive_pair.Tie as tie
-use Rattle.matching.proofs.derive.derive_pair.Reads as reads
-use Rattle.matching.proofs.derive.derive_pair.Lts as lts
-use Rattle.matching.proofs.derive.put_lines.Reads as put-lines-reads
-use Rattle.subsumption.proofs.check_asked.Reads as check-asked-reads
-use Rattle.subsumption.proofs.decide_pair.Reads as decide-pair-reads
+use Rattle.matching.proofs.writer.derive.Statement.{statement}
+use Rattle.matching.proofs.writer.derive.Tie as tie
 
--- src/derive.rt:207:9
 check-asked-requires : tie.Need-check-asked-requires
 check-asked-requires c κs = search needs
 
--- src/derive.rt:216:29
 enum-known-asked : tie.Need-enum-known-asked
 enum-known-asked c = search needs
 
--- src/derive.rt:217:9
 returns : tie.Need-returns
 returns c = derive-stops _ _ _ _ (c .before .before .before .before .before .before .before .before .before .args .out .now) (c .before .before .before .before .before .before .before .before .before .args .out .now) _ (c .before .before .before .check-asked .ensures) _ (c .before .asked .given .1) refl
 
 enum-told : tie.Need-enum-told
 enum-told c = search needs
 
--- src/derive.rt:220:18
 mul-wanted : tie.Need-mul-wanted
 mul-wanted c = omega (arith, square-small _ (asked-few _ _ _ _ (is-done _ _ (c .before .before .check-asked .ensures) (c .enum-told .given .1))))
 
--- src/derive.rt:220:18
 mul-wanted-2 : tie.Need-mul-wanted-2
 mul-wanted-2 c = omega (arith, square-small _ (asked-few _ _ _ _ (is-done _ _ (c .before .before .check-asked .ensures) (c .enum-told .given .1))))
 
--- src/derive.rt:222:9
 returns-2 : tie.Need-returns-2
 returns-2 c = derive-short _ _ _ _ (c .before .before .before .before .before .before .before .before .before .args .out .now) (c .before .before .before .before .before .before .before .before .before .args .out .now) _ (c .before .before .before .check-asked .ensures) (c .before .enum-told .given .1) (c .if1 .taken) refl
 
--- src/derive.rt:224:9
 decide-pair-requires : tie.Need-decide-pair-requires
 decide-pair-requires c κs = search needs
 
--- src/derive.rt:242:13
 enum-told-2 : tie.Need-enum-told-2
 enum-told-2 c = search needs
 
--- src/derive.rt:234:41
 put-lines-requires : tie.Need-put-lines-requires
 put-lines-requires c κs = (is-done _ _ (c .before .before .before .before .before .before .before .check-asked .ensures) (c .before .before .before .before .before .enum-told .given .1), (derive-subsumed _ _ _ _ (c .before .before .before .before .before .before .before .before .before .before .before .before .before .args .out .now) (c .before .before .before .before .before .before .before .before .before .before .before .before .before .args .out .now) _ (c .before .before .before .before .before .before .before .check-asked .ensures) (c .before .before .before .before .before .enum-told .given .1) (c .before .before .before .before .if1 .left) _ (c .before .before .before .decide-pair .ensures) (c .before .enum-told2 .given .1), c .before .before .before .before .if1 .left))
 
--- src/derive.rt:244:43
 enum-told-3 : tie.Need-enum-told-3
 enum-told-3 c = search needs
 
--- src/derive.rt:245:28
 enum-known-decision : tie.Need-enum-known-decision
 enum-known-decision c = search needs
 
--- src/derive.rt:194:1
 same-length : tie.Need-same-length
 same-length c = search needs
 
--- src/derive.rt:194:1
 returns-3 : tie.Need-returns-3
 returns-3 c = derive-lines _ _ _ _ _ _ _ (c .before .before .before .before .before .before .before .before .before .before .check-asked .ensures) (c .before .before .before .before .before .before .before .before .enum-told .given .1) (c .before .before .before .before .before .before .before .if1 .left) _ (c .before .before .before .before .before .before .decide-pair .ensures) _ (c .before .before .before .before .enum-told2 .given .1) (c .before .before .put-lines .ensures)
 
--- src/derive.rt:194:1
 returns-4 : tie.Need-returns-4
 returns-4 c = derive-not _ _ _ _ (c .before .before .before .before .before .before .before .before .before .before .before .before .args .out .now) (c .before .before .before .before .before .before .before .before .before .before .before .before .args .out .now) _ (c .before .before .before .before .before .before .check-asked .ensures) (c .before .before .before .before .enum-told .given .1) (c .before .before .before .if1 .left) _ (c .before .before .decide-pair .ensures) (c .enum-told3 .given .1) refl
 
--- src/derive.rt:194:1
 returns-5 : tie.Need-returns-5
 returns-5 c = derive-never _ _ _ _ (c .before .before .before .before .before .before .before .before .before .before .before .before .before .args .out .now) (c .before .before .before .before .before .before .before .before .before .before .before .before .before .args .out .now) _ (c .before .before .before .before .before .before .before .check-asked .ensures) (c .before .before .before .before .before .enum-told .given .1) (c .before .before .before .before .if1 .left) _ (c .before .before .before .decide-pair .ensures) _ (c .before .decision .given .1)
 
-pub derive-pair-spec : {M : Type 1} → statement M
-derive-pair-spec =
+pub derive-spec : {M : Type 1} → statement M
+derive-spec =
     tie.close
     (tie.spec
     check-asked-requires

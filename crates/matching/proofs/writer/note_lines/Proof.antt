@@ -3,22 +3,16 @@ use Rattle.matching.proofs.Notes.{measure-less}
 use native.Mathlib.Omega.{arith}
 use borrow.Author.Needs.{needs}
 use Prim.Native.Nat.{_+_, _*_}
-use mathlib.Core.Path.{_≡_, refl, _∙_, sym, ap}
+use mathlib.Core.Path.{_≡_, refl, _∙_, ap}
 use mathlib.Core.Bool.{false}
 use lib.ListN.{length}
 use Rattle.subsumption.specs.Tables.{countOf}
 use Rattle.matching.specs.LineMarks.{seen}
 use Rattle.matching.specs.Noting.{Noted, unset}
 use Rattle.matching.proofs.Cells.{cell-small, square-small}
-use Rattle.matching.proofs.Notes.{started, started-low, started-some, noted-none, unset-less, noted-room, noted-more, noted-last, noted-other, found-line, scan-stops}
-use Rattle.matching.proofs.derive.note_lines.Statement.{statement}
-use Rattle.matching.proofs.derive.note_lines.Tie as tie
-use Rattle.matching.proofs.derive.note_lines.Reads as reads
-use Rattle.matching.proofs.derive.note_lines.Lts as lts
-use Rattle.matching.proofs.derivation.mark_pair.Reads as mark-pair-reads
-use Rattle.matching.proofs.derive.is_pair.Reads as is-pair-reads
-use Rattle.matching.proofs.derive.write_line.Reads as write-line-reads
-use Rattle.matching.proofs.search.next_line.Reads as next-line-reads
+use Rattle.matching.proofs.Notes.{started, started-some, noted-none, unset-less, noted-room, noted-more, noted-last, noted-other, found-line, scan-stops}
+use Rattle.matching.proofs.writer.note_lines.Statement.{statement}
+use Rattle.matching.proofs.writer.note_lines.Tie as tie
 
 abbrev Inv-loop : tie.InvT-loop
 Inv-loop concepts inclusions atoms assignment left right marks₀ notes₀ count n₀ from₀ marks notes n from = (length marks ≡ length marks₀) × ((length notes ≡ length notes₀) × (Noted concepts inclusions atoms assignment marks notes n × (seen (countOf concepts) marks left right ≡ false)))
@@ -26,102 +20,78 @@ Inv-loop concepts inclusions atoms assignment left right marks₀ notes₀ count
 abbrev μ-loop : tie.MeasureT-loop
 μ-loop concepts inclusions atoms assignment left right marks₀ notes₀ count n₀ from₀ marks notes n from = unset marks * 2 + started from
 
--- src/derive.rt:80:5
 loop-holds : tie.Need-loop-holds Inv-loop μ-loop
 loop-holds c = (refl, (refl, (noted-none _ _ _ _ _ _ (c .before .before .before .before .before .before .pre .1 .1 .0), c .before .before .before .before .before .before .pre .1 .1 .0 .none _ _ (c .before .before .before .before .before .before .pre .1 .0 .left-known) (c .before .before .before .before .before .before .pre .1 .0 .right-known))))
 
--- src/derive.rt:81:13
 next-line-requires : tie.Need-next-line-requires Inv-loop μ-loop
 next-line-requires c κs = (c .before .before .before .before .before .before .before .before .pre .0, c .before .loop .inv .1 .1 .0 .marked .square)
 
--- src/derive.rt:82:27
 enum-known-next : tie.Need-enum-known-next Inv-loop μ-loop
 enum-known-next c = search needs
 
--- src/derive.rt:83:34
 cast-write-line : tie.Need-cast-write-line Inv-loop μ-loop
 cast-write-line c = omega (arith, (found-line _ _ _ _ _ _ _ (c .before .before .before .before .next-line .ensures) _ _ _ _ (c .before .before .next .given .1)) .gives .rule-low)
 
--- src/derive.rt:83:47
 cast-write-line-2 : tie.Need-cast-write-line-2 Inv-loop μ-loop
 cast-write-line-2 c = omega (arith, (found-line _ _ _ _ _ _ _ (c .before .before .before .before .next-line .ensures) _ _ _ _ (c .before .before .next .given .1)) .left-known, (c .before .before .before .before .before .before .before .before .before .before .before .before .before .pre .0 .ready .few))
 
--- src/derive.rt:83:57
 cast-write-line-3 : tie.Need-cast-write-line-3 Inv-loop μ-loop
 cast-write-line-3 c = omega (arith, (found-line _ _ _ _ _ _ _ (c .before .before .before .before .next-line .ensures) _ _ _ _ (c .before .before .next .given .1)) .right-known, (c .before .before .before .before .before .before .before .before .before .before .before .before .before .pre .0 .ready .few))
 
--- src/derive.rt:83:67
 cast-write-line-4 : tie.Need-cast-write-line-4 Inv-loop μ-loop
 cast-write-line-4 c = omega (arith, (found-line _ _ _ _ _ _ _ (c .before .before .before .before .next-line .ensures) _ _ _ _ (c .before .before .next .given .1)) .gives .extra-low)
 
--- src/derive.rt:83:13
 write-line-requires : tie.Need-write-line-requires Inv-loop μ-loop
 write-line-requires c κs = omega (arith, noted-room _ _ _ _ _ _ _ (c .before .before .before .before .before .before .loop .inv .1 .1 .0) _ _ _ _ (found-line _ _ _ _ _ _ _ (c .before .before .before .before .next-line .ensures) _ _ _ _ (c .before .before .next .given .1)), c .before .before .before .before .before .before .loop .inv .1 .0, c .before .before .before .before .before .before .before .before .before .before .before .before .before .pre .1 .1 .1)
 
--- src/derive.rt:84:13
 mark-pair-requires : tie.Need-mark-pair-requires Inv-loop μ-loop
 mark-pair-requires c κs = (c .before .before .before .before .before .before .before .before .before .before .loop .inv .1 .1 .0 .marked .square, ((found-line _ _ _ _ _ _ _ (c .before .before .before .before .before .before .before .before .next-line .ensures) _ _ _ _ (c .before .before .before .before .before .before .next .given .1)) .left-known, (found-line _ _ _ _ _ _ _ (c .before .before .before .before .before .before .before .before .next-line .ensures) _ _ _ _ (c .before .before .before .before .before .before .next .given .1)) .right-known))
 
--- src/derive.rt:85:13
 add-n : tie.Need-add-n Inv-loop μ-loop
 add-n c = omega (arith, noted-room _ _ _ _ _ _ _ (c .before .before .before .before .before .before .before .before .before .before .before .before .before .loop .inv .1 .1 .0) _ _ _ _ (found-line _ _ _ _ _ _ _ (c .before .before .before .before .before .before .before .before .before .before .before .next-line .ensures) _ _ _ _ (c .before .before .before .before .before .before .before .before .before .next .given .1)), square-small _ (c .before .before .before .before .before .before .before .before .before .before .before .before .before .before .before .before .before .before .before .before .pre .0 .ready .few))
 
--- src/derive.rt:86:20
 mul-from : tie.Need-mul-from Inv-loop μ-loop
 mul-from c = omega (arith, cell-small _ _ _ _ (c .before .before .before .before .before .before .before .before .before .before .before .before .before .loop .inv .1 .1 .0 .marked .square) ((found-line _ _ _ _ _ _ _ (c .before .before .before .before .before .before .before .before .before .before .before .next-line .ensures) _ _ _ _ (c .before .before .before .before .before .before .before .before .before .next .given .1)) .left-known) ((found-line _ _ _ _ _ _ _ (c .before .before .before .before .before .before .before .before .before .before .before .next-line .ensures) _ _ _ _ (c .before .before .before .before .before .before .before .before .before .next .given .1)) .right-known))
 
--- src/derive.rt:86:20
 add-from : tie.Need-add-from Inv-loop μ-loop
 add-from c = omega (arith, cell-small _ _ _ _ (c .before .before .before .before .before .before .before .before .before .before .before .before .before .loop .inv .1 .1 .0 .marked .square) ((found-line _ _ _ _ _ _ _ (c .before .before .before .before .before .before .before .before .before .before .before .next-line .ensures) _ _ _ _ (c .before .before .before .before .before .before .before .before .before .next .given .1)) .left-known) ((found-line _ _ _ _ _ _ _ (c .before .before .before .before .before .before .before .before .before .before .before .next-line .ensures) _ _ _ _ (c .before .before .before .before .before .before .before .before .before .next .given .1)) .right-known))
 
--- src/derive.rt:86:20
 add-from-2 : tie.Need-add-from-2 Inv-loop μ-loop
 add-from-2 c = omega (arith, cell-small _ _ _ _ (c .before .before .before .before .before .before .before .before .before .before .before .before .before .loop .inv .1 .1 .0 .marked .square) ((found-line _ _ _ _ _ _ _ (c .before .before .before .before .before .before .before .before .before .before .before .next-line .ensures) _ _ _ _ (c .before .before .before .before .before .before .before .before .before .next .given .1)) .left-known) ((found-line _ _ _ _ _ _ _ (c .before .before .before .before .before .before .before .before .before .before .before .next-line .ensures) _ _ _ _ (c .before .before .before .before .before .before .before .before .before .next .given .1)) .right-known))
 
--- src/derive.rt:87:16
 is-pair-requires : tie.Need-is-pair-requires Inv-loop μ-loop
 is-pair-requires c κs = tt
 
--- src/derive.rt:88:17
 same-length : tie.Need-same-length Inv-loop μ-loop
 same-length c = c .before .before .before .before .mark-pair .kept .0 ∙ c .before .before .before .before .before .before .before .before .before .before .before .before .before .before .before .loop .inv .0
 
--- src/derive.rt:88:17
 same-length-2 : tie.Need-same-length-2 Inv-loop μ-loop
 same-length-2 c = c .before .before .before .before .before .before .before .before .write-line .ensures .size ∙ c .before .before .before .before .before .before .before .before .before .before .before .before .before .before .before .loop .inv .1 .0
 
--- src/derive.rt:88:17
 returns : tie.Need-returns Inv-loop μ-loop
 returns c = noted-last _ _ _ _ _ _ _ (c .before .before .before .before .before .before .before .before .before .before .before .before .before .before .before .loop .inv .1 .1 .0) _ _ _ _ (found-line _ _ _ _ _ _ _ (c .before .before .before .before .before .before .before .before .before .before .before .before .before .next-line .ensures) _ _ _ _ (c .before .before .before .before .before .before .before .before .before .before .before .next .given .1)) (c .before .before .before .before .before .before .before .before .before .before .before .before .before .before .before .before .before .before .before .before .before .before .pre .0 .ready) _ _ (c .before .before .before .before .before .before .before .before .write-line .ensures) (c .before .before .before .before .mark-pair .ensures) _ _ _ (c .before .is-pair .ensures) (c .if1 .taken)
 
--- src/derive.rt:80:5
 loop-less : tie.Need-loop-less Inv-loop μ-loop
 loop-less c = measure-less _ _ _ _ (ap (λ (z : ℕ). z + 1) (ap unset (c .before .before .before .before .mark-pair .ensures)) ∙ unset-less _ _ _ _ _ _ _ (c .before .before .before .before .before .before .before .before .before .before .before .before .before .before .before .loop .inv .1 .1 .0) _ _ _ _ (found-line _ _ _ _ _ _ _ (c .before .before .before .before .before .before .before .before .before .before .before .before .before .next-line .ensures) _ _ _ _ (c .before .before .before .before .before .before .before .before .before .before .before .next .given .1)))
 
--- src/derive.rt:80:5
 loop-again : tie.Need-loop-again Inv-loop μ-loop
 loop-again c = (c .before .before .before .before .mark-pair .kept .0 ∙ c .before .before .before .before .before .before .before .before .before .before .before .before .before .before .before .loop .inv .0, (c .before .before .before .before .before .before .before .before .write-line .ensures .size ∙ c .before .before .before .before .before .before .before .before .before .before .before .before .before .before .before .loop .inv .1 .0, (noted-more _ _ _ _ _ _ _ (c .before .before .before .before .before .before .before .before .before .before .before .before .before .before .before .loop .inv .1 .1 .0) _ _ _ _ (found-line _ _ _ _ _ _ _ (c .before .before .before .before .before .before .before .before .before .before .before .before .before .next-line .ensures) _ _ _ _ (c .before .before .before .before .before .before .before .before .before .before .before .next .given .1)) (c .before .before .before .before .before .before .before .before .before .before .before .before .before .before .before .before .before .before .before .before .before .before .pre .0 .ready) _ _ (c .before .before .before .before .before .before .before .before .write-line .ensures) (c .before .before .before .before .mark-pair .ensures), noted-other _ _ _ _ _ _ _ (c .before .before .before .before .before .before .before .before .before .before .before .before .before .before .before .loop .inv .1 .1 .0) _ _ _ _ (found-line _ _ _ _ _ _ _ (c .before .before .before .before .before .before .before .before .before .before .before .before .before .next-line .ensures) _ _ _ _ (c .before .before .before .before .before .before .before .before .before .before .before .next .given .1)) (c .before .before .before .before .before .before .before .before .before .before .before .before .before .before .before .before .before .before .before .before .before .before .pre .0 .ready) _ _ (c .before .before .before .before .before .before .before .before .write-line .ensures) (c .before .before .before .before .mark-pair .ensures) _ _ _ (c .before .before .before .before .before .before .before .before .before .before .before .before .before .before .before .before .before .before .before .before .before .before .pre .1 .0 .left-known) (c .before .before .before .before .before .before .before .before .before .before .before .before .before .before .before .before .before .before .before .before .before .before .pre .1 .0 .right-known) (c .before .is-pair .ensures) (c .if1 .left) (c .before .before .before .before .before .before .before .before .before .before .before .before .before .before .before .loop .inv .1 .1 .1))))
 
 enum-told : tie.Need-enum-told Inv-loop μ-loop
 enum-told c = search needs
 
--- src/derive.rt:94:13
 same-length-3 : tie.Need-same-length-3 Inv-loop μ-loop
 same-length-3 c = c .before .before .before .before .before .loop .inv .0
 
--- src/derive.rt:94:13
 same-length-4 : tie.Need-same-length-4 Inv-loop μ-loop
 same-length-4 c = c .before .before .before .before .before .loop .inv .1 .0
 
--- src/derive.rt:94:13
 returns-2 : tie.Need-returns-2 Inv-loop μ-loop
 returns-2 c = scan-stops _ _ _ _ _ _ _ (c .before .before .before .next-line .ensures) _ _ _ (c .before .before .before .before .before .before .before .before .before .before .before .before .pre .1 .0) (c .before .before .before .before .before .loop .inv .1 .1 .1) (c .before .enum-told .given .1) (c .if2 .taken)
 
--- src/derive.rt:80:5
 loop-less-2 : tie.Need-loop-less-2 Inv-loop μ-loop
 loop-less-2 c = omega (arith, started-some _ (c .if2 .left))
 
--- src/derive.rt:80:5
 loop-again-2 : tie.Need-loop-again-2 Inv-loop μ-loop
 loop-again-2 c = c .before .before .before .before .before .loop .inv
 

@@ -1,0 +1,43 @@
+-- What the private marking of needed pairs promises (no operation's contract cites this).
+use Prim.Native.Nat.{ℕ, _<_}
+use mathlib.Core.Path.{_≡_}
+use mathlib.Core.List.{List, List·Memᴰ}
+use mathlib.Core.Bool.{Bool, true}
+use mathlib.Core.Logic.{_⊎_}
+use Rattle.subsumption.specs.Tables.{Tables, both, countOf}
+use Rattle.subsumption.specs.Atoms.{pick}
+use Rattle.subsumption.specs.Rules.{byRule}
+use Rattle.matching.specs.LineMarks.{Square, seen, Of}
+
+-- no mark is taken back
+pub record Grown (count : ℕ) (before after : List Bool) : Type 0 where
+  pub square : Square count after
+  pub kept : (i j : ℕ) → i < count → j < count → seen count before i j ≡ true → seen count after i j ≡ true
+
+-- both pairs are marked, and no other is new
+pub record TwoMarked (count : ℕ) (before after : List Bool) (a b c d : ℕ) : Type 0 where
+  pub grown : Grown count before after
+  pub first : seen count after a b ≡ true
+  pub second : seen count after c d ≡ true
+  pub only :
+      (i j : ℕ) → i < count → j < count → seen count after i j ≡ true
+      → (seen count before i j ≡ true) ⊎ (((i ≡ a) × (j ≡ b)) ⊎ ((i ≡ c) × (j ≡ d)))
+
+-- left is marked below every chosen id, and no other pair is new
+pub record AllMarked (ids : List ℕ) (choice count : ℕ) (before after : List Bool) (left : ℕ) : Type 0 where
+  pub grown : Grown count before after
+  pub each : (p : ℕ) → List·Memᴰ p (pick ids choice) → seen count after left p ≡ true
+  pub only :
+      (i j : ℕ) → i < count → j < count → seen count after i j ≡ true
+      → (seen count before i j ≡ true) ⊎ ((i ≡ left) × List·Memᴰ j (pick ids choice))
+
+-- what the line uses is marked, and nothing else is new
+pub record Needs (concepts inclusions ids assignment : List ℕ) (rule left right extra : ℕ) (before after : List Bool) : Type 0 where
+  pub grown : Grown (countOf concepts) before after
+  pub serves :
+      (t : Tables) → Of t concepts inclusions ids → (p : ℕ → ℕ → Bool) → byRule t assignment p rule left right extra ≡ true
+      → byRule t assignment (λ i j. both (p i j) (seen (countOf concepts) after i j)) rule left right extra ≡ true
+  pub only :
+      (t : Tables) → Of t concepts inclusions ids → (p : ℕ → ℕ → Bool) → byRule t assignment p rule left right extra ≡ true
+      → (i j : ℕ) → i < countOf concepts → j < countOf concepts → seen (countOf concepts) after i j ≡ true
+      → (seen (countOf concepts) before i j ≡ true) ⊎ (p i j ≡ true)
