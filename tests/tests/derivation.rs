@@ -320,12 +320,16 @@ fn the_rules_give_the_relation() {
 /// Every pair asked: yes gives lines that both checkers accept, no gives 11. How many of each.
 fn derive_pairs(case: &mut Case, pairs: &[(u16, u16)]) -> (usize, usize) {
     let below = reference::relation(&case.tables, &case.assignment);
+    let chosen = atoms::chosen(&case.tables, &case.assignment);
     let (mut yes, mut no) = (0, 0);
     for &pair in pairs {
         case.pair = pair;
         let holds = below[usize::from(pair.0)][usize::from(pair.1)];
         let expected = if holds { Ok(()) } else { Err(Refusal { number: 11, place: 0 }) };
-        let (answer, _) = compare::derive_expecting(case, expected);
+        let (answer, written) = compare::derive_expecting(case, expected);
+        let lines = derivation::split(&written);
+        let needed = derivation::all_needed(&case.tables, &chosen, &lines);
+        assert!(needed, "unneeded lines in {:?}, for\n{}", lines, case);
         yes += usize::from(answer.number == 0);
         no += usize::from(answer.number == 11);
     }
@@ -389,7 +393,7 @@ fn short_buffers() {
             case.line_room = room;
             let answer = compare::derive(&case).0;
             let wanted = if lines { Answer::done(1) } else { Answer::refused(11, 0) };
-            assert_eq!((answer.number, answer.place), (wanted.number, wanted.place), "{} numbers", room);
+            assert_eq!(answer, wanted, "{} numbers", room);
         }
     }
     let mut none = Case::new(Tables::default(), &[]);
