@@ -15,13 +15,13 @@ cast-has-mark : tie.Need-cast-has-mark
 cast-has-mark c = search needs
 
 has-mark-requires : tie.Need-has-mark-requires
-has-mark-requires c κs = (c .before .before .before .before .before .pre .0, (c .before .before .before .before .before .pre .1 .1 .0, pair-left _ _ _ _ (c .before .before .before .before .before .pre .1 .0) (omega arith) (c .before .pair-at .ensures)))
+has-mark-requires c κs = (c .before .before .before .before .before .pre .0, (c .before .before .before .before .before .pre .1 .1 .0, pair-left _ (c .before .before .before .before .before .args .inclusions .now) (c .before .before .before .before .before .args .extra) _ (c .before .before .before .before .before .pre .1 .0) (omega arith) (c .before .pair-at .ensures)))
 
 cast-has-mark-2 : tie.Need-cast-has-mark-2
 cast-has-mark-2 c = search needs
 
 has-mark-requires-2 : tie.Need-has-mark-requires-2
-has-mark-requires-2 c κs = (c .before .before .before .before .before .before .before .before .pre .0, (pair-right _ _ _ _ (c .before .before .before .before .before .before .before .before .pre .1 .0) (omega arith) (c .before .before .before .before .pair-at .ensures), c .before .before .before .before .before .before .before .before .pre .1 .1 .1))
+has-mark-requires-2 c κs = (c .before .before .before .before .before .before .before .before .pre .0, (pair-right _ (c .before .before .before .before .before .before .before .before .args .inclusions .now) (c .before .before .before .before .before .before .before .before .args .extra) _ (c .before .before .before .before .before .before .before .before .pre .1 .0) (omega arith) (c .before .before .before .before .pair-at .ensures), c .before .before .before .before .before .before .before .before .pre .1 .1 .1))
 
 returns-2 : tie.Need-returns-2
 returns-2 c = inclusion-second (seen (c .before .before .before .before .before .before .before .before .before .args .count) (c .before .before .before .before .before .before .before .before .before .args .marks .now)) (c .before .before .before .before .before .before .before .before .before .args .inclusions .now) _ _ (c .before .before .before .before .before .before .before .before .before .args .extra) _ _ _ (omega arith) (c .before .before .before .before .before .pair-at .ensures) (c .before .before .before .has-mark .ensures) (c .before .before .if2 .taken) (c .has-mark2 .ensures)
