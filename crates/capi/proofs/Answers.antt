@@ -2,6 +2,7 @@
 use Prim.Native.Nat.{ℕ}
 use mathlib.Core.Path.{_≡_, refl, sym, ap, _∙_, subst}
 use mathlib.Core.List.{List}
+use mathlib.Core.Logic.{inl, inr}
 use native.Mathlib.Omega.{arith}
 use lib.ListN.{length}
 use Rattle.subsumption.specs.declared.refusal.Refusal.{Refusal}
@@ -66,20 +67,12 @@ module _ (a : Answer) (t : Tables) (assignment : List ℕ) (left right : ℕ) wh
 
   pub tells-yes :
       (fault : Outcome) (x : Decision) → Answers t assignment left right fault x → x ≡ Yes → a ≡ answerOf Done 1 → TellsAs t assignment left right fault a
-  tells-yes Done x s h k = (
-    k ∙ ap (answerOf Done) (sym (ap (λ (z : Answer). z .value) k)),
-    λ v. subst (λ (z : Decision). Answers t assignment left right Done z) h s,
-    λ v. absurd (let z : _≡_ {A = ℕ} 0 1 = sym v ∙ ap (λ (z : Answer). z .value) k in omega arith),
-  )
+  tells-yes Done x s h k = inl (k, subst (λ (z : Decision). Answers t assignment left right Done z) h s)
   tells-yes (Refused q) x s h k = absurd (let z : _≡_ {A = ℕ} 0 1 = cc (s, h) in omega arith)
 
   pub tells-no :
       (fault : Outcome) (x : Decision) → Answers t assignment left right fault x → x ≡ No → a ≡ answerOf Done 0 → TellsAs t assignment left right fault a
-  tells-no Done x s h k = (
-    k ∙ ap (answerOf Done) (sym (ap (λ (z : Answer). z .value) k)),
-    λ v. absurd (let z : _≡_ {A = ℕ} 1 0 = sym v ∙ ap (λ (z : Answer). z .value) k in omega arith),
-    λ v. subst (λ (z : Decision). Answers t assignment left right Done z) h s,
-  )
+  tells-no Done x s h k = inr (k, subst (λ (z : Decision). Answers t assignment left right Done z) h s)
   tells-no (Refused q) x s h k = absurd (let z : _≡_ {A = ℕ} 0 1 = cc (s, h) in omega arith)
 
 module _ (a : Answer) (t : Tables) (before after : List ℕ) (x : Match) (f : Finds t before after (findingFault t (length before)) x) where

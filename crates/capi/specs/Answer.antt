@@ -2,6 +2,7 @@
 use Prim.Native.Nat.{ℕ}
 use mathlib.Core.Path.{_≡_}
 use mathlib.Core.List.{List}
+use mathlib.Core.Logic.{_⊎_}
 use lib.ListN.{length}
 use Rattle.subsumption.specs.declared.refusal.Outcome.{Outcome}
 use Rattle.subsumption.specs.declared.refusal.Outcome.the-variants.{Done, Refused}
@@ -29,7 +30,7 @@ pub record WroteAs (t : Tables) (assignment before after : List ℕ) (answer : A
 -- value 1 for yes, 0 for no
 abbrev pub TellsAs : Tables → List ℕ → ℕ → ℕ → Outcome → Answer → Type 0
 TellsAs t assignment left right Done answer =
-    (answer ≡ answerOf Done (answer .value)) × (answer .value ≡ 1 → Subsumed t assignment left right) × (answer .value ≡ 0 → Subsumed t assignment left right → ⊥)
+    ((answer ≡ answerOf Done 1) × Subsumed t assignment left right) ⊎ ((answer ≡ answerOf Done 0) × (Subsumed t assignment left right → ⊥))
 TellsAs t assignment left right (Refused r) answer = answer ≡ answerOf (Refused r) 0
 
 -- The answer is that of the finder: number 0 and the first assignment written, refusal 10 when no substitution solves, or another refusal.
