@@ -11,4 +11,5 @@ pub mod Marks
 pub mod Listing
 pub mod Table
 pub mod Decide
+pub mod Ground
 pub mod Rows
