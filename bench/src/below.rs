@@ -4,11 +4,14 @@ use hermitcasket_bench::{lend, subsumption_table};
 use hermitcasket_tests::capi;
 use hermitcasket_tests::families::{Family, FAMILIES};
 use hermitcasket_tests::limits::ROW_BYTES;
+use hermitcasket_tests::reference;
 use hermitcasket_tests::tables::Tables;
 
+use crate::external::{konclude::Relation, Timed};
+use crate::table::{told, Line, Tools};
 use crate::timing::{measure, Times};
 
-const SIZES: [usize; 4] = [24, 48, 96, 192];
+pub const SIZES: [usize; 4] = [24, 48, 96, 192];
 
 fn proved(tables: &Tables, out: &mut [u8]) {
     let answer = capi::subsumption_table(tables.lend(), &[], out);
@@ -20,57 +23,48 @@ fn plain(tables: &Tables, out: &mut [u8]) {
     assert_eq!(answer, Ok(()), "refused");
 }
 
-fn compare(tables: &Tables) -> Times {
+/// The times of both, and the table that they agree on.
+fn compare(tables: &Tables) -> (Times, Vec<u8>) {
     let bytes = tables.concept_count() * ROW_BYTES;
     let (mut first, mut second) = (vec![0xff; bytes], vec![0; bytes]);
-    proved(tables, &mut first);
-    plain(tables, &mut second);
-    assert!(first == second, "the two tables differ for\n{}", tables);
     let times = measure(|| proved(tables, &mut first), || plain(tables, &mut second));
     assert!(first == second, "the two tables differ for\n{}", tables);
-    times
+    (times, first)
 }
 
-fn print_line(family: Family, n: usize, now: Times, before: Option<Times>) {
-    print!(
-        "{:<12}{:>8}{:>12}{:>12.2}{:>12.2}{:>9.2}",
-        family.label(),
-        n,
-        n / 2,
-        now.proved,
-        now.plain,
-        now.ratio()
-    );
-    match before {
-        Some(half) if n == 192 => {
-            println!("{:>15.2}{:>14.2}", now.proved / half.proved, now.plain / half.plain)
-        }
-        _ => println!(),
+pub fn times(family: Family, n: usize) -> Times {
+    compare(&family.tables(n)).0
+}
+
+fn check(told: &Option<Timed<Relation>>, rows: &[u8]) {
+    if let Some(Timed { answer: Some(relation), .. }) = told {
+        assert!(reference::rows(relation) == rows, "Konclude has another table");
     }
 }
 
-pub fn print() {
-    println!(
-        "Microseconds for one subsumption table; growth is the factor from 96 to 192 entries."
-    );
-    println!();
-    println!(
-        "{:<12}{:>8}{:>12}{:>12}{:>12}{:>9}{:>15}{:>14}",
-        "family",
-        "entries",
-        "inclusions",
-        "proved",
-        "Rust",
-        "ratio",
-        "growth proved",
-        "growth Rust"
-    );
-    for family in FAMILIES {
-        let mut before = None;
-        for n in SIZES {
-            let now = compare(&family.tables(n));
-            print_line(family, n, now, before);
-            before = Some(now);
-        }
+fn print_lines(family: Family, tools: &Tools) {
+    let mut before = None;
+    for n in SIZES {
+        let tables = family.tables(n);
+        let (times, rows) = compare(&tables);
+        let konclude = tools.classify(&tables);
+        check(&konclude, &rows);
+        let growth = before.map(|half: Times| times.proved / half.proved);
+        before = Some(times);
+        let ones: u32 = rows.iter().map(|byte| byte.count_ones()).sum();
+        let line = Line {
+            label: family.label(),
+            tables: &tables,
+            answer: ones.to_string(),
+            times,
+            growth,
+            konclude: told(&konclude),
+            clasp: String::new(),
+        };
+        line.print();
     }
+}
+
+pub fn print(tools: &Tools) {
+    FAMILIES.iter().for_each(|&family| print_lines(family, tools));
 }

@@ -1,25 +1,31 @@
-//! Times the proved operations beside the plain ones on the same inputs, in one run: one table
-//! for each subject. Words after the command pick subjects; without any, all but the last.
+//! Times the proved operations beside the plain ones, and beside tools of others, on the same
+//! inputs in one run. Words after the command pick subjects; without any, all are printed.
 
 mod below;
 mod derivations;
+mod external;
 mod matcher;
+mod table;
 mod timing;
 
-const SUBJECTS: [(&str, fn()); 4] = [
-    ("below", below::print),
-    ("matcher", matcher::print),
-    ("derivations", derivations::print),
-    ("puzzles", matcher::print_puzzles),
-];
+use table::Tools;
+
+/// Subjects that share one table.
+const LINES: [(&str, fn(&Tools)); 3] =
+    [("below", below::print), ("matcher", matcher::print), ("puzzles", matcher::print_puzzles)];
+
+const TABLES: [(&str, fn()); 1] = [("derivations", derivations::print)];
 
 fn main() {
     let words: Vec<String> = std::env::args().skip(1).collect();
-    for (subject, print) in SUBJECTS {
-        let wanted = words.iter().any(|word| word == subject);
-        if wanted || (words.is_empty() && subject != "puzzles") {
-            print();
-            println!();
-        }
+    let wanted = |subject: &str| words.is_empty() || words.iter().any(|word| word == subject);
+    if LINES.iter().any(|line| wanted(line.0)) {
+        let tools = Tools::find();
+        table::print_head(&tools);
+        LINES.iter().filter(|line| wanted(line.0)).for_each(|line| line.1(&tools));
+    }
+    for (_, print) in TABLES.iter().filter(|table| wanted(table.0)) {
+        println!();
+        print();
     }
 }

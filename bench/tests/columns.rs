@@ -4,7 +4,7 @@ use hermitcasket_bench::checks::Refusal;
 use hermitcasket_bench::search::find;
 use hermitcasket_bench::{atoms, check, lend, subsumed, subsumption_table};
 use hermitcasket_tests::generate;
-use hermitcasket_tests::hard::{self, Known};
+use hermitcasket_tests::hard::{self, Hard, Known};
 use hermitcasket_tests::random::{cases, seed, Random, Size};
 use hermitcasket_tests::reference;
 use hermitcasket_tests::tables::Case;
@@ -49,22 +49,25 @@ fn random_tables_agree() {
 }
 
 /// The puzzles at full size: what is known of their answers, and that a solution solves.
+fn as_known(problem: &Hard) {
+    let mut first = vec![0; usize::from(problem.tables.variables)];
+    match find(&problem.tables, &mut first) {
+        Ok(()) => {
+            assert_ne!(problem.known, Known::Unsolvable, "{}", problem.label);
+            let solves = reference::matching::solves(&problem.tables, &first);
+            assert!(solves, "{}", problem.label);
+        }
+        Err(refusal) => {
+            assert_eq!(refusal, (10, 0), "{}", problem.label);
+            assert_eq!(problem.known, Known::Unsolvable, "{}", problem.label);
+        }
+    }
+}
+
 #[test]
 fn large_puzzles() {
     for seed in 1..4 {
-        for problem in hard::large_puzzles(seed) {
-            let mut first = vec![0; usize::from(problem.tables.variables)];
-            match find(&problem.tables, &mut first) {
-                Ok(()) => {
-                    assert_ne!(problem.known, Known::Unsolvable, "{}", problem.label);
-                    let solves = reference::matching::solves(&problem.tables, &first);
-                    assert!(solves, "{}", problem.label);
-                }
-                Err(refusal) => {
-                    assert_eq!(refusal, (10, 0), "{}", problem.label);
-                    assert_eq!(problem.known, Known::Unsolvable, "{}", problem.label);
-                }
-            }
-        }
+        hard::large_random_puzzles(seed).iter().for_each(as_known);
     }
+    hard::large_fixed_puzzles().iter().for_each(as_known);
 }

@@ -235,28 +235,42 @@ fn satisfiable(propositions: usize, clauses: &[Clause]) -> Known {
     }
 }
 
-/// Clauses over one variable: an atom for each literal. Two witnesses of a role of its own forbid
-/// each proposition and its denial together; a marker beside the variable keeps a clause's own
-/// atom from being taken for one of its literals.
+/// The first random clauses with this answer.
+fn clauses_with(known: Known, propositions: usize, count: usize, seed: u64) -> Vec<Clause> {
+    let mut random = Random::new(seed);
+    loop {
+        let clauses = random_clauses(&mut random, propositions, count);
+        if satisfiable(propositions, &clauses) == known {
+            return clauses;
+        }
+    }
+}
+
+/// Random clauses over one variable.
 pub fn clauses_over_one(propositions: usize, count: usize, seed: u64) -> Hard {
-    let clauses = random_clauses(&mut Random::new(seed), propositions, count);
+    over_one(propositions, &random_clauses(&mut Random::new(seed), propositions, count))
+}
+
+/// Clauses over one variable: an atom for each literal. Two witnesses forbid each proposition and
+/// its denial together; a marker beside the variable keeps a clause's own atom from being taken
+/// for one of its literals.
+fn over_one(propositions: usize, clauses: &[Clause]) -> Hard {
+    let label = format!("{} clauses over one blank, {} propositions", clauses.len(), propositions);
     let mut b = Builder::default();
     let literals = b.names(2 * propositions);
     let (marker, x) = (b.name(), b.variable());
     let without = all_but_one(&mut b, &literals);
-    for proposition in 0..propositions {
-        let role = proposition as u16;
-        let two = [without[2 * proposition], without[2 * proposition + 1]];
-        let (left, right) = (b.witnesses(role, &two), b.some(role, x));
-        b.ask(left, right);
+    let some_x = b.some(0, x);
+    for two in without.chunks_exact(2) {
+        let left = b.witnesses(0, two);
+        b.ask(left, some_x);
     }
     let marked: Vec<u16> = literals.iter().map(|&literal| b.and(literal, marker)).collect();
     let marked_x = b.and(x, marker);
     let goals: Vec<u16> = clauses.iter().map(|clause| goal(&mut b, &marked, clause)).collect();
     let all = b.all(&goals);
     b.ask(marked_x, all);
-    let label = format!("{} clauses over one blank, {} propositions", count, propositions);
-    hard(label, b, satisfiable(propositions, &clauses))
+    hard(label, b, satisfiable(propositions, clauses))
 }
 
 /// A name above each literal of the clause.
@@ -283,27 +297,82 @@ fn all_but_one(b: &mut Builder, ids: &[u16]) -> Vec<u16> {
     (0..ids.len()).map(|k| without(k, b)).collect()
 }
 
-/// Clauses over one variable a proposition, up to 8: two witnesses, yes and no, and the variable
-/// takes at most one of them; literals are "some" of a role of its own.
+/// Random clauses over one variable a proposition, up to 8.
 pub fn clauses_over_several(propositions: usize, count: usize, seed: u64) -> Hard {
-    let clauses = random_clauses(&mut Random::new(seed), propositions, count);
+    over_several(1, propositions, &random_clauses(&mut Random::new(seed), propositions, count))
+}
+
+/// Clauses over variables of `each` propositions: a name for each value of each of them. The
+/// witnesses are one value of each together, so a variable takes at most one value of each;
+/// literals are "some" of a role of the variable's own.
+fn over_several(each: usize, propositions: usize, clauses: &[Clause]) -> Hard {
+    let blanks = propositions / each;
     let mut b = Builder::default();
-    let (yes, no) = (b.name(), b.name());
-    let witnesses = b.witnesses(8, &[yes, no]);
+    let names = b.names(2 * each);
+    let values = one_of_each_pair(&mut b, &names);
+    let witnesses = b.witnesses(8, &values);
     let (mut literals, mut said) = (Vec::new(), Vec::new());
-    for role in 0..propositions as u16 {
+    for role in 0..blanks as u16 {
         let x = b.variable();
         let some_x = b.some(8, x);
         b.ask(witnesses, some_x);
-        literals.extend([b.some(role, yes), b.some(role, no)]);
+        literals.extend(names.iter().map(|&name| b.some(role, name)));
         said.push(b.some(role, x));
     }
     let all_said = b.all(&said);
     let goals: Vec<u16> = clauses.iter().map(|clause| goal(&mut b, &literals, clause)).collect();
     let all_goals = b.all(&goals);
     b.ask(all_said, all_goals);
-    let label = format!("{} clauses over {} blanks", count, propositions);
-    hard(label, b, satisfiable(propositions, &clauses))
+    let mut label = format!("{} clauses over {} blanks", clauses.len(), blanks);
+    if each > 1 {
+        label += &format!(", {} propositions", propositions);
+    }
+    hard(label, b, satisfiable(propositions, clauses))
+}
+
+/// The conjunctions of one id out of each pair, in every way.
+fn one_of_each_pair(b: &mut Builder, ids: &[u16]) -> Vec<u16> {
+    let mut chosen = ids[..2].to_vec();
+    for pair in ids[2..].chunks_exact(2) {
+        let mut longer = Vec::new();
+        for &one in &chosen {
+            longer.extend([b.and(one, pair[0]), b.and(one, pair[1])]);
+        }
+        chosen = longer;
+    }
+    chosen
+}
+
+/// A proposition for each edge. Each node has three; an even number of them is true, but at node 0
+/// an odd number. Each edge has two ends, so this cannot be.
+fn parity_clauses(nodes: usize, edges: &[(usize, usize)]) -> Vec<Clause> {
+    let mut clauses = Vec::new();
+    for node in 0..nodes {
+        let ends_here = |&k: &usize| edges[k].0 == node || edges[k].1 == node;
+        let three: Vec<usize> = (0..edges.len()).filter(ends_here).collect();
+        for values in 0..8usize {
+            if (values.count_ones() % 2 == 1) != (node == 0) {
+                clauses.push([0, 1, 2].map(|k| 2 * three[k] + (values >> k & 1)));
+            }
+        }
+    }
+    clauses
+}
+
+/// Each of three nodes joined to each of three others: 9 propositions over one variable.
+pub fn parity_over_one() -> Hard {
+    let edges: Vec<(usize, usize)> = (0..9).map(|k| (k / 3, 3 + k % 3)).collect();
+    let label = "parity over one blank, 9 propositions".to_string();
+    Hard { label, ..over_one(9, &parity_clauses(6, &edges)) }
+}
+
+/// The edges of a cube: 12 propositions over 6 variables.
+pub fn parity_over_several() -> Hard {
+    let along = |axis: usize| (0..8).filter(move |node| node >> axis & 1 == 0);
+    let edges: Vec<(usize, usize)> =
+        (0..3).flat_map(|axis| along(axis).map(move |node| (node, node + (1 << axis)))).collect();
+    let label = "parity over 6 blanks, 12 propositions".to_string();
+    Hard { label, ..over_several(2, 12, &parity_clauses(8, &edges)) }
 }
 
 /// One variable a node: it takes at most one colour, since only the colours are witnesses, and
@@ -312,27 +381,46 @@ pub fn clauses_over_several(propositions: usize, count: usize, seed: u64) -> Har
 fn colouring(label: String, nodes: usize, colours: usize, edges: &[(usize, usize)]) -> Hard {
     let mut b = Builder::default();
     let names = b.names(colours);
-    let (marker, goal) = (b.name(), b.name());
-    for &colour in &names {
-        let marked = b.and(colour, marker);
-        b.inclusions.push([marked, goal]);
-    }
+    let some_colour = coloured(&mut b, &names);
     let two = two_colours(&mut b, &names);
     let pairs = b.all(&two);
-    let ends: Vec<(u16, u16)> = (0..nodes)
-        .map(|_| {
-            let x = b.variable();
-            let marked = b.and(x, marker);
-            b.ask(marked, goal);
-            (b.some(0, x), b.some(1, x))
-        })
-        .collect();
+    let ends: Vec<(u16, u16)> = (0..nodes).map(|_| node(&mut b, some_colour)).collect();
     for &(from, to) in edges {
         let both = b.and(ends[from].0, ends[to].1);
         let some_both = b.some(2, both);
         b.ask(pairs, some_both);
     }
     hard(label, b, colourable(nodes, colours, edges))
+}
+
+/// Marker and goal: a colour beside the marker is below the goal.
+fn coloured(b: &mut Builder, names: &[u16]) -> (u16, u16) {
+    let (marker, goal) = (b.name(), b.name());
+    for &colour in names {
+        let marked = b.and(colour, marker);
+        b.inclusions.push([marked, goal]);
+    }
+    (marker, goal)
+}
+
+/// A variable with at least one colour, as the first and as the second end of an edge.
+fn node(b: &mut Builder, (marker, goal): (u16, u16)) -> (u16, u16) {
+    let x = b.variable();
+    let marked = b.and(x, marker);
+    b.ask(marked, goal);
+    (b.some(0, x), b.some(1, x))
+}
+
+/// "Some" of each colour beside all other colours.
+fn one_and_the_others(b: &mut Builder, names: &[u16]) -> Vec<u16> {
+    let others = all_but_one(b, names);
+    let mut splits = Vec::new();
+    for (&one, &rest) in names.iter().zip(&others) {
+        let (first, second) = (b.some(0, one), b.some(1, rest));
+        let both = b.and(first, second);
+        splits.push(b.some(2, both));
+    }
+    splits
 }
 
 /// "Some" of each pair of two different colours.
@@ -373,6 +461,27 @@ pub fn pigeons(holes: usize) -> Hard {
     colouring(format!("{} pigeons, {} holes", holes + 1, holes), holes + 1, holes, &edges)
 }
 
+/// Pigeons in smaller tables, up to 8: the witnesses are one hole beside all others, so a pigeon
+/// has one hole and the pigeons behind it do not have that one. One question for each pigeon says
+/// so of all behind it.
+pub fn lean_pigeons(pigeons: usize, holes: usize) -> Hard {
+    let mut b = Builder::default();
+    let names = b.names(holes);
+    let some_hole = coloured(&mut b, &names);
+    let splits = one_and_the_others(&mut b, &names);
+    let witnesses = b.all(&splits);
+    let ends: Vec<(u16, u16)> = (0..pigeons).map(|_| node(&mut b, some_hole)).collect();
+    let mut behind = ends[pigeons - 1].1;
+    for &(first, second) in ends[..pigeons - 1].iter().rev() {
+        let together = b.and(first, behind);
+        let some_together = b.some(2, together);
+        b.ask(witnesses, some_together);
+        behind = b.and(second, behind);
+    }
+    let known = if pigeons > holes { Known::Unsolvable } else { Known::Solvable };
+    hard(format!("{} pigeons, {} holes, lean", pigeons, holes), b, known)
+}
+
 fn complete(nodes: usize) -> Vec<(usize, usize)> {
     (0..nodes).flat_map(|to| (0..to).map(move |from| (from, to))).collect()
 }
@@ -402,23 +511,47 @@ pub fn puzzles(seed: u64) -> Vec<Hard> {
         clauses_over_one(4, 20, seed),
         clauses_over_several(4, 8, seed),
         clauses_over_several(4, 20, seed),
+        over_several(2, 4, &random_clauses(&mut Random::new(seed), 4, 12)),
         random_colouring(4, 3, 5, seed),
         random_colouring(5, 3, 9, seed),
         pigeons(2),
         pigeons(3),
+        lean_pigeons(3, 3),
+        lean_pigeons(4, 3),
     ]
 }
 
-/// The same puzzles at the size that the tables have room for.
-pub fn large_puzzles(seed: u64) -> Vec<Hard> {
+/// Random puzzles at the size that the tables have room for. Clauses are hardest where about half
+/// of them have a solution: there, one of each kind.
+pub fn large_random_puzzles(seed: u64) -> Vec<Hard> {
+    let solvable = |propositions| clauses_with(Known::Solvable, propositions, 32, seed);
+    let unsolvable = |propositions| clauses_with(Known::Unsolvable, propositions, 32, seed);
     vec![
         clauses_over_one(6, 26, seed),
         clauses_over_one(7, 28, seed),
-        clauses_over_several(8, 24, seed),
+        over_one(8, &solvable(8)),
+        over_one(8, &unsolvable(8)),
+        clauses_over_one(10, 31, seed),
         clauses_over_several(6, 32, seed),
+        clauses_over_several(8, 24, seed),
+        over_several(1, 8, &solvable(8)),
+        over_several(1, 8, &unsolvable(8)),
+        over_several(2, 10, &unsolvable(10)),
+        over_several(2, 14, &solvable(14)),
         random_colouring(8, 3, 16, seed),
         random_colouring(8, 4, 24, seed),
+    ]
+}
+
+/// Puzzles at full size that are not random.
+pub fn large_fixed_puzzles() -> Vec<Hard> {
+    vec![
+        parity_over_one(),
+        parity_over_several(),
         pigeons(4),
         pigeons(5),
+        pigeons(6),
+        lean_pigeons(8, 7),
+        lean_pigeons(8, 8),
     ]
 }

@@ -1,0 +1,127 @@
+//! Konclude classifies a catalogue: each entry is a class :eN, defined over the classes of its
+//! inner entries. The table is read from the hierarchy that it writes.
+
+use std::collections::HashMap;
+use std::fmt::Write;
+use std::fs;
+use std::process::Command;
+
+use hermitcasket_tests::tables::{Concept, Tables};
+
+use super::{best, is_installed, run, Scratch, Timed, LIMIT};
+
+const PROGRAM: &str = "Konclude";
+const PREFIX: &str = "http://hermitcasket.test/";
+
+pub fn installed() -> bool {
+    is_installed(PROGRAM)
+}
+
+/// Row i, column j: entry i is below entry j.
+pub type Relation = Vec<Vec<bool>>;
+
+pub fn classify(tables: &Tables, scratch: &Scratch) -> Timed<Relation> {
+    let (input, output) = (scratch.file("catalogue.ofn"), scratch.file("hierarchy.owx"));
+    fs::write(&input, ontology(tables)).expect("a file for Konclude");
+    best(|| {
+        // with one worker some versions wait for ever
+        let mut command = Command::new(PROGRAM);
+        command.args(["classification", "-w", "2", "-i"]).arg(&input).arg("-o").arg(&output);
+        let time = run(&mut command, &scratch.file("konclude.log"), LIMIT)?;
+        let hierarchy = fs::read_to_string(&output).expect("Konclude's hierarchy");
+        Some((relation(&hierarchy, tables.concept_count()), time))
+    })
+}
+
+/// The catalogue in OWL functional syntax. Top is a class of its own above all entries, since
+/// Konclude 0.7 loses subsumptions where owl:Thing stands on the left.
+fn ontology(tables: &Tables) -> String {
+    let count = tables.concept_count();
+    let mut text = format!("Prefix(:=<{}>)\nOntology(<http://hermitcasket.test>\n", PREFIX);
+    for id in 0..count {
+        let _ = writeln!(text, "Declaration(Class(:e{}))", id);
+        let _ = writeln!(text, "EquivalentClasses(:e{} {})", id, class(tables.concept(id)));
+    }
+    let mut pairs = tables.inclusion_pairs();
+    if let Some(top) = (0..count).find(|&id| tables.concept(id) == Concept::Top) {
+        pairs.extend((0..count).map(|id| (id, top)));
+    }
+    for (left, right) in pairs {
+        let _ = writeln!(text, "SubClassOf(:e{} :e{})", left, right);
+    }
+    text + ")\n"
+}
+
+fn class(concept: Concept) -> String {
+    match concept {
+        Concept::Top => ":top".to_string(),
+        Concept::Name(name) => format!(":c{}", name),
+        Concept::Existential(role, inner) => {
+            format!("ObjectSomeValuesFrom(:r{} :e{})", role, inner)
+        }
+        Concept::Conjunction(a, b) if a == b => format!(":e{}", a),
+        Concept::Conjunction(a, b) => format!("ObjectIntersectionOf(:e{} :e{})", a, b),
+        Concept::Variable(_) => panic!("a catalogue without blanks"),
+    }
+}
+
+/// The classes of the hierarchy and the steps up from each.
+#[derive(Default)]
+struct Hierarchy {
+    places: HashMap<String, usize>,
+    above: Vec<Vec<usize>>,
+}
+
+impl Hierarchy {
+    fn place(&mut self, class: &str) -> usize {
+        let next = self.places.len();
+        let place = *self.places.entry(class.to_string()).or_insert(next);
+        if place == next {
+            self.above.push(Vec::new());
+        }
+        place
+    }
+
+    /// Reads OWL/XML line by line: two or more classes in one axiom.
+    fn read(text: &str) -> Hierarchy {
+        let mut made = Hierarchy::default();
+        let mut classes: Vec<usize> = Vec::new();
+        for line in text.lines().map(str::trim) {
+            if let Some(class) = line.strip_prefix("<Class IRI=\"") {
+                classes.push(made.place(class.trim_end_matches("\"/>")));
+            } else if line == "</SubClassOf>" {
+                made.above[classes[0]].push(classes[1]);
+            } else if line == "</EquivalentClasses>" {
+                for k in 0..classes.len() {
+                    made.above[classes[k]].push(classes[(k + 1) % classes.len()]);
+                }
+            } else {
+                classes.clear();
+            }
+        }
+        made
+    }
+
+    fn reached(&self, from: usize) -> Vec<bool> {
+        let mut reached = vec![false; self.above.len()];
+        let mut open = vec![from];
+        while let Some(class) = open.pop() {
+            if !reached[class] {
+                reached[class] = true;
+                open.extend(&self.above[class]);
+            }
+        }
+        reached
+    }
+}
+
+fn relation(text: &str, count: usize) -> Relation {
+    let mut hierarchy = Hierarchy::read(text);
+    let of_id = |id: usize| hierarchy.place(&format!("{}e{}", PREFIX, id));
+    let places: Vec<usize> = (0..count).map(of_id).collect();
+    let row = |&place: &usize| {
+        let reached = hierarchy.reached(place);
+        places.iter().map(|&other| reached[other]).collect()
+    };
+    places.iter().map(row).collect()
+}
