@@ -1,10 +1,13 @@
 //! A plain Rust implementation of the same operations, word-parallel and without heap: the
 //! yardstick that the proved library is timed beside. It works on what it is lent and nothing
-//! else, refusals included, so that both do the same work.
+//! else, refusals included, so that both do the same work. Beside it, a measure of the stack that
+//! the proved operations need.
 
 pub mod checks;
 pub mod columns;
+pub mod operations;
 pub mod search;
+pub mod stack;
 
 use checks::{Input, Refusal};
 use hermitcasket_tests::tables::Tables;

@@ -5,6 +5,7 @@ mod below;
 mod derivations;
 mod external;
 mod matcher;
+mod memory;
 mod table;
 mod timing;
 
@@ -14,7 +15,7 @@ use table::Tools;
 const LINES: [(&str, fn(&Tools)); 3] =
     [("below", below::print), ("matcher", matcher::print), ("puzzles", matcher::print_puzzles)];
 
-const TABLES: [(&str, fn()); 1] = [("derivations", derivations::print)];
+const TABLES: [(&str, fn()); 2] = [("derivations", derivations::print), ("stack", memory::print)];
 
 fn main() {
     let words: Vec<String> = std::env::args().skip(1).collect();

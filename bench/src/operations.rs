@@ -1,0 +1,95 @@
+//! Every operation of the C interface as one call on one kind of input.
+
+use hermitcasket_tests::capi::{self, Answer};
+use hermitcasket_tests::families::{Family, FAMILIES};
+use hermitcasket_tests::hard::{self, Hard};
+use hermitcasket_tests::limits::{line_room, ATOM_ROOM, MAX_CONCEPTS, MAX_VARIABLES, ROW_BYTES};
+use hermitcasket_tests::tables::Tables;
+
+use crate::stack::depth;
+
+/// All that an operation is lent.
+pub struct Input {
+    pub label: String,
+    tables: Tables,
+    assignment: Vec<u64>,
+    pair: (u16, u16),
+    lines: Vec<u16>,
+}
+
+/// The families of catalogues at full size, and hard problems.
+pub fn inputs() -> Vec<Input> {
+    let catalogue = |&family: &Family| (family.label().to_string(), family.tables(MAX_CONCEPTS));
+    let mut problems = hard::with_harmless(60);
+    problems.extend(hard::at_the_limits(1));
+    problems.extend(hard::puzzles(1));
+    let problem = |problem: Hard| (problem.label, problem.tables);
+    FAMILIES.iter().map(catalogue).chain(problems.into_iter().map(problem)).map(input).collect()
+}
+
+/// With the first solution, or nothing chosen, and of some pairs the one with the longest
+/// derivation.
+fn input((label, tables): (String, Tables)) -> Input {
+    let mut assignment = vec![0; usize::from(tables.variables)];
+    capi::find(tables.lend(), &mut assignment);
+    let count = tables.concept_count() as u16;
+    let tried = (0..count).step_by(16).map(|k| (k, (7 * k + 5) % count)).chain([(0, 0)]);
+    let with_lines = |pair: (u16, u16)| (derivation(&tables, &assignment, pair), pair);
+    let (lines, pair) = tried.map(with_lines).max_by_key(|found| found.0.len()).expect("a pair");
+    Input { label, tables, assignment, pair, lines }
+}
+
+/// No lines where the pair is not below.
+fn derivation(tables: &Tables, assignment: &[u64], pair: (u16, u16)) -> Vec<u16> {
+    let mut out = vec![0; line_room(tables.concept_count())];
+    let answer = capi::derive(tables.lend(), assignment, pair, &mut out);
+    out.truncate(4 * answer.value as usize);
+    out
+}
+
+/// Output buffers, lent from the heap.
+pub struct Room {
+    ids: Vec<u16>,
+    rows: Vec<u8>,
+    choices: Vec<u64>,
+    lines: Vec<u16>,
+}
+
+impl Room {
+    pub fn new() -> Room {
+        Room {
+            ids: vec![0; ATOM_ROOM],
+            rows: vec![0; MAX_CONCEPTS * ROW_BYTES],
+            choices: vec![0; MAX_VARIABLES],
+            lines: vec![0; line_room(MAX_CONCEPTS)],
+        }
+    }
+}
+
+pub type Operation = fn(&Input, &mut Room) -> Answer;
+
+pub const OPERATIONS: [(&str, Operation); 8] = [
+    ("hc_check", |input, _| capi::check(input.tables.lend())),
+    ("hc_atoms", |input, room| capi::atoms(input.tables.lend(), &mut room.ids)),
+    ("hc_subsumption_table", |input, room| {
+        capi::subsumption_table(input.tables.lend(), &input.assignment, &mut room.rows)
+    }),
+    ("hc_subsumed", |input, _| capi::subsumed(input.tables.lend(), &input.assignment, input.pair)),
+    ("hc_match", |input, room| capi::find(input.tables.lend(), &mut room.choices)),
+    ("hc_chosen", |input, room| {
+        capi::chosen(input.tables.lend(), &input.assignment, 0, &mut room.ids)
+    }),
+    ("hc_derive", |input, room| {
+        capi::derive(input.tables.lend(), &input.assignment, input.pair, &mut room.lines)
+    }),
+    ("hc_check_derivation", |input, _| {
+        capi::check_derivation(input.tables.lend(), &input.assignment, input.pair, &input.lines)
+    }),
+];
+
+/// Bytes of stack that one call uses.
+pub fn stack_bytes(operation: Operation, input: &Input, room: &mut Room) -> usize {
+    depth(|| {
+        operation(input, room);
+    })
+}
