@@ -1,11 +1,13 @@
 //! Times the proved operations beside the plain ones, and beside tools of others, on the same
 //! inputs in one run. Words after the command pick subjects; without any, all are printed.
+//! `plot FILE` draws the growth instead.
 
 mod below;
 mod derivations;
 mod external;
 mod matcher;
 mod memory;
+mod plot;
 mod table;
 mod timing;
 
@@ -19,6 +21,11 @@ const TABLES: [(&str, fn()); 2] = [("derivations", derivations::print), ("stack"
 
 fn main() {
     let words: Vec<String> = std::env::args().skip(1).collect();
+    if let [plot, file] = &words[..] {
+        if plot == "plot" {
+            return plot::write(file);
+        }
+    }
     let wanted = |subject: &str| words.is_empty() || words.iter().any(|word| word == subject);
     if LINES.iter().any(|line| wanted(line.0)) {
         let tools = Tools::find();
