@@ -13,8 +13,10 @@ mod timing;
 
 use table::Tools;
 
+type Print = fn(&Tools);
+
 /// Subjects that share one table.
-const LINES: [(&str, fn(&Tools)); 3] =
+const LINES: [(&str, Print); 3] =
     [("below", below::print), ("matcher", matcher::print), ("puzzles", matcher::print_puzzles)];
 
 const TABLES: [(&str, fn()); 2] = [("derivations", derivations::print), ("stack", memory::print)];

@@ -3,7 +3,7 @@
 use hermitcasket_bench::operations::{inputs, stack_bytes, Input, Operation, Room, OPERATIONS};
 
 fn print_line(name: &str, operation: Operation, inputs: &[Input]) {
-    let mut room = Room::new();
+    let mut room = Room::default();
     let bytes: Vec<usize> =
         inputs.iter().map(|input| stack_bytes(operation, input, &mut room)).collect();
     let (least, most) = (bytes.iter().min().expect("an input"), bytes.iter().max().expect("one"));

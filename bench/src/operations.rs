@@ -55,8 +55,8 @@ pub struct Room {
     lines: Vec<u16>,
 }
 
-impl Room {
-    pub fn new() -> Room {
+impl Default for Room {
+    fn default() -> Room {
         Room {
             ids: vec![0; ATOM_ROOM],
             rows: vec![0; MAX_CONCEPTS * ROW_BYTES],

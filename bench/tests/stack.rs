@@ -23,7 +23,7 @@ fn the_measure_is_right() {
 
 #[test]
 fn at_most_1_mib() {
-    let mut room = Room::new();
+    let mut room = Room::default();
     for input in inputs() {
         for (name, operation) in OPERATIONS {
             let bytes = stack_bytes(operation, &input, &mut room);
