@@ -9,6 +9,9 @@ use hermitcasket_tests::limits::line_room;
 use hermitcasket_tests::random::Random;
 use hermitcasket_tests::tables::Tables;
 
+use crate::markdown::{print_head, print_row, Column};
+use crate::timing::{in_words, three_digits};
+
 /// Pairs asked of one table.
 const MOST: usize = 100;
 
@@ -35,25 +38,32 @@ fn print_line(family: Family, n: usize) {
     };
     let lengths: Vec<u64> = asked.iter().map(&mut length).collect();
     let micros = start.elapsed().as_secs_f64() * 1e6 / asked.len() as f64;
-    println!(
-        "{:<12}{:>8}{:>12}{:>8}{:>10}{:>10.1}{:>14.1}",
-        family.label(),
-        n,
-        pairs.len(),
-        asked.len(),
-        lengths.iter().max().expect("some pair is below"),
-        lengths.iter().sum::<u64>() as f64 / asked.len() as f64,
-        micros
-    );
+    let mean = lengths.iter().sum::<u64>() as f64 / asked.len() as f64;
+    let cells = [
+        family.label().to_string(),
+        n.to_string(),
+        pairs.len().to_string(),
+        asked.len().to_string(),
+        lengths.iter().max().expect("some pair is below").to_string(),
+        three_digits(mean),
+        in_words(micros),
+    ];
+    print_row(&COLUMNS, &cells);
 }
 
+const COLUMNS: [Column; 7] = [
+    ("family", 12),
+    ("entries", 7),
+    ("marked", 6),
+    ("asked", 6),
+    ("longest", 7),
+    ("mean", 6),
+    ("proved", 7),
+];
+
 pub fn print() {
-    println!("Lines of one derivation, and microseconds for it.");
-    println!();
-    println!(
-        "{:<12}{:>8}{:>12}{:>8}{:>10}{:>10}{:>14}",
-        "family", "entries", "marked", "asked", "longest", "mean", "proved"
-    );
+    println!("Lines of one derivation, and the mean time for it.\n");
+    print_head(&COLUMNS);
     for family in FAMILIES {
         for n in [48, 192] {
             print_line(family, n);

@@ -5,6 +5,7 @@
 mod below;
 mod derivations;
 mod external;
+mod markdown;
 mod matcher;
 mod memory;
 mod plot;

@@ -49,12 +49,10 @@ fn print_line(problem: &Hard, tools: &Tools) {
 }
 
 pub fn print(tools: &Tools) {
-    let mut problems = hard::with_harmless(10);
-    problems.extend(hard::with_harmless(60));
+    let mut problems = hard::with_harmless(60);
     for seed in 1..4 {
         problems.extend(hard::at_the_limits(seed));
     }
-    problems.extend(hard::puzzles(1));
     problems.iter().for_each(|problem| print_line(problem, tools));
 }
 

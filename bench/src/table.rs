@@ -1,9 +1,11 @@
 //! The one table: a line for each family.
 
-use crate::external::{clasp, konclude, Scratch, Timed, LIMIT};
-use crate::timing::{in_words, Times};
 use hermitcasket_tests::reference::atoms;
 use hermitcasket_tests::tables::Tables;
+
+use crate::external::{clasp, konclude, Scratch, Timed, LIMIT};
+use crate::markdown::{self, print_row, Column};
+use crate::timing::{in_words, three_digits, Times};
 
 /// The tools of others that are installed.
 pub struct Tools {
@@ -47,14 +49,19 @@ pub fn told<A>(timed: &Option<Timed<A>>) -> String {
     }
 }
 
-fn print_row(label: &str, columns: [&str; 10]) {
-    let widths = [8, 7, 6, 8, 10, 10, 9, 8, 10, 10];
-    print!("{:<42}", label);
-    for (column, width) in columns.iter().zip(widths) {
-        print!("{:>1$}", column, width);
-    }
-    println!();
-}
+const COLUMNS: [Column; 11] = [
+    ("family", 42),
+    ("entries", 7),
+    ("blanks", 6),
+    ("parts", 5),
+    ("answer", 6),
+    ("proved", 7),
+    ("Rust", 7),
+    ("ratio", 6),
+    ("growth", 6),
+    ("Konclude", 8),
+    ("clasp", 7),
+];
 
 pub fn print_head(tools: &Tools) {
     for (installed, name) in [(tools.konclude, "konclude"), (tools.clasp, "gringo and clasp")] {
@@ -63,37 +70,30 @@ pub fn print_head(tools: &Tools) {
         }
     }
     println!("Time for one operation, the fastest of several.\n");
-    let columns = [
-        "entries", "blanks", "parts", "answer", "proved", "Rust", "ratio", "growth", "Konclude",
-        "clasp",
-    ];
-    print_row("family", columns);
-    print_start(tools);
-}
-
-/// What the tools take for nothing.
-fn print_start(tools: &Tools) {
+    markdown::print_head(&COLUMNS);
     let nothing = Tables::default();
-    let (konclude, clasp) = (told(&tools.classify(&nothing)), told(&tools.solve(&nothing)));
-    let columns = ["0", "0", "0", "", "", "", "", "", &konclude, &clasp];
-    print_row("nothing: start of the process", columns);
+    let mut cells = vec![String::new(); 11];
+    cells[0] = "nothing: start of the process".to_string();
+    cells[9] = told(&tools.classify(&nothing));
+    cells[10] = told(&tools.solve(&nothing));
+    print_row(&COLUMNS, &cells);
 }
 
 impl Line<'_> {
-    pub fn print(&self) {
-        let growth = self.growth.map_or(String::new(), |factor| format!("{:.2}", factor));
-        let columns = [
-            &self.tables.concept_count().to_string(),
-            &self.tables.variables.to_string(),
-            &atoms::list(self.tables).len().to_string(),
-            &self.answer,
-            &in_words(self.times.proved),
-            &in_words(self.times.plain),
-            &format!("{:.2}", self.times.ratio()),
-            &growth,
-            &self.konclude,
-            &self.clasp,
+    pub fn print(self) {
+        let cells = [
+            self.label.to_string(),
+            self.tables.concept_count().to_string(),
+            self.tables.variables.to_string(),
+            atoms::list(self.tables).len().to_string(),
+            self.answer,
+            in_words(self.times.proved),
+            in_words(self.times.plain),
+            three_digits(self.times.ratio()),
+            self.growth.map_or(String::new(), three_digits),
+            self.konclude,
+            self.clasp,
         ];
-        print_row(self.label, columns.map(String::as_str));
+        print_row(&COLUMNS, &cells);
     }
 }

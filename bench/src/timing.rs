@@ -21,47 +21,69 @@ impl Times {
     }
 }
 
-/// Microseconds of one call, over `calls` of them.
-fn round(run: &mut impl FnMut(), calls: usize) -> f64 {
-    let start = Instant::now();
-    for _ in 0..calls {
-        run();
-    }
-    start.elapsed().as_secs_f64() * 1e6 / calls as f64
+/// One of the two ways.
+struct Timer<F> {
+    run: F,
+    calls: usize,
+    spent: f64,
+    best: f64,
 }
 
-/// How many calls make a round; `first` is the time of the first call, which is often slower.
-fn calls_in_a_round(run: &mut impl FnMut(), first: f64) -> usize {
-    let once = if first < ROUND_MICROS { round(run, 3) } else { first };
-    ((ROUND_MICROS / once) as usize).max(1)
-}
-
-pub fn measure(mut proved: impl FnMut(), mut plain: impl FnMut()) -> Times {
-    let start = Instant::now();
-    let mut best = Times { proved: round(&mut proved, 1), plain: round(&mut plain, 1) };
-    let proved_calls = calls_in_a_round(&mut proved, best.proved);
-    let plain_calls = calls_in_a_round(&mut plain, best.plain);
-    for _ in 0..ROUNDS {
-        if start.elapsed().as_secs_f64() * 1e6 > MOST_MICROS {
-            break;
+impl<F: FnMut()> Timer<F> {
+    fn new(run: F) -> Self {
+        let mut timer = Timer { run, calls: 1, spent: 0.0, best: f64::MAX };
+        timer.round();
+        if timer.best < ROUND_MICROS {
+            // the first call is often slower than the others
+            timer.calls = 3;
+            timer.round();
         }
-        best.proved = best.proved.min(round(&mut proved, proved_calls));
-        best.plain = best.plain.min(round(&mut plain, plain_calls));
+        timer.calls = ((ROUND_MICROS / timer.best) as usize).max(1);
+        timer
     }
-    best
+
+    fn round(&mut self) {
+        let start = Instant::now();
+        for _ in 0..self.calls {
+            (self.run)();
+        }
+        let micros = start.elapsed().as_secs_f64() * 1e6;
+        self.spent += micros;
+        self.best = self.best.min(micros / self.calls as f64);
+    }
+
+    fn round_in_time(&mut self) {
+        if self.spent < MOST_MICROS {
+            self.round();
+        }
+    }
 }
 
-/// Three digits and a unit.
+pub fn measure(proved: impl FnMut(), plain: impl FnMut()) -> Times {
+    let (mut proved, mut plain) = (Timer::new(proved), Timer::new(plain));
+    for _ in 0..ROUNDS {
+        proved.round_in_time();
+        plain.round_in_time();
+    }
+    Times { proved: proved.best, plain: plain.best }
+}
+
+/// Three digits, or all before the point.
+pub fn three_digits(number: f64) -> String {
+    let digits = match number {
+        n if n < 9.995 => 2,
+        n if n < 99.95 => 1,
+        _ => 0,
+    };
+    format!("{:.*}", digits, number)
+}
+
+/// With a unit.
 pub fn in_words(micros: f64) -> String {
     let (number, unit) = match micros {
         m if m < 1e3 => (m, "us"),
         m if m < 1e6 => (m / 1e3, "ms"),
         m => (m / 1e6, "s"),
     };
-    let digits = match number {
-        n if n < 9.995 => 2,
-        n if n < 99.95 => 1,
-        _ => 0,
-    };
-    format!("{:.*} {}", digits, number, unit)
+    format!("{} {}", three_digits(number), unit)
 }

@@ -24,6 +24,7 @@ pub fn classify(tables: &Tables, scratch: &Scratch) -> Timed<Relation> {
     let (input, output) = (scratch.file("catalogue.ofn"), scratch.file("hierarchy.owx"));
     fs::write(&input, ontology(tables)).expect("a file for Konclude");
     best(|| {
+        let _ = fs::remove_file(&output);
         // with one worker some versions wait for ever
         let mut command = Command::new(PROGRAM);
         command.args(["classification", "-w", "2", "-i"]).arg(&input).arg("-o").arg(&output);
