@@ -75,7 +75,7 @@ fn draw(series: &[Series]) -> String {
          <rect width=\"100%\" height=\"100%\" fill=\"#fff\"/>\n",
         WIDTH, HEIGHT
     );
-    text(&mut svg, (LEFT, 28.0), "start", "Time of one below table by number of entries");
+    text(&mut svg, (LEFT, 28.0), "start", "Time of one subsumption table by number of entries");
     grid(&mut svg, &scale);
     square(&mut svg, &scale);
     for one in series {

@@ -3,7 +3,7 @@
 
 use std::time::Instant;
 
-const ROUNDS: usize = 30;
+const ROUNDS: usize = 100;
 /// About how long one round takes, and after how long no further round is begun.
 const ROUND_MICROS: f64 = 2000.0;
 const MOST_MICROS: f64 = 2e6;

@@ -34,8 +34,8 @@ pub fn classify(tables: &Tables, scratch: &Scratch) -> Timed<Relation> {
     })
 }
 
-/// The catalogue in OWL functional syntax. Top is a class of its own above all entries, since
-/// Konclude 0.7 loses subsumptions where owl:Thing stands on the left.
+/// The catalogue in OWL functional syntax. Top is a class of its own above all entries: with
+/// owl:Thing, Konclude 0.7.0 misses pairs where everything is equivalent.
 fn ontology(tables: &Tables) -> String {
     let count = tables.concept_count();
     let mut text = format!("Prefix(:=<{}>)\nOntology(<http://hermitcasket.test>\n", PREFIX);
