@@ -11,7 +11,7 @@ use lib.Dec.{eqb}
 use borrow.Author.Tests.{eqb-true, eqb-false}
 use Rattle.subsumption.specs.Tables.{Node, topAt, nameAt, andAt, varAt, node, countOf}
 use Rattle.subsumption.specs.Atoms.{bit}
-use Rattle.subsumption.specs.Closure.{has, slack, Firsts, SettledBy, Steps, Sound, Pass, Empty, AllTaken, AllSettled, AllIncluded, AllLinked, Closed}
+use Rattle.subsumption.specs.Closure.{has, slack, Firsts, SettledBy, Steps, flow-given, Sound, Pass, Empty, AllTaken, AllSettled, AllIncluded, AllLinked, Closed}
 use Rattle.subsumption.proofs.Bits.{bit-of-zero}
 use Rattle.subsumption.proofs.Columns.{not-both}
 use Rattle.subsumption.proofs.Passes.{pass-as, pass-then}
@@ -37,33 +37,32 @@ cleared-more p columns C h =
 pub cleared-done : (p : ℕ) (columns : List ℕ) → Cleared p columns → 576 ≤ p → Empty columns
 cleared-done p columns C h = record { long = C .long; zeros = λ q l. C .zeros q (omega arith) }
 
+pub nothing :
+    (columns : List ℕ) → Empty columns → (i j : ℕ) → i < 192 → j < 192 → has columns i j ≡ true → ⊥
+unfolding has
+nothing columns E i j h l e = bit-of-zero (i % 64) (ap (λ (w : ℕ). bit w (i % 64)) (sym (E .zeros (j * 3 + i / 64) (omega arith))) ∙ e)
+
 -- 1 while busy
 abbrev pub weight : Bool → ℕ
 weight true = 1
 weight false = 0
 
 module _ (concepts inclusions : List ℕ) (choose : ℕ → List ℕ) (firsts : List ℕ) where
-  pub record Closing (columns : List ℕ) (busy : Bool) : Type 0 where
+  pub record Closing (given columns : List ℕ) (busy : Bool) : Type 0 where
     pub long : length columns ≡ 576
-    pub sound : Sound concepts inclusions choose columns
+    pub sound : Sound concepts inclusions choose given columns
     pub taken : busy ≡ false → AllTaken concepts inclusions choose firsts columns
 
-  nothing : (columns : List ℕ) → countOf concepts ≤ 192 → Empty columns → (i j : ℕ) → i < countOf concepts → j < countOf concepts → has columns i j ≡ true → ⊥
-  unfolding has
-  nothing columns few E i j h l e =
-      bit-of-zero (i % 64) (ap (λ (w : ℕ). bit w (i % 64)) (sym (E .zeros (j * 3 + i / 64) (omega arith))) ∙ e)
-
-  pub closing-first : (columns : List ℕ) → countOf concepts ≤ 192 → Empty columns → Closing columns true
-  closing-first columns few E =
-      record { long = E .long; sound = λ i j h l e. absurd (nothing columns few E i j h l e); taken = λ e. not-both true refl e }
+  pub closing-first : (given : List ℕ) → length given ≡ 576 → Closing given given true
+  closing-first given h = record { long = h; sound = λ i j l k e. flow-given i j l k e; taken = λ e. not-both true refl e }
 
   pub closing-turn :
-      (before after : List ℕ) (busy changed : Bool) → Closing before busy
-      → Pass concepts inclusions choose (AllTaken concepts inclusions choose firsts) before after changed → Closing after changed
-  closing-turn before after busy changed C p =
+      (given before after : List ℕ) (busy changed : Bool) → Closing given before busy
+      → Pass concepts inclusions choose (AllTaken concepts inclusions choose firsts) before after changed → Closing given after changed
+  closing-turn given before after busy changed C p =
       record {
         long = p .long ∙ C .long;
-        sound = p .sound (C .sound);
+        sound = p .sound given (C .sound);
         taken = λ e. subst (λ (l : List ℕ). AllTaken concepts inclusions choose firsts l) (sym (p .same e)) (p .quiet e);
       }
 
@@ -112,5 +111,7 @@ module _ (concepts inclusions : List ℕ) (choose : ℕ → List ℕ) (firsts : 
           all-chosen = λ i v k h l e r. at v (varAt k) l e .1 i h r;
         }
 
-  pub closing-done : (columns : List ℕ) (busy : Bool) → busy ≡ false → Firsts concepts firsts → Closing columns busy → Closed concepts inclusions choose columns
-  closing-done columns busy e F C = record { long = C .long; sound = C .sound; closed = all-steps columns F (C .taken e) }
+  pub closing-done :
+      (given columns : List ℕ) (busy : Bool) → busy ≡ false → Firsts concepts firsts → Closing given columns busy
+      → Closed concepts inclusions choose given columns
+  closing-done given columns busy e F C = record { long = C .long; sound = C .sound; closed = all-steps columns F (C .taken e) }

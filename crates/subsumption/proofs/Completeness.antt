@@ -3,11 +3,11 @@ use Prim.Native.Nat.{ℕ, _<_}
 use mathlib.Core.Path.{_≡_, refl}
 use mathlib.Core.List.{List}
 use mathlib.Core.Bool.{Bool, true}
-use mathlib.Core.Logic.{_↔_}
 use Rattle.subsumption.specs.Tables.{Tables, countOf}
 use Rattle.subsumption.specs.Atoms.{atoms, chosen}
 use Rattle.subsumption.specs.Subsumption.{Subsumed}
 use Rattle.subsumption.specs.Closure.{has, chooseFrom, Steps, Closed}
+use Rattle.subsumption.specs.Ground.{ColumnsOf}
 use Rattle.subsumption.proofs.WellFormed.{WellFormed}
 use Rattle.subsumption.proofs.Inward.{below-inward}
 use Rattle.subsumption.proofs.Soundness.{flow-sound}
@@ -44,10 +44,15 @@ module _ (t : Tables) (assignment : List ℕ) (wf : WellFormed t) (marks : ℕ �
       (i j : ℕ) → i < countOf (t .concepts) → j < countOf (t .concepts) → Subsumed t assignment i j → marks i j ≡ true
   steps-complete = canonical-complete t assignment wf _ _ _ steps-canonical
 
--- Closed columns hold exactly what is subsumed.
+-- Columns closed from what is subsumed hold exactly what is subsumed.
 pub closed-exactly :
-    (t : Tables) (assignment columns : List ℕ) → WellFormed t → Closed (t .concepts) (t .inclusions) (chooseFrom (atoms t) assignment) columns
-    → (i j : ℕ) → i < countOf (t .concepts) → j < countOf (t .concepts) → (has columns i j ≡ true) ↔ Subsumed t assignment i j
+    (t : Tables) (assignment given columns : List ℕ) → WellFormed t
+    → ((i j : ℕ) → i < countOf (t .concepts) → j < countOf (t .concepts) → has given i j ≡ true → Subsumed t assignment i j)
+    → Closed (t .concepts) (t .inclusions) (chooseFrom (atoms t) assignment) given columns → ColumnsOf t assignment columns
 unfolding chosen
-closed-exactly t assignment columns wf c i j l k =
-    (λ h. flow-sound t assignment wf (c .sound i j l k h), steps-complete t assignment wf (has columns) (c .closed) i j l k)
+closed-exactly t assignment given columns wf start c =
+    record {
+      long = c .long;
+      sound = λ i j l k h. flow-sound t assignment given wf start (c .sound i j l k h);
+      complete = steps-complete t assignment wf (has columns) (c .closed);
+    }

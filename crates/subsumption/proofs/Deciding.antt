@@ -13,11 +13,12 @@ use Rattle.subsumption.specs.declared.refusal.Outcome.the-variants.{Done
 use Rattle.subsumption.specs.declared.refusal.Refusal.{Refusal}
 use Rattle.subsumption.specs.declared.decide.Decision.the-variants.{Yes, No, Rejected}
 use Rattle.subsumption.specs.Tables.{Tables, tables, countOf}
-use Rattle.subsumption.specs.Atoms.{atoms, chosen}
+use Rattle.subsumption.specs.Atoms.{atoms}
 use Rattle.subsumption.specs.Subsumption.{Subsumed}
 use Rattle.subsumption.specs.Refusal.{orElse}
 use Rattle.subsumption.specs.Check.{noConcept, aloneFault, tableFault, pairFault, assignmentFaultAt, assignmentFault}
-use Rattle.subsumption.specs.Closure.{has, Ready, chooseFrom, Closed}
+use Rattle.subsumption.specs.Closure.{has, Ready, chooseFrom, Empty, Closed}
+use Rattle.subsumption.specs.Ground.{ColumnsOf}
 use Rattle.subsumption.specs.Rows.{Written}
 use Rattle.subsumption.specs.Table.{writingFault, TableOf, Wrote}
 use Rattle.subsumption.specs.Decide.{decidingFault, Tells, Answers, Decides}
@@ -28,7 +29,7 @@ use Rattle.subsumption.proofs.Refusals.{passed-first, passed-second, pa
 use Rattle.subsumption.proofs.AtomLaws.{atom-known}
 use Rattle.subsumption.proofs.Chosen.{getD-member}
 use Rattle.subsumption.proofs.Accepted.{wellFormed}
-use Rattle.subsumption.proofs.Soundness.{flow-sound}
+use Rattle.subsumption.proofs.Closing.{nothing}
 use Rattle.subsumption.proofs.RowLaws.{table-of}
 use Rattle.subsumption.proofs.Completeness.{closed-exactly}
 
@@ -64,12 +65,15 @@ pub ready-from :
 ready-from cs is qs v assignment before ids n h k e f =
     subst (λ (z : List ℕ). Ready cs is z assignment) (sym (ap (take n) f ∙ take-front (atoms (tables cs is qs v)) before n e)) (ready (tables cs is qs v) assignment h k)
 
-pub closed-from :
-    (cs is qs : List ℕ) (v : ℕ) (assignment before ids columns : List ℕ) (n : ℕ) → n ≡ length (atoms (tables cs is qs v))
-    → ids ≡ inFront (atoms (tables cs is qs v)) before → Closed cs is (chooseFrom (take n ids) assignment) columns
-    → Closed cs is (chooseFrom (atoms (tables cs is qs v)) assignment) columns
-closed-from cs is qs v assignment before ids columns n e f c =
-    subst (λ (z : List ℕ). Closed cs is (chooseFrom z assignment) columns) (ap (take n) f ∙ take-front (atoms (tables cs is qs v)) before n e) c
+pub columns-from :
+    (cs is qs : List ℕ) (v : ℕ) (assignment before ids given columns : List ℕ) (n : ℕ) → tableFault (tables cs is qs v) ≡ Done
+    → n ≡ length (atoms (tables cs is qs v)) → ids ≡ inFront (atoms (tables cs is qs v)) before → Empty given
+    → Closed cs is (chooseFrom (take n ids) assignment) given columns → ColumnsOf (tables cs is qs v) assignment columns
+columns-from cs is qs v assignment before ids given columns n h e f E c =
+    let wf = wellFormed (tables cs is qs v) h in
+    closed-exactly (tables cs is qs v) assignment given columns wf
+    (λ i j l k m. absurd (nothing given E i j (omega (arith, wf .few)) (omega (arith, wf .few)) m))
+    (subst (λ (z : List ℕ). Closed cs is (chooseFrom z assignment) given columns) (ap (take n) f ∙ take-front (atoms (tables cs is qs v)) before n e) c)
 
 pub assignment-by-count :
     (t : Tables) (assignment : List ℕ) (n : ℕ) (r : Outcome) → n ≡ length (atoms t) → r ≡ assignmentFaultAt n (t .variables) assignment → r ≡ assignmentFault t assignment
@@ -109,9 +113,9 @@ module _ (t : Tables) (assignment : List ℕ) (left right : ℕ) (h : decidingFa
   pub asked-few : countOf (t .concepts) ≤ 192
   asked-few = wellFormed t asked-tables .few
 
-  pub told : (columns : List ℕ) (r : Bool) → Closed (t .concepts) (t .inclusions) (chooseFrom (atoms t) assignment) columns → r ≡ has columns left right → Tells t assignment left right r
-  told columns true c e = closed-exactly t assignment columns (wellFormed t asked-tables) c left right asked-left asked-right .0 (sym e)
-  told columns false c e = λ s. false≢true (e ∙ closed-exactly t assignment columns (wellFormed t asked-tables) c left right asked-left asked-right .1 s)
+  pub told : (columns : List ℕ) (r : Bool) → ColumnsOf t assignment columns → r ≡ has columns left right → Tells t assignment left right r
+  told columns true c e = c .sound left right asked-left asked-right (sym e)
+  told columns false c e = λ s. false≢true (e ∙ c .complete left right asked-left asked-right s)
 
 module _ (t : Tables) (assignment : List ℕ) (left right : ℕ) where
   pub decides-refused : (r : Refusal) → Refused r ≡ decidingFault t assignment left right → Decides t assignment left right (Rejected r)
@@ -132,10 +136,6 @@ module _ (t : Tables) (assignment before after : List ℕ) where
   wrote-done e k = record { answered = e; left = k }
 
 pub table-written :
-    (t : Tables) (assignment columns before after : List ℕ) → tableFault t ≡ Done → Closed (t .concepts) (t .inclusions) (chooseFrom (atoms t) assignment) columns
+    (t : Tables) (assignment columns before after : List ℕ) → tableFault t ≡ Done → ColumnsOf t assignment columns
     → Written columns (countOf (t .concepts)) before after → TableOf t assignment before after
-unfolding chosen
-table-written t assignment columns before after h c w =
-    let wf = wellFormed t h in
-    table-of t assignment (chooseFrom (atoms t) assignment) columns before after (wf .few) c w (λ i j l k f. flow-sound t assignment wf f)
-    (λ i j l k s. closed-exactly t assignment columns wf c i j l k .1 s)
+table-written t assignment columns before after h c w = table-of t assignment columns before after (wellFormed t h .few) c w

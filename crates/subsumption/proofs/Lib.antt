@@ -38,3 +38,4 @@ pub mod Settling
 pub mod Linking
 pub mod Closing
 pub mod RowLaws
+pub mod GroundLaws

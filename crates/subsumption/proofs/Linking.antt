@@ -117,10 +117,10 @@ module _ (concepts inclusions atoms assignment : List ℕ) (f : ℕ) where
     linked-step : Pass concepts inclusions (chooseFrom atoms assignment) (λ l. Into (countOf concepts) l e f) mid after b
     linked-step =
         step-pass (R .few) T
-        (λ s i j l _ p q.
+        (λ g′ s i j l _ p q.
         let k = L .next h in
         let n : node concepts f ≡ existsAt (getD concepts (f * 3 + 1) 0) (getD concepts (f * 3 + 2) 0) = node-exists concepts f kind in
-        subst (λ (x : ℕ). Flow concepts inclusions (chooseFrom atoms assignment) i x) (sym p)
+        subst (λ (x : ℕ). Flow concepts inclusions (chooseFrom atoms assignment) g′ i x) (sym p)
         (flow-linked i e f (getD concepts (f * 3 + 1) 0) (k .from) (getD concepts (f * 3 + 2) 0) l h inside (k .row) n
         (s (k .from) (getD concepts (f * 3 + 2) 0) (inner-known e (k .from) h (k .row)) (inner-known f (getD concepts (f * 3 + 2) 0) inside n) (k .below))
         (s i e l h q)))

@@ -12,7 +12,7 @@ use Rattle.subsumption.proofs.Columns.{any-true, any-false, not-both, f
 
 module _ {concepts inclusions : List ℕ} {choose : ℕ → List ℕ} where
   pub pass-none : {Q : List ℕ → Type 0} {columns : List ℕ} → Q columns → Pass concepts inclusions choose Q columns columns false
-  pass-none q = record { long = refl; sound = λ s. s; same = λ e. refl; less = λ e. not-both true refl (sym e); quiet = λ e. q }
+  pass-none q = record { long = refl; sound = λ g s. s; same = λ e. refl; less = λ e. not-both true refl (sym e); quiet = λ e. q }
 
   pub pass-as :
       {Q Q′ : List ℕ → Type 0} {before after : List ℕ} {changed : Bool} → Pass concepts inclusions choose Q before after changed
@@ -51,7 +51,7 @@ module _ {concepts inclusions : List ℕ} {choose : ℕ → List ℕ} where
   pass-then {Q} {Q′} {before} {mid} {after} {a} {b} p q =
       record {
         long = q .long ∙ p .long;
-        sound = λ s. q .sound (p .sound s);
+        sound = λ g s. q .sound g (p .sound g s);
         same = λ e. let f : (a ≡ false) × (b ≡ false) = any-false a b e in q .same (f .1) ∙ p .same (f .0);
         less =
             λ e.
@@ -66,13 +66,14 @@ module _ {concepts inclusions : List ℕ} {choose : ℕ → List ℕ} where
   pub step-pass :
       {Q : List ℕ → Type 0} {before after : List ℕ} {to add : ℕ → Type 0} {changed : Bool} → countOf concepts ≤ 192
       → Takes before after to add changed
-      → (Sound concepts inclusions choose before → (i j : ℕ) → i < countOf concepts → j < countOf concepts → to j → add i → Flow concepts inclusions choose i j)
+      → ((g : List ℕ) → Sound concepts inclusions choose g before → (i j : ℕ) → i < countOf concepts → j < countOf concepts → to j → add i
+      → Flow concepts inclusions choose g i j)
       → (((i j : ℕ) → i < countOf concepts → to j → add i → has before i j ≡ true) → Q before)
       → Pass concepts inclusions choose Q before after changed
   step-pass few t flows done =
       record {
         long = t .long;
-        sound = λ s i j h l e. ⊎-elim (λ u. s i j h l u) (λ u. flows s i j h l (u .0) (u .1)) (t .bits i j (omega arith) e);
+        sound = λ g s i j h l e. ⊎-elim (λ u. s i j h l u) (λ u. flows g s i j h l (u .0) (u .1)) (t .bits i j (omega arith) e);
         same = t .quiet;
         less = t .less;
         quiet = λ e. done (λ i j h u v. t .taken e i j (omega arith) u v);
@@ -80,12 +81,12 @@ module _ {concepts inclusions : List ℕ} {choose : ℕ → List ℕ} where
 
   pub flow-pass :
       {before after : List ℕ} {changed : Bool} (from to : ℕ) → countOf concepts ≤ 192 → from < countOf concepts
-      → ((i : ℕ) → i < countOf concepts → Flow concepts inclusions choose i from → Flow concepts inclusions choose i to)
+      → ((g : List ℕ) (i : ℕ) → i < countOf concepts → Flow concepts inclusions choose g i from → Flow concepts inclusions choose g i to)
       → Takes before after (λ j. j ≡ to) (λ i. has before i from ≡ true) changed
       → Pass concepts inclusions choose (λ l. Into (countOf concepts) l from to) before after changed
   flow-pass from to few h flows t =
       step-pass few t
-      (λ s i j l _ e u. subst (λ (x : ℕ). Flow concepts inclusions choose i x) (sym e) (flows i l (s i from l h u)))
+      (λ g s i j l _ e u. subst (λ (x : ℕ). Flow concepts inclusions choose g i x) (sym e) (flows g i l (s i from l h u)))
       (λ f i l u. f i to l refl u)
 
   -- a loop of passes, each owing S of its number

@@ -79,6 +79,16 @@ passed-at refusal faulty from (suc count) e i h l =
     (λ q. passed-at refusal faulty (suc from) count (passed-second (refuseIf (faulty from) (refusal from)) (firstAt refusal faulty (suc from) count) e) i q (omega arith))
     (eq-or-lt-of-le h)
 
+-- a scan that meets no fault passes
+pub no-fault :
+    (refusal : ℕ → Refusal) (faulty : ℕ → Bool) (from count : ℕ) → ((i : ℕ) → i < from + count → faulty i ≡ false)
+    → Done ≡ firstAt refusal faulty from count
+unfolding firstAt
+no-fault refusal faulty from zero none = refl
+no-fault refusal faulty from (suc count) none =
+    both-done Done _ Done _ (done-if (faulty from) (refusal from) (none from (omega arith))) refl
+    (no-fault refusal faulty (suc from) count (λ i l. none i (omega arith))) refl
+
 pub buffer-fits : (wanted size : ℕ) → bufferFault wanted size ≡ Done → wanted ≤ size
 unfolding bufferFault
 buffer-fits wanted size h = ltb-false size wanted (passed-if _ _ h)

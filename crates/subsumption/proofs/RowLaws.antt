@@ -15,8 +15,9 @@ use borrow.Author.Tests.{eqb-true, eqb-false, lt-ltb, le-ltb}
 use Rattle.subsumption.specs.Tables.{Tables, both, countOf}
 use Rattle.subsumption.specs.Atoms.{bit}
 use Rattle.subsumption.specs.Subsumption.{Subsumed}
-use Rattle.subsumption.specs.Closure.{has, Flow, Closed}
+use Rattle.subsumption.specs.Closure.{has}
 use Rattle.subsumption.specs.Table.{rowStart, marked, TableOf}
+use Rattle.subsumption.specs.Ground.{ColumnsOf}
 use Rattle.subsumption.specs.Rows.{shown, ByteOf, RowWritten, Written}
 use Rattle.subsumption.proofs.Bits.{bit-or-left, bit-or-right, bit-or-cases, bit-pow, bit-pow-other, bit-of-zero}
 use Rattle.subsumption.proofs.Columns.{not-both}
@@ -198,11 +199,9 @@ module _ (columns : List ℕ) (count : ℕ) (before : List ℕ) where
       whole : n ≤ count → count ≡ n
       whole l = omega arith
 
--- closed columns, written out, are the table, if flowing is subsumption
-module _ (t : Tables) (assignment : List ℕ) (choose : ℕ → List ℕ) (columns before after : List ℕ) (few : countOf (t .concepts) ≤ 192)
-    (C : Closed (t .concepts) (t .inclusions) choose columns) (W : Written columns (countOf (t .concepts)) before after)
-    (flows : (i j : ℕ) → i < countOf (t .concepts) → j < countOf (t .concepts) → Flow (t .concepts) (t .inclusions) choose i j → Subsumed t assignment i j)
-    (holds : (i j : ℕ) → i < countOf (t .concepts) → j < countOf (t .concepts) → Subsumed t assignment i j → has columns i j ≡ true) where
+-- exact columns, written out, are the table
+module _ (t : Tables) (assignment columns before after : List ℕ) (few : countOf (t .concepts) ≤ 192)
+    (C : ColumnsOf t assignment columns) (W : Written columns (countOf (t .concepts)) before after) where
   inside : (i j : ℕ) → i < countOf (t .concepts) → j < countOf (t .concepts) → marked after i j ≡ has columns i j
   unfolding both
   inside i j h l = W .bits i j h (omega arith) ∙ rw (lt-ltb j (countOf (t .concepts)) l, both) refl
@@ -215,8 +214,8 @@ module _ (t : Tables) (assignment : List ℕ) (choose : ℕ → List ℕ) (colum
   table-of =
       record {
         size = W .size;
-        sound = λ i j h l e. flows i j h l (C .sound i j h l (sym (inside i j h l) ∙ e));
-        complete = λ i j h l s. inside i j h l ∙ holds i j h l s;
+        sound = λ i j h l e. C .sound i j h l (sym (inside i j h l) ∙ e);
+        complete = λ i j h l s. inside i j h l ∙ C .complete i j h l s;
         zero = outside;
         rest = W .rest;
       }

@@ -45,8 +45,8 @@ module _ (concepts inclusions atoms assignment firsts : List ℕ) (R : Ready con
       → Pass concepts inclusions (chooseFrom atoms assignment) (λ l. has l j j ≡ true) before after changed
   marked t =
       step-pass (R .few) t
-      (λ s i k h l p q. subst (λ (x : ℕ). Flow concepts inclusions (chooseFrom atoms assignment) x k) (sym q)
-      (subst (λ (x : ℕ). Flow concepts inclusions (chooseFrom atoms assignment) j x) (sym p) (flow-same j inside)))
+      (λ g s i k h l p q. subst (λ (x : ℕ). Flow concepts inclusions (chooseFrom atoms assignment) g x k) (sym q)
+      (subst (λ (x : ℕ). Flow concepts inclusions (chooseFrom atoms assignment) g j x) (sym p) (flow-same j inside)))
       (λ f. f j j inside refl refl)
 
   pub settle-exists :
@@ -61,7 +61,7 @@ module _ (concepts inclusions atoms assignment firsts : List ℕ) (R : Ready con
       filled : Pass concepts inclusions (chooseFrom atoms assignment) (λ l. (i : ℕ) → i < countOf concepts → has l i j ≡ true) one after a
       filled =
           step-pass (R .few) u
-          (λ s i k h l p _. subst (λ (x : ℕ). Flow concepts inclusions (chooseFrom atoms assignment) i x) (sym p) (flow-top i j h inside e))
+          (λ g s i k h l p _. subst (λ (x : ℕ). Flow concepts inclusions (chooseFrom atoms assignment) g i x) (sym p) (flow-top i j h inside e))
           (λ f i h. f i j h refl tt)
 
   pub settle-name :
@@ -81,10 +81,10 @@ module _ (concepts inclusions atoms assignment firsts : List ℕ) (R : Ready con
       known = omega (arith, F .each j inside .low)
 
       there : Pass concepts inclusions (chooseFrom atoms assignment) (λ l. Into (countOf concepts) l j (getD firsts j 0)) one two a
-      there = flow-pass j (getD firsts j 0) (R .few) inside (λ i h w. flow-named i j (getD firsts j 0) _ h inside known e f w) u
+      there = flow-pass j (getD firsts j 0) (R .few) inside (λ g i h w. flow-named i j (getD firsts j 0) _ h inside known e f w) u
 
       back : Pass concepts inclusions (chooseFrom atoms assignment) (λ l. Into (countOf concepts) l (getD firsts j 0) j) two after b
-      back = flow-pass (getD firsts j 0) j (R .few) known (λ i h w. flow-named i (getD firsts j 0) j _ h known inside f e w) v
+      back = flow-pass (getD firsts j 0) j (R .few) known (λ g i h w. flow-named i (getD firsts j 0) j _ h known inside f e w) v
 
   pub settle-and :
       (before one two three after : List ℕ) (own a b c : Bool) → getD concepts (j * 3) 0 ≡ 3 → Takes before one (λ x. x ≡ j) (λ i. i ≡ j) own
@@ -113,18 +113,18 @@ module _ (concepts inclusions atoms assignment firsts : List ℕ) (R : Ready con
       y-known = omega (arith, rising R j inside e .1)
 
       left : Pass concepts inclusions (chooseFrom atoms assignment) (λ l. Into (countOf concepts) l j x) one two a
-      left = flow-pass j x (R .few) inside (λ i h z. flow-first i j x y h inside e z) u
+      left = flow-pass j x (R .few) inside (λ g i h z. flow-first i j x y h inside e z) u
 
       right : Pass concepts inclusions (chooseFrom atoms assignment) (λ l. Into (countOf concepts) l j y) two three b
-      right = flow-pass j y (R .few) inside (λ i h z. flow-second i j x y h inside e z) v
+      right = flow-pass j y (R .few) inside (λ g i h z. flow-second i j x y h inside e z) v
 
       both :
           Pass concepts inclusions (chooseFrom atoms assignment)
           (λ l. (i : ℕ) → i < countOf concepts → has l i x ≡ true → has l i y ≡ true → has l i j ≡ true) three after c
       both =
           step-pass (R .few) w
-          (λ s i k h l p q.
-          subst (λ (z : ℕ). Flow concepts inclusions (chooseFrom atoms assignment) i z) (sym p)
+          (λ g s i k h l p q.
+          subst (λ (z : ℕ). Flow concepts inclusions (chooseFrom atoms assignment) g i z) (sym p)
           (flow-meet i j x y h inside e (s i x h x-known (q .0)) (s i y h y-known (q .1))))
           (λ f i h p q. f i j h refl (p, q))
 
@@ -152,7 +152,7 @@ module _ (concepts inclusions atoms assignment firsts : List ℕ) (R : Ready con
           Pass concepts inclusions (chooseFrom atoms assignment)
           (λ l. (p : ℕ) → List·Memᴰ p (chooseFrom atoms assignment k) → Into (countOf concepts) l j p) one two a
       down =
-          step-pass (R .few) u (λ s i p h l m q. flow-chooses i j k p h inside e m (s i j h inside q)) (λ f p m i h q. f i p h m q)
+          step-pass (R .few) u (λ g s i p h l m q. flow-chooses i j k p h inside e m (s i j h inside q)) (λ f p m i h q. f i p h m q)
 
       up :
           Pass concepts inclusions (chooseFrom atoms assignment)
@@ -160,7 +160,7 @@ module _ (concepts inclusions atoms assignment firsts : List ℕ) (R : Ready con
           two after b
       up =
           step-pass (R .few) v
-          (λ s i x h l p q.
-          subst (λ (z : ℕ). Flow concepts inclusions (chooseFrom atoms assignment) i z) (sym p)
+          (λ g s i x h l p q.
+          subst (λ (z : ℕ). Flow concepts inclusions (chooseFrom atoms assignment) g i z) (sym p)
           (flow-all-chosen i j k h inside e (λ z m. s i z h (chosen-known z m) (q z m))))
           (λ f i h q. f i j h refl q)

@@ -1,10 +1,12 @@
 -- Each step of the closure holds in every interpretation, so that all that flows is subsumed.
-use Prim.Native.Nat.{ℕ}
+use Prim.Native.Nat.{ℕ, _<_}
+use mathlib.Core.Path.{_≡_}
 use mathlib.Core.List.{List}
-use Rattle.subsumption.specs.Tables.{Tables}
+use mathlib.Core.Bool.{true}
+use Rattle.subsumption.specs.Tables.{Tables, countOf}
 use Rattle.subsumption.specs.Atoms.{chosen}
 use Rattle.subsumption.specs.Subsumption.{Interpretation, Reading, noVariables, assigned, SubsumedBy, Subsumed}
-use Rattle.subsumption.specs.Closure.{Steps, Flow, flow-same, flow-top, flow-named, flow-first, flow-second, flow-meet, flow-included, flow-linked, flow-chooses, flow-all-chosen}
+use Rattle.subsumption.specs.Closure.{has, Steps, Flow, flow-given, flow-same, flow-top, flow-named, flow-first, flow-second, flow-meet, flow-included, flow-linked, flow-chooses, flow-all-chosen}
 use Rattle.subsumption.proofs.WellFormed.{WellFormed}
 use Rattle.subsumption.proofs.Trees.{tree-top, tree-name, tree-exists, tree-and, tree-var}
 use Rattle.subsumption.proofs.Chosen.{chosen-ground}
@@ -39,8 +41,10 @@ subsumed-steps t assignment wf =
           (λ p c. member-ground I (assigned t assignment I) noVariables _ (chosen-ground t assignment k p wf c) x (s p c I o x l h));
     }
 
-module _ (concepts inclusions : List ℕ) (choose : ℕ → List ℕ) (R : ℕ → ℕ → Type 0) (steps : Steps concepts inclusions choose R) where
-  pub flow-least : {i j : ℕ} → Flow concepts inclusions choose i j → R i j
+module _ (concepts inclusions : List ℕ) (choose : ℕ → List ℕ) (R : ℕ → ℕ → Type 0) (steps : Steps concepts inclusions choose R)
+    (given : List ℕ) (start : (i j : ℕ) → i < countOf concepts → j < countOf concepts → has given i j ≡ true → R i j) where
+  pub flow-least : {i j : ℕ} → Flow concepts inclusions choose given i j → R i j
+  flow-least (flow-given i j l k e) = start i j l k e
   flow-least (flow-same j l) = steps .same j l
   flow-least (flow-top i j l k e) = steps .top i j l k e
   flow-least (flow-named i j k n li lj lk e f s) = steps .named i j k n li lj lk e f (flow-least s)
@@ -52,7 +56,9 @@ module _ (concepts inclusions : List ℕ) (choose : ℕ → List ℕ) (R : ℕ �
   flow-least (flow-chooses i v k p li lv e c s) = steps .chooses i v k p li lv e c (flow-least s)
   flow-least (flow-all-chosen i v k li lv e s) = steps .all-chosen i v k li lv e (λ p c. flow-least (s p c))
 
+-- Started from columns that hold only what is subsumed.
 pub flow-sound :
-    (t : Tables) (assignment : List ℕ) → WellFormed t → {i j : ℕ} → Flow (t .concepts) (t .inclusions) (chosen t assignment) i j
-    → Subsumed t assignment i j
-flow-sound t assignment wf = flow-least _ _ _ (Subsumed t assignment) (subsumed-steps t assignment wf)
+    (t : Tables) (assignment given : List ℕ) → WellFormed t
+    → ((i j : ℕ) → i < countOf (t .concepts) → j < countOf (t .concepts) → has given i j ≡ true → Subsumed t assignment i j)
+    → {i j : ℕ} → Flow (t .concepts) (t .inclusions) (chosen t assignment) given i j → Subsumed t assignment i j
+flow-sound t assignment given wf = flow-least _ _ _ (Subsumed t assignment) (subsumed-steps t assignment wf) given

@@ -137,39 +137,40 @@ module _ (concepts inclusions : List ℕ) (choose : ℕ → List ℕ) where
     pub all-chosen :
         (i v k : ℕ) → i < countOf concepts → v < countOf concepts → node concepts v ≡ varAt k → ((p : ℕ) → List·Memᴰ p (choose k) → R i p) → R i v
 
-  -- the least such relation
-  pub data Flow : ℕ → ℕ → Type 0 where
-    flow-same : (j : ℕ) → j < countOf concepts → Flow j j
-    flow-top : (i j : ℕ) → i < countOf concepts → j < countOf concepts → node concepts j ≡ topAt → Flow i j
+  -- the least such relation that holds what some columns have from the start
+  pub data Flow (given : List ℕ) : ℕ → ℕ → Type 0 where
+    flow-given : (i j : ℕ) → i < countOf concepts → j < countOf concepts → has given i j ≡ true → Flow given i j
+    flow-same : (j : ℕ) → j < countOf concepts → Flow given j j
+    flow-top : (i j : ℕ) → i < countOf concepts → j < countOf concepts → node concepts j ≡ topAt → Flow given i j
     flow-named :
         (i j k n : ℕ) → i < countOf concepts → j < countOf concepts → k < countOf concepts
-        → node concepts j ≡ nameAt n → node concepts k ≡ nameAt n → Flow i j → Flow i k
-    flow-first : (i j a b : ℕ) → i < countOf concepts → j < countOf concepts → node concepts j ≡ andAt a b → Flow i j → Flow i a
-    flow-second : (i j a b : ℕ) → i < countOf concepts → j < countOf concepts → node concepts j ≡ andAt a b → Flow i j → Flow i b
-    flow-meet : (i j a b : ℕ) → i < countOf concepts → j < countOf concepts → node concepts j ≡ andAt a b → Flow i a → Flow i b → Flow i j
-    flow-included : (i m : ℕ) → i < countOf concepts → m < pairsOf inclusions → Flow i (leftOf inclusions m) → Flow i (rightOf inclusions m)
+        → node concepts j ≡ nameAt n → node concepts k ≡ nameAt n → Flow given i j → Flow given i k
+    flow-first : (i j a b : ℕ) → i < countOf concepts → j < countOf concepts → node concepts j ≡ andAt a b → Flow given i j → Flow given i a
+    flow-second : (i j a b : ℕ) → i < countOf concepts → j < countOf concepts → node concepts j ≡ andAt a b → Flow given i j → Flow given i b
+    flow-meet : (i j a b : ℕ) → i < countOf concepts → j < countOf concepts → node concepts j ≡ andAt a b → Flow given i a → Flow given i b → Flow given i j
+    flow-included : (i m : ℕ) → i < countOf concepts → m < pairsOf inclusions → Flow given i (leftOf inclusions m) → Flow given i (rightOf inclusions m)
     flow-linked :
         (i e f r x y : ℕ) → i < countOf concepts → e < countOf concepts → f < countOf concepts
-        → node concepts e ≡ existsAt r x → node concepts f ≡ existsAt r y → Flow x y → Flow i e → Flow i f
+        → node concepts e ≡ existsAt r x → node concepts f ≡ existsAt r y → Flow given x y → Flow given i e → Flow given i f
     flow-chooses :
-        (i v k p : ℕ) → i < countOf concepts → v < countOf concepts → node concepts v ≡ varAt k → List·Memᴰ p (choose k) → Flow i v → Flow i p
+        (i v k p : ℕ) → i < countOf concepts → v < countOf concepts → node concepts v ≡ varAt k → List·Memᴰ p (choose k) → Flow given i v → Flow given i p
     flow-all-chosen :
         (i v k : ℕ) → i < countOf concepts → v < countOf concepts → node concepts v ≡ varAt k
-        → ((p : ℕ) → List·Memᴰ p (choose k) → Flow i p) → Flow i v
+        → ((p : ℕ) → List·Memᴰ p (choose k) → Flow given i p) → Flow given i v
 
-  -- the columns hold just what flows
-  pub record Closed (columns : List ℕ) : Type 0 where
+  abbrev pub Sound : List ℕ → List ℕ → Type 0
+  Sound given columns = (i j : ℕ) → i < countOf concepts → j < countOf concepts → has columns i j ≡ true → Flow given i j
+
+  -- all that the columns hold flows, and they take every step
+  pub record Closed (given columns : List ℕ) : Type 0 where
     pub long : length columns ≡ 576
-    pub sound : (i j : ℕ) → i < countOf concepts → j < countOf concepts → has columns i j ≡ true → Flow i j
+    pub sound : Sound given columns
     pub closed : Steps (λ i j. has columns i j ≡ true)
-
-  abbrev pub Sound : List ℕ → Type 0
-  Sound columns = (i j : ℕ) → i < countOf concepts → j < countOf concepts → has columns i j ≡ true → Flow i j
 
   -- a pass over the columns: nothing unsound comes in, a change uses up slack, and without one Quiet holds
   pub record Pass (Quiet : List ℕ → Type 0) (before after : List ℕ) (changed : Bool) : Type 0 where
     pub long : length after ≡ length before
-    pub sound : Sound before → Sound after
+    pub sound : (given : List ℕ) → Sound given before → Sound given after
     pub same : changed ≡ false → after ≡ before
     pub less : changed ≡ true → slack after < slack before
     pub quiet : changed ≡ false → Quiet before

@@ -399,7 +399,7 @@ fn note_firsts(concepts: &[u16], firsts: &mut [u16])
     }
 }
 
-fn clear(columns: &mut [u64])
+pub fn clear(columns: &mut [u64])
     requires { ⌜ length (now columns) ≡ 576 ⌝ }
     ensures { λ r. ⌜ Empty (now (columns .exit)) ⌝ }
 {
@@ -410,7 +410,7 @@ fn clear(columns: &mut [u64])
     }
 }
 
-// The columns hold just what flows.
+// Closes the columns from what they hold.
 pub fn close(
     concepts: &[u16],
     inclusions: &[u16],
@@ -420,11 +420,10 @@ pub fn close(
 )
     requires { ⌜ Ready (now concepts) (now inclusions) (now atoms) (now assignment) ⌝ }
     requires { ⌜ length (now columns) ≡ 576 ⌝ }
-    ensures { λ r. ⌜ Closed (now (concepts .entry)) (now (inclusions .entry)) (chooseFrom (now (atoms .entry)) (now (assignment .entry))) (now (columns .exit)) ⌝ }
+    ensures { λ r. ⌜ Closed (now (concepts .entry)) (now (inclusions .entry)) (chooseFrom (now (atoms .entry)) (now (assignment .entry))) (now (columns .entry)) (now (columns .exit)) ⌝ }
 {
     let mut firsts = [0u16; 192];
     note_firsts(concepts, &mut firsts);
-    clear(columns);
     let mut busy = true;
     while busy {
         busy = round(concepts, inclusions, atoms, assignment, &firsts, columns);

@@ -2,6 +2,7 @@
 use crate::check::check_assignment;
 use crate::check::check_buffer;
 use crate::check::check_tables;
+use crate::closure::clear;
 use crate::closure::close;
 use crate::listing::put_atoms;
 use crate::refusal::Outcome;
@@ -11,9 +12,8 @@ ghost use Prim.Native.Nat.{_<_, _≤_};
 ghost use lib.ListN.{length};
 ghost use Rattle.subsumption.specs.declared.refusal.Outcome.the-variants.{Done};
 ghost use Rattle.subsumption.specs.Tables.{tables, countOf};
-ghost use Rattle.subsumption.specs.Atoms.{atoms};
 ghost use Rattle.subsumption.specs.Check.{tableFault, assignmentFault};
-ghost use Rattle.subsumption.specs.Closure.{Closed, chooseFrom};
+ghost use Rattle.subsumption.specs.Ground.{ColumnsOf};
 ghost use Rattle.subsumption.specs.Table.{rowStart, TableOf, Wrote};
 
 // Check 9 of accepted tables.
@@ -32,7 +32,7 @@ pub fn check_choices(
     check_assignment(assignment, variables, count)
 }
 
-// The closed columns of accepted tables and an accepted assignment.
+// The columns of accepted tables and an accepted assignment.
 pub fn close_tables(
     concepts: &[u16],
     inclusions: &[u16],
@@ -44,10 +44,11 @@ pub fn close_tables(
     requires { ⌜ tableFault (tables (now concepts) (now inclusions) (now questions) variables) ≡ Done ⌝ }
     requires { ⌜ assignmentFault (tables (now concepts) (now inclusions) (now questions) variables) (now assignment) ≡ Done ⌝ }
     requires { ⌜ length (now columns) ≡ 576 ⌝ }
-    ensures { λ _. ⌜ Closed (now (concepts .entry)) (now (inclusions .entry)) (chooseFrom (atoms (tables (now (concepts .entry)) (now (inclusions .entry)) (now (questions .entry)) variables)) (now (assignment .entry))) (now (columns .exit)) ⌝ }
+    ensures { λ _. ⌜ ColumnsOf (tables (now (concepts .entry)) (now (inclusions .entry)) (now (questions .entry)) variables) (now (assignment .entry)) (now (columns .exit)) ⌝ }
 {
     let mut ids = [0u16; 64];
     let count = put_atoms(concepts, inclusions, questions, variables, &mut ids);
+    clear(columns);
     close(concepts, inclusions, &ids[..count], assignment, columns);
 }
 

@@ -52,7 +52,7 @@ loop-less : tie.Need-loop-less Inv-loop μ-loop
 loop-less c = omega arith
 
 loop-again : tie.Need-loop-again Inv-loop μ-loop
-loop-again c = (omega arith, loop-more (λ k l. Into (countOf (c .before .before .before .before .before .before .before .before .before .before .before .before .before .args .concepts .now)) l (leftOf (c .before .before .before .before .before .before .before .before .before .before .before .before .before .args .inclusions .now) k) (rightOf (c .before .before .before .before .before .before .before .before .before .before .before .before .before .args .inclusions .now) k)) _ (c .before .before .before .before .before .before .before .loop .inv .1) (flow-pass _ _ (c .before .before .before .before .before .before .before .before .before .before .before .before .before .pre .0 .few) (c .before .before .before .before .before .before .before .before .before .before .before .before .before .pre .0 .left-known (c .before .before .before .before .before .before .before .loop .m) (omega arith)) (λ i h w. flow-included i (c .before .before .before .before .before .before .before .loop .m) h (omega arith) w) (c .before .before .flow .ensures)))
+loop-again c = (omega arith, loop-more (λ k l. Into (countOf (c .before .before .before .before .before .before .before .before .before .before .before .before .before .args .concepts .now)) l (leftOf (c .before .before .before .before .before .before .before .before .before .before .before .before .before .args .inclusions .now) k) (rightOf (c .before .before .before .before .before .before .before .before .before .before .before .before .before .args .inclusions .now) k)) _ (c .before .before .before .before .before .before .before .loop .inv .1) (flow-pass _ _ (c .before .before .before .before .before .before .before .before .before .before .before .before .before .pre .0 .few) (c .before .before .before .before .before .before .before .before .before .before .before .before .before .pre .0 .left-known (c .before .before .before .before .before .before .before .loop .m) (omega arith)) (λ g i h w. flow-included i (c .before .before .before .before .before .before .before .loop .m) h (omega arith) w) (c .before .before .flow .ensures)))
 
 same-length : tie.Need-same-length Inv-loop μ-loop
 same-length c = omega arith
