@@ -4,10 +4,10 @@ use mathlib.Core.Path.{_≡_, refl, ap, sym, _∙_, subst}
 use mathlib.Core.Bool.{Bool, true, false}
 use mathlib.Core.Logic.{_⊎_, inl, inr}
 use native.Mathlib.Omega.{arith}
-use native.Mathlib.Nat.{div-eq-of-lt, pow-suc, mul-mod-left, div-div-eq-div-mul, mod-eq-of-lt, mul-comm}
-use lib.Pow.{pow-pos, pow-lt, pow-add, shl-shr}
+use native.Mathlib.Nat.{div-eq-of-lt, pow-suc, mul-mod-left, div-div-eq-div-mul, mod-eq-of-lt, mul-comm, mul-assoc, lt-of-lt-of-le}
+use lib.Pow.{pow-pos, pow-lt, pow-mono, pow-add, shl-shr, shr-shr}
 use lib.Dec.{eqb, ltb}
-use lib.Bits.{bitAnd, bitOr, or-shr, and-shr, or-step, and-step, and-mask, or-add-and, and-le-r}
+use lib.Bits.{bitAnd, bitOr, or-shr, and-shr, or-step, and-step, and-mask, or-add-and, and-le-r, shifted-even}
 use borrow.Author.Tests.{eqb-true, ltb-true, ltb-false}
 use Rattle.subsumption.specs.Tables.{or, both}
 use Rattle.subsumption.specs.Atoms.{bit}
@@ -111,10 +111,13 @@ bit-pow-other j k h = go (ltb j k) refl (ltb k j) refl
     go false p true q = absurd (above (ltb-true k j q))
     go false p false q = omega (arith, ltb-false j k p, ltb-false k j q)
 
+bit-mask : (n k : ℕ) → k < n → bit (2 ^ n - 1) k ≡ true
+bit-mask n k h =
+    both-true (bit (2 ^ k) k) (bit (2 ^ n - 1) k)
+    (sym (bit-and (2 ^ k) (2 ^ n - 1) k) ∙ ap (λ (z : ℕ). bit z k) (and-mask (2 ^ k) n ∙ mod-eq-of-lt (pow-lt h)) ∙ bit-pow k) .1
+
 pub bit-ones : (k : ℕ) → k < 64 → bit (2 ^ 64 - 1) k ≡ true
-bit-ones k h =
-    both-true (bit (2 ^ k) k) (bit (2 ^ 64 - 1) k)
-    (sym (bit-and (2 ^ k) (2 ^ 64 - 1) k) ∙ ap (λ (z : ℕ). bit z k) (and-mask (2 ^ k) 64 ∙ mod-eq-of-lt (pow-lt h)) ∙ bit-pow k) .1
+bit-ones = bit-mask 64
 
 pub bit-of-zero : (k : ℕ) → bit 0 k ≡ true → ⊥
 bit-of-zero k h = zero-bit 0 k (ap (λ (z : ℕ). z % 2) (div-eq-of-lt (pow-pos k))) h
@@ -127,3 +130,41 @@ bit-half x k = ap (λ (z : ℕ). eqb (z % 2) 1) (div-div-eq-div-mul x 2 (2 ^ k) 
 -- taking bits in never makes a number smaller
 pub or-grows : (x y : ℕ) → x ≤ bitOr x y
 or-grows x y = omega (arith, or-add-and x y, and-le-r x y)
+
+-- shifts, and the low bits alone
+pub bit-shr : (x s k : ℕ) → bit (x / 2 ^ s) k ≡ bit x (s + k)
+unfolding bit
+bit-shr x s k = ap (λ (z : ℕ). eqb (z % 2) 1) (shr-shr x s k)
+
+pub bit-mod : (x n k : ℕ) → k < n → bit (x % 2 ^ n) k ≡ bit x k
+unfolding both
+bit-mod x n k h =
+    ap (λ (z : ℕ). bit z k) (sym (and-mask x n)) ∙ bit-and x (2 ^ n - 1) k ∙ both-all (bit x k) (bit (2 ^ n - 1) k) (bit-mask n k h)
+  where
+    both-all : (a b : Bool) → b ≡ true → both a b ≡ a
+    both-all true b e = e
+    both-all false b e = refl
+
+pub bit-past : (x n k : ℕ) → x < 2 ^ n → n ≤ k → bit x k ≡ false
+unfolding bit
+bit-past x n k h l = ap (λ (z : ℕ). eqb (z % 2) 1) (div-eq-of-lt (lt-of-lt-of-le h (pow-mono l)))
+
+pub bit-shl : (x s k : ℕ) → s ≤ k → k < 64 → bit (x * 2 ^ s % 2 ^ 64) k ≡ bit x (k - s)
+bit-shl x s k h l =
+    bit-mod (x * 2 ^ s) 64 k l ∙ ap (bit (x * 2 ^ s)) (sym (apart h)) ∙ sym (bit-shr (x * 2 ^ s) s (k - s)) ∙ ap (λ (z : ℕ). bit z (k - s)) (shl-shr x s)
+  where
+    apart : s ≤ k → s + (k - s) ≡ k
+    apart h = omega arith
+
+pub bit-shl-low : (x s k : ℕ) → k < s → k < 64 → bit (x * 2 ^ s % 2 ^ 64) k ≡ false
+unfolding bit
+bit-shl-low x s k h l =
+    bit-mod (x * 2 ^ s) 64 k l
+    ∙ ap (λ (z : ℕ). eqb (z % 2) 1) (ap (λ (z : ℕ). z / 2 ^ k) (ap (λ (z : ℕ). x * 2 ^ z) (sym (apart h)) ∙ split) ∙ shl-shr (x * 2 ^ suc (s - suc k)) k)
+    ∙ ap (λ (z : ℕ). eqb z 1) (shifted-even x (s - suc k))
+  where
+    apart : k < s → suc (s - suc k) + k ≡ s
+    apart h = omega arith
+
+    split : x * 2 ^ (suc (s - suc k) + k) ≡ x * 2 ^ suc (s - suc k) * 2 ^ k
+    split = ap (λ (z : ℕ). x * z) (pow-add 2 (suc (s - suc k)) k) ∙ sym (mul-assoc x (2 ^ suc (s - suc k)) (2 ^ k))

@@ -39,3 +39,4 @@ pub mod Linking
 pub mod Closing
 pub mod RowLaws
 pub mod GroundLaws
+pub mod Blocks
