@@ -72,6 +72,15 @@ variable-of v (suc (suc (suc zero))) a b k h e = absurd (let z : _≡_ {A = ℕ}
 variable-of v (suc (suc (suc (suc zero)))) a b k h e = let q : a ≡ k = cc e in omega (arith, ltb-true a v (not-false _ (or-false _ _ h .0)))
 variable-of v (suc (suc (suc (suc (suc kind))))) a b k h e = absurd (true≢false h)
 
+name-of : (v kind a b n : ℕ) → malformedRow v kind a b ≡ false → decode kind a b ≡ nameAt n → n < 1000
+unfolding malformedRow decode
+name-of v zero a b n h e = absurd (let z : _≡_ {A = ℕ} 0 1 = cc e in omega arith)
+name-of v (suc zero) a b n h e = let q : a ≡ n = cc e in omega (arith, ltb-false 999 a (or-false _ _ h .0))
+name-of v (suc (suc zero)) a b n h e = absurd (let z : _≡_ {A = ℕ} 0 1 = cc e in omega arith)
+name-of v (suc (suc (suc zero))) a b n h e = absurd (let z : _≡_ {A = ℕ} 0 1 = cc e in omega arith)
+name-of v (suc (suc (suc (suc zero)))) a b n h e = absurd (let z : _≡_ {A = ℕ} 0 1 = cc e in omega arith)
+name-of v (suc (suc (suc (suc (suc kind))))) a b n h e = absurd (true≢false h)
+
 module _ (t : Tables) (h : conceptFault t ≡ Done) where
   pub concept-limits : Limited t
   unfolding conceptFault
@@ -114,6 +123,14 @@ module _ (t : Tables) (h : conceptFault t ≡ Done) where
       ⊎-elim
       (λ l. absurd (let q = top-past (t .concepts) i (omega (arith, concepts-whole)) in let z : _≡_ {A = ℕ} 0 1 = cc (e, q) in omega arith))
       (λ l. variable-of _ _ _ _ k (passed-at _ (malformed (t .concepts) (t .variables)) 0 _ concept-rows i (omega arith) (omega arith)) e)
+      (le-or-lt (countOf (t .concepts)) i)
+
+  pub concepts-named : (i n : ℕ) → node (t .concepts) i ≡ nameAt n → n < 1000
+  unfolding malformedFault malformed node
+  concepts-named i n e =
+      ⊎-elim
+      (λ l. absurd (let q = top-past (t .concepts) i (omega (arith, concepts-whole)) in let z : _≡_ {A = ℕ} 0 1 = cc (e, q) in omega arith))
+      (λ l. name-of _ _ _ _ n (passed-at _ (malformed (t .concepts) (t .variables)) 0 _ concept-rows i (omega arith) (omega arith)) e)
       (le-or-lt (countOf (t .concepts)) i)
 
 -- ---- check 4

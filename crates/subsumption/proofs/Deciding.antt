@@ -28,7 +28,7 @@ use Rattle.subsumption.proofs.Bools.{or-false}
 use Rattle.subsumption.proofs.Refusals.{passed-first, passed-second, passed-if, goes-on, is-done}
 use Rattle.subsumption.proofs.AtomLaws.{atom-known}
 use Rattle.subsumption.proofs.Chosen.{getD-member}
-use Rattle.subsumption.proofs.Accepted.{wellFormed}
+use Rattle.subsumption.proofs.Accepted.{wellFormed, table-concepts, concepts-named}
 use Rattle.subsumption.proofs.Closing.{nothing}
 use Rattle.subsumption.proofs.RowLaws.{table-of}
 use Rattle.subsumption.proofs.Completeness.{closed-exactly}
@@ -53,6 +53,7 @@ module _ (t : Tables) (assignment : List ℕ) (h : tableFault t ≡ Done) where
         numbered = λ i n e. omega (arith, wf .numbered i n e, count-assignment k);
         left-known = wf .left-known;
         right-known = wf .right-known;
+        low-names = concepts-named t (table-concepts t h);
         few-atoms = wf .few-atoms;
         atoms-known = λ q l. atom-known t (getD (atoms t) q 0) (getD-member (atoms t) q l);
       }

@@ -3,17 +3,22 @@ use Prim.Native.Nat.{ℕ, _+_, _*_, _<_, _≤_}
 use mathlib.Core.Path.{_≡_, refl, ap, sym, _∙_, subst}
 use mathlib.Core.List.{List}
 use mathlib.Core.Bool.{Bool, true, false, _||_}
+use mathlib.Core.Logic.{⊎-elim}
 use native.Mathlib.Omega.{arith}
-use lib.ListN.{length, getD, set, length-set}
+use lib.ListN.{length, getD, set, replicate, length-set, length-replicate, getD-replicate}
 use lib.Seq.{getD-set-same, getD-set-other}
 use lib.Dec.{eqb, ltb}
 use borrow.Author.Count.{below-more}
 use borrow.Author.Tests.{eqb-true, eqb-false, ltb-true, ltb-false}
 use Rattle.subsumption.specs.Tables.{Node, nameAt, existsAt, node, countOf}
-use Rattle.subsumption.specs.Closure.{has, Into, Rising, Ready, FirstNamed, Firsts, Inner, Linkable, Links, NextLink, LinkedTo, IsNamed, Flow, flow-linked, Pass, Takes, chooseFrom}
+use Rattle.subsumption.specs.Closure.{has, Into, Rising, Ready, FirstNamed, Nameable, Seen, Firsts, Inner, Linkable, Links, NextLink, LinkedTo, IsNamed, Flow, flow-linked, Pass, Takes, chooseFrom}
+use Rattle.subsumption.proofs.Bools.{le-or-lt}
 use Rattle.subsumption.proofs.Nodes.{name-node, exists-node, node-name, node-exists}
 use Rattle.subsumption.proofs.Columns.{not-both}
 use Rattle.subsumption.proofs.Passes.{pass-as, pass-none, pass-then, pass-seen, step-pass}
+
+pub ready-nameable : {concepts inclusions atoms assignment : List ℕ} → Ready concepts inclusions atoms assignment → Nameable concepts
+ready-nameable R = record { few = R .few; low = R .low-names }
 
 pub ready-inner : {concepts inclusions atoms assignment : List ℕ} → Ready concepts inclusions atoms assignment → Inner concepts
 ready-inner {concepts} R =
@@ -159,35 +164,112 @@ module _ (concepts : List ℕ) (k name : ℕ) where
         none = λ p n. eqb-false (getD concepts (k * 3 + 1) 0) name p (name-node concepts k name n .1);
       }
 
+-- the first row of each name seen
 module _ (concepts : List ℕ) (j : ℕ) where
-  pub record NoneNamed (k : ℕ) : Type 0 where
-    pub within : k ≤ j
-    pub none : (i : ℕ) → i < k → node concepts i ≡ nameAt (getD concepts (j * 3 + 1) 0) → ⊥
+  no-name : (getD concepts (j * 3) 0 ≡ 1 → ⊥) → (n : ℕ) → node concepts j ≡ nameAt n → ⊥
+  no-name ne n e = ne (name-node concepts j n e .0)
 
-  pub named-first : NoneNamed 0
-  named-first = record { within = omega arith; none = λ i h. absurd (omega arith) }
+  pub first-unnamed : (getD concepts (j * 3) 0 ≡ 1 → ⊥) → FirstNamed concepts j j
+  first-unnamed ne = record { low = omega arith; named = λ n p. p; least = λ n i p q. absurd (no-name ne n p) }
 
-  pub named-more : (k : ℕ) (answer : Bool) → NoneNamed k → k < j → IsNamed concepts k (getD concepts (j * 3 + 1) 0) answer → answer ≡ false → NoneNamed (k + 1)
-  named-more k answer N h I b =
-      record { within = omega arith; none = below-more (λ i. node concepts i ≡ nameAt (getD concepts (j * 3 + 1) 0) → ⊥) k (N .none) (I .none b) }
+  pub name-low : Nameable concepts → getD concepts (j * 3) 0 ≡ 1 → getD concepts (j * 3 + 1) 0 < 1000
+  name-low N kind = N .low j _ (node-name concepts j kind)
 
-  of-name : (n i : ℕ) → node concepts j ≡ nameAt n → node concepts i ≡ nameAt n → node concepts i ≡ nameAt (getD concepts (j * 3 + 1) 0)
-  of-name n i p q = q ∙ ap nameAt (sym (name-node concepts j n p .1))
+  module _ (seen : List ℕ) (N : Nameable concepts) (S : Seen concepts j seen) (kind : getD concepts (j * 3) 0 ≡ 1) where
+    abbrev name : ℕ
+    name = getD concepts (j * 3 + 1) 0
 
-  least : (k : ℕ) → NoneNamed k → (n i : ℕ) → node concepts j ≡ nameAt n → node concepts i ≡ nameAt n → k ≤ i
-  least k N n i p q = go (ltb i k) refl
+    known : getD seen name 0 ≤ j
+    known = S .low name (name-low N kind)
+
+    of-name : (n : ℕ) → node concepts j ≡ nameAt n → n ≡ name
+    of-name n p = sym (name-node concepts j n p .1)
+
+    pub first-seen :
+        (answer : Bool) → IsNamed concepts (getD seen (getD concepts (j * 3 + 1) 0) 0) (getD concepts (j * 3 + 1) 0) answer → answer ≡ true
+        → FirstNamed concepts j (getD seen (getD concepts (j * 3 + 1) 0) 0)
+    first-seen answer I b =
+        record {
+          low = known;
+          named = λ n p. I .found b ∙ ap nameAt (sym (of-name n p));
+          least =
+              λ n i p q.
+              ⊎-elim (λ l. omega (arith, known)) (λ l. S .least name i l (q ∙ ap nameAt (of-name n p))) (le-or-lt j i);
+        }
+
+    pub first-new :
+        (answer : Bool) → IsNamed concepts (getD seen (getD concepts (j * 3 + 1) 0) 0) (getD concepts (j * 3 + 1) 0) answer → answer ≡ false
+        → FirstNamed concepts j j
+    first-new answer I b =
+        record {
+          low = omega arith;
+          named = λ n p. p;
+          least =
+              λ n i p q.
+              ⊎-elim (λ l. l) (λ l. absurd (I .none b (S .named name i l (q ∙ ap nameAt (of-name n p))))) (le-or-lt j i);
+        }
+
+    pub seen-more : (k : ℕ) → FirstNamed concepts j k → Seen concepts (j + 1) (set seen (getD concepts (j * 3 + 1) 0) k)
+    seen-more k F =
+        record {
+          long = length-set seen name k ∙ S .long;
+          low = λ n l. low n l (eqb n name) refl;
+          named = λ n i l p. at-named n i l p (eqb n name) refl;
+          least = λ n i l p. at-least n i l p (eqb n name) refl;
+        }
+      where
+        here : (n : ℕ) → eqb n name ≡ true → getD (set seen name k) n 0 ≡ k
+        here n s =
+            ap (λ (x : ℕ). getD (set seen name k) x 0) (eqb-true n name s) ∙ getD-set-same seen name k 0 (omega (arith, S .long, name-low N kind))
+
+        there : (n : ℕ) → eqb n name ≡ false → getD (set seen name k) n 0 ≡ getD seen n 0
+        there n s = getD-set-other seen name n k 0 (eqb-false n name s)
+
+        earlier : (n i : ℕ) → i < j + 1 → node concepts i ≡ nameAt n → eqb n name ≡ false → i < j
+        earlier n i l p s = go (eqb i j) refl
+          where
+            go : (t : Bool) → eqb i j ≡ t → i < j
+            go true u = absurd (eqb-false n name s (of-name n (ap (node concepts) (sym (eqb-true i j u)) ∙ p)))
+            go false u = omega (arith, eqb-false i j u)
+
+        low : (n : ℕ) → n < 1000 → (t : Bool) → eqb n name ≡ t → getD (set seen name k) n 0 ≤ j + 1
+        low n l true s = omega (arith, here n s, F .low)
+        low n l false s = omega (arith, there n s, S .low n l)
+
+        at-named : (n i : ℕ) → i < j + 1 → node concepts i ≡ nameAt n → (t : Bool) → eqb n name ≡ t → node concepts (getD (set seen name k) n 0) ≡ nameAt n
+        at-named n i l p true s =
+            ap (node concepts) (here n s) ∙ F .named name (node-name concepts j kind) ∙ ap nameAt (sym (eqb-true n name s))
+        at-named n i l p false s = ap (node concepts) (there n s) ∙ S .named n i (earlier n i l p s) p
+
+        at-least : (n i : ℕ) → i < j + 1 → node concepts i ≡ nameAt n → (t : Bool) → eqb n name ≡ t → getD (set seen name k) n 0 ≤ i
+        at-least n i l p true s =
+            omega (arith, here n s, F .least name i (node-name concepts j kind) (p ∙ ap nameAt (eqb-true n name s)))
+        at-least n i l p false s = omega (arith, there n s, S .least n i (earlier n i l p s) p)
+
+  pub seen-skip : (seen : List ℕ) → Seen concepts j seen → (getD concepts (j * 3) 0 ≡ 1 → ⊥) → Seen concepts (j + 1) seen
+  seen-skip seen S ne =
+      record {
+        long = S .long;
+        low = λ n l. omega (arith, S .low n l);
+        named = λ n i l p. S .named n i (earlier n i l p) p;
+        least = λ n i l p. S .least n i (earlier n i l p) p;
+      }
     where
-      go : (t : Bool) → ltb i k ≡ t → k ≤ i
-      go true s = absurd (N .none i (ltb-true i k s) (of-name n i p q))
-      go false s = ltb-false i k s
+      earlier : (n i : ℕ) → i < j + 1 → node concepts i ≡ nameAt n → i < j
+      earlier n i l p = go (eqb i j) refl
+        where
+          go : (t : Bool) → eqb i j ≡ t → i < j
+          go true u = absurd (no-name ne n (ap (node concepts) (sym (eqb-true i j u)) ∙ p))
+          go false u = omega (arith, eqb-false i j u)
 
-  pub named-found :
-      (k : ℕ) (answer : Bool) → NoneNamed k → k < j → IsNamed concepts k (getD concepts (j * 3 + 1) 0) answer → answer ≡ true → FirstNamed concepts j k
-  named-found k answer N h I b =
-      record { low = N .within; named = λ n p. I .found b ∙ ap nameAt (name-node concepts j n p .1); least = least k N }
-
-  pub named-self : (k : ℕ) → NoneNamed k → j ≤ k → FirstNamed concepts j j
-  named-self k N h = record { low = omega arith; named = λ n p. p; least = λ n i p q. omega (arith, least k N n i p q, N .within) }
+pub seen-none : (concepts : List ℕ) → Seen concepts 0 (replicate 1000 0)
+seen-none concepts =
+    record {
+      long = length-replicate {A = ℕ} 1000 0;
+      low = λ n l. omega (arith, getD-replicate {A = ℕ} 1000 n 0 0 l);
+      named = λ n i l. absurd (omega arith);
+      least = λ n i l. absurd (omega arith);
+    }
 
 module _ (concepts : List ℕ) where
   pub record FirstsTo (j : ℕ) (firsts : List ℕ) : Type 0 where

@@ -31,6 +31,7 @@ pub record Ready (concepts inclusions atoms assignment : List ℕ) : Type 0 wher
   pub numbered : (i k : ℕ) → node concepts i ≡ varAt k → k < length assignment
   pub left-known : (m : ℕ) → m < pairsOf inclusions → leftOf inclusions m < countOf concepts
   pub right-known : (m : ℕ) → m < pairsOf inclusions → rightOf inclusions m < countOf concepts
+  pub low-names : (i n : ℕ) → node concepts i ≡ nameAt n → n < 1000
   pub few-atoms : length atoms ≤ 64
   pub atoms-known : (q : ℕ) → q < length atoms → getD atoms q 0 < countOf concepts
 
@@ -52,6 +53,18 @@ pub record FirstNamed (concepts : List ℕ) (j k : ℕ) : Type 0 where
   pub low : k ≤ j
   pub named : (n : ℕ) → node concepts j ≡ nameAt n → node concepts k ≡ nameAt n
   pub least : (n i : ℕ) → node concepts j ≡ nameAt n → node concepts i ≡ nameAt n → k ≤ i
+
+-- what noting the first rows asks of the rows
+pub record Nameable (concepts : List ℕ) : Type 0 where
+  pub few : countOf concepts ≤ 192
+  pub low : (i n : ℕ) → node concepts i ≡ nameAt n → n < 1000
+
+-- for each name that a row below j has, the first such row
+pub record Seen (concepts : List ℕ) (j : ℕ) (seen : List ℕ) : Type 0 where
+  pub long : length seen ≡ 1000
+  pub low : (n : ℕ) → n < 1000 → getD seen n 0 ≤ j
+  pub named : (n i : ℕ) → i < j → node concepts i ≡ nameAt n → node concepts (getD seen n 0) ≡ nameAt n
+  pub least : (n i : ℕ) → i < j → node concepts i ≡ nameAt n → getD seen n 0 ≤ i
 
 pub record Firsts (concepts firsts : List ℕ) : Type 0 where
   pub long : length firsts ≡ 192

@@ -1,13 +1,13 @@
 // The closure of the columns: column j is the set of ids known to be below j, three words of 64 bits.
 // Private to the crate.
 ghost use mathlib.Core.Path.{_≡_};
-ghost use Prim.Native.Nat.{ℕ, _≤_, _<_};
+ghost use Prim.Native.Nat.{ℕ, _+_, _≤_, _<_};
 ghost use mathlib.Core.Bool.{true};
 ghost use mathlib.Core.List.{List·Memᴰ};
 ghost use Rattle.subsumption.specs.Tables.{countOf};
 ghost use Rattle.subsumption.specs.Atoms.{pick};
 ghost use lib.ListN.{length};
-ghost use Rattle.subsumption.specs.Closure.{has, Absorbs, Takes, inThree, Known, Common, Ready, Firsts, Settled, chooseFrom, Pass, AllSettled, AllIncluded, LinkedTo, AllLinked, AllTaken, Inner, Links, NextLink, IsNamed, FirstNamed, Empty, Closed};
+ghost use Rattle.subsumption.specs.Closure.{has, Absorbs, Takes, inThree, Known, Common, Ready, Nameable, Seen, Firsts, Settled, chooseFrom, Pass, AllSettled, AllIncluded, LinkedTo, AllLinked, AllTaken, Inner, Links, NextLink, IsNamed, FirstNamed, Empty, Closed};
 
 const ALL: u64 = 18446744073709551615;
 
@@ -369,31 +369,50 @@ fn is_named(concepts: &[u16], k: usize, name: u16) -> bool
     concepts[k * 3 + 1] == name
 }
 
-// The first row of j's name.
-fn first_named(concepts: &[u16], j: usize) -> usize
+// The first row of j's name: the one seen, or j itself.
+fn first_named(concepts: &[u16], seen: &[u16], j: usize) -> usize
+    requires { ⌜ Nameable (now concepts) ⌝ }
+    requires { ⌜ Seen (now concepts) j (now seen) ⌝ }
     requires { ⌜ j < countOf (now concepts) ⌝ }
     ensures { λ r. ⌜ FirstNamed (now (concepts .entry)) j r ⌝ }
 {
+    if concepts[j * 3] != 1 {
+        return j;
+    }
     let name = concepts[j * 3 + 1];
-    let mut k = 0;
-    while k < j {
-        if is_named(concepts, k, name) {
-            return k;
-        }
-        k += 1;
+    let first = seen[name as usize] as usize;
+    if is_named(concepts, first, name) {
+        return first;
     }
     j
 }
 
+fn note_seen(concepts: &[u16], j: usize, first: usize, seen: &mut [u16])
+    requires { ⌜ Nameable (now concepts) ⌝ }
+    requires { ⌜ Seen (now concepts) j (now seen) ⌝ }
+    requires { ⌜ j < countOf (now concepts) ⌝ }
+    requires { ⌜ FirstNamed (now concepts) j first ⌝ }
+    ensures { λ _. ⌜ Seen (now (concepts .entry)) (j + 1) (now (seen .exit)) ⌝ }
+{
+    if concepts[j * 3] != 1 {
+        return;
+    }
+    let name = concepts[j * 3 + 1] as usize;
+    seen[name] = first as u16;
+}
+
+// One walk, by a table of the names.
 fn note_firsts(concepts: &[u16], firsts: &mut [u16])
-    requires { ⌜ countOf (now concepts) ≤ 192 ⌝ }
+    requires { ⌜ Nameable (now concepts) ⌝ }
     requires { ⌜ length (now firsts) ≡ 192 ⌝ }
     ensures { λ r. ⌜ Firsts (now (concepts .entry)) (now (firsts .exit)) ⌝ }
 {
     let count = concepts.len() / 3;
+    let mut seen = [0u16; 1000];
     let mut j = 0;
     while j < count {
-        let first = first_named(concepts, j);
+        let first = first_named(concepts, &seen, j);
+        note_seen(concepts, j, first, &mut seen);
         firsts[j] = first as u16;
         j += 1;
     }

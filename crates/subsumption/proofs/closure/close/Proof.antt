@@ -2,6 +2,7 @@ use Prim.Native.Nat.{_+_}
 use native.Mathlib.Omega.{arith}
 use borrow.Author.Needs.{needs}
 use Rattle.subsumption.specs.Closure.{Firsts, chooseFrom, slack}
+use Rattle.subsumption.proofs.Linking.{ready-nameable}
 use Rattle.subsumption.proofs.Closing.{Closing, weight, closing-first, closing-turn, closing-less, closing-done}
 use Rattle.subsumption.proofs.closure.close.Statement.{statement}
 use Rattle.subsumption.proofs.closure.close.Tie as tie
@@ -16,7 +17,7 @@ slice-aggregate-note-firsts : tie.Need-slice-aggregate-note-firsts Inv-loop μ-l
 slice-aggregate-note-firsts c = omega arith
 
 note-firsts-requires : tie.Need-note-firsts-requires Inv-loop μ-loop
-note-firsts-requires c κs = (c .before .before .before .before .before .before .pre .0 .few, omega arith)
+note-firsts-requires c κs = (ready-nameable (c .before .before .before .before .before .before .pre .0), omega arith)
 
 loop-holds : tie.Need-loop-holds Inv-loop μ-loop
 loop-holds c = (c .before .note-firsts .ensures, closing-first _ _ _ _ _ (c .before .before .before .before .before .before .before .before .pre .1))

@@ -1,62 +1,70 @@
-use Prim.Native.Nat.{_-_}
 use native.Mathlib.Omega.{arith}
-use Rattle.subsumption.proofs.Linking.{NoneNamed, named-first, named-more, named-found, named-self}
+use Rattle.subsumption.proofs.Linking.{first-unnamed, name-low, first-seen, first-new}
+use borrow.Author.Needs.{needs}
 use Rattle.subsumption.proofs.closure.first_named.Statement.{statement}
 use Rattle.subsumption.proofs.closure.first_named.Tie as tie
 
-abbrev Inv-loop : tie.InvT-loop
-Inv-loop concepts j name k₀ k = NoneNamed concepts j k
+mul-if1 : tie.Need-mul-if1
+mul-if1 c = omega arith
 
-abbrev μ-loop : tie.MeasureT-loop
-μ-loop concepts j name k₀ k = j - k
+mul-if1-2 : tie.Need-mul-if1-2
+mul-if1-2 c = omega arith
 
-mul-name : tie.Need-mul-name Inv-loop μ-loop
+shared-slice-read-if1 : tie.Need-shared-slice-read-if1
+shared-slice-read-if1 c = omega arith
+
+returns : tie.Need-returns
+returns c = first-unnamed _ _ (c .if1 .taken)
+
+mul-name : tie.Need-mul-name
 mul-name c = omega arith
 
-add-name : tie.Need-add-name Inv-loop μ-loop
+add-name : tie.Need-add-name
 add-name c = omega arith
 
-mul-name-2 : tie.Need-mul-name-2 Inv-loop μ-loop
+mul-name-2 : tie.Need-mul-name-2
 mul-name-2 c = omega arith
 
-shared-slice-read-name : tie.Need-shared-slice-read-name Inv-loop μ-loop
+shared-slice-read-name : tie.Need-shared-slice-read-name
 shared-slice-read-name c = omega arith
 
-loop-holds : tie.Need-loop-holds Inv-loop μ-loop
-loop-holds c = named-first _ _
+cast-first : tie.Need-cast-first
+cast-first c = omega (arith, name-low _ _ (c .before .before .before .before .before .pre .0) (c .before .if1 .left))
 
-is-named-requires : tie.Need-is-named-requires Inv-loop μ-loop
-is-named-requires c κs = omega arith
+mul-first : tie.Need-mul-first
+mul-first c = omega (arith, name-low _ _ (c .before .before .before .before .before .pre .0) (c .before .if1 .left))
 
-returns : tie.Need-returns Inv-loop μ-loop
-returns c = named-found _ _ _ _ (c .before .before .before .loop .inv) (omega arith) (c .before .is-named .ensures) (c .if1 .taken)
+shared-slice-read-first : tie.Need-shared-slice-read-first
+shared-slice-read-first c = omega (arith, name-low _ _ (c .before .before .before .before .before .before .pre .0) (c .before .before .if1 .left), c .before .before .before .before .before .before .pre .1 .0 .long)
 
-add-k : tie.Need-add-k Inv-loop μ-loop
-add-k c = omega arith
+cast-first-2 : tie.Need-cast-first-2
+cast-first-2 c = omega (arith, c .before .before .before .before .before .before .pre .1 .0 .low _ (name-low _ _ (c .before .before .before .before .before .before .pre .0) (c .before .before .if1 .left)))
 
-loop-less : tie.Need-loop-less Inv-loop μ-loop
-loop-less c = omega arith
+is-named-requires : tie.Need-is-named-requires
+is-named-requires c κs = omega (arith, c .before .before .before .before .before .before .pre .1 .0 .low _ (name-low _ _ (c .before .before .before .before .before .before .pre .0) (c .before .before .if1 .left)))
 
-loop-again : tie.Need-loop-again Inv-loop μ-loop
-loop-again c = named-more _ _ _ _ (c .before .before .before .loop .inv) (omega arith) (c .before .is-named .ensures) (c .if1 .left)
+returns-2 : tie.Need-returns-2
+returns-2 c = first-seen _ _ _ (c .before .before .before .before .before .before .before .before .pre .0) (c .before .before .before .before .before .before .before .before .pre .1 .0) (c .before .before .before .before .if1 .left) _ (c .before .is-named .ensures) (c .if2 .taken)
 
-returns-2 : tie.Need-returns-2 Inv-loop μ-loop
-returns-2 c = named-self _ _ _ (c .before .loop .inv) (omega arith)
+returns-3 : tie.Need-returns-3
+returns-3 c = first-new _ _ _ (c .before .before .before .before .before .before .before .before .pre .0) (c .before .before .before .before .before .before .before .before .pre .1 .0) (c .before .before .before .before .if1 .left) _ (c .before .is-named .ensures) (c .if2 .left)
 
 pub first-named-spec : {M : Type 1} → statement M
 first-named-spec =
     tie.close
     (tie.spec
-    Inv-loop
-    μ-loop
+    mul-if1
+    mul-if1-2
+    shared-slice-read-if1
+    returns
     mul-name
     add-name
     mul-name-2
     shared-slice-read-name
-    loop-holds
+    cast-first
+    mul-first
+    shared-slice-read-first
+    cast-first-2
     is-named-requires
-    returns
-    add-k
-    loop-less
-    loop-again
-    returns-2)
+    returns-2
+    returns-3)
