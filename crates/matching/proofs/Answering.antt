@@ -160,6 +160,15 @@ module _ (t : Tables) (h : tableFault t ≡ Done) (low high : List ℕ) (zeros :
             };
       }
 
+pub every-atom : (t : Tables) (h : tableFault t ≡ Done) (high : List ℕ) → Full (t .variables) (length (atoms t)) high → IntervalOf t high high
+every-atom t h high f =
+    record {
+      low-long = f .long;
+      high-long = f .long;
+      accepted = whole t h (0 ∷ 0 ∷ 0 ∷ 0 ∷ 0 ∷ 0 ∷ 0 ∷ 0 ∷ []) high all-zeros refl f .accepted;
+      ordered = λ k q e. e;
+    }
+
 -- ---- the answer
 module _ (t : Tables) (before after : List ℕ) where
   pub finds-refused : (r : Refusal) → Refused r ≡ findingFault t (length before) → after ≡ before → Finds t before after (findingFault t (length before)) (No r)

@@ -16,7 +16,10 @@ pub mod SampleCards
 pub mod Tests
 pub mod Choices
 pub mod Fronts
+pub mod PairLaws
 pub mod Searching
+pub mod Refuting
+pub mod NogoodLaws
 pub mod Walking
 pub mod Answering
 pub mod Cells
@@ -25,7 +28,6 @@ pub mod RuleDispatch
 pub mod RuleMonotone
 pub mod LineChecks
 pub mod Derivations
-pub mod Narrowing
 pub mod LineSearches
 pub mod LinesWritten
 pub mod Notes

@@ -16,7 +16,8 @@ use Rattle.subsumption.proofs.WellFormed.{WellFormed}
 use Rattle.subsumption.proofs.Bools.{both-true, both-intro, eq-or-ne, last-cases}
 use Rattle.subsumption.proofs.Accepted.{wellFormed}
 use Rattle.matching.specs.Solving.{takes, Solves}
-use Rattle.matching.specs.Search.{Decided, Hold, Within, Between, Changed, IntervalOf, undecided, one, counted, openPairs, Possible, SolutionIn, NoSolution, Picked, Offered, Searched, Trimmed}
+use Rattle.matching.specs.Search.{Decided, Hold, Within, Between, Changed, IntervalOf, undecided, one, counted, openPairs, SolutionIn, NoSolution, Picked}
+use Rattle.matching.specs.Solve.{Refuted}
 use Rattle.matching.specs.declared.interval.Pick.{Pick}
 use Rattle.matching.specs.declared.interval.Pick.the-variants.{At, Nothing}
 use Rattle.matching.proofs.Fronts.{front-known, front-takes, front-within, accepted-bits, within-accepted}
@@ -118,10 +119,6 @@ module _ (t : Tables) (h : tableFault t ≡ Done) where
     pub high-shuts : (Hold t (take (t .variables) high) false → ⊥) → NoSolution t low high
     high-shuts n other a b s = n (hold-up other _ (b .below) (λ m l e. s m l))
 
-    pub impossible : (Possible t low high → ⊥) → NoSolution t low high
-    impossible n other a b s =
-        n (record { antitone = hold-down _ other (b .above) (λ m l e. s m l); monotone = hold-up other _ (b .below) (λ m l e. s m l) })
-
     module _ (i : IntervalOf t low high) where
       pub low-fits : t .variables ≤ length low
       low-fits = omega (arith, i .low-long, wellFormed t h .few-variables)
@@ -132,20 +129,21 @@ module _ (t : Tables) (h : tableFault t ≡ Done) where
       pub low-accepted : assignmentFault t (take (t .variables) low) ≡ Done
       low-accepted = within-accepted t _ _ (i .accepted) (length-take-le _ low low-fits) (front-within (t .variables) low high (i .ordered))
 
-      -- nothing is undecided: the two sides are one assignment
-      pub all-decided : Possible t low high → ((p : ℕ) → p < 512 → undecided low high p ≡ false) → SolutionIn t low high high
-      all-decided s d =
-          record {
-            long = i .high-long;
-            between = record { above = i .ordered; below = λ k q e. e };
-            solves = holds-solve _ (hold-down _ _ back (s .antitone)) (s .monotone);
-          }
+      -- nothing is undecided: what shuts the low side shuts the interval
+      pub decided-shut : (low₁ high₁ : List ℕ) → Refuted t low low low₁ high₁ → ((p : ℕ) → p < 512 → undecided low high p ≡ false) → NoSolution t low high
+      decided-shut low₁ high₁ r d other a b s =
+          r .none other a
+          (record {
+            above = λ k q e. let (l, x) = front-known (t .variables) low₁ k q e in b .above k q (front-takes (t .variables) low k q l (r .above k q x));
+            below = back;
+          })
+          s
         where
-          back : Within (take (t .variables) high) (take (t .variables) low)
+          back : Within other (take (t .variables) high₁)
           back k q e =
-              let (l, x) = front-known (t .variables) high k q e in
-              let (a, b) = accepted-bits t _ (i .accepted) k q e in
-              front-takes (t .variables) low k q l (go (takes low k q) refl x (omega (arith, wellFormed t h .few-variables)) (omega (arith, wellFormed t h .few-atoms)))
+              let (l, x) = front-known (t .variables) high k q (b .below k q e) in
+              let (m, n) = accepted-bits t other a k q e in
+              front-takes (t .variables) high₁ k q l (r .below k q (go (takes low k q) refl x (omega (arith, wellFormed t h .few-variables)) (omega (arith, wellFormed t h .few-atoms))))
             where
               go : (b : Bool) → takes low k q ≡ b → takes high k q ≡ true → k < 8 → q < 64 → takes low k q ≡ true
               go true f x a b = f
@@ -243,41 +241,6 @@ module _ (t : Tables) (h : tableFault t ≡ Done) where
                 solves = s .solves;
               }
 
-          -- those without the pair lie in the one part, those with it in the other
-          pub none-split :
-              (low₂ high₂ : List ℕ) → high₂ ≡ high → Changed low low₂ (p / 64) (p % 64) true → NoSolution t low₁ high₁ → NoSolution t low₂ high₂
-              → NoSolution t low high
-          none-split low₂ high₂ f d n₁ n₂ other a b s = go (takes other (p / 64) (p % 64)) refl
-            where
-              go : (x : Bool) → takes other (p / 64) (p % 64) ≡ x → ⊥
-              go true x =
-                  n₂ other a
-                  (record {
-                    above =
-                        λ k q y.
-                        let (l, z) = front-known (t .variables) low₂ k q y in
-                        ⊎-elim (λ w. at-pair other k q _ _ true w x) (λ w. b .above k q (front-takes (t .variables) low k q l w)) (grown-cases low low₂ _ _ d k q z);
-                    below = subst (λ (z : List ℕ). Within other (take (t .variables) z)) (sym f) (b .below);
-                  })
-                  s
-              go false x =
-                  n₁ other a
-                  (record {
-                    above = subst (λ (z : List ℕ). Within (take (t .variables) z) other) (sym e) (b .above);
-                    below =
-                        λ k q y.
-                        let (l, z) = front-known (t .variables) high k q (b .below k q y) in
-                        ⊎-elim (λ w. absurd (true≢false (sym y ∙ at-pair other k q _ _ false w x))) (λ w. front-takes (t .variables) high₁ k q l w) (shrunk-cases high high₁ _ _ c k q z);
-                  })
-                  s
-
-pub possible-second : (t : Tables) (low high : List ℕ) (b : Bool) → Hold t (take (t .variables) low) true → Decided (Hold t (take (t .variables) high) false) b → Decided (Possible t low high) b
-possible-second t low high true x y = record { antitone = x; monotone = y }
-possible-second t low high false x y = λ p. y (p .monotone)
-
-pub possible-first : (t : Tables) (low high : List ℕ) (b : Bool) → Decided (Hold t (take (t .variables) low) true) b → b ≡ false → Possible t low high → ⊥
-possible-first t low high b x e p = subst (Decided (Hold t (take (t .variables) low) true)) e x (p .antitone)
-
 pub decided-true : (P : Type 0) (b : Bool) → Decided P b → b ≡ true → P
 decided-true P b x e = subst (Decided P) e x
 
@@ -290,26 +253,3 @@ picked-at low high r p x e = subst (Picked low high) e x
 
 pub picked-none : (low high : List ℕ) (r : Pick) → Picked low high r → r ≡ Nothing → (p : ℕ) → p < 512 → undecided low high p ≡ false
 picked-none low high r x e = subst (Picked low high) e x
-
-pub offered : (t : Tables) (low high : List ℕ) (b : Bool) (choice : List ℕ) → Offered t low high b choice → b ≡ true → SolutionIn t low high choice
-offered t low high b choice x e = subst (λ (z : Bool). Offered t low high z choice) e x
-
-pub not-offered : (t : Tables) (low high : List ℕ) (b : Bool) (choice : List ℕ) → Offered t low high b choice → b ≡ false → Trimmed low high choice
-not-offered t low high b choice x e = subst (λ (z : Bool). Offered t low high z choice) e x
-
-pub searched-found : (t : Tables) (low high : List ℕ) (b : Bool) (choice : List ℕ) → Searched t low high b choice → b ≡ true → SolutionIn t low high choice
-searched-found t low high b choice x e = subst (λ (z : Bool). Searched t low high z choice) e x
-
-pub searched-none : (t : Tables) (low high : List ℕ) (b : Bool) (choice : List ℕ) → Searched t low high b choice → b ≡ false → NoSolution t low high
-searched-none t low high b choice x e = subst (λ (z : Bool). Searched t low high z choice) e x
-
-module _ (t : Tables) (h : tableFault t ≡ Done) (low high : List ℕ) (i : IntervalOf t low high) (p : ℕ) (u : undecided low high p ≡ true)
-    (low₂ high₂ : List ℕ) (f : high₂ ≡ high) (d : Changed low low₂ (p / 64) (p % 64) true) (b₂ : Bool) (choice₂ : List ℕ) (s : Searched t low₂ high₂ b₂ choice₂) where
-  pub with-found : b₂ ≡ true → Searched t low high b₂ choice₂
-  with-found x = subst (λ (z : Bool). Searched t low high z choice₂) (sym x) (take-found t h low high i p u low₂ high₂ f d choice₂ (searched-found t low₂ high₂ b₂ choice₂ s x))
-
-  pub without-answers :
-      b₂ ≡ false → (low₁ high₁ : List ℕ) → low₁ ≡ low → Changed high high₁ (p / 64) (p % 64) false → (b : Bool) (choice : List ℕ) → Searched t low₁ high₁ b choice
-      → Searched t low high b choice
-  without-answers x low₁ high₁ e c true choice y = leave-found t h low high i p u low₁ high₁ e c choice y
-  without-answers x low₁ high₁ e c false choice y = none-split t h low high i p u low₁ high₁ e c low₂ high₂ f d y (searched-none t low₂ high₂ b₂ choice₂ s x)

@@ -1,4 +1,4 @@
--- A look at the questions, and what a written table tells of them.
+-- A look at the questions, and what closed columns tell of them.
 use Prim.Native.Nat.{ℕ, _+_, _*_, _<_, _≤_}
 use mathlib.Core.Path.{_≡_, refl, sym, ap, _∙_, subst}
 use mathlib.Core.List.{List}
@@ -7,19 +7,17 @@ use mathlib.Core.Logic.{_⊎_, inl, inr, ⊎-elim}
 use native.Mathlib.Omega.{arith}
 use lib.Dec.{eqb}
 use lib.ListN.{length, getD}
-use Rattle.subsumption.specs.declared.refusal.Outcome.{Outcome}
-use Rattle.subsumption.specs.declared.refusal.Outcome.the-variants.{Done, Refused}
+use Rattle.subsumption.specs.declared.refusal.Outcome.the-variants.{Done}
 use Rattle.subsumption.specs.declared.tables.Pair.{Pair}
 use Rattle.subsumption.specs.TableRows.{pairOf}
 use Rattle.subsumption.specs.Tables.{Tables, countOf, pairsOf, leftOf, rightOf, tree, hasVariable}
 use Rattle.subsumption.specs.Subsumption.{Subsumed}
-use Rattle.subsumption.specs.Refusal.{orElse}
-use Rattle.subsumption.specs.Check.{tableFault, assignmentFault, bufferFault}
-use Rattle.subsumption.specs.Table.{rowStart, marked, writingFault, TableOf, Left, Wrote}
+use Rattle.subsumption.specs.Check.{tableFault}
+use Rattle.subsumption.specs.Closure.{has}
+use Rattle.subsumption.specs.Ground.{ColumnsOf}
 use Rattle.subsumption.specs.Marks.{Layered, Known, VariableMarks, markAt}
 use Rattle.subsumption.proofs.WellFormed.{WellFormed}
 use Rattle.subsumption.proofs.Bools.{last-cases}
-use Rattle.subsumption.proofs.Refusals.{goes-on, done-le}
 use Rattle.subsumption.proofs.Accepted.{wellFormed, table-concepts, concepts-layered}
 use Rattle.matching.specs.Search.{Decided, Seen, Hold}
 
@@ -36,15 +34,15 @@ equal false true f = absurd (true≢false f)
 equal false false f = refl
 
 -- ---- the loop over the questions
-pub record SeenTo (table : List ℕ) (held : List Bool) (questions : List ℕ) (right : Bool) (m : ℕ) : Type 0 where
+pub record SeenTo (columns : List ℕ) (held : List Bool) (questions : List ℕ) (right : Bool) (m : ℕ) : Type 0 where
   pub within : m ≤ pairsOf questions
   pub seen :
-      (k : ℕ) → k < m → markAt held (rightOf questions k) ≡ right → marked table (leftOf questions k) (rightOf questions k) ≡ true
+      (k : ℕ) → k < m → markAt held (rightOf questions k) ≡ right → has columns (leftOf questions k) (rightOf questions k) ≡ true
 
-pub seen-none : (table : List ℕ) (held : List Bool) (questions : List ℕ) (right : Bool) → SeenTo table held questions right 0
-seen-none table held questions right = record { within = omega arith; seen = λ k h. absurd (omega arith) }
+pub seen-none : (columns : List ℕ) (held : List Bool) (questions : List ℕ) (right : Bool) → SeenTo columns held questions right 0
+seen-none columns held questions right = record { within = omega arith; seen = λ k h. absurd (omega arith) }
 
-module _ (table : List ℕ) (held : List Bool) (questions : List ℕ) (right : Bool) (m : ℕ) (pair : Pair) (s : SeenTo table held questions right m)
+module _ (columns : List ℕ) (held : List Bool) (questions : List ℕ) (right : Bool) (m : ℕ) (pair : Pair) (s : SeenTo columns held questions right m)
     (h : m < pairsOf questions) (e : pair ≡ pairOf questions m) where
   at-left : pair .left ≡ leftOf questions m
   at-left = cc
@@ -53,34 +51,34 @@ module _ (table : List ℕ) (held : List Bool) (questions : List ℕ) (right : B
   at-right = cc
 
   more :
-      (markAt held (rightOf questions m) ≡ right → marked table (leftOf questions m) (rightOf questions m) ≡ true)
-      → SeenTo table held questions right (m + 1)
+      (markAt held (rightOf questions m) ≡ right → has columns (leftOf questions m) (rightOf questions m) ≡ true)
+      → SeenTo columns held questions right (m + 1)
   more f =
       record {
         within = omega arith;
         seen =
             λ k l.
             ⊎-elim
-            (λ (q : k ≡ m). subst (λ (z : ℕ). markAt held (rightOf questions z) ≡ right → marked table (leftOf questions z) (rightOf questions z) ≡ true) (sym q) f)
+            (λ (q : k ≡ m). subst (λ (z : ℕ). markAt held (rightOf questions z) ≡ right → has columns (leftOf questions z) (rightOf questions z) ≡ true) (sym q) f)
             (λ n. s .seen k n) (last-cases k m (omega arith));
       }
 
   -- a question of the other kind
-  pub seen-skip : not (Bool·beq (markAt held (pair .right)) right) ≡ true → SeenTo table held questions right (m + 1)
+  pub seen-skip : not (Bool·beq (markAt held (pair .right)) right) ≡ true → SeenTo columns held questions right (m + 1)
   seen-skip f = more (λ x. absurd (unequal _ _ f (ap (markAt held) at-right ∙ x)))
 
-  pub seen-more : (b : Bool) → b ≡ marked table (pair .left) (pair .right) → b ≡ true → SeenTo table held questions right (m + 1)
-  seen-more b f g = more (λ x. subst (λ (z : Pair). marked table (z .left) (z .right) ≡ true) e (sym f ∙ g))
+  pub seen-more : (b : Bool) → b ≡ has columns (pair .left) (pair .right) → b ≡ true → SeenTo columns held questions right (m + 1)
+  seen-more b f g = more (λ x. subst (λ (z : Pair). has columns (z .left) (z .right) ≡ true) e (sym f ∙ g))
 
-  pub unseen : (b : Bool) → not (Bool·beq (markAt held (pair .right)) right) ≡ false → b ≡ marked table (pair .left) (pair .right) → b ≡ false → Seen table held questions right → ⊥
+  pub unseen : (b : Bool) → not (Bool·beq (markAt held (pair .right)) right) ≡ false → b ≡ has columns (pair .left) (pair .right) → b ≡ false → Seen columns held questions right → ⊥
   unseen b x f g all =
-      let y : marked table (pair .left) (pair .right) ≡ true = subst (λ (z : Pair). marked table (z .left) (z .right) ≡ true) (sym e) (all m h (sym (ap (markAt held) at-right) ∙ equal _ _ x)) in
+      let y : has columns (pair .left) (pair .right) ≡ true = subst (λ (z : Pair). has columns (z .left) (z .right) ≡ true) (sym e) (all m h (sym (ap (markAt held) at-right) ∙ equal _ _ x)) in
       false≢true (sym g ∙ f ∙ y)
 
-pub seen-all : (table : List ℕ) (held : List Bool) (questions : List ℕ) (right : Bool) (m : ℕ) → SeenTo table held questions right m → pairsOf questions ≤ m → Seen table held questions right
-seen-all table held questions right m s h = λ k l. s .seen k (omega arith)
+pub seen-all : (columns : List ℕ) (held : List Bool) (questions : List ℕ) (right : Bool) (m : ℕ) → SeenTo columns held questions right m → pairsOf questions ≤ m → Seen columns held questions right
+seen-all columns held questions right m s h = λ k l. s .seen k (omega arith)
 
--- ---- a written table
+-- ---- closed columns
 module _ (t : Tables) (h : tableFault t ≡ Done) where
   pub layered : Layered (t .concepts)
   layered = concepts-layered t (table-concepts t h)
@@ -90,34 +88,18 @@ module _ (t : Tables) (h : tableFault t ≡ Done) where
       let wf = wellFormed t h in
       record { left-known = λ m l. omega (arith, wf .question-left m l, wf .few); right-known = λ m l. omega (arith, wf .question-right m l, wf .few) }
 
-  module _ (assignment : List ℕ) (k : assignmentFault t assignment ≡ Done) where
-    fits : (size : ℕ) → size ≡ 4608 → Done ≡ writingFault t assignment size
-    unfolding writingFault rowStart bufferFault
-    fits size l =
-        let room : countOf (t .concepts) * 24 ≤ size = omega (arith, l, wellFormed t h .few) in
-        goes-on _ _ _ Done refl h (goes-on _ _ _ Done refl k (done-le size (countOf (t .concepts) * 24) _ room))
+  module _ (assignment columns : List ℕ) (held : List Bool) (right : Bool) (w : ColumnsOf t assignment columns) (v : VariableMarks (t .concepts) held) where
+    seen-hold : Seen columns held (t .questions) right → Hold t assignment right
+    seen-hold s m l e =
+        let wf = wellFormed t h in
+        w .sound _ _ (wf .question-left m l) (wf .question-right m l) (s m l (v .holds _ (wf .question-right m l) ∙ e))
 
-    pub written : (before after : List ℕ) (r : Outcome) → length before ≡ 4608 → Wrote t assignment before after r → TableOf t assignment before after
-    written before after r l w = subst (Left t assignment before after) (w .answered ∙ sym (fits (length before) l)) (w .left)
+    hold-seen : Hold t assignment right → Seen columns held (t .questions) right
+    hold-seen s m l e =
+        let wf = wellFormed t h in
+        w .complete _ _ (wf .question-left m l) (wf .question-right m l) (s m l (sym (v .holds _ (wf .question-right m l)) ∙ e))
 
-    module _ (table : List ℕ) (held : List Bool) (right : Bool) (before : List ℕ) (w : TableOf t assignment before table) (v : VariableMarks (t .concepts) held) where
-      seen-hold : Seen table held (t .questions) right → Hold t assignment right
-      seen-hold s m l e =
-          let wf = wellFormed t h in
-          w .sound _ _ (wf .question-left m l) (wf .question-right m l) (s m l (v .holds _ (wf .question-right m l) ∙ e))
-
-      hold-seen : Hold t assignment right → Seen table held (t .questions) right
-      hold-seen s m l e =
-          let wf = wellFormed t h in
-          w .complete _ _ (wf .question-left m l) (wf .question-right m l) (s m l (sym (v .holds _ (wf .question-right m l)) ∙ e))
-
-      pub told-hold : (r : Bool) → Decided (Seen table held (t .questions) right) r → Decided (Hold t assignment right) r
-      told-hold true d = seen-hold d
-      told-hold false d = λ x. d (hold-seen x)
-
--- the test, from what was written and seen
-pub tested :
-    (t : Tables) (assignment before table : List ℕ) (held : List Bool) (right : Bool) (o : Outcome) (r : Bool) → tableFault t ≡ Done → assignmentFault t assignment ≡ Done
-    → length before ≡ 4608 → Wrote t assignment before table o → VariableMarks (t .concepts) held → Decided (Seen table held (t .questions) right) r
-    → Decided (Hold t assignment right) r
-tested t assignment before table held right o r h k l w v d = told-hold t h assignment k table held right before (written t h assignment k before table o l w) v r d
+    -- the test, from what was closed and seen
+    pub tested : (r : Bool) → Decided (Seen columns held (t .questions) right) r → Decided (Hold t assignment right) r
+    tested true d = seen-hold d
+    tested false d = λ x. d (hold-seen x)

@@ -5,6 +5,10 @@ pub mod Chosen
 pub mod Listing
 pub mod Samples
 pub mod Search
+pub mod Pairs
+pub mod Nogoods
+pub mod Widen
+pub mod Solve
 pub mod Derivation
 pub mod LineMarks
 pub mod LineSearch

@@ -8,11 +8,11 @@ use lib.ListN.{length, take, getD}
 use Rattle.subsumption.specs.declared.refusal.Outcome.the-variants.{Done}
 use Rattle.subsumption.specs.Tables.{Tables, both, pairsOf, leftOf, rightOf, tree, hasVariable}
 use Rattle.subsumption.specs.Subsumption.{Subsumed}
-use Rattle.subsumption.specs.Table.{marked}
+use Rattle.subsumption.specs.Closure.{has}
 use Rattle.subsumption.specs.Marks.{markAt}
-use Rattle.subsumption.specs.Check.{assignmentFault}
-use Rattle.matching.specs.declared.narrow.Forced.{Forced}
-use Rattle.matching.specs.declared.narrow.Forced.the-variants.{Out, In, Free}
+use Rattle.subsumption.specs.Atoms.{atoms}
+use Rattle.subsumption.specs.Check.{tableFault, assignmentFault}
+use Rattle.subsumption.specs.Ground.{Grounded}
 use Rattle.matching.specs.declared.interval.Pick.{Pick}
 use Rattle.matching.specs.declared.interval.Pick.the-variants.{At, Nothing}
 use Rattle.matching.specs.Solving.{takes, Solves, Earlier, First}
@@ -22,10 +22,16 @@ abbrev pub Decided : Type 0 → Bool → Type 0
 Decided P true = P
 Decided P false = P → ⊥
 
--- The questions whose right side holds a variable just where `right` says so: marked in a table, and holding under an assignment.
+-- The questions whose right side holds a variable just where `right` says so: in the columns, and holding under an assignment.
 abbrev pub Seen : List ℕ → List Bool → List ℕ → Bool → Type 0
-Seen table held questions right =
-    (m : ℕ) → m < pairsOf questions → markAt held (rightOf questions m) ≡ right → marked table (leftOf questions m) (rightOf questions m) ≡ true
+Seen columns held questions right =
+    (m : ℕ) → m < pairsOf questions → markAt held (rightOf questions m) ≡ right → has columns (leftOf questions m) (rightOf questions m) ≡ true
+
+-- The tables are accepted, their atoms are at hand, and so are columns that hold under every assignment.
+pub record Prepared (t : Tables) (ids ground : List ℕ) : Type 0 where
+  pub passed : tableFault t ≡ Done
+  pub listed : ids ≡ atoms t
+  pub grounded : Grounded t ground
 
 abbrev pub Hold : Tables → List ℕ → Bool → Type 0
 Hold t assignment right =
@@ -74,12 +80,6 @@ abbrev pub Picked : List ℕ → List ℕ → Pick → Type 0
 Picked low high (At p) = (p < 512) × (undecided low high p ≡ true)
 Picked low high Nothing = (p : ℕ) → p < 512 → undecided low high p ≡ false
 
--- Neither side of the interval shuts every solution out: what holds on the low side with variables on the right, and on the high side without.
-pub record Possible (t : Tables) (low high : List ℕ) : Type 0 where
-  pub antitone : Hold t (take (t .variables) low) true
-  pub monotone : Hold t (take (t .variables) high) false
-
--- A search's answer names no order: a choice between that solves, or none between does.
 pub record SolutionIn (t : Tables) (low high choice : List ℕ) : Type 0 where
   pub long : length choice ≡ 8
   pub between : Between low high choice
@@ -88,10 +88,6 @@ pub record SolutionIn (t : Tables) (low high choice : List ℕ) : Type 0 where
 abbrev pub NoSolution : Tables → List ℕ → List ℕ → Type 0
 NoSolution t low high =
     (other : List ℕ) → assignmentFault t other ≡ Done → Between (take (t .variables) low) (take (t .variables) high) other → Solves t other → ⊥
-
-abbrev pub Searched : Tables → List ℕ → List ℕ → Bool → List ℕ → Type 0
-Searched t low high true choice = SolutionIn t low high choice
-Searched t low high false choice = NoSolution t low high
 
 -- The first of the solutions between.
 pub record FirstIn (t : Tables) (low high choice : List ℕ) : Type 0 where
@@ -119,40 +115,3 @@ pub record Copied (count : ℕ) (choice before after : List ℕ) : Type 0 where
   pub size : length after ≡ length before
   pub front : (k : ℕ) → k < count → getD after k 0 ≡ getD choice k 0
   pub rest : (k : ℕ) → count ≤ k → getD after k 0 ≡ getD before k 0
-
--- A choice between, as long as it should be.
-pub record Trimmed (low high choice : List ℕ) : Type 0 where
-  pub long : length choice ≡ 8
-  pub between : Between low high choice
-
--- What the heuristics offer lies between, and is a solution if they say so.
-abbrev pub Offered : Tables → List ℕ → List ℕ → Bool → List ℕ → Type 0
-Offered t low high true choice = SolutionIn t low high choice
-Offered t low high false choice = Trimmed low high choice
-
--- A choice between that still makes the questions without a variable on the right hold.
-pub record Shrunk (t : Tables) (low high choice : List ℕ) : Type 0 where
-  pub long : length choice ≡ 8
-  pub between : Between low high choice
-  pub monotone : Hold t (take (t .variables) choice) false
-
--- Every solution between leaves the pair out, or every one takes it, or nothing is said.
-abbrev pub Forces : Tables → List ℕ → List ℕ → ℕ → Forced → Type 0
-Forces t low high p Out =
-    (other : List ℕ) → assignmentFault t other ≡ Done → Between (take (t .variables) low) (take (t .variables) high) other → Solves t other
-    → takes other (p / 64) (p % 64) ≡ false
-Forces t low high p In =
-    (other : List ℕ) → assignmentFault t other ≡ Done → Between (take (t .variables) low) (take (t .variables) high) other → Solves t other
-    → takes other (p / 64) (p % 64) ≡ true
-Forces t low high p Free = Unit {0}
-
--- An interval inside another that has the same solutions.
-pub record Narrower (t : Tables) (low high low₁ high₁ : List ℕ) (changed : Bool) : Type 0 where
-  pub interval : IntervalOf t low₁ high₁
-  pub above : Within low low₁
-  pub below : Within high₁ high
-  pub same :
-      (other : List ℕ) → assignmentFault t other ≡ Done → Between (take (t .variables) low) (take (t .variables) high) other → Solves t other
-      → Between (take (t .variables) low₁) (take (t .variables) high₁) other
-  pub no-more : openPairs low₁ high₁ ≤ openPairs low high
-  pub fewer : changed ≡ true → openPairs low₁ high₁ < openPairs low high

@@ -1,10 +1,10 @@
 // Finding the first assignment that makes every question hold.
+use crate::derivation::fetch_atoms;
 use crate::interval::Interval;
 use crate::interval::ones;
 use crate::order::first_solution;
-use crate::solve::Solution;
 use crate::solve::some_solution;
-use subsumption::Listed;
+use subsumption::close_ground;
 use subsumption::refusal::Outcome;
 use subsumption::refusal::Refusal;
 ghost use mathlib.Core.Path.{_≡_};
@@ -12,7 +12,6 @@ ghost use Prim.Native.Nat.{_≤_};
 ghost use lib.ListN.{length};
 ghost use Rattle.subsumption.specs.declared.refusal.Outcome.the-variants.{Done};
 ghost use Rattle.subsumption.specs.Tables.{tables};
-ghost use Rattle.subsumption.specs.Atoms.{atoms};
 ghost use Rattle.subsumption.specs.Check.{tableFault};
 ghost use Rattle.matching.specs.Search.{Full, FoundBy, Copied};
 ghost use Rattle.matching.specs.Finding.{findingFault, Finds};
@@ -21,18 +20,6 @@ pub enum Match {
     Filled,
     Nothing,
     Rejected(Refusal),
-}
-
-fn count_atoms(concepts: &[u16], inclusions: &[u16], questions: &[u16], variables: u16) -> usize
-    requires { ⌜ tableFault (tables (now concepts) (now inclusions) (now questions) variables) ≡ Done ⌝ }
-    ensures { λ r. ⌜ r ≡ length (atoms (tables (now (concepts .entry)) (now (inclusions .entry)) (now (questions .entry)) variables)) ⌝ }
-{
-    let mut ids = [0u16; 64];
-    let listed = subsumption::list_atoms(concepts, inclusions, questions, variables, &mut ids);
-    let Listed::Atoms(count) = listed else {
-        return 0;
-    };
-    count
 }
 
 // Every atom for every variable.
@@ -51,19 +38,49 @@ fn all_atoms(variables: usize, count: usize) -> [u64; 8]
     choice
 }
 
+// A solution, if there is one.
+pub struct Solution {
+    pub found: bool,
+    pub choice: [u64; 8],
+}
+
 // The first solution of accepted tables, if there is one.
 fn find_first(concepts: &[u16], inclusions: &[u16], questions: &[u16], variables: u16) -> Solution
     requires { ⌜ tableFault (tables (now concepts) (now inclusions) (now questions) variables) ≡ Done ⌝ }
     ensures { λ r. ⌜ FoundBy (tables (now (concepts .entry)) (now (inclusions .entry)) (now (questions .entry)) variables) (r .found) (r .choice) ⌝ }
 {
-    let count = count_atoms(concepts, inclusions, questions, variables);
+    let mut ids = [0u16; 64];
+    let count = fetch_atoms(concepts, inclusions, questions, variables, &mut ids);
+    let mut ground = [0u64; 576];
+    close_ground(concepts, inclusions, questions, variables, &mut ground);
+    let mut store = [0u64; 16385];
     let low = [0u64; 8];
-    let high = all_atoms(variables as usize, count);
-    let start = Interval { low, high };
-    let some = some_solution(concepts, inclusions, questions, variables, start);
-    let known = some.choice;
+    let full = all_atoms(variables as usize, count);
+    let start = Interval { low, high: full };
+    let some = some_solution(
+        concepts,
+        inclusions,
+        questions,
+        variables,
+        &ids[..count],
+        &ground,
+        full,
+        &mut store,
+        start,
+    );
+    let known = some.low;
     if some.found {
-        let choice = first_solution(concepts, inclusions, questions, variables, start, known);
+        let choice = first_solution(
+            concepts,
+            inclusions,
+            questions,
+            variables,
+            &ids[..count],
+            &ground,
+            &mut store,
+            start,
+            known,
+        );
         return Solution {
             found: true,
             choice,

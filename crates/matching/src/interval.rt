@@ -1,5 +1,7 @@
 // An interval of assignments: what is taken for certain, and what may still be taken. Eight numbers each, of which
 // the variables' are read. Taking and leaving hand the interval back.
+use crate::pairs::with_pair;
+use crate::pairs::without_pair;
 ghost use mathlib.Core.Path.{_≡_};
 ghost use mathlib.Core.Bool.{true, false};
 ghost use Prim.Native.Nat.{_-_, _<_, _≤_, _/_, _%_, _^_};
@@ -44,7 +46,9 @@ impl Interval {
         ensures { λ r. ⌜ r .high ≡ self .high ⌝ }
         ensures { λ r. ⌜ Changed (self .low) (r .low) k q true ⌝ }
     {
-        self.low[k] = self.low[k] | (1 << q);
+        let low = self.low;
+        let more = with_pair(low, k, q);
+        self.low = more;
         self
     }
 
@@ -55,7 +59,9 @@ impl Interval {
         ensures { λ r. ⌜ r .low ≡ self .low ⌝ }
         ensures { λ r. ⌜ Changed (self .high) (r .high) k q false ⌝ }
     {
-        self.high[k] = self.high[k] ^ (1 << q);
+        let high = self.high;
+        let fewer = without_pair(high, k, q);
+        self.high = fewer;
         self
     }
 

@@ -4,13 +4,15 @@ mod chosen;
 mod derivation;
 mod find;
 mod interval;
-mod narrow;
 mod needed;
+mod nogoods;
 mod order;
+mod pairs;
 mod questions;
 mod rules;
 mod search;
 mod solve;
+mod widen;
 mod writer;
 
 pub use chosen::Chosen;

@@ -3,10 +3,9 @@ use crate::interval::Interval;
 use crate::interval::has_bit;
 use crate::solve::some_solution;
 ghost use mathlib.Core.Path.{_≡_};
-ghost use Rattle.subsumption.specs.declared.refusal.Outcome.the-variants.{Done};
 ghost use Rattle.subsumption.specs.Tables.{tables};
-ghost use Rattle.subsumption.specs.Check.{tableFault};
-ghost use Rattle.matching.specs.Search.{IntervalOf, SolutionIn, FirstIn};
+ghost use Rattle.matching.specs.Search.{IntervalOf, Prepared, SolutionIn, FirstIn};
+ghost use Rattle.matching.specs.Nogoods.{Nogoods};
 
 // `known` is any solution; the last one found is kept, so that a pair it leaves out costs nothing.
 pub fn first_solution(
@@ -14,14 +13,19 @@ pub fn first_solution(
     inclusions: &[u16],
     questions: &[u16],
     variables: u16,
+    atoms: &[u16],
+    ground: &[u64],
+    store: &mut [u64],
     start: Interval,
     known: [u64; 8],
 ) -> [u64; 8]
-    requires { ⌜ tableFault (tables (now concepts) (now inclusions) (now questions) variables) ≡ Done ⌝ }
+    requires { ⌜ Prepared (tables (now concepts) (now inclusions) (now questions) variables) (now atoms) (now ground) ⌝ }
+    requires { ⌜ Nogoods (tables (now concepts) (now inclusions) (now questions) variables) (now store) ⌝ }
     requires { ⌜ IntervalOf (tables (now concepts) (now inclusions) (now questions) variables) (start .low) (start .high) ⌝ }
     requires { ⌜ SolutionIn (tables (now concepts) (now inclusions) (now questions) variables) (start .low) (start .high) known ⌝ }
     ensures { λ r. ⌜ FirstIn (tables (now (concepts .entry)) (now (inclusions .entry)) (now (questions .entry)) variables) (start .low) (start .high) r ⌝ }
 {
+    let full = start.high;
     let mut interval = start;
     let mut witness = known;
     let mut p: usize = 0;
@@ -36,9 +40,19 @@ pub fn first_solution(
             interval = without;
             continue;
         }
-        let s = some_solution(concepts, inclusions, questions, variables, without);
+        let s = some_solution(
+            concepts,
+            inclusions,
+            questions,
+            variables,
+            atoms,
+            ground,
+            full,
+            store,
+            without,
+        );
         if s.found {
-            let choice = s.choice;
+            let choice = s.low;
             interval = without;
             witness = choice;
             continue;

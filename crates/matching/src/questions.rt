@@ -1,4 +1,7 @@
-// Whether the questions of one kind hold under an assignment: one subsumption table and a look at the questions.
+// Whether the questions of one kind hold under an assignment: one closing, from what holds under every assignment, and a
+// look at the questions.
+use subsumption::below;
+use subsumption::close_over;
 use subsumption::mark_variables;
 use subsumption::tables::pair_at;
 ghost use mathlib.Core.Path.{_≡_};
@@ -7,26 +10,16 @@ ghost use Prim.Native.Nat.{ℕ, _<_};
 ghost use lib.ListN.{length};
 ghost use Rattle.subsumption.specs.declared.refusal.Outcome.the-variants.{Done};
 ghost use Rattle.subsumption.specs.Tables.{tables};
-ghost use Rattle.subsumption.specs.Check.{tableFault, assignmentFault};
-ghost use Rattle.subsumption.specs.Table.{marked};
+ghost use Rattle.subsumption.specs.Check.{assignmentFault};
 ghost use Rattle.subsumption.specs.Marks.{Known};
-ghost use Rattle.matching.specs.Search.{Decided, Seen, Hold};
+ghost use Rattle.matching.specs.Search.{Decided, Seen, Hold, Prepared};
 
-// The table says that i is below j.
-fn is_marked(table: &[u8], i: usize, j: usize) -> bool
-    requires { ⌜ length (now table) ≡ 4608 ⌝ }
-    requires { ⌜ (i < 192) × (j < 192) ⌝ }
-    ensures { λ r. ⌜ r ≡ marked (now (table .entry)) i j ⌝ }
-{
-    (table[i * 24 + j / 8] >> (j % 8)) % 2 == 1
-}
-
-// The questions whose right side holds a variable just where `right` says so are marked.
-fn all_marked(table: &[u8], held: &[bool], questions: &[u16], right: bool) -> bool
-    requires { ⌜ length (now table) ≡ 4608 ⌝ }
+// The questions whose right side holds a variable just where `right` says so are in the columns.
+fn all_below(columns: &[u64], held: &[bool], questions: &[u16], right: bool) -> bool
+    requires { ⌜ length (now columns) ≡ 576 ⌝ }
     requires { ⌜ length (now held) ≡ 192 ⌝ }
     requires { ⌜ Known 192 (now questions) ⌝ }
-    ensures { λ r. ⌜ Decided (Seen (now (table .entry)) (now (held .entry)) (now (questions .entry)) right) r ⌝ }
+    ensures { λ r. ⌜ Decided (Seen (now (columns .entry)) (now (held .entry)) (now (questions .entry)) right) r ⌝ }
 {
     let rows = questions.len() / 2;
     let mut m: usize = 0;
@@ -38,7 +31,7 @@ fn all_marked(table: &[u8], held: &[bool], questions: &[u16], right: bool) -> bo
         if held[j] != right {
             continue;
         }
-        if is_marked(table, i, j) {
+        if below(columns, i, j) {
             continue;
         }
         return false;
@@ -52,23 +45,27 @@ pub fn questions_hold(
     inclusions: &[u16],
     questions: &[u16],
     variables: u16,
+    atoms: &[u16],
+    ground: &[u64],
     assignment: &[u64],
     right: bool,
 ) -> bool
-    requires { ⌜ tableFault (tables (now concepts) (now inclusions) (now questions) variables) ≡ Done ⌝ }
+    requires { ⌜ Prepared (tables (now concepts) (now inclusions) (now questions) variables) (now atoms) (now ground) ⌝ }
     requires { ⌜ assignmentFault (tables (now concepts) (now inclusions) (now questions) variables) (now assignment) ≡ Done ⌝ }
     ensures { λ r. ⌜ Decided (Hold (tables (now (concepts .entry)) (now (inclusions .entry)) (now (questions .entry)) variables) (now (assignment .entry)) right) r ⌝ }
 {
-    let mut table = [0u8; 4608];
-    subsumption::write_table(
+    let mut columns = [0u64; 576];
+    close_over(
         concepts,
         inclusions,
         questions,
         variables,
+        atoms,
+        ground,
         assignment,
-        &mut table,
+        &mut columns,
     );
     let mut held = [false; 192];
     mark_variables(concepts, &mut held);
-    all_marked(&table, &held, questions, right)
+    all_below(&columns, &held, questions, right)
 }

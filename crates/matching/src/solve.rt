@@ -1,131 +1,403 @@
 // The search for an assignment between two others. Questions without a variable on the right stay true when atoms are
-// added, the others when atoms are removed: so a test of the high and of the low side shuts out a whole interval.
+// added, the others when atoms are removed: so a failed test makes a nogood, an interval that holds no solution. An
+// interval is split until its low side passes every test or a nogood around it is known; the nogoods of the two halves
+// give one of the whole, and a half whose nogood does not mention the pair speaks for the whole at once.
 use crate::interval::Interval;
 use crate::interval::Pick;
+use crate::interval::has_bit;
 use crate::interval::pick_undecided;
-use crate::narrow::conflict;
-use crate::narrow::narrow;
-use crate::narrow::shrink;
+use crate::nogoods::add;
+use crate::nogoods::choose;
+use crate::nogoods::nogood_at;
+use crate::nogoods::some_pair;
+use crate::pairs::is_within;
+use crate::pairs::join;
+use crate::pairs::meet;
+use crate::pairs::with_pair;
+use crate::pairs::without_pair;
 use crate::questions::questions_hold;
+use crate::widen::widen;
 ghost use mathlib.Core.Path.{_≡_};
 ghost use mathlib.Core.Bool.{true, false};
-ghost use Rattle.subsumption.specs.declared.refusal.Outcome.the-variants.{Done};
+ghost use Prim.Native.Nat.{_<_};
+ghost use lib.ListN.{length};
 ghost use Rattle.subsumption.specs.Tables.{tables};
-ghost use Rattle.subsumption.specs.Check.{tableFault};
-ghost use Rattle.matching.specs.Search.{Decided, IntervalOf, Possible, Offered, Searched};
+ghost use Rattle.matching.specs.Solving.{takes};
+ghost use Rattle.matching.specs.Search.{IntervalOf, Prepared};
+ghost use Rattle.matching.specs.Nogoods.{Room, Nogoods};
+ghost use Rattle.matching.specs.Solve.{Answers, CanSplit, Stepped, Recalled, Merged};
 
-pub struct Solution {
+const ALL: u64 = 18446744073709551615;
+
+// A solution, as the low side, or an interval around the asked one that holds none.
+pub struct Answer {
     pub found: bool,
-    pub choice: [u64; 8],
+    pub low: [u64; 8],
+    pub high: [u64; 8],
 }
 
-// Neither side of the interval shuts every solution out.
-pub fn can_hold(
+// The low side by itself: a solution, or a nogood around it, which is kept.
+fn try_low(
     concepts: &[u16],
     inclusions: &[u16],
     questions: &[u16],
     variables: u16,
-    interval: Interval,
-) -> bool
-    requires { ⌜ tableFault (tables (now concepts) (now inclusions) (now questions) variables) ≡ Done ⌝ }
-    requires { ⌜ IntervalOf (tables (now concepts) (now inclusions) (now questions) variables) (interval .low) (interval .high) ⌝ }
-    ensures { λ r. ⌜ Decided (Possible (tables (now (concepts .entry)) (now (inclusions .entry)) (now (questions .entry)) variables) (interval .low) (interval .high)) r ⌝ }
+    atoms: &[u16],
+    ground: &[u64],
+    full: [u64; 8],
+    store: &mut [u64],
+    low: [u64; 8],
+) -> Answer
+    requires { ⌜ Prepared (tables (now concepts) (now inclusions) (now questions) variables) (now atoms) (now ground) ⌝ }
+    requires { ⌜ IntervalOf (tables (now concepts) (now inclusions) (now questions) variables) low full ⌝ }
+    requires { ⌜ Nogoods (tables (now concepts) (now inclusions) (now questions) variables) (now store) ⌝ }
+    ensures { λ r. ⌜ Answers (tables (now (concepts .entry)) (now (inclusions .entry)) (now (questions .entry)) variables) low low (r .found) (r .low) (r .high) ⌝ }
+    ensures { λ _. ⌜ Nogoods (tables (now (concepts .entry)) (now (inclusions .entry)) (now (questions .entry)) variables) (now (store .exit)) ⌝ }
 {
     let n = variables as usize;
-    let low = interval.low;
-    if questions_hold(concepts, inclusions, questions, variables, &low[..n], true) {
-        let high = interval.high;
-        return questions_hold(
-            concepts,
-            inclusions,
-            questions,
-            variables,
-            &high[..n],
-            false,
-        );
-    }
-    false
-}
-
-// A small choice that passes the test of the high side; a solution if it passes that of the low side too.
-fn candidate(
-    concepts: &[u16],
-    inclusions: &[u16],
-    questions: &[u16],
-    variables: u16,
-    interval: Interval,
-) -> Solution
-    requires { ⌜ tableFault (tables (now concepts) (now inclusions) (now questions) variables) ≡ Done ⌝ }
-    requires { ⌜ IntervalOf (tables (now concepts) (now inclusions) (now questions) variables) (interval .low) (interval .high) ⌝ }
-    requires { ⌜ Possible (tables (now concepts) (now inclusions) (now questions) variables) (interval .low) (interval .high) ⌝ }
-    ensures { λ r. ⌜ Offered (tables (now (concepts .entry)) (now (inclusions .entry)) (now (questions .entry)) variables) (interval .low) (interval .high) (r .found) (r .choice) ⌝ }
-{
-    let n = variables as usize;
-    let choice = shrink(concepts, inclusions, questions, variables, interval);
-    if questions_hold(
+    let empty = [0u64; 8];
+    if !questions_hold(
         concepts,
         inclusions,
         questions,
         variables,
-        &choice[..n],
+        atoms,
+        ground,
+        &low[..n],
         true,
     ) {
-        return Solution {
-            found: true,
-            choice,
+        let core = widen(
+            concepts,
+            inclusions,
+            questions,
+            variables,
+            atoms,
+            ground,
+            full,
+            low,
+            empty,
+            true,
+        );
+        add(store, core, full);
+        return Answer {
+            found: false,
+            low: core,
+            high: full,
         };
     }
-    Solution {
-        found: false,
-        choice,
+    if !questions_hold(
+        concepts,
+        inclusions,
+        questions,
+        variables,
+        atoms,
+        ground,
+        &low[..n],
+        false,
+    ) {
+        let rest = widen(
+            concepts,
+            inclusions,
+            questions,
+            variables,
+            atoms,
+            ground,
+            full,
+            low,
+            full,
+            false,
+        );
+        add(store, empty, rest);
+        return Answer {
+            found: false,
+            low: empty,
+            high: rest,
+        };
+    }
+    Answer {
+        found: true,
+        low,
+        high: low,
     }
 }
 
-// Some solution between the two sides, or none: no order is promised, so that any pair may be split. Where the candidate
-// fails, the pairs that the tests force are decided first; then the interval is split at a pair of the conflict.
+// A pair of the one that the other leaves out, if there is one. A hint only.
+fn pair_outside(a: [u64; 8], b: [u64; 8]) -> usize {
+    let mut k: usize = 0;
+    while k < 8 {
+        let word = a[k] & (ALL ^ b[k]);
+        if word != 0 {
+            return some_pair(word, k, 512);
+        }
+        k += 1;
+    }
+    512
+}
+
+// One step at an interval: an answer, or a pair to split at.
+pub struct Step {
+    pub done: bool,
+    pub found: bool,
+    pub low: [u64; 8],
+    pub high: [u64; 8],
+    pub pair: usize,
+}
+
+// By testing the low side.
+fn step_by_test(
+    concepts: &[u16],
+    inclusions: &[u16],
+    questions: &[u16],
+    variables: u16,
+    atoms: &[u16],
+    ground: &[u64],
+    full: [u64; 8],
+    store: &mut [u64],
+    interval: Interval,
+) -> Step
+    requires { ⌜ Prepared (tables (now concepts) (now inclusions) (now questions) variables) (now atoms) (now ground) ⌝ }
+    requires { ⌜ IntervalOf (tables (now concepts) (now inclusions) (now questions) variables) (interval .low) (interval .high) ⌝ }
+    requires { ⌜ IntervalOf (tables (now concepts) (now inclusions) (now questions) variables) (interval .high) full ⌝ }
+    requires { ⌜ Nogoods (tables (now concepts) (now inclusions) (now questions) variables) (now store) ⌝ }
+    ensures { λ r. ⌜ Stepped (tables (now (concepts .entry)) (now (inclusions .entry)) (now (questions .entry)) variables) (interval .low) (interval .high) (r .done) (r .found) (r .low) (r .high) (r .pair) ⌝ }
+    ensures { λ _. ⌜ Nogoods (tables (now (concepts .entry)) (now (inclusions .entry)) (now (questions .entry)) variables) (now (store .exit)) ⌝ }
+{
+    let low = interval.low;
+    let high = interval.high;
+    let tried = try_low(
+        concepts,
+        inclusions,
+        questions,
+        variables,
+        atoms,
+        ground,
+        full,
+        store,
+        low,
+    );
+    let found = tried.found;
+    let below = tried.low;
+    let above = tried.high;
+    if found | is_within(high, above) {
+        return Step {
+            done: true,
+            found,
+            low: below,
+            high: above,
+            pair: 512,
+        };
+    }
+    let pick = pick_undecided(interval, pair_outside(high, above));
+    match pick {
+        Pick::At(pair) => Step {
+            done: false,
+            found: false,
+            low,
+            high,
+            pair,
+        },
+        Pick::Nothing => Step {
+            done: true,
+            found: false,
+            low,
+            high,
+            pair: 512,
+        },
+    }
+}
+
+// The nogood at a place, and whether it shuts the interval.
+pub struct Nogood {
+    pub shut: bool,
+    pub low: [u64; 8],
+    pub high: [u64; 8],
+}
+
+fn look_up(store: &[u64], place: usize, interval: Interval) -> Nogood
+    requires { ⌜ Room (now store) ⌝ }
+    requires { ⌜ (length (interval .low) ≡ 8) × (length (interval .high) ≡ 8) ⌝ }
+    ensures { λ r. ⌜ Recalled (now (store .entry)) (interval .low) (interval .high) (r .shut) (r .low) (r .high) ⌝ }
+{
+    let low = interval.low;
+    let high = interval.high;
+    if place < store[0] as usize {
+        let nogood = nogood_at(store, place);
+        let below = nogood.low;
+        let above = nogood.high;
+        let shut = is_within(below, low) & is_within(high, above);
+        return Nogood {
+            shut,
+            low: below,
+            high: above,
+        };
+    }
+    Nogood {
+        shut: false,
+        low,
+        high,
+    }
+}
+
+fn can_split(interval: Interval, pair: usize) -> bool
+    ensures { λ r. ⌜ CanSplit (interval .low) (interval .high) pair r ⌝ }
+{
+    if pair < 512 {
+        return interval.is_undecided(pair);
+    }
+    false
+}
+
+// By a nogood, if one helps, else by testing the low side.
+fn next_step(
+    concepts: &[u16],
+    inclusions: &[u16],
+    questions: &[u16],
+    variables: u16,
+    atoms: &[u16],
+    ground: &[u64],
+    full: [u64; 8],
+    store: &mut [u64],
+    interval: Interval,
+) -> Step
+    requires { ⌜ Prepared (tables (now concepts) (now inclusions) (now questions) variables) (now atoms) (now ground) ⌝ }
+    requires { ⌜ IntervalOf (tables (now concepts) (now inclusions) (now questions) variables) (interval .low) (interval .high) ⌝ }
+    requires { ⌜ IntervalOf (tables (now concepts) (now inclusions) (now questions) variables) (interval .high) full ⌝ }
+    requires { ⌜ Nogoods (tables (now concepts) (now inclusions) (now questions) variables) (now store) ⌝ }
+    ensures { λ r. ⌜ Stepped (tables (now (concepts .entry)) (now (inclusions .entry)) (now (questions .entry)) variables) (interval .low) (interval .high) (r .done) (r .found) (r .low) (r .high) (r .pair) ⌝ }
+    ensures { λ _. ⌜ Nogoods (tables (now (concepts .entry)) (now (inclusions .entry)) (now (questions .entry)) variables) (now (store .exit)) ⌝ }
+{
+    let hint = choose(store, interval);
+    let known = look_up(store, hint.place, interval);
+    let low = known.low;
+    let high = known.high;
+    if known.shut {
+        return Step {
+            done: true,
+            found: false,
+            low,
+            high,
+            pair: 512,
+        };
+    }
+    let pair = hint.pair;
+    if can_split(interval, pair) {
+        return Step {
+            done: false,
+            found: false,
+            low,
+            high,
+            pair,
+        };
+    }
+    step_by_test(
+        concepts,
+        inclusions,
+        questions,
+        variables,
+        atoms,
+        ground,
+        full,
+        store,
+        interval,
+    )
+}
+
+// Of the nogoods with a pair and without it, one that speaks of either.
+fn merge(with: Answer, without: Answer, k: usize, q: usize) -> Interval
+    requires { ⌜ (length (with .low) ≡ 8) × (length (with .high) ≡ 8) ⌝ }
+    requires { ⌜ (length (without .low) ≡ 8) × (length (without .high) ≡ 8) ⌝ }
+    requires { ⌜ (k < 8) × (q < 64) ⌝ }
+    requires { ⌜ takes (with .low) k q ≡ true ⌝ }
+    ensures { λ r. ⌜ Merged (with .low) (with .high) (without .low) (without .high) k q (r .low) (r .high) ⌝ }
+{
+    let low_with = with.low;
+    let high_with = with.high;
+    let low_without = without.low;
+    let high_without = without.high;
+    let fewer = without_pair(low_with, k, q);
+    let more = with_pair(high_without, k, q);
+    let low = join(fewer, low_without);
+    let high = meet(high_with, more);
+    Interval { low, high }
+}
+
+// Some solution between the two sides, or a nogood around them: no order is promised, so that any pair may be split.
 pub fn some_solution(
     concepts: &[u16],
     inclusions: &[u16],
     questions: &[u16],
     variables: u16,
+    atoms: &[u16],
+    ground: &[u64],
+    full: [u64; 8],
+    store: &mut [u64],
     interval: Interval,
-) -> Solution
-    requires { ⌜ tableFault (tables (now concepts) (now inclusions) (now questions) variables) ≡ Done ⌝ }
+) -> Answer
+    requires { ⌜ Prepared (tables (now concepts) (now inclusions) (now questions) variables) (now atoms) (now ground) ⌝ }
     requires { ⌜ IntervalOf (tables (now concepts) (now inclusions) (now questions) variables) (interval .low) (interval .high) ⌝ }
-    ensures { λ r. ⌜ Searched (tables (now (concepts .entry)) (now (inclusions .entry)) (now (questions .entry)) variables) (interval .low) (interval .high) (r .found) (r .choice) ⌝ }
+    requires { ⌜ IntervalOf (tables (now concepts) (now inclusions) (now questions) variables) (interval .high) full ⌝ }
+    requires { ⌜ Nogoods (tables (now concepts) (now inclusions) (now questions) variables) (now store) ⌝ }
+    ensures { λ r. ⌜ Answers (tables (now (concepts .entry)) (now (inclusions .entry)) (now (questions .entry)) variables) (interval .low) (interval .high) (r .found) (r .low) (r .high) ⌝ }
+    ensures { λ _. ⌜ Nogoods (tables (now (concepts .entry)) (now (inclusions .entry)) (now (questions .entry)) variables) (now (store .exit)) ⌝ }
 {
-    let high = interval.high;
-    if can_hold(concepts, inclusions, questions, variables, interval) {
-        let offer = candidate(concepts, inclusions, questions, variables, interval);
-        let choice = offer.choice;
-        if offer.found {
-            return Solution {
-                found: true,
-                choice,
-            };
-        }
-        let inner = narrow(concepts, inclusions, questions, variables, interval, choice);
-        if inner.changed {
-            return some_solution(concepts, inclusions, questions, variables, inner.interval());
-        }
-        let hint = conflict(concepts, inclusions, questions, variables, interval, choice);
-        let pick = pick_undecided(interval, hint);
-        let Pick::At(p) = pick else {
-            return Solution {
-                found: true,
-                choice: high,
-            };
-        };
-        let with = interval.take(p / 64, p % 64);
-        let s = some_solution(concepts, inclusions, questions, variables, with);
-        if s.found {
-            return s;
-        }
-        let without = interval.leave(p / 64, p % 64);
-        return some_solution(concepts, inclusions, questions, variables, without);
+    let step = next_step(
+        concepts,
+        inclusions,
+        questions,
+        variables,
+        atoms,
+        ground,
+        full,
+        store,
+        interval,
+    );
+    if step.done {
+        let found = step.found;
+        let low = step.low;
+        let high = step.high;
+        return Answer { found, low, high };
     }
-    Solution {
+    let k = step.pair / 64;
+    let q = step.pair % 64;
+    let taken = interval.take(k, q);
+    let with = some_solution(
+        concepts,
+        inclusions,
+        questions,
+        variables,
+        atoms,
+        ground,
+        full,
+        store,
+        taken,
+    );
+    let needs = with.low;
+    if with.found | !has_bit(needs[k], q) {
+        return with;
+    }
+    let left = interval.leave(k, q);
+    let without = some_solution(
+        concepts,
+        inclusions,
+        questions,
+        variables,
+        atoms,
+        ground,
+        full,
+        store,
+        left,
+    );
+    let allows = without.high;
+    if without.found | has_bit(allows[k], q) {
+        return without;
+    }
+    let both = merge(with, without, k, q);
+    let low = both.low;
+    let high = both.high;
+    add(store, low, high);
+    Answer {
         found: false,
-        choice: high,
+        low,
+        high,
     }
 }

@@ -1,9 +1,12 @@
+use mathlib.Core.Bool.{not}
+use Rattle.matching.proofs.Refuting.{or-none, answers-none, stepped-done, stepped-split, with-answers, without-answers, merged-refutes, same-high, less-high}
+use Rattle.matching.proofs.NogoodLaws.{nogoods-added}
+use Rattle.matching.proofs.Searching.{take-keeps, take-less, leave-keeps, leave-less, open-high}
+use Rattle.matching.specs.Search.{openPairs}
+use borrow.Author.Tests.{not-true, not-false}
 use borrow.Author.Needs.{needs}
 use native.Mathlib.Omega.{arith}
-use mathlib.Core.Path.{subst}
-use Rattle.matching.specs.Search.{openPairs}
-use Rattle.matching.proofs.Searching.{take-keeps, take-less, leave-keeps, leave-less, all-decided, impossible, decided-true, decided-false, open-high, picked-at, picked-none, offered, not-offered, with-found, without-answers}
-use Rattle.matching.proofs.Narrowing.{anew, narrower-answers}
+use mathlib.Core.Path.{subst, sym, _∙_}
 use Prim.Native.Nat.{ℕ, _<_}
 use borrow.Fn.Kinds.{In}
 use borrow.Fn.PlainCycle.{Measures, is, falls, and}
@@ -12,526 +15,464 @@ use Rattle.matching.proofs.solve.some_solution.Kinds as some-solution-k
 use Rattle.matching.proofs.solve.+some_solution.Lts-some_solution as some-solution-lts
 use Rattle.matching.proofs.interval.Interval.leave.Reads as leave-reads
 use Rattle.matching.proofs.interval.Interval.take.Reads as take-reads
-use Rattle.matching.proofs.interval.pick_undecided.Reads as pick-undecided-reads
-use Rattle.matching.proofs.narrow.Narrowed.interval.Reads as interval-reads
-use Rattle.matching.proofs.narrow.conflict.Reads as conflict-reads
-use Rattle.matching.proofs.narrow.narrow.Reads as narrow-reads
-use Rattle.matching.proofs.solve.can_hold.Reads as can-hold-reads
-use Rattle.matching.proofs.solve.candidate.Reads as candidate-reads
+use Rattle.matching.proofs.interval.has_bit.Reads as has-bit-reads
+use Rattle.matching.proofs.nogoods.add.Reads as add-reads
+use Rattle.matching.proofs.solve.merge.Reads as merge-reads
+use Rattle.matching.proofs.solve.next_step.Reads as next-step-reads
 use Rattle.matching.proofs.solve.+some_solution.{statement}
 use Rattle.matching.proofs.solve.+some_solution.Tie.{close}
 
-abbrev μ-some-solution : Measures 3 some-solution-kinds.ps ℕ
-μ-some-solution κs a = openPairs (a .1 .1 .1 .1 .0 .low) (a .1 .1 .1 .1 .0 .high)
+abbrev μ-some-solution : Measures 6 some-solution-kinds.ps ℕ
+μ-some-solution κs a = openPairs (a .1 .1 .1 .1 .1 .1 .1 .1 .0 .low) (a .1 .1 .1 .1 .1 .1 .1 .1 .0 .high)
 
-abbrev some-solution-at : ℕ → In 3 some-solution-kinds.ps
+abbrev some-solution-at : ℕ → In 6 some-solution-kinds.ps
 some-solution-at t =
-    and 3 some-solution-kinds.ps (is 3 some-solution-kinds.ps μ-some-solution t) some-solution.Pre
+    and 6 some-solution-kinds.ps (is 6 some-solution-kinds.ps μ-some-solution t) some-solution.Pre
 
-abbrev some-solution-below : ℕ → In 3 some-solution-kinds.ps
+abbrev some-solution-below : ℕ → In 6 some-solution-kinds.ps
 some-solution-below t =
     and
-    3
+    6
     some-solution-kinds.ps
-    (falls 3 some-solution-kinds.ps _<_ μ-some-solution t)
+    (falls 6 some-solution-kinds.ps _<_ μ-some-solution t)
     some-solution.Pre
 
--- src/solve.rt:85:8
-some-solution-can-hold-requires : (t : ℕ) → some-solution-lts.Need-can-hold-requires (
-  can-hold-reads.Asked,
-  can-hold-reads.Learnt,
-  candidate-reads.Asked,
-  candidate-reads.Learnt,
-  narrow-reads.Asked,
-  narrow-reads.Learnt,
-  interval-reads.Asked,
-  interval-reads.Learnt,
-  some-solution-below t,
-  some-solution.Post,
-  conflict-reads.Asked,
-  conflict-reads.Learnt,
-  pick-undecided-reads.Asked,
-  pick-undecided-reads.Learnt,
+-- src/solve.rt:309:9
+some-solution-next-step-requires : (t : ℕ) → some-solution-lts.Need-next-step-requires (
+  next-step-reads.Asked,
+  next-step-reads.Learnt,
   take-reads.Asked,
   take-reads.Learnt,
-  leave-reads.Asked,
-  leave-reads.Learnt,
-) (some-solution-at t) some-solution.Post
-some-solution-can-hold-requires t c κs = c .before .before .before .before .pre .1
-
--- src/solve.rt:86:13
-some-solution-candidate-requires : (t : ℕ) → some-solution-lts.Need-candidate-requires (
-  can-hold-reads.Asked,
-  can-hold-reads.Learnt,
-  candidate-reads.Asked,
-  candidate-reads.Learnt,
-  narrow-reads.Asked,
-  narrow-reads.Learnt,
-  interval-reads.Asked,
-  interval-reads.Learnt,
   some-solution-below t,
   some-solution.Post,
-  conflict-reads.Asked,
-  conflict-reads.Learnt,
-  pick-undecided-reads.Asked,
-  pick-undecided-reads.Learnt,
-  take-reads.Asked,
-  take-reads.Learnt,
+  has-bit-reads.Asked,
+  has-bit-reads.Learnt,
   leave-reads.Asked,
   leave-reads.Learnt,
+  merge-reads.Asked,
+  merge-reads.Learnt,
+  add-reads.Asked,
+  add-reads.Learnt,
 ) (some-solution-at t) some-solution.Post
-some-solution-candidate-requires t c κs = (c .before .before .before .before .before .before .pre .1 .0, (c .before .before .before .before .before .before .pre .1 .1, decided-true _ _ (c .before .can-hold .ensures) (c .if1 .taken)))
+some-solution-next-step-requires t c κs = c .before .before .before .before .before .before .before .pre .1
 
--- src/solve.rt:89:13
+-- src/solve.rt:316:9
+some-solution-same-length : (t : ℕ) → some-solution-lts.Need-same-length (
+  next-step-reads.Asked,
+  next-step-reads.Learnt,
+  take-reads.Asked,
+  take-reads.Learnt,
+  some-solution-below t,
+  some-solution.Post,
+  has-bit-reads.Asked,
+  has-bit-reads.Learnt,
+  leave-reads.Asked,
+  leave-reads.Learnt,
+  merge-reads.Asked,
+  merge-reads.Learnt,
+  add-reads.Asked,
+  add-reads.Learnt,
+) (some-solution-at t) some-solution.Post
+some-solution-same-length t c = c .before .before .before .before .before .next-step .ensures .1 .room .long ∙ sym (c .before .before .before .before .before .before .before .before .before .before .before .before .before .pre .1 .1 .1 .1 .room .long)
+
+-- src/solve.rt:316:9
 some-solution-returns : (t : ℕ) → some-solution-lts.Need-returns (
-  can-hold-reads.Asked,
-  can-hold-reads.Learnt,
-  candidate-reads.Asked,
-  candidate-reads.Learnt,
-  narrow-reads.Asked,
-  narrow-reads.Learnt,
-  interval-reads.Asked,
-  interval-reads.Learnt,
-  some-solution-below t,
-  some-solution.Post,
-  conflict-reads.Asked,
-  conflict-reads.Learnt,
-  pick-undecided-reads.Asked,
-  pick-undecided-reads.Learnt,
+  next-step-reads.Asked,
+  next-step-reads.Learnt,
   take-reads.Asked,
   take-reads.Learnt,
-  leave-reads.Asked,
-  leave-reads.Learnt,
-) (some-solution-at t) some-solution.Post
-some-solution-returns t c = offered _ _ _ _ _ (c .before .before .candidate .ensures) (c .if2 .taken)
-
--- src/solve.rt:91:13
-some-solution-narrow-requires : (t : ℕ) → some-solution-lts.Need-narrow-requires (
-  can-hold-reads.Asked,
-  can-hold-reads.Learnt,
-  candidate-reads.Asked,
-  candidate-reads.Learnt,
-  narrow-reads.Asked,
-  narrow-reads.Learnt,
-  interval-reads.Asked,
-  interval-reads.Learnt,
   some-solution-below t,
   some-solution.Post,
-  conflict-reads.Asked,
-  conflict-reads.Learnt,
-  pick-undecided-reads.Asked,
-  pick-undecided-reads.Learnt,
-  take-reads.Asked,
-  take-reads.Learnt,
+  has-bit-reads.Asked,
+  has-bit-reads.Learnt,
   leave-reads.Asked,
   leave-reads.Learnt,
+  merge-reads.Asked,
+  merge-reads.Learnt,
+  add-reads.Asked,
+  add-reads.Learnt,
 ) (some-solution-at t) some-solution.Post
-some-solution-narrow-requires t c κs = c .before .before .before .before .before .before .before .before .before .pre .1
+some-solution-returns t c = (stepped-done _ _ _ (c .before .before .before .before .before .next-step .result .done) (c .before .before .before .before .before .next-step .result .found) _ _ (c .before .before .before .before .before .next-step .result .pair) (c .before .before .before .before .before .next-step .ensures .0) (c .before .before .if1 .taken), c .before .before .before .before .before .next-step .ensures .1)
 
--- src/solve.rt:93:78
-some-solution-interval-requires : (t : ℕ) → some-solution-lts.Need-interval-requires (
-  can-hold-reads.Asked,
-  can-hold-reads.Learnt,
-  candidate-reads.Asked,
-  candidate-reads.Learnt,
-  narrow-reads.Asked,
-  narrow-reads.Learnt,
-  interval-reads.Asked,
-  interval-reads.Learnt,
-  some-solution-below t,
-  some-solution.Post,
-  conflict-reads.Asked,
-  conflict-reads.Learnt,
-  pick-undecided-reads.Asked,
-  pick-undecided-reads.Learnt,
-  take-reads.Asked,
-  take-reads.Learnt,
-  leave-reads.Asked,
-  leave-reads.Learnt,
-) (some-solution-at t) some-solution.Post
-some-solution-interval-requires t c κs = tt
-
--- src/solve.rt:93:13
-some-solution-some-solution-requires : (t : ℕ) → some-solution-lts.Need-some-solution-requires (
-  can-hold-reads.Asked,
-  can-hold-reads.Learnt,
-  candidate-reads.Asked,
-  candidate-reads.Learnt,
-  narrow-reads.Asked,
-  narrow-reads.Learnt,
-  interval-reads.Asked,
-  interval-reads.Learnt,
-  some-solution-below t,
-  some-solution.Post,
-  conflict-reads.Asked,
-  conflict-reads.Learnt,
-  pick-undecided-reads.Asked,
-  pick-undecided-reads.Learnt,
-  take-reads.Asked,
-  take-reads.Learnt,
-  leave-reads.Asked,
-  leave-reads.Learnt,
-) (some-solution-at t) some-solution.Post
-some-solution-some-solution-requires t c κs =
-    let n = anew _ _ _ _ _ _ _ (c .before .before .narrow .result .changed) (c .before .before .narrow .ensures) (c .interval .ensures) in
-    (subst (λ (z : ℕ). openPairs (c .interval .result .low) (c .interval .result .high) < z) (c .before .before .before .before .before .before .before .before .before .before .before .before .pre .0) (n .fewer (c .before .if3 .taken)), (c .before .before .before .before .before .before .before .before .before .before .before .before .pre .1 .0, n .interval))
-
--- src/solve.rt:93:13
-some-solution-returns-2 : (t : ℕ) → some-solution-lts.Need-returns-2 (
-  can-hold-reads.Asked,
-  can-hold-reads.Learnt,
-  candidate-reads.Asked,
-  candidate-reads.Learnt,
-  narrow-reads.Asked,
-  narrow-reads.Learnt,
-  interval-reads.Asked,
-  interval-reads.Learnt,
-  some-solution-below t,
-  some-solution.Post,
-  conflict-reads.Asked,
-  conflict-reads.Learnt,
-  pick-undecided-reads.Asked,
-  pick-undecided-reads.Learnt,
-  take-reads.Asked,
-  take-reads.Learnt,
-  leave-reads.Asked,
-  leave-reads.Learnt,
-) (some-solution-at t) some-solution.Post
-some-solution-returns-2 t c = narrower-answers _ _ _ _ _ _ (anew _ _ _ _ _ _ _ (c .before .before .before .narrow .result .changed) (c .before .before .before .narrow .ensures) (c .before .interval .ensures)) (c .some-solution .result .found) _ (c .some-solution .ensures)
-
--- src/solve.rt:95:13
-some-solution-conflict-requires : (t : ℕ) → some-solution-lts.Need-conflict-requires (
-  can-hold-reads.Asked,
-  can-hold-reads.Learnt,
-  candidate-reads.Asked,
-  candidate-reads.Learnt,
-  narrow-reads.Asked,
-  narrow-reads.Learnt,
-  interval-reads.Asked,
-  interval-reads.Learnt,
-  some-solution-below t,
-  some-solution.Post,
-  conflict-reads.Asked,
-  conflict-reads.Learnt,
-  pick-undecided-reads.Asked,
-  pick-undecided-reads.Learnt,
-  take-reads.Asked,
-  take-reads.Learnt,
-  leave-reads.Asked,
-  leave-reads.Learnt,
-) (some-solution-at t) some-solution.Post
-some-solution-conflict-requires t c κs =
-    let o = not-offered _ _ _ _ _ (c .before .before .before .before .candidate .ensures) (c .before .before .if2 .left) in
-    (c .before .before .before .before .before .before .before .before .before .before .before .pre .1 .0, (c .before .before .before .before .before .before .before .before .before .before .before .pre .1 .1, (o .long, o .between)))
-
--- src/solve.rt:96:13
-some-solution-pick-undecided-requires : (t : ℕ) → some-solution-lts.Need-pick-undecided-requires (
-  can-hold-reads.Asked,
-  can-hold-reads.Learnt,
-  candidate-reads.Asked,
-  candidate-reads.Learnt,
-  narrow-reads.Asked,
-  narrow-reads.Learnt,
-  interval-reads.Asked,
-  interval-reads.Learnt,
-  some-solution-below t,
-  some-solution.Post,
-  conflict-reads.Asked,
-  conflict-reads.Learnt,
-  pick-undecided-reads.Asked,
-  pick-undecided-reads.Learnt,
-  take-reads.Asked,
-  take-reads.Learnt,
-  leave-reads.Asked,
-  leave-reads.Learnt,
-) (some-solution-at t) some-solution.Post
-some-solution-pick-undecided-requires t c κs = tt
-
--- src/solve.rt:97:22
-some-solution-enum-known-pick : (t : ℕ) → some-solution-lts.Need-enum-known-pick (
-  can-hold-reads.Asked,
-  can-hold-reads.Learnt,
-  candidate-reads.Asked,
-  candidate-reads.Learnt,
-  narrow-reads.Asked,
-  narrow-reads.Learnt,
-  interval-reads.Asked,
-  interval-reads.Learnt,
-  some-solution-below t,
-  some-solution.Post,
-  conflict-reads.Asked,
-  conflict-reads.Learnt,
-  pick-undecided-reads.Asked,
-  pick-undecided-reads.Learnt,
-  take-reads.Asked,
-  take-reads.Learnt,
-  leave-reads.Asked,
-  leave-reads.Learnt,
-) (some-solution-at t) some-solution.Post
-some-solution-enum-known-pick t c = search needs
-
--- src/solve.rt:98:13
-some-solution-enum-told : (t : ℕ) → some-solution-lts.Need-enum-told (
-  can-hold-reads.Asked,
-  can-hold-reads.Learnt,
-  candidate-reads.Asked,
-  candidate-reads.Learnt,
-  narrow-reads.Asked,
-  narrow-reads.Learnt,
-  interval-reads.Asked,
-  interval-reads.Learnt,
-  some-solution-below t,
-  some-solution.Post,
-  conflict-reads.Asked,
-  conflict-reads.Learnt,
-  pick-undecided-reads.Asked,
-  pick-undecided-reads.Learnt,
-  take-reads.Asked,
-  take-reads.Learnt,
-  leave-reads.Asked,
-  leave-reads.Learnt,
-) (some-solution-at t) some-solution.Post
-some-solution-enum-told t c = search needs
-
--- src/solve.rt:98:13
-some-solution-returns-3 : (t : ℕ) → some-solution-lts.Need-returns-3 (
-  can-hold-reads.Asked,
-  can-hold-reads.Learnt,
-  candidate-reads.Asked,
-  candidate-reads.Learnt,
-  narrow-reads.Asked,
-  narrow-reads.Learnt,
-  interval-reads.Asked,
-  interval-reads.Learnt,
-  some-solution-below t,
-  some-solution.Post,
-  conflict-reads.Asked,
-  conflict-reads.Learnt,
-  pick-undecided-reads.Asked,
-  pick-undecided-reads.Learnt,
-  take-reads.Asked,
-  take-reads.Learnt,
-  leave-reads.Asked,
-  leave-reads.Learnt,
-) (some-solution-at t) some-solution.Post
-some-solution-returns-3 t c = all-decided _ (c .before .before .before .before .before .before .before .before .before .before .before .before .before .before .before .pre .1 .0) _ _ (c .before .before .before .before .before .before .before .before .before .before .before .before .before .before .before .pre .1 .1) (decided-true _ _ (c .before .before .before .before .before .before .before .before .before .before .can-hold .ensures) (c .before .before .before .before .before .before .before .before .before .if1 .taken)) (picked-none _ _ _ (c .before .before .pick-undecided .ensures) (c .enum-told .given .1))
-
--- src/solve.rt:100:13
+-- src/solve.rt:320:9
 some-solution-take-requires : (t : ℕ) → some-solution-lts.Need-take-requires (
-  can-hold-reads.Asked,
-  can-hold-reads.Learnt,
-  candidate-reads.Asked,
-  candidate-reads.Learnt,
-  narrow-reads.Asked,
-  narrow-reads.Learnt,
-  interval-reads.Asked,
-  interval-reads.Learnt,
-  some-solution-below t,
-  some-solution.Post,
-  conflict-reads.Asked,
-  conflict-reads.Learnt,
-  pick-undecided-reads.Asked,
-  pick-undecided-reads.Learnt,
+  next-step-reads.Asked,
+  next-step-reads.Learnt,
   take-reads.Asked,
   take-reads.Learnt,
-  leave-reads.Asked,
-  leave-reads.Learnt,
-) (some-solution-at t) some-solution.Post
-some-solution-take-requires t c κs =
-    let u = picked-at _ _ _ _ (c .before .before .before .pick-undecided .ensures) (c .before .pick .given .1) in
-    (c .before .before .before .before .before .before .before .before .before .before .before .before .before .before .before .before .pre .1 .1 .low-long, (omega (arith, u .0), omega arith))
-
--- src/solve.rt:101:13
-some-solution-some-solution-requires-2 : (t : ℕ) → some-solution-lts.Need-some-solution-requires-2 (
-  can-hold-reads.Asked,
-  can-hold-reads.Learnt,
-  candidate-reads.Asked,
-  candidate-reads.Learnt,
-  narrow-reads.Asked,
-  narrow-reads.Learnt,
-  interval-reads.Asked,
-  interval-reads.Learnt,
   some-solution-below t,
   some-solution.Post,
-  conflict-reads.Asked,
-  conflict-reads.Learnt,
-  pick-undecided-reads.Asked,
-  pick-undecided-reads.Learnt,
-  take-reads.Asked,
-  take-reads.Learnt,
+  has-bit-reads.Asked,
+  has-bit-reads.Learnt,
   leave-reads.Asked,
   leave-reads.Learnt,
+  merge-reads.Asked,
+  merge-reads.Learnt,
+  add-reads.Asked,
+  add-reads.Learnt,
 ) (some-solution-at t) some-solution.Post
-some-solution-some-solution-requires-2 t c κs =
-    let u = picked-at _ _ _ _ (c .before .before .before .before .pick-undecided .ensures) (c .before .before .pick .given .1) in (
-      subst (λ (z : ℕ). openPairs (c .take .result .low) (c .take .result .high) < z) (c .before .before .before .before .before .before .before .before .before .before .before .before .before .before .before .before .before .pre .0) (take-less _ (c .before .before .before .before .before .before .before .before .before .before .before .before .before .before .before .before .before .pre .1 .0) _ _ (c .before .before .before .before .before .before .before .before .before .before .before .before .before .before .before .before .before .pre .1 .1) _ (u .1) _ _ (c .take .ensures .0) (c .take .ensures .1) (u .0)),
-      (c .before .before .before .before .before .before .before .before .before .before .before .before .before .before .before .before .before .pre .1 .0, take-keeps _ (c .before .before .before .before .before .before .before .before .before .before .before .before .before .before .before .before .before .pre .1 .0) _ _ (c .before .before .before .before .before .before .before .before .before .before .before .before .before .before .before .before .before .pre .1 .1) _ (u .1) _ _ (c .take .ensures .0) (c .take .ensures .1)),
-    )
+some-solution-take-requires t c κs = let u = (stepped-split _ _ _ (c .before .before .before .before .before .next-step .result .done) (c .before .before .before .before .before .next-step .result .found) _ _ _ (c .before .before .before .before .before .next-step .ensures .0) (c .before .before .if1 .left)) in (c .before .before .before .before .before .before .before .before .before .before .before .before .before .pre .1 .1 .0 .low-long, (omega (arith, u .0), omega arith))
 
--- src/solve.rt:103:13
-some-solution-returns-4 : (t : ℕ) → some-solution-lts.Need-returns-4 (
-  can-hold-reads.Asked,
-  can-hold-reads.Learnt,
-  candidate-reads.Asked,
-  candidate-reads.Learnt,
-  narrow-reads.Asked,
-  narrow-reads.Learnt,
-  interval-reads.Asked,
-  interval-reads.Learnt,
+-- src/solve.rt:321:9
+some-solution-some-solution-requires : (t : ℕ) → some-solution-lts.Need-some-solution-requires (
+  next-step-reads.Asked,
+  next-step-reads.Learnt,
+  take-reads.Asked,
+  take-reads.Learnt,
   some-solution-below t,
   some-solution.Post,
-  conflict-reads.Asked,
-  conflict-reads.Learnt,
-  pick-undecided-reads.Asked,
-  pick-undecided-reads.Learnt,
-  take-reads.Asked,
-  take-reads.Learnt,
+  has-bit-reads.Asked,
+  has-bit-reads.Learnt,
   leave-reads.Asked,
   leave-reads.Learnt,
+  merge-reads.Asked,
+  merge-reads.Learnt,
+  add-reads.Asked,
+  add-reads.Learnt,
 ) (some-solution-at t) some-solution.Post
-some-solution-returns-4 t c =
-    let u = picked-at _ _ _ _ (c .before .before .before .before .before .before .pick-undecided .ensures) (c .before .before .before .before .pick .given .1) in
-    with-found _ (c .before .before .before .before .before .before .before .before .before .before .before .before .before .before .before .before .before .before .before .pre .1 .0) _ _ (c .before .before .before .before .before .before .before .before .before .before .before .before .before .before .before .before .before .before .before .pre .1 .1) _ (u .1) _ _ (c .before .before .take .ensures .0) (c .before .before .take .ensures .1) _ _ (c .before .some-solution2 .ensures) (c .if4 .taken)
+some-solution-some-solution-requires t c κs = let u = (stepped-split _ _ _ (c .before .before .before .before .before .before .before .next-step .result .done) (c .before .before .before .before .before .before .before .next-step .result .found) _ _ _ (c .before .before .before .before .before .before .before .next-step .ensures .0) (c .before .before .before .before .if1 .left)) in (subst (λ (z : ℕ). openPairs (c .before .take .result .low) (c .before .take .result .high) < z) (c .before .before .before .before .before .before .before .before .before .before .before .before .before .before .before .pre .0) (take-less _ (c .before .before .before .before .before .before .before .before .before .before .before .before .before .before .before .pre .1 .0 .passed) _ _ (c .before .before .before .before .before .before .before .before .before .before .before .before .before .before .before .pre .1 .1 .0) _ (u .1) _ _ (c .before .take .ensures .0) (c .before .take .ensures .1) (u .0)), (c .before .before .before .before .before .before .before .before .before .before .before .before .before .before .before .pre .1 .0, (take-keeps _ (c .before .before .before .before .before .before .before .before .before .before .before .before .before .before .before .pre .1 .0 .passed) _ _ (c .before .before .before .before .before .before .before .before .before .before .before .before .before .before .before .pre .1 .1 .0) _ (u .1) _ _ (c .before .take .ensures .0) (c .before .take .ensures .1), (same-high _ _ _ _ (c .before .take .ensures .0) (c .before .before .before .before .before .before .before .before .before .before .before .before .before .before .before .pre .1 .1 .1 .0), c .before .before .before .before .before .before .before .next-step .ensures .1))))
 
--- src/solve.rt:105:13
+-- src/solve.rt:325:30
+some-solution-mul-has-bit : (t : ℕ) → some-solution-lts.Need-mul-has-bit (
+  next-step-reads.Asked,
+  next-step-reads.Learnt,
+  take-reads.Asked,
+  take-reads.Learnt,
+  some-solution-below t,
+  some-solution.Post,
+  has-bit-reads.Asked,
+  has-bit-reads.Learnt,
+  leave-reads.Asked,
+  leave-reads.Learnt,
+  merge-reads.Asked,
+  merge-reads.Learnt,
+  add-reads.Asked,
+  add-reads.Learnt,
+) (some-solution-at t) some-solution.Post
+some-solution-mul-has-bit t c = let u = (stepped-split _ _ _ (c .before .before .before .before .before .before .before .before .before .before .before .next-step .result .done) (c .before .before .before .before .before .before .before .before .before .before .before .next-step .result .found) _ _ _ (c .before .before .before .before .before .before .before .before .before .before .before .next-step .ensures .0) (c .before .before .before .before .before .before .before .before .if1 .left)) in omega (arith, u .0)
+
+-- src/solve.rt:325:30
+some-solution-array-read-has-bit : (t : ℕ) → some-solution-lts.Need-array-read-has-bit (
+  next-step-reads.Asked,
+  next-step-reads.Learnt,
+  take-reads.Asked,
+  take-reads.Learnt,
+  some-solution-below t,
+  some-solution.Post,
+  has-bit-reads.Asked,
+  has-bit-reads.Learnt,
+  leave-reads.Asked,
+  leave-reads.Learnt,
+  merge-reads.Asked,
+  merge-reads.Learnt,
+  add-reads.Asked,
+  add-reads.Learnt,
+) (some-solution-at t) some-solution.Post
+some-solution-array-read-has-bit t c = let u = (stepped-split _ _ _ (c .before .before .before .before .before .before .before .before .before .before .before .next-step .result .done) (c .before .before .before .before .before .before .before .before .before .before .before .next-step .result .found) _ _ _ (c .before .before .before .before .before .before .before .before .before .before .before .next-step .ensures .0) (c .before .before .before .before .before .before .before .before .if1 .left)) in omega (arith, u .0)
+
+-- src/solve.rt:325:22
+some-solution-has-bit-requires : (t : ℕ) → some-solution-lts.Need-has-bit-requires (
+  next-step-reads.Asked,
+  next-step-reads.Learnt,
+  take-reads.Asked,
+  take-reads.Learnt,
+  some-solution-below t,
+  some-solution.Post,
+  has-bit-reads.Asked,
+  has-bit-reads.Learnt,
+  leave-reads.Asked,
+  leave-reads.Learnt,
+  merge-reads.Asked,
+  merge-reads.Learnt,
+  add-reads.Asked,
+  add-reads.Learnt,
+) (some-solution-at t) some-solution.Post
+some-solution-has-bit-requires t c κs = omega arith
+
+-- src/solve.rt:326:9
+some-solution-same-length-2 : (t : ℕ) → some-solution-lts.Need-same-length-2 (
+  next-step-reads.Asked,
+  next-step-reads.Learnt,
+  take-reads.Asked,
+  take-reads.Learnt,
+  some-solution-below t,
+  some-solution.Post,
+  has-bit-reads.Asked,
+  has-bit-reads.Learnt,
+  leave-reads.Asked,
+  leave-reads.Learnt,
+  merge-reads.Asked,
+  merge-reads.Learnt,
+  add-reads.Asked,
+  add-reads.Learnt,
+) (some-solution-at t) some-solution.Post
+some-solution-same-length-2 t c = c .before .before .before .before .before .before .some-solution .ensures .1 .room .long ∙ sym (c .before .before .before .before .before .before .before .before .before .before .before .before .before .before .before .before .before .before .before .before .before .before .pre .1 .1 .1 .1 .room .long)
+
+-- src/solve.rt:326:9
+some-solution-returns-2 : (t : ℕ) → some-solution-lts.Need-returns-2 (
+  next-step-reads.Asked,
+  next-step-reads.Learnt,
+  take-reads.Asked,
+  take-reads.Learnt,
+  some-solution-below t,
+  some-solution.Post,
+  has-bit-reads.Asked,
+  has-bit-reads.Learnt,
+  leave-reads.Asked,
+  leave-reads.Learnt,
+  merge-reads.Asked,
+  merge-reads.Learnt,
+  add-reads.Asked,
+  add-reads.Learnt,
+) (some-solution-at t) some-solution.Post
+some-solution-returns-2 t c = let u = (stepped-split _ _ _ (c .before .before .before .before .before .before .before .before .before .before .before .before .before .before .next-step .result .done) (c .before .before .before .before .before .before .before .before .before .before .before .before .before .before .next-step .result .found) _ _ _ (c .before .before .before .before .before .before .before .before .before .before .before .before .before .before .next-step .ensures .0) (c .before .before .before .before .before .before .before .before .before .before .before .if1 .left)) in (with-answers _ (c .before .before .before .before .before .before .before .before .before .before .before .before .before .before .before .before .before .before .before .before .before .before .pre .1 .0 .passed) _ _ (c .before .before .before .before .before .before .before .before .before .before .before .before .before .before .before .before .before .before .before .before .before .before .pre .1 .1 .0) _ (u .1) _ _ (c .before .before .before .before .before .before .before .before .take .ensures .0) (c .before .before .before .before .before .before .before .before .take .ensures .1) (c .before .before .before .before .before .before .some-solution .result .found) (c .before .before .has-bit .result) _ _ (c .before .before .before .before .before .before .some-solution .ensures .0) (c .before .before .has-bit .ensures) (c .if2 .taken), c .before .before .before .before .before .before .some-solution .ensures .1)
+
+-- src/solve.rt:328:9
 some-solution-leave-requires : (t : ℕ) → some-solution-lts.Need-leave-requires (
-  can-hold-reads.Asked,
-  can-hold-reads.Learnt,
-  candidate-reads.Asked,
-  candidate-reads.Learnt,
-  narrow-reads.Asked,
-  narrow-reads.Learnt,
-  interval-reads.Asked,
-  interval-reads.Learnt,
-  some-solution-below t,
-  some-solution.Post,
-  conflict-reads.Asked,
-  conflict-reads.Learnt,
-  pick-undecided-reads.Asked,
-  pick-undecided-reads.Learnt,
+  next-step-reads.Asked,
+  next-step-reads.Learnt,
   take-reads.Asked,
   take-reads.Learnt,
+  some-solution-below t,
+  some-solution.Post,
+  has-bit-reads.Asked,
+  has-bit-reads.Learnt,
   leave-reads.Asked,
   leave-reads.Learnt,
+  merge-reads.Asked,
+  merge-reads.Learnt,
+  add-reads.Asked,
+  add-reads.Learnt,
 ) (some-solution-at t) some-solution.Post
-some-solution-leave-requires t c κs =
-    let u = picked-at _ _ _ _ (c .before .before .before .before .before .before .pick-undecided .ensures) (c .before .before .before .before .pick .given .1) in
-    (c .before .before .before .before .before .before .before .before .before .before .before .before .before .before .before .before .before .before .before .pre .1 .1 .high-long, ((omega (arith, u .0), omega arith), open-high _ _ _ (u .1)))
+some-solution-leave-requires t c κs = let u = (stepped-split _ _ _ (c .before .before .before .before .before .before .before .before .before .before .before .before .before .before .next-step .result .done) (c .before .before .before .before .before .before .before .before .before .before .before .before .before .before .next-step .result .found) _ _ _ (c .before .before .before .before .before .before .before .before .before .before .before .before .before .before .next-step .ensures .0) (c .before .before .before .before .before .before .before .before .before .before .before .if1 .left)) in (c .before .before .before .before .before .before .before .before .before .before .before .before .before .before .before .before .before .before .before .before .before .before .pre .1 .1 .0 .high-long, ((omega (arith, u .0), omega arith), open-high _ _ _ (u .1)))
 
--- src/solve.rt:106:9
-some-solution-some-solution-requires-3 : (t : ℕ) → some-solution-lts.Need-some-solution-requires-3 (
-  can-hold-reads.Asked,
-  can-hold-reads.Learnt,
-  candidate-reads.Asked,
-  candidate-reads.Learnt,
-  narrow-reads.Asked,
-  narrow-reads.Learnt,
-  interval-reads.Asked,
-  interval-reads.Learnt,
-  some-solution-below t,
-  some-solution.Post,
-  conflict-reads.Asked,
-  conflict-reads.Learnt,
-  pick-undecided-reads.Asked,
-  pick-undecided-reads.Learnt,
+-- src/solve.rt:329:9
+some-solution-some-solution-requires-2 : (t : ℕ) → some-solution-lts.Need-some-solution-requires-2 (
+  next-step-reads.Asked,
+  next-step-reads.Learnt,
   take-reads.Asked,
   take-reads.Learnt,
+  some-solution-below t,
+  some-solution.Post,
+  has-bit-reads.Asked,
+  has-bit-reads.Learnt,
   leave-reads.Asked,
   leave-reads.Learnt,
+  merge-reads.Asked,
+  merge-reads.Learnt,
+  add-reads.Asked,
+  add-reads.Learnt,
 ) (some-solution-at t) some-solution.Post
-some-solution-some-solution-requires-3 t c κs =
-    let u = picked-at _ _ _ _ (c .before .before .before .before .before .before .before .pick-undecided .ensures) (c .before .before .before .before .before .pick .given .1) in (
-      subst (λ (z : ℕ). openPairs (c .leave .result .low) (c .leave .result .high) < z) (c .before .before .before .before .before .before .before .before .before .before .before .before .before .before .before .before .before .before .before .before .pre .0) (leave-less _ (c .before .before .before .before .before .before .before .before .before .before .before .before .before .before .before .before .before .before .before .before .pre .1 .0) _ _ (c .before .before .before .before .before .before .before .before .before .before .before .before .before .before .before .before .before .before .before .before .pre .1 .1) _ (u .1) _ _ (c .leave .ensures .0) (c .leave .ensures .1) (u .0)),
-      (c .before .before .before .before .before .before .before .before .before .before .before .before .before .before .before .before .before .before .before .before .pre .1 .0, leave-keeps _ (c .before .before .before .before .before .before .before .before .before .before .before .before .before .before .before .before .before .before .before .before .pre .1 .0) _ _ (c .before .before .before .before .before .before .before .before .before .before .before .before .before .before .before .before .before .before .before .before .pre .1 .1) _ (u .1) _ _ (c .leave .ensures .0) (c .leave .ensures .1)),
-    )
+some-solution-some-solution-requires-2 t c κs = let u = (stepped-split _ _ _ (c .before .before .before .before .before .before .before .before .before .before .before .before .before .before .before .before .next-step .result .done) (c .before .before .before .before .before .before .before .before .before .before .before .before .before .before .before .before .next-step .result .found) _ _ _ (c .before .before .before .before .before .before .before .before .before .before .before .before .before .before .before .before .next-step .ensures .0) (c .before .before .before .before .before .before .before .before .before .before .before .before .before .if1 .left)) in (subst (λ (z : ℕ). openPairs (c .before .leave .result .low) (c .before .leave .result .high) < z) (c .before .before .before .before .before .before .before .before .before .before .before .before .before .before .before .before .before .before .before .before .before .before .before .before .pre .0) (leave-less _ (c .before .before .before .before .before .before .before .before .before .before .before .before .before .before .before .before .before .before .before .before .before .before .before .before .pre .1 .0 .passed) _ _ (c .before .before .before .before .before .before .before .before .before .before .before .before .before .before .before .before .before .before .before .before .before .before .before .before .pre .1 .1 .0) _ (u .1) _ _ (c .before .leave .ensures .0) (c .before .leave .ensures .1) (u .0)), (c .before .before .before .before .before .before .before .before .before .before .before .before .before .before .before .before .before .before .before .before .before .before .before .before .pre .1 .0, (leave-keeps _ (c .before .before .before .before .before .before .before .before .before .before .before .before .before .before .before .before .before .before .before .before .before .before .before .before .pre .1 .0 .passed) _ _ (c .before .before .before .before .before .before .before .before .before .before .before .before .before .before .before .before .before .before .before .before .before .before .before .before .pre .1 .1 .0) _ (u .1) _ _ (c .before .leave .ensures .0) (c .before .leave .ensures .1), (less-high _ _ _ _ _ _ (c .before .leave .ensures .1) (c .before .before .before .before .before .before .before .before .before .before .before .before .before .before .before .before .before .before .before .before .before .before .before .before .pre .1 .1 .1 .0), c .before .before .before .before .before .before .before .before .some-solution .ensures .1))))
 
--- src/solve.rt:106:9
-some-solution-returns-5 : (t : ℕ) → some-solution-lts.Need-returns-5 (
-  can-hold-reads.Asked,
-  can-hold-reads.Learnt,
-  candidate-reads.Asked,
-  candidate-reads.Learnt,
-  narrow-reads.Asked,
-  narrow-reads.Learnt,
-  interval-reads.Asked,
-  interval-reads.Learnt,
-  some-solution-below t,
-  some-solution.Post,
-  conflict-reads.Asked,
-  conflict-reads.Learnt,
-  pick-undecided-reads.Asked,
-  pick-undecided-reads.Learnt,
+-- src/solve.rt:333:32
+some-solution-mul-has-bit-2 : (t : ℕ) → some-solution-lts.Need-mul-has-bit-2 (
+  next-step-reads.Asked,
+  next-step-reads.Learnt,
   take-reads.Asked,
   take-reads.Learnt,
+  some-solution-below t,
+  some-solution.Post,
+  has-bit-reads.Asked,
+  has-bit-reads.Learnt,
   leave-reads.Asked,
   leave-reads.Learnt,
+  merge-reads.Asked,
+  merge-reads.Learnt,
+  add-reads.Asked,
+  add-reads.Learnt,
 ) (some-solution-at t) some-solution.Post
-some-solution-returns-5 t c =
-    let u = picked-at _ _ _ _ (c .before .before .before .before .before .before .before .before .pick-undecided .ensures) (c .before .before .before .before .before .before .pick .given .1) in
-    without-answers _ (c .before .before .before .before .before .before .before .before .before .before .before .before .before .before .before .before .before .before .before .before .before .pre .1 .0) _ _ (c .before .before .before .before .before .before .before .before .before .before .before .before .before .before .before .before .before .before .before .before .before .pre .1 .1) _ (u .1) _ _ (c .before .before .before .before .take .ensures .0) (c .before .before .before .before .take .ensures .1) _ _ (c .before .before .before .some-solution2 .ensures) (c .before .before .if4 .left) _ _ (c .before .leave .ensures .0) (c .before .leave .ensures .1) (c .some-solution3 .result .found) _ (c .some-solution3 .ensures)
+some-solution-mul-has-bit-2 t c = let u = (stepped-split _ _ _ (c .before .before .before .before .before .before .before .before .before .before .before .before .before .before .before .before .before .before .before .before .next-step .result .done) (c .before .before .before .before .before .before .before .before .before .before .before .before .before .before .before .before .before .before .before .before .next-step .result .found) _ _ _ (c .before .before .before .before .before .before .before .before .before .before .before .before .before .before .before .before .before .before .before .before .next-step .ensures .0) (c .before .before .before .before .before .before .before .before .before .before .before .before .before .before .before .before .before .if1 .left)) in omega (arith, u .0)
 
--- src/solve.rt:73:1
-some-solution-returns-6 : (t : ℕ) → some-solution-lts.Need-returns-6 (
-  can-hold-reads.Asked,
-  can-hold-reads.Learnt,
-  candidate-reads.Asked,
-  candidate-reads.Learnt,
-  narrow-reads.Asked,
-  narrow-reads.Learnt,
-  interval-reads.Asked,
-  interval-reads.Learnt,
-  some-solution-below t,
-  some-solution.Post,
-  conflict-reads.Asked,
-  conflict-reads.Learnt,
-  pick-undecided-reads.Asked,
-  pick-undecided-reads.Learnt,
+-- src/solve.rt:333:32
+some-solution-array-read-has-bit-2 : (t : ℕ) → some-solution-lts.Need-array-read-has-bit-2 (
+  next-step-reads.Asked,
+  next-step-reads.Learnt,
   take-reads.Asked,
   take-reads.Learnt,
+  some-solution-below t,
+  some-solution.Post,
+  has-bit-reads.Asked,
+  has-bit-reads.Learnt,
   leave-reads.Asked,
   leave-reads.Learnt,
+  merge-reads.Asked,
+  merge-reads.Learnt,
+  add-reads.Asked,
+  add-reads.Learnt,
 ) (some-solution-at t) some-solution.Post
-some-solution-returns-6 t c = impossible _ (c .before .before .before .before .before .before .pre .1 .0) _ _ (decided-false _ _ (c .before .can-hold .ensures) (c .if1 .left))
+some-solution-array-read-has-bit-2 t c = let u = (stepped-split _ _ _ (c .before .before .before .before .before .before .before .before .before .before .before .before .before .before .before .before .before .before .before .before .next-step .result .done) (c .before .before .before .before .before .before .before .before .before .before .before .before .before .before .before .before .before .before .before .before .next-step .result .found) _ _ _ (c .before .before .before .before .before .before .before .before .before .before .before .before .before .before .before .before .before .before .before .before .next-step .ensures .0) (c .before .before .before .before .before .before .before .before .before .before .before .before .before .before .before .before .before .if1 .left)) in omega (arith, u .0)
+
+-- src/solve.rt:333:24
+some-solution-has-bit-requires-2 : (t : ℕ) → some-solution-lts.Need-has-bit-requires-2 (
+  next-step-reads.Asked,
+  next-step-reads.Learnt,
+  take-reads.Asked,
+  take-reads.Learnt,
+  some-solution-below t,
+  some-solution.Post,
+  has-bit-reads.Asked,
+  has-bit-reads.Learnt,
+  leave-reads.Asked,
+  leave-reads.Learnt,
+  merge-reads.Asked,
+  merge-reads.Learnt,
+  add-reads.Asked,
+  add-reads.Learnt,
+) (some-solution-at t) some-solution.Post
+some-solution-has-bit-requires-2 t c κs = omega arith
+
+-- src/solve.rt:334:9
+some-solution-same-length-3 : (t : ℕ) → some-solution-lts.Need-same-length-3 (
+  next-step-reads.Asked,
+  next-step-reads.Learnt,
+  take-reads.Asked,
+  take-reads.Learnt,
+  some-solution-below t,
+  some-solution.Post,
+  has-bit-reads.Asked,
+  has-bit-reads.Learnt,
+  leave-reads.Asked,
+  leave-reads.Learnt,
+  merge-reads.Asked,
+  merge-reads.Learnt,
+  add-reads.Asked,
+  add-reads.Learnt,
+) (some-solution-at t) some-solution.Post
+some-solution-same-length-3 t c = c .before .before .before .before .before .before .some-solution2 .ensures .1 .room .long ∙ sym (c .before .before .before .before .before .before .before .before .before .before .before .before .before .before .before .before .before .before .before .before .before .before .before .before .before .before .before .before .before .before .before .pre .1 .1 .1 .1 .room .long)
+
+-- src/solve.rt:334:9
+some-solution-returns-3 : (t : ℕ) → some-solution-lts.Need-returns-3 (
+  next-step-reads.Asked,
+  next-step-reads.Learnt,
+  take-reads.Asked,
+  take-reads.Learnt,
+  some-solution-below t,
+  some-solution.Post,
+  has-bit-reads.Asked,
+  has-bit-reads.Learnt,
+  leave-reads.Asked,
+  leave-reads.Learnt,
+  merge-reads.Asked,
+  merge-reads.Learnt,
+  add-reads.Asked,
+  add-reads.Learnt,
+) (some-solution-at t) some-solution.Post
+some-solution-returns-3 t c = let u = (stepped-split _ _ _ (c .before .before .before .before .before .before .before .before .before .before .before .before .before .before .before .before .before .before .before .before .before .before .before .next-step .result .done) (c .before .before .before .before .before .before .before .before .before .before .before .before .before .before .before .before .before .before .before .before .before .before .before .next-step .result .found) _ _ _ (c .before .before .before .before .before .before .before .before .before .before .before .before .before .before .before .before .before .before .before .before .before .before .before .next-step .ensures .0) (c .before .before .before .before .before .before .before .before .before .before .before .before .before .before .before .before .before .before .before .before .if1 .left)) in (without-answers _ (c .before .before .before .before .before .before .before .before .before .before .before .before .before .before .before .before .before .before .before .before .before .before .before .before .before .before .before .before .before .before .before .pre .1 .0 .passed) _ _ (c .before .before .before .before .before .before .before .before .before .before .before .before .before .before .before .before .before .before .before .before .before .before .before .before .before .before .before .before .before .before .before .pre .1 .1 .0) _ (u .1) _ _ (c .before .before .before .before .before .before .before .before .leave .ensures .0) (c .before .before .before .before .before .before .before .before .leave .ensures .1) (c .before .before .before .before .before .before .some-solution2 .result .found) (c .before .before .has-bit2 .result) _ _ (c .before .before .before .before .before .before .some-solution2 .ensures .0) (c .before .before .has-bit2 .ensures) (c .if3 .taken), c .before .before .before .before .before .before .some-solution2 .ensures .1)
+
+-- src/solve.rt:336:9
+some-solution-merge-requires : (t : ℕ) → some-solution-lts.Need-merge-requires (
+  next-step-reads.Asked,
+  next-step-reads.Learnt,
+  take-reads.Asked,
+  take-reads.Learnt,
+  some-solution-below t,
+  some-solution.Post,
+  has-bit-reads.Asked,
+  has-bit-reads.Learnt,
+  leave-reads.Asked,
+  leave-reads.Learnt,
+  merge-reads.Asked,
+  merge-reads.Learnt,
+  add-reads.Asked,
+  add-reads.Learnt,
+) (some-solution-at t) some-solution.Post
+some-solution-merge-requires t c κs = let u = (stepped-split _ _ _ (c .before .before .before .before .before .before .before .before .before .before .before .before .before .before .before .before .before .before .before .before .before .before .before .next-step .result .done) (c .before .before .before .before .before .before .before .before .before .before .before .before .before .before .before .before .before .before .before .before .before .before .before .next-step .result .found) _ _ _ (c .before .before .before .before .before .before .before .before .before .before .before .before .before .before .before .before .before .before .before .before .before .before .before .next-step .ensures .0) (c .before .before .before .before .before .before .before .before .before .before .before .before .before .before .before .before .before .before .before .before .if1 .left)) in let a = (answers-none _ _ _ (c .before .before .before .before .before .before .before .before .before .before .before .before .before .before .before .some-solution .result .found) _ _ (c .before .before .before .before .before .before .before .before .before .before .before .before .before .before .before .some-solution .ensures .0) (or-none _ _ (c .before .before .before .before .before .before .before .before .before .if2 .left) .0)) in let b = (answers-none _ _ _ (c .before .before .before .before .before .before .some-solution2 .result .found) _ _ (c .before .before .before .before .before .before .some-solution2 .ensures .0) (or-none _ _ (c .if3 .left) .0)) in ((a .low-long, a .high-long), ((b .low-long, b .high-long), ((omega (arith, u .0), omega arith), sym (c .before .before .before .before .before .before .before .before .before .before .before .has-bit .ensures) ∙ not-false (c .before .before .before .before .before .before .before .before .before .before .before .has-bit .result) (or-none (c .before .before .before .before .before .before .before .before .before .before .before .before .before .before .before .some-solution .result .found) (not (c .before .before .before .before .before .before .before .before .before .before .before .has-bit .result)) (c .before .before .before .before .before .before .before .before .before .if2 .left) .1))))
+
+-- src/solve.rt:339:5
+some-solution-add-requires : (t : ℕ) → some-solution-lts.Need-add-requires (
+  next-step-reads.Asked,
+  next-step-reads.Learnt,
+  take-reads.Asked,
+  take-reads.Learnt,
+  some-solution-below t,
+  some-solution.Post,
+  has-bit-reads.Asked,
+  has-bit-reads.Learnt,
+  leave-reads.Asked,
+  leave-reads.Learnt,
+  merge-reads.Asked,
+  merge-reads.Learnt,
+  add-reads.Asked,
+  add-reads.Learnt,
+) (some-solution-at t) some-solution.Post
+some-solution-add-requires t c κs = (c .before .before .before .before .before .before .before .before .before .before .some-solution2 .ensures .1 .room, (c .before .before .before .merge .ensures .joined .long, c .before .before .before .merge .ensures .met .long))
+
+-- src/solve.rt:291:1
+some-solution-same-length-4 : (t : ℕ) → some-solution-lts.Need-same-length-4 (
+  next-step-reads.Asked,
+  next-step-reads.Learnt,
+  take-reads.Asked,
+  take-reads.Learnt,
+  some-solution-below t,
+  some-solution.Post,
+  has-bit-reads.Asked,
+  has-bit-reads.Learnt,
+  leave-reads.Asked,
+  leave-reads.Learnt,
+  merge-reads.Asked,
+  merge-reads.Learnt,
+  add-reads.Asked,
+  add-reads.Learnt,
+) (some-solution-at t) some-solution.Post
+some-solution-same-length-4 t c = c .before .before .add .ensures .room .long ∙ sym (c .before .before .before .before .before .before .before .before .before .before .before .before .before .before .before .before .before .before .before .before .before .before .before .before .before .before .before .before .before .before .before .before .before .before .before .before .before .before .pre .1 .1 .1 .1 .room .long)
+
+-- src/solve.rt:291:1
+some-solution-returns-4 : (t : ℕ) → some-solution-lts.Need-returns-4 (
+  next-step-reads.Asked,
+  next-step-reads.Learnt,
+  take-reads.Asked,
+  take-reads.Learnt,
+  some-solution-below t,
+  some-solution.Post,
+  has-bit-reads.Asked,
+  has-bit-reads.Learnt,
+  leave-reads.Asked,
+  leave-reads.Learnt,
+  merge-reads.Asked,
+  merge-reads.Learnt,
+  add-reads.Asked,
+  add-reads.Learnt,
+) (some-solution-at t) some-solution.Post
+some-solution-returns-4 t c = let u = (stepped-split _ _ _ (c .before .before .before .before .before .before .before .before .before .before .before .before .before .before .before .before .before .before .before .before .before .before .before .before .before .before .before .before .before .before .next-step .result .done) (c .before .before .before .before .before .before .before .before .before .before .before .before .before .before .before .before .before .before .before .before .before .before .before .before .before .before .before .before .before .before .next-step .result .found) _ _ _ (c .before .before .before .before .before .before .before .before .before .before .before .before .before .before .before .before .before .before .before .before .before .before .before .before .before .before .before .before .before .before .next-step .ensures .0) (c .before .before .before .before .before .before .before .before .before .before .before .before .before .before .before .before .before .before .before .before .before .before .before .before .before .before .before .if1 .left)) in (merged-refutes _ (c .before .before .before .before .before .before .before .before .before .before .before .before .before .before .before .before .before .before .before .before .before .before .before .before .before .before .before .before .before .before .before .before .before .before .before .before .before .before .pre .1 .0 .passed) _ _ (c .before .before .before .before .before .before .before .before .before .before .before .before .before .before .before .before .before .before .before .before .before .before .before .before .before .before .before .before .before .before .before .before .before .before .before .before .before .before .pre .1 .1 .0) _ (u .1) _ _ (c .before .before .before .before .before .before .before .before .before .before .before .before .before .before .before .before .before .before .before .before .before .before .before .before .take .ensures .0) (c .before .before .before .before .before .before .before .before .before .before .before .before .before .before .before .before .before .before .before .before .before .before .before .before .take .ensures .1) _ _ (c .before .before .before .before .before .before .before .before .before .before .before .before .before .before .before .leave .ensures .0) (c .before .before .before .before .before .before .before .before .before .before .before .before .before .before .before .leave .ensures .1) _ _ _ _ (answers-none _ _ _ (c .before .before .before .before .before .before .before .before .before .before .before .before .before .before .before .before .before .before .before .before .before .before .some-solution .result .found) _ _ (c .before .before .before .before .before .before .before .before .before .before .before .before .before .before .before .before .before .before .before .before .before .before .some-solution .ensures .0) (or-none _ _ (c .before .before .before .before .before .before .before .before .before .before .before .before .before .before .before .before .if2 .left) .0)) (answers-none _ _ _ (c .before .before .before .before .before .before .before .before .before .before .before .before .before .some-solution2 .result .found) _ _ (c .before .before .before .before .before .before .before .before .before .before .before .before .before .some-solution2 .ensures .0) (or-none _ _ (c .before .before .before .before .before .before .before .if3 .left) .0)) _ _ (c .before .before .before .before .before .before .merge .ensures), nogoods-added _ _ _ _ _ (c .before .before .before .before .before .before .before .before .before .before .before .before .before .some-solution2 .ensures .1) ((merged-refutes _ (c .before .before .before .before .before .before .before .before .before .before .before .before .before .before .before .before .before .before .before .before .before .before .before .before .before .before .before .before .before .before .before .before .before .before .before .before .before .before .pre .1 .0 .passed) _ _ (c .before .before .before .before .before .before .before .before .before .before .before .before .before .before .before .before .before .before .before .before .before .before .before .before .before .before .before .before .before .before .before .before .before .before .before .before .before .before .pre .1 .1 .0) _ (u .1) _ _ (c .before .before .before .before .before .before .before .before .before .before .before .before .before .before .before .before .before .before .before .before .before .before .before .before .take .ensures .0) (c .before .before .before .before .before .before .before .before .before .before .before .before .before .before .before .before .before .before .before .before .before .before .before .before .take .ensures .1) _ _ (c .before .before .before .before .before .before .before .before .before .before .before .before .before .before .before .leave .ensures .0) (c .before .before .before .before .before .before .before .before .before .before .before .before .before .before .before .leave .ensures .1) _ _ _ _ (answers-none _ _ _ (c .before .before .before .before .before .before .before .before .before .before .before .before .before .before .before .before .before .before .before .before .before .before .some-solution .result .found) _ _ (c .before .before .before .before .before .before .before .before .before .before .before .before .before .before .before .before .before .before .before .before .before .before .some-solution .ensures .0) (or-none _ _ (c .before .before .before .before .before .before .before .before .before .before .before .before .before .before .before .before .if2 .left) .0)) (answers-none _ _ _ (c .before .before .before .before .before .before .before .before .before .before .before .before .before .some-solution2 .result .found) _ _ (c .before .before .before .before .before .before .before .before .before .before .before .before .before .some-solution2 .ensures .0) (or-none _ _ (c .before .before .before .before .before .before .before .if3 .left) .0)) _ _ (c .before .before .before .before .before .before .merge .ensures)) .none) (c .before .before .add .ensures))
 
 pub +some-solution-spec : {M : Type 1} → statement M
 +some-solution-spec = close μ-some-solution λ t. some-solution-lts.spec (
-  can-hold-reads.Asked,
-  can-hold-reads.Learnt,
-  candidate-reads.Asked,
-  candidate-reads.Learnt,
-  narrow-reads.Asked,
-  narrow-reads.Learnt,
-  interval-reads.Asked,
-  interval-reads.Learnt,
-  some-solution-below t,
-  some-solution.Post,
-  conflict-reads.Asked,
-  conflict-reads.Learnt,
-  pick-undecided-reads.Asked,
-  pick-undecided-reads.Learnt,
+  next-step-reads.Asked,
+  next-step-reads.Learnt,
   take-reads.Asked,
   take-reads.Learnt,
+  some-solution-below t,
+  some-solution.Post,
+  has-bit-reads.Asked,
+  has-bit-reads.Learnt,
   leave-reads.Asked,
   leave-reads.Learnt,
+  merge-reads.Asked,
+  merge-reads.Learnt,
+  add-reads.Asked,
+  add-reads.Learnt,
 )
     (some-solution-at t)
     some-solution.Post
-    (some-solution-can-hold-requires t)
-    (some-solution-candidate-requires t)
+    (some-solution-next-step-requires t)
+    (some-solution-same-length t)
     (some-solution-returns t)
-    (some-solution-narrow-requires t)
-    (some-solution-interval-requires t)
-    (some-solution-some-solution-requires t)
-    (some-solution-returns-2 t)
-    (some-solution-conflict-requires t)
-    (some-solution-pick-undecided-requires t)
-    (some-solution-enum-known-pick t)
-    (some-solution-enum-told t)
-    (some-solution-returns-3 t)
     (some-solution-take-requires t)
-    (some-solution-some-solution-requires-2 t)
-    (some-solution-returns-4 t)
+    (some-solution-some-solution-requires t)
+    (some-solution-mul-has-bit t)
+    (some-solution-array-read-has-bit t)
+    (some-solution-has-bit-requires t)
+    (some-solution-same-length-2 t)
+    (some-solution-returns-2 t)
     (some-solution-leave-requires t)
-    (some-solution-some-solution-requires-3 t)
-    (some-solution-returns-5 t)
-    (some-solution-returns-6 t)
+    (some-solution-some-solution-requires-2 t)
+    (some-solution-mul-has-bit-2 t)
+    (some-solution-array-read-has-bit-2 t)
+    (some-solution-has-bit-requires-2 t)
+    (some-solution-same-length-3 t)
+    (some-solution-returns-3 t)
+    (some-solution-merge-requires t)
+    (some-solution-add-requires t)
+    (some-solution-same-length-4 t)
+    (some-solution-returns-4 t)

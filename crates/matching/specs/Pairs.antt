@@ -1,0 +1,21 @@
+-- What the private functions on sets of pairs promise (no operation's contract cites this).
+use Prim.Native.Nat.{ℕ}
+use mathlib.Core.Path.{_≡_}
+use mathlib.Core.List.{List}
+use mathlib.Core.Bool.{Bool, true, false}
+use lib.ListN.{length}
+use Rattle.subsumption.specs.Tables.{or, both}
+use Rattle.matching.specs.Solving.{takes}
+use Rattle.matching.specs.Search.{Within}
+
+pub record Joined (a b sum : List ℕ) : Type 0 where
+  pub long : length sum ≡ 8
+  pub bits : (k q : ℕ) → takes sum k q ≡ or (takes a k q) (takes b k q)
+
+pub record Met (a b common : List ℕ) : Type 0 where
+  pub long : length common ≡ 8
+  pub bits : (k q : ℕ) → takes common k q ≡ both (takes a k q) (takes b k q)
+
+abbrev pub Contained : List ℕ → List ℕ → Bool → Type 0
+Contained a b true = Within a b
+Contained a b false = Unit {0}
