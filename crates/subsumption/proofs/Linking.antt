@@ -1,5 +1,5 @@
 -- Looking for existentials, and rows of one name.
-use Prim.Native.Nat.{ℕ, _+_, _*_, _<_, _≤_}
+use Prim.Native.Nat.{ℕ, _+_, _*_, _-_, _<_, _≤_}
 use mathlib.Core.Path.{_≡_, refl, ap, sym, _∙_, subst}
 use mathlib.Core.List.{List}
 use mathlib.Core.Bool.{Bool, true, false, _||_}
@@ -11,7 +11,7 @@ use lib.Dec.{eqb, ltb}
 use borrow.Author.Count.{below-more}
 use borrow.Author.Tests.{eqb-true, eqb-false, ltb-true, ltb-false}
 use Rattle.subsumption.specs.Tables.{Node, nameAt, existsAt, node, countOf}
-use Rattle.subsumption.specs.Closure.{has, Into, Rising, Ready, FirstNamed, Nameable, Seen, Firsts, Inner, Linkable, Links, NextLink, LinkedTo, IsNamed, Flow, flow-linked, Pass, Takes, chooseFrom}
+use Rattle.subsumption.specs.Closure.{has, Into, Rising, Ready, FirstNamed, Nameable, Seen, Firsts, Inner, OnwardFrom, OnwardTo, Linkable, Links, NextLink, LinkedTo, IsNamed, Flow, flow-linked, Pass, Takes, chooseFrom}
 use Rattle.subsumption.proofs.Bools.{le-or-lt}
 use Rattle.subsumption.proofs.Nodes.{name-node, exists-node, node-name, node-exists}
 use Rattle.subsumption.proofs.Columns.{not-both}
@@ -82,6 +82,68 @@ module _ (concepts columns : List ℕ) (role inner start : ℕ) where
         none = λ d p q. N .none d p (omega arith);
         found = λ p. absurd (omega arith);
       }
+
+-- only existentials link
+pub no-link-onward :
+    (concepts columns : List ℕ) (role inner start e n : ℕ) → NoLink concepts columns role inner start e → OnwardFrom concepts e n → NoLink concepts columns role inner start n
+no-link-onward concepts columns role inner start e n N O =
+    record {
+      from = omega (arith, N .from, O .from);
+      within = O .within;
+      none =
+          λ d p q l.
+          ⊎-elim (λ (u : e ≤ d). O .none d role (l .from) u q (l .row)) (λ u. N .none d p u l) (le-or-lt e d);
+    }
+
+-- where the existentials are, from the last row down
+pub onward-end : (concepts onward : List ℕ) → length onward ≡ 193 → countOf concepts ≤ 192 → OnwardTo concepts (set onward (countOf concepts) (countOf concepts)) (countOf concepts)
+onward-end concepts onward h few =
+    record {
+      long = length-set onward _ _ ∙ h;
+      each =
+          λ e l m.
+          let same : e ≡ countOf concepts = omega arith in
+          subst (λ (z : ℕ). OnwardFrom concepts z (getD (set onward (countOf concepts) (countOf concepts)) z 0)) (sym same)
+          (subst (OnwardFrom concepts (countOf concepts)) (sym (getD-set-same onward (countOf concepts) (countOf concepts) 0 (omega (arith, h))))
+          (record { from = omega arith; within = omega arith; none = λ d r x a b n. omega arith }));
+    }
+
+pub onward-here : (concepts : List ℕ) (e : ℕ) → e < countOf concepts → OnwardFrom concepts e e
+onward-here concepts e l = record { from = omega arith; within = omega arith; none = λ d r x a b n. omega arith }
+
+pub onward-next : (concepts onward : List ℕ) (e : ℕ) → e < countOf concepts → (getD concepts (e * 3) 0 ≡ 2 → ⊥) → OnwardTo concepts onward (e + 1) → OnwardFrom concepts e (getD onward (e + 1) 0)
+onward-next concepts onward e l ne O =
+    let n = O .each (e + 1) (omega arith) (omega arith) in
+    record {
+      from = omega (arith, n .from);
+      within = n .within;
+      none =
+          λ d r x a b m.
+          ⊎-elim (λ (u : e + 1 ≤ d). n .none d r x u b m)
+          (λ u. let same : d ≡ e = omega arith in ne (exists-node concepts e r x (subst (λ (z : ℕ). node concepts z ≡ existsAt r x) same m) .0))
+          (le-or-lt (e + 1) d);
+    }
+
+pub onward-more : (concepts onward : List ℕ) (e v : ℕ) → e < countOf concepts → countOf concepts ≤ 192 → OnwardFrom concepts e v → OnwardTo concepts onward (e + 1) → OnwardTo concepts (set onward e v) e
+onward-more concepts onward e v l few f O =
+    record {
+      long = length-set onward e v ∙ O .long;
+      each =
+          λ d a b.
+          ⊎-elim
+          (λ (u : e + 1 ≤ d). subst (OnwardFrom concepts d) (sym (getD-set-other onward e d v 0 (λ z. omega arith))) (O .each d u b))
+          (λ u.
+          let same : d ≡ e = omega arith in
+          subst (λ (z : ℕ). OnwardFrom concepts z (getD (set onward e v) z 0)) (sym same) (subst (OnwardFrom concepts e) (sym (getD-set-same onward e v 0 (omega (arith, O .long)))) f))
+          (le-or-lt (e + 1) d);
+    }
+
+-- the row before e, when e is not the first
+pub onward-back : (concepts onward : List ℕ) (e : ℕ) → 0 < e → OnwardTo concepts onward e → OnwardTo concepts onward (e - 1 + 1)
+onward-back concepts onward e h O = record { long = O .long; each = λ d a b. O .each d (omega arith) b }
+
+pub onward-all : (concepts onward : List ℕ) (e : ℕ) → e ≤ 0 → OnwardTo concepts onward e → OnwardTo concepts onward 0
+onward-all concepts onward e h O = record { long = O .long; each = λ d a b. O .each d (omega arith) b }
 
 -- the loop over what links to f
 pub record Linked (concepts inclusions atoms assignment : List ℕ) (f : ℕ) (before after : List ℕ) (changed : Bool) (e : ℕ) : Type 0 where

@@ -105,6 +105,19 @@ LinkedTo concepts f columns =
 abbrev pub AllLinked : List ℕ → List ℕ → Type 0
 AllLinked concepts columns = (f : ℕ) → f < countOf concepts → LinkedTo concepts f columns
 
+-- n is the first existential from the row e on, or the number of rows
+pub record OnwardFrom (concepts : List ℕ) (e n : ℕ) : Type 0 where
+  pub from : e ≤ n
+  pub within : n ≤ countOf concepts
+  pub none : (d r x : ℕ) → e ≤ d → d < n → node concepts d ≡ existsAt r x → ⊥
+
+pub record OnwardTo (concepts onward : List ℕ) (low : ℕ) : Type 0 where
+  pub long : length onward ≡ 193
+  pub each : (e : ℕ) → low ≤ e → e ≤ countOf concepts → OnwardFrom concepts e (getD onward e 0)
+
+abbrev pub Onward : List ℕ → List ℕ → Type 0
+Onward concepts onward = OnwardTo concepts onward 0
+
 -- what looking for existentials asks of the rows
 pub record Inner (concepts : List ℕ) : Type 0 where
   pub few : countOf concepts ≤ 192

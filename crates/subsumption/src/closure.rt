@@ -7,7 +7,7 @@ ghost use mathlib.Core.List.{List·Memᴰ};
 ghost use Rattle.subsumption.specs.Tables.{countOf};
 ghost use Rattle.subsumption.specs.Atoms.{pick};
 ghost use lib.ListN.{length};
-ghost use Rattle.subsumption.specs.Closure.{has, Absorbs, Takes, inThree, Known, Common, Ready, Nameable, Seen, Firsts, Settled, chooseFrom, Pass, AllSettled, AllIncluded, LinkedTo, AllLinked, AllTaken, Inner, Links, NextLink, IsNamed, FirstNamed, Empty, Closed};
+ghost use Rattle.subsumption.specs.Closure.{has, Absorbs, Takes, inThree, Known, Common, Ready, Nameable, Seen, Firsts, Settled, chooseFrom, Pass, AllSettled, AllIncluded, LinkedTo, AllLinked, AllTaken, Inner, OnwardFrom, OnwardTo, Onward, Links, NextLink, IsNamed, FirstNamed, Empty, Closed};
 
 const ALL: u64 = 18446744073709551615;
 
@@ -262,19 +262,27 @@ fn links(concepts: &[u16], columns: &[u64], role: u16, inner: usize, e: usize) -
 }
 
 // The first such row, from `start` on.
-fn next_link(concepts: &[u16], columns: &[u64], role: u16, inner: usize, start: usize) -> usize
+fn next_link(
+    concepts: &[u16],
+    onward: &[u16],
+    columns: &[u64],
+    role: u16,
+    inner: usize,
+    start: usize,
+) -> usize
     requires { ⌜ Inner (now concepts) ⌝ }
     requires { ⌜ length (now columns) ≡ 576 ⌝ }
     requires { ⌜ (inner < 192) × (start ≤ countOf (now concepts)) ⌝ }
+    requires { ⌜ Onward (now concepts) (now onward) ⌝ }
     ensures { λ r. ⌜ NextLink (now (concepts .entry)) (now (columns .entry)) role inner start r ⌝ }
 {
     let count = concepts.len() / 3;
-    let mut e = start;
+    let mut e = onward[start] as usize;
     while e < count {
         if links(concepts, columns, role, inner, e) {
             return e;
         }
-        e += 1;
+        e = onward[e + 1] as usize;
     }
     count
 }
@@ -285,12 +293,14 @@ fn link_to(
     inclusions: &[u16],
     atoms: &[u16],
     assignment: &[u64],
+    onward: &[u16],
     columns: &mut [u64],
     f: usize,
 ) -> bool
     requires { ⌜ Ready (now concepts) (now inclusions) (now atoms) (now assignment) ⌝ }
     requires { ⌜ length (now columns) ≡ 576 ⌝ }
     requires { ⌜ f < countOf (now concepts) ⌝ }
+    requires { ⌜ Onward (now concepts) (now onward) ⌝ }
     ensures { λ r. ⌜ Pass (now (concepts .entry)) (now (inclusions .entry)) (chooseFrom (now (atoms .entry)) (now (assignment .entry)))
         (LinkedTo (now (concepts .entry)) f)
         (now (columns .entry)) (now (columns .exit)) r ⌝ }
@@ -302,11 +312,11 @@ fn link_to(
     let inner = concepts[f * 3 + 2] as usize;
     let count = concepts.len() / 3;
     let mut changed = false;
-    let mut e = next_link(concepts, columns, role, inner, 0);
+    let mut e = next_link(concepts, onward, columns, role, inner, 0);
     while e < count {
         let new = flow(columns, e, f);
         changed = changed | new;
-        e = next_link(concepts, columns, role, inner, e + 1);
+        e = next_link(concepts, onward, columns, role, inner, e + 1);
     }
     changed
 }
@@ -316,10 +326,12 @@ fn link_all(
     inclusions: &[u16],
     atoms: &[u16],
     assignment: &[u64],
+    onward: &[u16],
     columns: &mut [u64],
 ) -> bool
     requires { ⌜ Ready (now concepts) (now inclusions) (now atoms) (now assignment) ⌝ }
     requires { ⌜ length (now columns) ≡ 576 ⌝ }
+    requires { ⌜ Onward (now concepts) (now onward) ⌝ }
     ensures { λ r. ⌜ Pass (now (concepts .entry)) (now (inclusions .entry)) (chooseFrom (now (atoms .entry)) (now (assignment .entry)))
         (AllLinked (now (concepts .entry)))
         (now (columns .entry)) (now (columns .exit)) r ⌝ }
@@ -328,7 +340,7 @@ fn link_all(
     let mut changed = false;
     let mut f = 0;
     while f < count {
-        let new = link_to(concepts, inclusions, atoms, assignment, columns, f);
+        let new = link_to(concepts, inclusions, atoms, assignment, onward, columns, f);
         changed = changed | new;
         f += 1;
     }
@@ -342,11 +354,13 @@ fn round(
     atoms: &[u16],
     assignment: &[u64],
     firsts: &[u16],
+    onward: &[u16],
     columns: &mut [u64],
 ) -> bool
     requires { ⌜ Ready (now concepts) (now inclusions) (now atoms) (now assignment) ⌝ }
     requires { ⌜ Firsts (now concepts) (now firsts) ⌝ }
     requires { ⌜ length (now columns) ≡ 576 ⌝ }
+    requires { ⌜ Onward (now concepts) (now onward) ⌝ }
     ensures { λ r. ⌜ Pass (now (concepts .entry)) (now (inclusions .entry)) (chooseFrom (now (atoms .entry)) (now (assignment .entry)))
         (AllTaken (now (concepts .entry)) (now (inclusions .entry)) (chooseFrom (now (atoms .entry)) (now (assignment .entry))) (now (firsts .entry)))
         (now (columns .entry)) (now (columns .exit)) r ⌝ }
@@ -356,7 +370,7 @@ fn round(
     if a | b {
         return true;
     }
-    link_all(concepts, inclusions, atoms, assignment, columns)
+    link_all(concepts, inclusions, atoms, assignment, onward, columns)
 }
 
 fn is_named(concepts: &[u16], k: usize, name: u16) -> bool
@@ -429,6 +443,34 @@ pub fn clear(columns: &mut [u64])
     }
 }
 
+// The first existential from the row e on, given those from the next row on; the number of rows if there is none.
+fn onward_from(concepts: &[u16], onward: &[u16], e: usize) -> u16
+    requires { ⌜ countOf (now concepts) ≤ 192 ⌝ }
+    requires { ⌜ e < countOf (now concepts) ⌝ }
+    requires { ⌜ OnwardTo (now concepts) (now onward) (e + 1) ⌝ }
+    ensures { λ r. ⌜ OnwardFrom (now (concepts .entry)) e r ⌝ }
+{
+    if concepts[e * 3] == 2 {
+        return e as u16;
+    }
+    onward[e + 1]
+}
+
+fn note_onward(concepts: &[u16], onward: &mut [u16])
+    requires { ⌜ countOf (now concepts) ≤ 192 ⌝ }
+    requires { ⌜ length (now onward) ≡ 193 ⌝ }
+    ensures { λ r. ⌜ Onward (now (concepts .entry)) (now (onward .exit)) ⌝ }
+{
+    let count = concepts.len() / 3;
+    onward[count] = count as u16;
+    let mut e = count;
+    while e > 0 {
+        e -= 1;
+        let next = onward_from(concepts, onward, e);
+        onward[e] = next;
+    }
+}
+
 // Closes the columns from what they hold.
 pub fn close(
     concepts: &[u16],
@@ -443,8 +485,18 @@ pub fn close(
 {
     let mut firsts = [0u16; 192];
     note_firsts(concepts, &mut firsts);
+    let mut onward = [0u16; 193];
+    note_onward(concepts, &mut onward);
     let mut busy = true;
     while busy {
-        busy = round(concepts, inclusions, atoms, assignment, &firsts, columns);
+        busy = round(
+            concepts,
+            inclusions,
+            atoms,
+            assignment,
+            &firsts,
+            &onward,
+            columns,
+        );
     }
 }

@@ -18,7 +18,7 @@ returns : tie.Need-returns
 returns c = pass-busy (pass-then (c .before .before .before .before .before .before .before .settle-all .ensures) (c .before .before .before .include-all .ensures)) (c .if1 .taken)
 
 link-all-requires : tie.Need-link-all-requires
-link-all-requires c κs = search needs
+link-all-requires c κs = (c .before .before .before .before .before .before .before .before .before .before .before .before .before .before .before .before .before .pre .0, (omega (arith, c .before .before .before .before .include-all .ensures .long, c .before .before .before .before .before .before .before .before .settle-all .ensures .long, c .before .before .before .before .before .before .before .before .before .before .before .before .before .before .before .before .before .pre .1 .1 .0), c .before .before .before .before .before .before .before .before .before .before .before .before .before .before .before .before .before .pre .1 .1 .1))
 
 same-length-2 : tie.Need-same-length-2
 same-length-2 c = omega arith
