@@ -34,14 +34,15 @@ fn put(store: &mut [u64], at: usize, set: [u64; 8])
     }
 }
 
-// Keeps one more, while there is room.
-pub fn add(store: &mut [u64], low: [u64; 8], high: [u64; 8])
+// Keeps one more, while there are fewer than `most`.
+pub fn add(store: &mut [u64], most: u64, low: [u64; 8], high: [u64; 8])
     requires { ⌜ Room (now store) ⌝ }
+    requires { ⌜ most ≤ 1024 ⌝ }
     requires { ⌜ (length low ≡ 8) × (length high ≡ 8) ⌝ }
     ensures { λ _. ⌜ Added low high (now (store .entry)) (now (store .exit)) ⌝ }
 {
     let filled = store[0];
-    if filled >= 1024 {
+    if filled >= most {
         return;
     }
     let at = filled as usize * 16;
@@ -72,14 +73,18 @@ fn size(word: u64) -> usize
     u64::count_ones(word) as usize
 }
 
-// The lowest pair of the word, if there is one, else another.
+// The highest pair of the word, if there is one, else another: later pairs come first in the order of assignments.
 pub fn some_pair(word: u64, k: usize, other: usize) -> usize
     requires { ⌜ k < 8 ⌝ }
 {
     if word == 0 {
         return other;
     }
-    k * 64 + u64::trailing_zeros(word) as usize
+    let after = k * 64 + (64 - u64::leading_zeros(word) as usize);
+    if after == 0 {
+        return other;
+    }
+    after - 1
 }
 
 // A solution inside the interval leaves a pair of the nogood's low side, or takes one that is past its high side. Unless

@@ -28,6 +28,9 @@ ghost use Rattle.matching.specs.Nogoods.{Room, Nogoods};
 ghost use Rattle.matching.specs.Solve.{Answers, CanSplit, Stepped, Recalled, Merged};
 
 const ALL: u64 = 18446744073709551615;
+// How many nogoods are kept: of those that tests cost all, of those that come by merging only while there is much room.
+const TESTED: u64 = 1024;
+const MERGED: u64 = 640;
 
 // A solution, as the low side, or an interval around the asked one that holds none.
 pub struct Answer {
@@ -78,7 +81,7 @@ fn try_low(
             empty,
             true,
         );
-        add(store, core, full);
+        add(store, TESTED, core, full);
         return Answer {
             found: false,
             low: core,
@@ -107,7 +110,7 @@ fn try_low(
             full,
             false,
         );
-        add(store, empty, rest);
+        add(store, TESTED, empty, rest);
         return Answer {
             found: false,
             low: empty,
@@ -123,15 +126,14 @@ fn try_low(
 
 // A pair of the one that the other leaves out, if there is one. A hint only.
 fn pair_outside(a: [u64; 8], b: [u64; 8]) -> usize {
+    let mut pair: usize = 512;
     let mut k: usize = 0;
     while k < 8 {
         let word = a[k] & (ALL ^ b[k]);
-        if word != 0 {
-            return some_pair(word, k, 512);
-        }
+        pair = some_pair(word, k, pair);
         k += 1;
     }
-    512
+    pair
 }
 
 // One step at an interval: an answer, or a pair to split at.
@@ -394,7 +396,7 @@ pub fn some_solution(
     let both = merge(with, without, k, q);
     let low = both.low;
     let high = both.high;
-    add(store, low, high);
+    add(store, MERGED, low, high);
     Answer {
         found: false,
         low,

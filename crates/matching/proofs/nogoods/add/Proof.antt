@@ -51,7 +51,7 @@ same-length c = simp length-set (c .before .before .put2 .ensures .size ∙ c .b
 
 -- src/nogoods.rt:38:1
 returns-2 : tie.Need-returns-2
-returns-2 c = added-one _ _ _ _ _ (c .before .before .before .before .before .before .before .before .before .before .before .pre .0) (omega arith) (c .before .before .before .before .before .before .before .before .before .before .before .pre .1 .0) (c .before .before .before .before .before .before .before .before .before .before .before .pre .1 .1) (c .before .before .before .before .before .before .put .ensures) (c .before .before .put2 .ensures)
+returns-2 c = added-one _ _ _ _ _ (c .before .before .before .before .before .before .before .before .before .before .before .pre .0) (omega arith) (c .before .before .before .before .before .before .before .before .before .before .before .pre .1 .1 .0) (c .before .before .before .before .before .before .before .before .before .before .before .pre .1 .1 .1) (c .before .before .before .before .before .before .put .ensures) (c .before .before .put2 .ensures)
 
 pub add-spec : {M : Type 1} → statement M
 add-spec =

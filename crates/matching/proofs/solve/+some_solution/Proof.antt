@@ -396,7 +396,7 @@ some-solution-add-requires : (t : ℕ) → some-solution-lts.Need-add-requires (
   add-reads.Asked,
   add-reads.Learnt,
 ) (some-solution-at t) some-solution.Post
-some-solution-add-requires t c κs = (c .before .before .before .before .before .before .before .before .before .before .some-solution2 .ensures .1 .room, (c .before .before .before .merge .ensures .joined .long, c .before .before .before .merge .ensures .met .long))
+some-solution-add-requires t c κs = (c .before .before .before .before .before .before .before .before .before .before .some-solution2 .ensures .1 .room, (omega arith, (c .before .before .before .merge .ensures .joined .long, c .before .before .before .merge .ensures .met .long)))
 
 -- src/solve.rt:291:1
 some-solution-same-length-4 : (t : ℕ) → some-solution-lts.Need-same-length-4 (

@@ -1,3 +1,4 @@
+use native.Mathlib.Omega.{arith}
 use Rattle.matching.proofs.Refuting.{empty-interval, full-interval, low-refuted, high-refuted, low-solves}
 use Rattle.matching.proofs.NogoodLaws.{nogoods-added}
 use Rattle.matching.proofs.Searching.{low-fits, low-accepted, decided-true, decided-false}
@@ -32,7 +33,7 @@ widen-requires c κs = (c .before .before .before .before .before .before .befor
 
 -- src/solve.rt:72:9
 add-requires : tie.Need-add-requires
-add-requires c κs = (c .before .before .before .before .before .before .before .before .before .before .before .pre .1 .1 .room, (c .before .widen .ensures .mixed .long, c .before .before .before .before .before .before .before .before .before .before .before .pre .1 .0 .high-long))
+add-requires c κs = (c .before .before .before .before .before .before .before .before .before .before .before .pre .1 .1 .room, (omega arith, (c .before .widen .ensures .mixed .long, c .before .before .before .before .before .before .before .before .before .before .before .pre .1 .0 .high-long)))
 
 -- src/solve.rt:73:9
 same-length : tie.Need-same-length
@@ -60,7 +61,7 @@ widen-requires-2 c κs = (c .before .before .before .before .before .before .bef
 
 -- src/solve.rt:92:9
 add-requires-2 : tie.Need-add-requires-2
-add-requires-2 c κs = (c .before .before .before .before .before .before .before .before .before .before .before .before .before .before .pre .1 .1 .room, (refl, c .before .widen2 .ensures .mixed .long))
+add-requires-2 c κs = (c .before .before .before .before .before .before .before .before .before .before .before .before .before .before .pre .1 .1 .room, (omega arith, (refl, c .before .widen2 .ensures .mixed .long)))
 
 -- src/solve.rt:93:9
 same-length-2 : tie.Need-same-length-2
