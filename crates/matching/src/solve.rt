@@ -30,6 +30,7 @@ ghost use Rattle.matching.specs.Solve.{Answers, CanSplit, Stepped, Recal
 const ALL: u64 = 18446744073709551615;
 // How many nogoods are kept: of those that tests cost all, of those that come by merging only while there is much room.
 const TESTED: u64 = 1024;
+
 const MERGED: u64 = 640;
 
 // A solution, as the low side, or an interval around the asked one that holds none.

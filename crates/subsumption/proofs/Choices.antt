@@ -5,6 +5,7 @@ use mathlib.Core.List.{List, [], _∷_, List·Memᴰ}
 use mathlib.Core.Bool.{Bool, true, false, _||_}
 use mathlib.Core.Logic.{_⊎_, inl, inr, ⊎-elim}
 use native.Mathlib.Omega.{arith}
+use native.Mathlib.Nat.{add-zero}
 use lib.ListN.{length, getD}
 use lib.Dec.{eqb}
 use lib.Bits.{bitAnd}
@@ -65,6 +66,13 @@ module _ (atoms : List ℕ) (choice : ℕ) (columns : List ℕ) (part : ℕ) whe
 
   pub common-done : (q word : ℕ) → q ≤ length atoms → length atoms ≤ q → Common q atoms choice columns part word → Common (length atoms) atoms choice columns part word
   common-done q word h l c = subst (λ (n : ℕ). Common n atoms choice columns part word) (omega arith) c
+
+-- the first word is at the column's start
+pub common-more-first :
+    (atoms : List ℕ) (choice : ℕ) (columns : List ℕ) (q word : ℕ) → Common q atoms choice columns 0 word → (choice / 2 ^ q % 2 ≡ 0 → ⊥)
+    → Common (q + 1) atoms choice columns 0 (bitAnd word (getD columns (getD atoms q 0 * 3) 0))
+common-more-first atoms choice columns q word c ne =
+    subst (λ (z : ℕ). Common (q + 1) atoms choice columns 0 (bitAnd word (getD columns z 0))) (add-zero (getD atoms q 0 * 3)) (common-more atoms choice columns 0 q word c ne)
 
 -- the three words together
 module _ (atoms : List ℕ) (choice : ℕ) (columns : List ℕ) (first second third : ℕ)

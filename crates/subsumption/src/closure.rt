@@ -85,25 +85,41 @@ pub fn below(columns: &[u64], i: usize, j: usize) -> bool
     (columns[j * 3 + i / 64] >> (i % 64)) % 2 == 1
 }
 
-// Of the word `part` of each chosen atom's column, the bits that all have.
-fn common(atoms: &[u16], choice: u64, columns: &[u64], part: usize) -> u64
+// The three words of a column.
+pub struct Words {
+    pub first: u64,
+    pub second: u64,
+    pub third: u64,
+}
+
+// The bits that the columns of all chosen atoms have.
+fn common(atoms: &[u16], choice: u64, columns: &[u64]) -> Words
     requires { ⌜ length (now columns) ≡ 576 ⌝ }
     requires { ⌜ Known (now atoms) ⌝ }
-    requires { ⌜ part < 3 ⌝ }
-    ensures { λ r. ⌜ Common (length (now (atoms .entry))) (now (atoms .entry)) choice (now (columns .entry)) part r ⌝ }
+    ensures { λ r. ⌜ Common (length (now (atoms .entry))) (now (atoms .entry)) choice (now (columns .entry)) 0 (r .first) ⌝ }
+    ensures { λ r. ⌜ Common (length (now (atoms .entry))) (now (atoms .entry)) choice (now (columns .entry)) 1 (r .second) ⌝ }
+    ensures { λ r. ⌜ Common (length (now (atoms .entry))) (now (atoms .entry)) choice (now (columns .entry)) 2 (r .third) ⌝ }
 {
-    let mut word = ALL;
+    let mut first = ALL;
+    let mut second = ALL;
+    let mut third = ALL;
     let mut q = 0;
     while q < atoms.len() {
-        let atom = atoms[q] as usize;
+        let at = atoms[q] as usize * 3;
         let picked = (choice >> q) % 2;
         q += 1;
         if picked == 0 {
             continue;
         }
-        word = word & columns[atom * 3 + part];
+        first = first & columns[at];
+        second = second & columns[at + 1];
+        third = third & columns[at + 2];
     }
-    word
+    Words {
+        first,
+        second,
+        third,
+    }
 }
 
 // Everything known to be below all chosen atoms is below the variable `to`.
@@ -114,10 +130,8 @@ fn gather(atoms: &[u16], choice: u64, columns: &mut [u64], to: usize) -> bool
     ensures { λ r. ⌜ Takes (now (columns .entry)) (now (columns .exit)) (λ j. j ≡ to)
         (λ i. (p : ℕ) → List·Memᴰ p (pick (now (atoms .entry)) choice) → has (now (columns .entry)) i p ≡ true) r ⌝ }
 {
-    let first = common(atoms, choice, columns, 0);
-    let second = common(atoms, choice, columns, 1);
-    let third = common(atoms, choice, columns, 2);
-    take(columns, to, first, second, third)
+    let words = common(atoms, choice, columns);
+    take(columns, to, words.first, words.second, words.third)
 }
 
 // Everything known to be below the variable `from` is below all chosen atoms.
