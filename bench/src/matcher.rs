@@ -59,5 +59,6 @@ pub fn print(tools: &Tools) {
 pub fn print_puzzles(tools: &Tools) {
     let mut problems = hard::large_random_puzzles(1);
     problems.extend(hard::large_fixed_puzzles());
+    problems.push(hard::hardest_pigeons());
     problems.iter().for_each(|problem| print_line(problem, tools));
 }

@@ -22,7 +22,8 @@ pub fn inputs() -> Vec<Input> {
     let catalogue = |&family: &Family| (family.label().to_string(), family.tables(MAX_CONCEPTS));
     let mut problems = hard::with_harmless(60);
     problems.extend(hard::at_the_limits(1));
-    problems.extend(hard::puzzles(1));
+    problems.extend(hard::large_random_puzzles(1));
+    problems.extend(hard::large_fixed_puzzles());
     let problem = |problem: Hard| (problem.label, problem.tables);
     FAMILIES.iter().map(catalogue).chain(problems.into_iter().map(problem)).map(input).collect()
 }

@@ -70,4 +70,5 @@ fn large_puzzles() {
         hard::large_random_puzzles(seed).iter().for_each(as_known);
     }
     hard::large_fixed_puzzles().iter().for_each(as_known);
+    as_known(&hard::hardest_pigeons());
 }

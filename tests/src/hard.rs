@@ -551,7 +551,11 @@ pub fn large_fixed_puzzles() -> Vec<Hard> {
         pigeons(4),
         pigeons(5),
         pigeons(6),
-        lean_pigeons(8, 7),
         lean_pigeons(8, 8),
     ]
+}
+
+/// The one with the most conflicts: few of them can be told from two pairs alone.
+pub fn hardest_pigeons() -> Hard {
+    lean_pigeons(8, 7)
 }

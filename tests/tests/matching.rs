@@ -353,6 +353,23 @@ fn puzzles_at_small_size() {
     assert!(unsolvable > 0, "every puzzle has a solution");
 }
 
+/// At the size that the tables have room for: what is known of the answer, and that it solves.
+#[test]
+fn puzzles_at_full_size() {
+    let mut problems = hard::large_random_puzzles(seed("matching, full size"));
+    problems.extend(hard::large_fixed_puzzles());
+    for problem in problems {
+        let mut found = vec![0; usize::from(problem.tables.variables)];
+        let answer = capi::find(problem.tables.lend(), &mut found);
+        if problem.known == Known::Unsolvable {
+            assert_eq!(answer, Answer::refused(10, 0), "{}", problem.label);
+        } else {
+            assert_eq!(answer, Answer::done(0), "{}", problem.label);
+            assert!(matching::solves(&problem.tables, &found), "{}", problem.label);
+        }
+    }
+}
+
 /// The search itself reads questions as the reference's relation does.
 #[test]
 fn questions_read_by_structure() {

@@ -74,7 +74,18 @@ fn twice(size: usize) -> usize
     512
 }
 
-// Runs are set as in the target, and halved where the test would pass.
+// Where a run of that size starts that ends there.
+fn start_of(end: usize, size: usize) -> usize
+    ensures { λ r. ⌜ r ≤ end ⌝ }
+{
+    if size < end {
+        return end - size;
+    }
+    0
+}
+
+// Runs are set as in the target, from the last pair down, and halved where the test would pass: so the first variables
+// are left to be what a failure is about.
 pub fn widen(
     concepts: &[u16],
     inclusions: &[u16],
@@ -98,7 +109,9 @@ pub fn widen(
     let mut from: usize = 0;
     let mut size: usize = 512;
     while from < 512 {
-        let next = with_run(failing, target, from, size);
+        let end = 512 - from;
+        let start = start_of(end, size);
+        let next = with_run(failing, target, start, end - start);
         if is_same(next, failing) {
             from += size;
             size = twice(size);

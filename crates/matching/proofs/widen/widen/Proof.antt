@@ -25,9 +25,17 @@ abbrev μ-loop : tie.MeasureT-loop
 loop-holds : tie.Need-loop-holds Inv-loop μ-loop
 loop-holds c = (widened-none _ (c .before .before .before .before .before .pre .0 .passed) _ _ _ (c .before .before .before .before .before .pre .1 .0) (c .before .before .before .before .before .pre .1 .1 .0) _ (c .before .before .before .before .before .pre .1 .1 .1), omega arith, omega arith)
 
--- src/widen.rt:101:20
+sub-end : tie.Need-sub-end Inv-loop μ-loop
+sub-end c = omega arith
+
+start-of-requires : tie.Need-start-of-requires Inv-loop μ-loop
+start-of-requires c κs = tt
+
+sub-with-run : tie.Need-sub-with-run Inv-loop μ-loop
+sub-with-run c = omega (arith, c .start-of .ensures)
+
 with-run-requires : tie.Need-with-run-requires Inv-loop μ-loop
-with-run-requires c κs = ((omega arith, omega arith), (c .before .loop .inv .0 .mixed .long, c .before .before .before .before .before .before .before .pre .1 .1 .0 .low-long))
+with-run-requires c κs = ((omega (arith, c .start-of .ensures), omega (arith, c .start-of .ensures)), (c .before .before .loop .inv .0 .mixed .long, c .before .before .before .before .before .before .before .before .pre .1 .1 .0 .low-long))
 
 -- src/widen.rt:102:12
 is-same-requires : tie.Need-is-same-requires Inv-loop μ-loop
@@ -47,19 +55,19 @@ loop-less c = omega (arith, c .twice .ensures)
 
 -- src/widen.rt:100:5
 loop-again : tie.Need-loop-again Inv-loop μ-loop
-loop-again c = (c .before .before .before .before .before .loop .inv .0, c .twice .ensures .0, c .twice .ensures .1)
+loop-again c = (c .before .before .before .before .before .before .loop .inv .0, c .twice .ensures .0, c .twice .ensures .1)
 
 -- src/widen.rt:114:13
 array-share-prefix-next : tie.Need-array-share-prefix-next Inv-loop μ-loop
-array-share-prefix-next c = next-fits _ (c .before .before .before .before .before .before .before .before .before .before .pre .0 .passed) _ _ _ (c .before .before .before .before .before .before .before .before .before .before .pre .1 .0) (c .before .before .before .before .before .before .before .before .before .before .pre .1 .1 .0) _ _ _ (c .before .before .before .before .loop .inv .0) (c .before .before .with-run .ensures)
+array-share-prefix-next c = next-fits _ (c .before .before .before .before .before .before .before .before .before .before .before .pre .0 .passed) _ _ _ (c .before .before .before .before .before .before .before .before .before .before .before .pre .1 .0) (c .before .before .before .before .before .before .before .before .before .before .before .pre .1 .1 .0) _ _ _ (c .before .before .before .before .before .loop .inv .0) (c .before .before .with-run .ensures)
 
 -- src/widen.rt:114:13
 slice-aggregate-questions-hold : tie.Need-slice-aggregate-questions-hold Inv-loop μ-loop
-slice-aggregate-questions-hold c = sym (length-take-le _ _ (next-fits _ (c .before .before .before .before .before .before .before .before .before .before .before .pre .0 .passed) _ _ _ (c .before .before .before .before .before .before .before .before .before .before .before .pre .1 .0) (c .before .before .before .before .before .before .before .before .before .before .before .pre .1 .1 .0) _ _ _ (c .before .before .before .before .before .loop .inv .0) (c .before .before .before .with-run .ensures)))
+slice-aggregate-questions-hold c = sym (length-take-le _ _ (next-fits _ (c .before .before .before .before .before .before .before .before .before .before .before .before .pre .0 .passed) _ _ _ (c .before .before .before .before .before .before .before .before .before .before .before .before .pre .1 .0) (c .before .before .before .before .before .before .before .before .before .before .before .before .pre .1 .1 .0) _ _ _ (c .before .before .before .before .before .before .loop .inv .0) (c .before .before .before .with-run .ensures)))
 
 -- src/widen.rt:107:13
 questions-hold-requires : tie.Need-questions-hold-requires Inv-loop μ-loop
-questions-hold-requires c κs = (c .before .before .before .before .before .before .before .before .before .before .before .pre .0, next-accepted _ (c .before .before .before .before .before .before .before .before .before .before .before .pre .0 .passed) _ _ _ (c .before .before .before .before .before .before .before .before .before .before .before .pre .1 .0) (c .before .before .before .before .before .before .before .before .before .before .before .pre .1 .1 .0) _ _ _ (c .before .before .before .before .before .loop .inv .0) (c .before .before .before .with-run .ensures))
+questions-hold-requires c κs = (c .before .before .before .before .before .before .before .before .before .before .before .before .pre .0, next-accepted _ (c .before .before .before .before .before .before .before .before .before .before .before .before .pre .0 .passed) _ _ _ (c .before .before .before .before .before .before .before .before .before .before .before .before .pre .1 .0) (c .before .before .before .before .before .before .before .before .before .before .before .before .pre .1 .1 .0) _ _ _ (c .before .before .before .before .before .before .loop .inv .0) (c .before .before .before .with-run .ensures))
 
 -- src/widen.rt:118:13
 add-from-2 : tie.Need-add-from-2 Inv-loop μ-loop
@@ -75,7 +83,7 @@ loop-less-2 c = omega (arith, c .twice2 .ensures)
 
 -- src/widen.rt:100:5
 loop-again-2 : tie.Need-loop-again-2 Inv-loop μ-loop
-loop-again-2 c = (widened-more _ (c .before .before .before .before .before .before .before .before .before .before .before .before .before .before .pre .0 .passed) _ _ _ (c .before .before .before .before .before .before .before .before .before .before .before .before .before .before .pre .1 .0) (c .before .before .before .before .before .before .before .before .before .before .before .before .before .before .pre .1 .1 .0) _ _ _ (c .before .before .before .before .before .before .before .before .loop .inv .0) (c .before .before .before .before .before .before .with-run .ensures) (c .before .before .questions-hold .result) (c .before .before .questions-hold .ensures) (not-true _ (c .before .if2 .taken)), c .twice2 .ensures .0, c .twice2 .ensures .1)
+loop-again-2 c = (widened-more _ (c .before .before .before .before .before .before .before .before .before .before .before .before .before .before .before .pre .0 .passed) _ _ _ (c .before .before .before .before .before .before .before .before .before .before .before .before .before .before .before .pre .1 .0) (c .before .before .before .before .before .before .before .before .before .before .before .before .before .before .before .pre .1 .1 .0) _ _ _ (c .before .before .before .before .before .before .before .before .before .loop .inv .0) (c .before .before .before .before .before .before .with-run .ensures) (c .before .before .questions-hold .result) (c .before .before .questions-hold .ensures) (not-true _ (c .before .if2 .taken)), c .twice2 .ensures .0, c .twice2 .ensures .1)
 
 -- src/widen.rt:123:13
 add-from-3 : tie.Need-add-from-3 Inv-loop μ-loop
@@ -87,7 +95,7 @@ loop-less-3 c = omega arith
 
 -- src/widen.rt:100:5
 loop-again-3 : tie.Need-loop-again-3 Inv-loop μ-loop
-loop-again-3 c = (c .before .before .before .before .before .before .before .before .loop .inv .0, omega arith, omega arith)
+loop-again-3 c = (c .before .before .before .before .before .before .before .before .before .loop .inv .0, omega arith, omega arith)
 
 -- src/widen.rt:100:5
 loop-less-4 : tie.Need-loop-less-4 Inv-loop μ-loop
@@ -95,7 +103,7 @@ loop-less-4 c = omega arith
 
 -- src/widen.rt:100:5
 loop-again-4 : tie.Need-loop-again-4 Inv-loop μ-loop
-loop-again-4 c = (c .before .before .before .before .before .before .before .before .loop .inv .0, omega arith, omega arith)
+loop-again-4 c = (c .before .before .before .before .before .before .before .before .before .loop .inv .0, omega arith, omega arith)
 
 -- src/widen.rt:78:1
 returns : tie.Need-returns Inv-loop μ-loop
@@ -108,6 +116,9 @@ widen-spec =
     Inv-loop
     μ-loop
     loop-holds
+    sub-end
+    start-of-requires
+    sub-with-run
     with-run-requires
     is-same-requires
     add-from
