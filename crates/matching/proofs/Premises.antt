@@ -6,7 +6,8 @@ use mathlib.Core.Bool.{Bool, true, false, false≢true}
 use mathlib.Core.Logic.{_⊎_, inl, inr, ⊎-elim}
 use native.Mathlib.Omega.{arith}
 use lib.ListN.{length, getD, set}
-use borrow.Author.Tests.{ltb-true}
+use lib.Dec.{ltb}
+use borrow.Author.Tests.{ltb-true, lt-ltb}
 use Rattle.subsumption.specs.declared.tables.Row.{Row}
 use Rattle.subsumption.specs.declared.tables.Pair.{Pair}
 use Rattle.subsumption.specs.Tables.{Tables, or, both, Node, topAt, nameAt, existsAt, andAt, varAt, node, countOf, pairsOf, leftOf, rightOf}
@@ -18,7 +19,7 @@ use Rattle.subsumption.proofs.Nodes.{var-node, and-node, exists-node}
 use Rattle.subsumption.proofs.Chosen.{chosen-known}
 use Rattle.subsumption.proofs.RuleTests.{every-elim, every-intro, contains-elim, onPicked-elim, onBoth-elim, onInner-elim, onVariable-elim}
 use Rattle.matching.specs.LineMarks.{Square, seen, Of}
-use Rattle.matching.specs.Needing.{Grown, TwoMarked, AllMarked, Needs}
+use Rattle.matching.specs.Needing.{Grown, TwoMarked, AllMarked, innerAt, MarkedIf, AllMarkedIf, Needs}
 use Rattle.matching.proofs.Cells.{seen-set-same, seen-set-row, seen-set-column, square-set}
 use Rattle.matching.proofs.RuleMonotone.{onBoth-intro, onInner-intro, onVariable-intro}
 use Rattle.matching.proofs.RuleLines.{AllBelow, all-none, all-skip, all-more, all-done, picked-member}
@@ -102,6 +103,61 @@ module _ (ids : List ℕ) (choice count : ℕ) (before : List Bool) (left : ℕ)
   pub below-done : (after : List Bool) (q : ℕ) → MarkedBelow ids choice count before after left q → length ids ≤ q → AllMarked ids choice count before after left
   below-done after q m l = record { grown = m .grown; each = λ p h. all-done ids choice (λ p. seen count after left p ≡ true) q (m .below) l p h; only = m .only }
 
+-- ---- marked if the line has the rule's shape
+pub marked-hit :
+    (shape : Type 0) (count : ℕ) (before after : List Bool) (a b c d : ℕ) → shape → TwoMarked count before after a b c d → MarkedIf shape count before after a b c d
+marked-hit shape count before after a b c d s m = record { hit = λ _. m; miss = λ n. absurd (n s) }
+
+pub marked-miss : (shape : Type 0) (count : ℕ) (before : List Bool) (a b c d : ℕ) → (shape → ⊥) → MarkedIf shape count before before a b c d
+marked-miss shape count before a b c d n = record { hit = λ s. absurd (n s); miss = λ _. refl }
+
+pub all-hit :
+    (shape : Type 0) (ids : List ℕ) (choice count : ℕ) (before after : List Bool) (left : ℕ) → shape → AllMarked ids choice count before after left
+    → AllMarkedIf shape ids choice count before after left
+all-hit shape ids choice count before after left s m = record { hit = λ _. m; miss = λ n. absurd (n s) }
+
+pub all-miss : (shape : Type 0) (ids : List ℕ) (choice count : ℕ) (before : List Bool) (left : ℕ) → (shape → ⊥) → AllMarkedIf shape ids choice count before before left
+all-miss shape ids choice count before left n = record { hit = λ s. absurd (n s); miss = λ _. refl }
+
+inner-first : (extra a b : ℕ) → extra ≡ 0 → a ≡ innerAt extra a b
+unfolding innerAt
+inner-first zero a b e = refl
+inner-first (suc extra) a b e = absurd (omega arith)
+
+inner-second : (extra a b : ℕ) → (extra ≡ 0 → ⊥) → b ≡ innerAt extra a b
+unfolding innerAt
+inner-second zero a b e = absurd (e refl)
+inner-second (suc extra) a b e = refl
+
+module _ (count : ℕ) (before after : List Bool) where
+  pub first-marked :
+      (extra k a b right : ℕ) → k ≡ 3 → extra ≡ 0 → TwoMarked count before after a right a right
+      → MarkedIf (k ≡ 3) count before after (innerAt extra a b) right (innerAt extra a b) right
+  first-marked extra k a b right s e m =
+      marked-hit _ count before after _ _ _ _ s (subst (λ (z : ℕ). TwoMarked count before after z right z right) (inner-first extra a b e) m)
+
+  pub second-marked :
+      (extra k a b right : ℕ) → k ≡ 3 → (extra ≡ 0 → ⊥) → TwoMarked count before after b right b right
+      → MarkedIf (k ≡ 3) count before after (innerAt extra a b) right (innerAt extra a b) right
+  second-marked extra k a b right s e m =
+      marked-hit _ count before after _ _ _ _ s (subst (λ (z : ℕ). TwoMarked count before after z right z right) (inner-second extra a b e) m)
+
+  pub pair-marked :
+      (inclusions : List ℕ) (left right extra : ℕ) (pair : Pair) → extra < pairsOf inclusions → pair ≡ pairOf inclusions extra → TwoMarked count before after left (pair .left) (pair .right) right
+      → MarkedIf (extra < pairsOf inclusions) count before after left (leftOf inclusions extra) (rightOf inclusions extra) right
+  pair-marked inclusions left right extra pair s e m =
+      marked-hit _ count before after _ _ _ _ s (subst (λ (z : Pair). TwoMarked count before after left (z .left) (z .right) right) e m)
+
+lt-or-not : (a b : ℕ) → (a < b) ⊎ (a < b → ⊥)
+lt-or-not a b = go (ltb a b) refl
+  where
+    go : (v : Bool) → ltb a b ≡ v → (a < b) ⊎ (a < b → ⊥)
+    go true e = inl (ltb-true a b e)
+    go false e = inr (λ h. false≢true (sym e ∙ lt-ltb a b h))
+
+both-or-not : (a b c d : ℕ) → ((a ≡ b) × (c ≡ d)) ⊎ ((a ≡ b) × (c ≡ d) → ⊥)
+both-or-not a b c d = ⊎-elim (λ e. ⊎-elim (λ f. inl (e, f)) (λ n. inr (λ h. n (h .1))) (eq-or-ne c d)) (λ n. inr (λ h. n (h .0))) (eq-or-ne a b)
+
 -- ---- the rules
 first-mono :
     (extra : ℕ) (p q : ℕ → Bool) (m : Node) → extra ≡ 0 → ((i j : ℕ) → m ≡ andAt i j → p i ≡ true → q i ≡ true) → onPicked extra p m ≡ true → onPicked extra q m ≡ true
@@ -167,7 +223,7 @@ module _ (concepts inclusions ids assignment : List ℕ) (rule left right extra 
         (t : Tables) → Of t concepts inclusions ids → (p q : ℕ → ℕ → Bool) → byRule t assignment p rule left right extra ≡ true
         → byRule t assignment q rule left right extra ≡ true
 
-  pub free-needs : Square (countOf concepts) before → Free → Needs concepts inclusions ids assignment rule left right extra before before
+  free-needs : Square (countOf concepts) before → Free → Needs concepts inclusions ids assignment rule left right extra before before
   free-needs s f =
       record { grown = grown-same (countOf concepts) before s; serves = λ t of p h. f .each t of p _ h; only = λ t of p h i j u v e. inl e }
 
@@ -179,7 +235,7 @@ module _ (concepts inclusions ids assignment : List ℕ) (rule left right extra 
         (t : Tables) → Of t concepts inclusions ids → (p q : ℕ → ℕ → Bool) → byRule t assignment p rule left right extra ≡ true → q a b ≡ true → q c d ≡ true
         → byRule t assignment q rule left right extra ≡ true
 
-  pub two-needs : (a b c d : ℕ) → Uses a b c d → TwoMarked (countOf concepts) before after a b c d → Needs concepts inclusions ids assignment rule left right extra before after
+  two-needs : (a b c d : ℕ) → Uses a b c d → TwoMarked (countOf concepts) before after a b c d → Needs concepts inclusions ids assignment rule left right extra before after
   two-needs a b c d u m =
       record {
         grown = m .grown;
@@ -190,6 +246,13 @@ module _ (concepts inclusions ids assignment : List ℕ) (rule left right extra 
             (m .only i j x y e);
       }
 
+  if-needs :
+      (shape : Type 0) (a b c d : ℕ) → shape ⊎ (shape → ⊥) → (shape → Uses a b c d) → ((shape → ⊥) → Free) → Square (countOf concepts) before
+      → MarkedIf shape (countOf concepts) before after a b c d → Needs concepts inclusions ids assignment rule left right extra before after
+  if-needs shape a b c d known u f s m =
+      ⊎-elim (λ y. two-needs a b c d (u y) (m .hit y))
+      (λ n. subst (λ (z : List Bool). Needs concepts inclusions ids assignment rule left right extra before z) (sym (m .miss n)) (free-needs s (f n))) known
+
   -- ---- rule 3
   module _ (l : Row) (e : rule ≡ 3) (f : l ≡ rowOf concepts left) where
     and-row : (t : Tables) → Of t concepts inclusions ids → (a b : ℕ) → node (t .concepts) left ≡ andAt a b → (l .kind ≡ 3) × (l .a ≡ a) × (l .b ≡ b)
@@ -197,12 +260,12 @@ module _ (concepts inclusions ids assignment : List ℕ) (rule left right extra 
         let w = and-node concepts left a b (subst (λ (z : List ℕ). node z left ≡ andAt a b) (of .concepts-are) q) in
         (ap (λ (z : Row). z .kind) f ∙ w .0, ap (λ (z : Row). z .a) f ∙ w .1, ap (λ (z : Row). z .b) f ∙ w .2)
 
-    pub member-free : (l .kind ≡ 3 → ⊥) → Free
+    member-free : (l .kind ≡ 3 → ⊥) → Free
     unfolding byRule
     member-free ne =
         record { each = λ t of p q h. let (a, b, s, _) = onPicked-elim extra _ _ (rw e at h) in absurd (ne (and-row t of a b s .0)) }
 
-    pub member-first : extra ≡ 0 → Uses (l .a) right (l .a) right
+    member-first : extra ≡ 0 → Uses (l .a) right (l .a) right
     unfolding byRule
     member-first g =
         record {
@@ -212,7 +275,7 @@ module _ (concepts inclusions ids assignment : List ℕ) (rule left right extra 
               rw e (first-mono extra (λ i. p i right) (λ i. q i right) _ g (λ a b s _. subst (λ (z : ℕ). q z right ≡ true) (and-row t of a b s .1) x) (rw e at h));
         }
 
-    pub member-second : (extra ≡ 0 → ⊥) → Uses (l .b) right (l .b) right
+    member-second : (extra ≡ 0 → ⊥) → Uses (l .b) right (l .b) right
     unfolding byRule
     member-second g =
         record {
@@ -222,6 +285,16 @@ module _ (concepts inclusions ids assignment : List ℕ) (rule left right extra 
               rw e (second-mono extra (λ i. p i right) (λ i. q i right) _ g (λ a b s _. subst (λ (z : ℕ). q z right ≡ true) (and-row t of a b s .2) x) (rw e at h));
         }
 
+    pub member-needs :
+        Square (countOf concepts) before → MarkedIf (l .kind ≡ 3) (countOf concepts) before after (innerAt extra (l .a) (l .b)) right (innerAt extra (l .a) (l .b)) right
+        → Needs concepts inclusions ids assignment rule left right extra before after
+    member-needs s m =
+        if-needs (l .kind ≡ 3) _ _ _ _ (eq-or-ne (l .kind) 3)
+        (λ _.
+        ⊎-elim (λ g. subst (λ (z : ℕ). Uses z right z right) (inner-first extra (l .a) (l .b) g) (member-first g))
+        (λ g. subst (λ (z : ℕ). Uses z right z right) (inner-second extra (l .a) (l .b) g) (member-second g)) (eq-or-ne extra 0))
+        member-free s m
+
   -- ---- rule 4
   module _ (r : Row) (e : rule ≡ 4) (f : r ≡ rowOf concepts right) where
     meet-row : (t : Tables) → Of t concepts inclusions ids → (a b : ℕ) → node (t .concepts) right ≡ andAt a b → (r .kind ≡ 3) × (r .a ≡ a) × (r .b ≡ b)
@@ -229,12 +302,12 @@ module _ (concepts inclusions ids assignment : List ℕ) (rule left right extra 
         let w = and-node concepts right a b (subst (λ (z : List ℕ). node z right ≡ andAt a b) (of .concepts-are) q) in
         (ap (λ (z : Row). z .kind) f ∙ w .0, ap (λ (z : Row). z .a) f ∙ w .1, ap (λ (z : Row). z .b) f ∙ w .2)
 
-    pub both-free : (r .kind ≡ 3 → ⊥) → Free
+    both-free : (r .kind ≡ 3 → ⊥) → Free
     unfolding byRule
     both-free ne =
         record { each = λ t of p q h. let (a, b, s, _, _) = onBoth-elim _ _ (both-true _ _ (rw e at h) .1) in absurd (ne (meet-row t of a b s .0)) }
 
-    pub both-uses : Uses left (r .a) left (r .b)
+    both-uses : Uses left (r .a) left (r .b)
     unfolding byRule
     both-uses =
         record {
@@ -245,6 +318,11 @@ module _ (concepts inclusions ids assignment : List ℕ) (rule left right extra 
               let (a, b, s, _, _) = onBoth-elim _ _ k in
               rw e (both-intro _ _ z (onBoth-intro (λ j. q left j) _ a b s (subst (λ (z : ℕ). q left z ≡ true) (meet-row t of a b s .1) x) (subst (λ (z : ℕ). q left z ≡ true) (meet-row t of a b s .2) y)));
         }
+
+    pub both-needs :
+        Square (countOf concepts) before → MarkedIf (r .kind ≡ 3) (countOf concepts) before after left (r .a) left (r .b)
+        → Needs concepts inclusions ids assignment rule left right extra before after
+    both-needs s m = if-needs (r .kind ≡ 3) _ _ _ _ (eq-or-ne (r .kind) 3) (λ _. both-uses) both-free s m
 
   -- ---- rule 5
   module _ (l r : Row) (e : rule ≡ 5) (f : l ≡ rowOf concepts left) (g : r ≡ rowOf concepts right) where
@@ -258,80 +336,88 @@ module _ (concepts inclusions ids assignment : List ℕ) (rule left right extra 
         let w = exists-node concepts right o b (subst (λ (z : List ℕ). node z right ≡ existsAt o b) (of .concepts-are) q) in
         (ap (λ (z : Row). z .kind) g ∙ w .0, ap (λ (z : Row). z .b) g ∙ w .2)
 
-    pub inner-free-left : (l .kind ≡ 2 → ⊥) → Free
+    inner-free : ((l .kind ≡ 2) × (r .kind ≡ 2) → ⊥) → Free
     unfolding byRule
-    inner-free-left ne =
-        record { each = λ t of p q h. let (o, a, b, s, _, _) = onInner-elim p _ _ (both-true _ _ (rw e at h) .1) in absurd (ne (left-row t of o a s .0)) }
+    inner-free ne =
+        record {
+          each = λ t of p q h.
+              let (o, a, b, s, k, _) = onInner-elim p _ _ (both-true _ _ (rw e at h) .1) in
+              absurd (ne (left-row t of o a s .0, right-row t of o b k .0));
+        }
 
-    pub inner-free-right : (r .kind ≡ 2 → ⊥) → Free
+    inner-pair : (t : Tables) → Of t concepts inclusions ids → (p : ℕ → ℕ → Bool) → byRule t assignment p rule left right extra ≡ true → p (l .b) (r .b) ≡ true
     unfolding byRule
-    inner-free-right ne =
-        record { each = λ t of p q h. let (o, a, b, _, s, _) = onInner-elim p _ _ (both-true _ _ (rw e at h) .1) in absurd (ne (right-row t of o b s .0)) }
-
-    inner-first : (t : Tables) → Of t concepts inclusions ids → (p : ℕ → ℕ → Bool) → byRule t assignment p rule left right extra ≡ true → p (l .b) (r .b) ≡ true
-    unfolding byRule
-    inner-first t of p h =
+    inner-pair t of p h =
         let (o, a, b, s, k, u) = onInner-elim p _ _ (both-true _ _ (rw e at h) .1) in
         ap₂ p (left-row t of o a s .1) (right-row t of o b k .1) ∙ u
 
-    pub inner-uses : Uses (l .b) (r .b) (l .b) (r .b)
+    inner-uses : Uses (l .b) (r .b) (l .b) (r .b)
     unfolding byRule
     inner-uses =
         record {
-          first = inner-first;
-          second = inner-first;
+          first = inner-pair;
+          second = inner-pair;
           again = λ t of p q h x y.
               let (z, w) = both-true _ _ (rw e at h) in
               let (o, a, b, s, k, _) = onInner-elim p _ _ w in
               rw e (both-intro _ _ z (onInner-intro q _ _ o a b s k (ap₂ q (sym (left-row t of o a s .1)) (sym (right-row t of o b k .1)) ∙ x)));
         }
 
+    pub inner-needs :
+        Square (countOf concepts) before → MarkedIf ((l .kind ≡ 2) × (r .kind ≡ 2)) (countOf concepts) before after (l .b) (r .b) (l .b) (r .b)
+        → Needs concepts inclusions ids assignment rule left right extra before after
+    inner-needs s m = if-needs ((l .kind ≡ 2) × (r .kind ≡ 2)) _ _ _ _ (both-or-not _ _ _ _) (λ _. inner-uses) inner-free s m
+
   -- ---- rule 6
   module _ (e : rule ≡ 6) where
-    pub inclusion-free : pairsOf inclusions ≤ extra → Free
+    inclusion-free : (extra < pairsOf inclusions → ⊥) → Free
     unfolding byRule
-    inclusion-free l =
+    inclusion-free n =
         record {
           each = λ t of p q h.
               let m : extra < pairsOf (t .inclusions) = ltb-true _ _ (both-true _ _ (rw e at h) .0) in
-              absurd (omega (arith, subst (λ (z : List ℕ). extra < pairsOf z) (of .inclusions-are) m));
+              absurd (n (subst (λ (z : List ℕ). extra < pairsOf z) (of .inclusions-are) m));
         }
 
-    module _ (pair : Pair) (f : pair ≡ pairOf inclusions extra) where
-      pair-left : (t : Tables) → Of t concepts inclusions ids → pair .left ≡ leftOf (t .inclusions) extra
-      pair-left t of = ap (λ (z : Pair). z .left) f ∙ ap (λ (z : List ℕ). leftOf z extra) (sym (of .inclusions-are))
+    pair-left : (t : Tables) → Of t concepts inclusions ids → leftOf inclusions extra ≡ leftOf (t .inclusions) extra
+    pair-left t of = ap (λ (z : List ℕ). leftOf z extra) (sym (of .inclusions-are))
 
-      pair-right : (t : Tables) → Of t concepts inclusions ids → pair .right ≡ rightOf (t .inclusions) extra
-      pair-right t of = ap (λ (z : Pair). z .right) f ∙ ap (λ (z : List ℕ). rightOf z extra) (sym (of .inclusions-are))
+    pair-right : (t : Tables) → Of t concepts inclusions ids → rightOf inclusions extra ≡ rightOf (t .inclusions) extra
+    pair-right t of = ap (λ (z : List ℕ). rightOf z extra) (sym (of .inclusions-are))
 
-      pub inclusion-uses : Uses left (pair .left) (pair .right) right
-      unfolding byRule
-      inclusion-uses =
-          record {
-            first = λ t of p h. ap (p left) (pair-left t of) ∙ both-true _ _ (both-true _ _ (rw e at h) .1) .0;
-            second = λ t of p h. ap (λ (z : ℕ). p z right) (pair-right t of) ∙ both-true _ _ (both-true _ _ (rw e at h) .1) .1;
-            again = λ t of p q h x y.
-                let (z, _) = both-true _ _ (rw e at h) in
-                rw e (both-intro _ _ z (both-intro _ _ (ap (q left) (sym (pair-left t of)) ∙ x) (ap (λ (z : ℕ). q z right) (sym (pair-right t of)) ∙ y)));
-          }
+    inclusion-uses : Uses left (leftOf inclusions extra) (rightOf inclusions extra) right
+    unfolding byRule
+    inclusion-uses =
+        record {
+          first = λ t of p h. ap (p left) (pair-left t of) ∙ both-true _ _ (both-true _ _ (rw e at h) .1) .0;
+          second = λ t of p h. ap (λ (z : ℕ). p z right) (pair-right t of) ∙ both-true _ _ (both-true _ _ (rw e at h) .1) .1;
+          again = λ t of p q h x y.
+              let (z, _) = both-true _ _ (rw e at h) in
+              rw e (both-intro _ _ z (both-intro _ _ (ap (q left) (sym (pair-left t of)) ∙ x) (ap (λ (z : ℕ). q z right) (sym (pair-right t of)) ∙ y)));
+        }
+
+    pub inclusion-needs :
+        Square (countOf concepts) before → MarkedIf (extra < pairsOf inclusions) (countOf concepts) before after left (leftOf inclusions extra) (rightOf inclusions extra) right
+        → Needs concepts inclusions ids assignment rule left right extra before after
+    inclusion-needs s m = if-needs (extra < pairsOf inclusions) _ _ _ _ (lt-or-not _ _) (λ _. inclusion-uses) inclusion-free s m
 
   -- ---- rule 7
   module _ (e : rule ≡ 7) where
-    pub choice-free : countOf concepts ≤ extra → Free
+    choice-free : (extra < countOf concepts → ⊥) → Free
     unfolding byRule
-    choice-free l =
+    choice-free n =
         record {
           each = λ t of p q h.
               let (v, _, u) = onVariable-elim _ _ (rw e at h) in
               let k = chosen-known t assignment v extra (contains-elim extra _ (both-true _ _ u .0)) in
-              absurd (omega (arith, subst (λ (z : List ℕ). extra < countOf z) (of .concepts-are) k));
+              absurd (n (subst (λ (z : List ℕ). extra < countOf z) (of .concepts-are) k));
         }
 
     choice-first : (t : Tables) → Of t concepts inclusions ids → (p : ℕ → ℕ → Bool) → byRule t assignment p rule left right extra ≡ true → p extra right ≡ true
     unfolding byRule
     choice-first t of p h = let (v, _, u) = onVariable-elim _ _ (rw e at h) in both-true _ _ u .1
 
-    pub choice-uses : Uses extra right extra right
+    choice-uses : Uses extra right extra right
     unfolding byRule
     choice-uses =
         record {
@@ -342,6 +428,11 @@ module _ (concepts inclusions ids assignment : List ℕ) (rule left right extra 
               rw e (onVariable-intro (λ v. both (contains extra (chosen t assignment v)) (q extra right)) _ v s (both-intro _ _ (both-true _ _ u .0) x));
         }
 
+    pub choice-needs :
+        Square (countOf concepts) before → MarkedIf (extra < countOf concepts) (countOf concepts) before after extra right extra right
+        → Needs concepts inclusions ids assignment rule left right extra before after
+    choice-needs s m = if-needs (extra < countOf concepts) _ _ _ _ (lt-or-not _ _) (λ _. choice-uses) choice-free s m
+
   -- ---- rule 8
   module _ (r : Row) (e : rule ≡ 8) (f : r ≡ rowOf concepts right) where
     var-row : (t : Tables) → Of t concepts inclusions ids → (v : ℕ) → node (t .concepts) right ≡ varAt v → (r .kind ≡ 4) × (r .a ≡ v)
@@ -349,7 +440,7 @@ module _ (concepts inclusions ids assignment : List ℕ) (rule left right extra 
         let w = var-node concepts right v (subst (λ (z : List ℕ). node z right ≡ varAt v) (of .concepts-are) q) in
         (ap (λ (z : Row). z .kind) f ∙ w .0, ap (λ (z : Row). z .a) f ∙ w .1)
 
-    pub all-free : (r .kind ≡ 4 → ⊥) → Free
+    all-free : (r .kind ≡ 4 → ⊥) → Free
     unfolding byRule
     all-free ne =
         record { each = λ t of p q h. let (v, s, _) = onVariable-elim _ _ (both-true _ _ (rw e at h) .1) in absurd (ne (var-row t of v s .0)) }
@@ -362,10 +453,10 @@ module _ (concepts inclusions ids assignment : List ℕ) (rule left right extra 
     unfolding chosen
     of-member t of v x y k = subst (λ (z : ℕ). List·Memᴰ x (pick ids (getD assignment z 0))) (sym y) (subst (λ (z : List ℕ). List·Memᴰ x (pick z (getD assignment v 0))) (of .atoms-are) k)
 
-    pub all-needs :
+    all-marked :
         AllMarked ids (getD assignment (r .a) 0) (countOf concepts) before after left → Needs concepts inclusions ids assignment rule left right extra before after
     unfolding byRule
-    all-needs m =
+    all-marked m =
         record {
           grown = m .grown;
           serves = λ t of p h.
@@ -382,6 +473,16 @@ module _ (concepts inclusions ids assignment : List ℕ) (rule left right extra 
               inr (ap (λ (z : ℕ). p z j) (w .0) ∙ every-elim _ _ u j (member-of t of v j (var-row t of v q .1) (w .1)))) (m .only i j x y k);
         }
 
+    pub all-needs :
+        Square (countOf concepts) before → AllMarkedIf (r .kind ≡ 4) ids (getD assignment (r .a) 0) (countOf concepts) before after left
+        → Needs concepts inclusions ids assignment rule left right extra before after
+    all-needs s m =
+        ⊎-elim (λ y. all-marked (m .hit y))
+        (λ n. subst (λ (z : List Bool). Needs concepts inclusions ids assignment rule left right extra before z) (sym (m .miss n)) (free-needs s (all-free n))) (eq-or-ne (r .kind) 4)
+
   -- ---- the others have no premises
-  pub none-free : (rule ≡ 3 → ⊥) → (rule ≡ 4 → ⊥) → (rule ≡ 5 → ⊥) → (rule ≡ 6 → ⊥) → (rule ≡ 7 → ⊥) → (rule ≡ 8 → ⊥) → Free
-  none-free c d e f g h = record { each = λ t of p q u. premise-free t assignment p q left right extra rule c d e f g h u }
+  pub none-needs :
+      (rule ≡ 3 → ⊥) → (rule ≡ 4 → ⊥) → (rule ≡ 5 → ⊥) → (rule ≡ 6 → ⊥) → (rule ≡ 7 → ⊥) → (rule ≡ 8 → ⊥) → Square (countOf concepts) before
+      → Needs concepts inclusions ids assignment rule left right extra before before
+  none-needs c d e f g h s =
+      free-needs s (record { each = λ t of p q u. premise-free t assignment p q left right extra rule c d e f g h u })

@@ -1,5 +1,5 @@
 -- What the private marking of needed pairs promises (no operation's contract cites this).
-use Prim.Native.Nat.{ℕ, _<_}
+use Prim.Native.Nat.{ℕ, zero, suc, _<_}
 use mathlib.Core.Path.{_≡_}
 use mathlib.Core.List.{List, List·Memᴰ}
 use mathlib.Core.Bool.{Bool, true}
@@ -30,6 +30,20 @@ pub record AllMarked (ids : List ℕ) (choice count : ℕ) (before after : List 
   pub only :
       (i j : ℕ) → i < count → j < count → seen count after i j ≡ true
       → (seen count before i j ≡ true) ⊎ ((i ≡ left) × List·Memᴰ j (pick ids choice))
+
+-- the id of an "and" that the extra picks
+unfoldable pub innerAt : ℕ → ℕ → ℕ → ℕ
+innerAt zero a b = a
+innerAt (suc extra) a b = b
+
+-- a line of the rule's shape has both pairs marked; any other changes nothing
+pub record MarkedIf (shape : Type 0) (count : ℕ) (before after : List Bool) (a b c d : ℕ) : Type 0 where
+  pub hit : shape → TwoMarked count before after a b c d
+  pub miss : (shape → ⊥) → after ≡ before
+
+pub record AllMarkedIf (shape : Type 0) (ids : List ℕ) (choice count : ℕ) (before after : List Bool) (left : ℕ) : Type 0 where
+  pub hit : shape → AllMarked ids choice count before after left
+  pub miss : (shape → ⊥) → after ≡ before
 
 -- what the line uses is marked, and nothing else is new
 pub record Needs (concepts inclusions ids assignment : List ℕ) (rule left right extra : ℕ) (before after : List Bool) : Type 0 where

@@ -2,18 +2,21 @@
 use crate::derivation::mark_pair;
 use crate::rules::has_mark;
 use crate::rules::number_at;
+use subsumption::tables::Row;
 use subsumption::tables::pair_at;
 use subsumption::tables::row_at;
 ghost use mathlib.Core.Path.{_≡_};
 ghost use mathlib.Core.Bool.{true};
 ghost use Prim.Native.Nat.{ℕ, _*_, _<_, _≤_};
-ghost use lib.ListN.{length};
-ghost use Rattle.subsumption.specs.Tables.{countOf};
+ghost use lib.ListN.{length, getD};
+ghost use Rattle.subsumption.specs.Tables.{countOf, pairsOf, leftOf, rightOf};
+ghost use Rattle.subsumption.specs.Marks.{Known};
+ghost use Rattle.subsumption.specs.Closure.{Rising};
 ghost use Rattle.matching.specs.Derivation.{leftAt, rightAt};
-ghost use Rattle.matching.specs.LineMarks.{Square, seen, KnownAtoms};
+ghost use Rattle.matching.specs.LineMarks.{Square, seen, nodeOf, KnownAtoms, Numbered};
 ghost use Rattle.matching.specs.LineSearch.{Grounds};
 ghost use Rattle.matching.specs.Noting.{Noted, Enough};
-ghost use Rattle.matching.specs.Needing.{Grown, TwoMarked, AllMarked, Needs};
+ghost use Rattle.matching.specs.Needing.{Grown, TwoMarked, AllMarked, innerAt, MarkedIf, AllMarkedIf, Needs};
 
 fn mark_two(needed: &mut [bool], count: usize, a: usize, b: usize, c: usize, d: usize)
     requires { ⌜ Square count (now needed) ⌝ }
@@ -43,6 +46,113 @@ fn mark_all(atoms: &[u16], choice: u64, needed: &mut [bool], count: usize, left:
     }
 }
 
+// Rule 3.
+fn need_member(needed: &mut [bool], count: usize, l: Row, right: usize, extra: usize)
+    requires { ⌜ Square count (now needed) ⌝ }
+    requires { ⌜ Rising count (nodeOf l) ⌝ }
+    requires { ⌜ right < count ⌝ }
+    ensures { λ _. ⌜ MarkedIf (l .kind ≡ 3) count (now (needed .entry)) (now (needed .exit)) (innerAt extra (l .a) (l .b)) right (innerAt extra (l .a) (l .b)) right ⌝ }
+{
+    if l.kind != 3 {
+        return;
+    }
+    if extra == 0 {
+        let a = l.a as usize;
+        mark_two(needed, count, a, right, a, right);
+        return;
+    }
+    let b = l.b as usize;
+    mark_two(needed, count, b, right, b, right);
+}
+
+// Rule 4.
+fn need_both(needed: &mut [bool], count: usize, left: usize, r: Row)
+    requires { ⌜ Square count (now needed) ⌝ }
+    requires { ⌜ Rising count (nodeOf r) ⌝ }
+    requires { ⌜ left < count ⌝ }
+    ensures { λ _. ⌜ MarkedIf (r .kind ≡ 3) count (now (needed .entry)) (now (needed .exit)) left (r .a) left (r .b) ⌝ }
+{
+    if r.kind != 3 {
+        return;
+    }
+    mark_two(needed, count, left, r.a as usize, left, r.b as usize);
+}
+
+// Rule 5.
+fn need_inner(needed: &mut [bool], count: usize, l: Row, r: Row)
+    requires { ⌜ Square count (now needed) ⌝ }
+    requires { ⌜ Rising count (nodeOf l) ⌝ }
+    requires { ⌜ Rising count (nodeOf r) ⌝ }
+    ensures { λ _. ⌜ MarkedIf ((l .kind ≡ 2) × (r .kind ≡ 2)) count (now (needed .entry)) (now (needed .exit)) (l .b) (r .b) (l .b) (r .b) ⌝ }
+{
+    if l.kind != 2 {
+        return;
+    }
+    if r.kind != 2 {
+        return;
+    }
+    let a = l.b as usize;
+    let b = r.b as usize;
+    mark_two(needed, count, a, b, a, b);
+}
+
+// Rule 6.
+fn need_inclusion(
+    inclusions: &[u16],
+    needed: &mut [bool],
+    count: usize,
+    left: usize,
+    right: usize,
+    extra: usize,
+)
+    requires { ⌜ Square count (now needed) ⌝ }
+    requires { ⌜ Known count (now inclusions) ⌝ }
+    requires { ⌜ (left < count) × (right < count) ⌝ }
+    ensures { λ _. ⌜ MarkedIf (extra < pairsOf (now (inclusions .entry))) count (now (needed .entry)) (now (needed .exit)) left (leftOf (now (inclusions .entry)) extra) (rightOf (now (inclusions .entry)) extra) right ⌝ }
+{
+    if inclusions.len() / 2 <= extra {
+        return;
+    }
+    let pair = pair_at(inclusions, extra);
+    let l = pair.left as usize;
+    let r = pair.right as usize;
+    mark_two(needed, count, left, l, r, right);
+}
+
+// Rule 7.
+fn need_choice(needed: &mut [bool], count: usize, right: usize, extra: usize)
+    requires { ⌜ Square count (now needed) ⌝ }
+    requires { ⌜ right < count ⌝ }
+    ensures { λ _. ⌜ MarkedIf (extra < count) count (now (needed .entry)) (now (needed .exit)) extra right extra right ⌝ }
+{
+    if count <= extra {
+        return;
+    }
+    mark_two(needed, count, extra, right, extra, right);
+}
+
+// Rule 8.
+fn need_all(
+    atoms: &[u16],
+    assignment: &[u64],
+    needed: &mut [bool],
+    count: usize,
+    left: usize,
+    r: Row,
+)
+    requires { ⌜ Square count (now needed) ⌝ }
+    requires { ⌜ KnownAtoms count (now atoms) ⌝ }
+    requires { ⌜ Numbered (now assignment) (nodeOf r) ⌝ }
+    requires { ⌜ left < count ⌝ }
+    ensures { λ _. ⌜ AllMarkedIf (r .kind ≡ 4) (now (atoms .entry)) (getD (now (assignment .entry)) (r .a) 0) count (now (needed .entry)) (now (needed .exit)) left ⌝ }
+{
+    if r.kind != 4 {
+        return;
+    }
+    let k = r.a as usize;
+    mark_all(atoms, assignment[k], needed, count, left);
+}
+
 // The premises of a line.
 fn need_premises(
     concepts: &[u16],
@@ -64,65 +174,27 @@ fn need_premises(
     let l = row_at(concepts, left);
     let r = row_at(concepts, right);
     if rule == 3 {
-        if l.kind != 3 {
-            return;
-        }
-        if extra == 0 {
-            let a = l.a as usize;
-            mark_two(needed, count, a, right, a, right);
-            return;
-        }
-        let b = l.b as usize;
-        mark_two(needed, count, b, right, b, right);
+        need_member(needed, count, l, right, extra);
         return;
     }
     if rule == 4 {
-        if r.kind != 3 {
-            return;
-        }
-        mark_two(needed, count, left, r.a as usize, left, r.b as usize);
+        need_both(needed, count, left, r);
         return;
     }
     if rule == 5 {
-        if l.kind != 2 {
-            return;
-        }
-        if r.kind != 2 {
-            return;
-        }
-        let a = l.b as usize;
-        let b = r.b as usize;
-        mark_two(needed, count, a, b, a, b);
+        need_inner(needed, count, l, r);
         return;
     }
     if rule == 6 {
-        if inclusions.len() / 2 <= extra {
-            return;
-        }
-        let pair = pair_at(inclusions, extra);
-        mark_two(
-            needed,
-            count,
-            left,
-            pair.left as usize,
-            pair.right as usize,
-            right,
-        );
+        need_inclusion(inclusions, needed, count, left, right, extra);
         return;
     }
     if rule == 7 {
-        if count <= extra {
-            return;
-        }
-        mark_two(needed, count, extra, right, extra, right);
+        need_choice(needed, count, right, extra);
         return;
     }
     if rule == 8 {
-        if r.kind != 4 {
-            return;
-        }
-        let k = r.a as usize;
-        mark_all(atoms, assignment[k], needed, count, left);
+        need_all(atoms, assignment, needed, count, left, r);
     }
 }
 
