@@ -9,11 +9,10 @@ use lib.ListN.{length, getD, set, length-set}
 use lib.Seq.{getD-set-same, getD-set-other}
 use lib.Dec.{eqb}
 use borrow.Author.Tests.{eqb-true, eqb-false}
-use Rattle.subsumption.specs.Tables.{Node, topAt, nameAt, andAt, node, countOf}
+use Rattle.subsumption.specs.Tables.{Node, topAt, nameAt, andAt, varAt, node, countOf}
 use Rattle.subsumption.specs.Atoms.{bit}
-use Rattle.subsumption.specs.Closure.{has, slack, Ready, Nameable, Ordered, Choosable, Paired, Sided, FirstNamed, Firsts, SettledBy, Steps, flow-given, Sound, Pass, Empty, AllTaken, AllSettled, AllIncluded, AllChosen, AllLinked, Closed}
+use Rattle.subsumption.specs.Closure.{has, slack, Firsts, SettledBy, Steps, flow-given, Sound, Pass, Empty, AllTaken, AllSettled, AllIncluded, AllLinked, Closed}
 use Rattle.subsumption.proofs.Bits.{bit-of-zero}
-use Rattle.subsumption.proofs.Nodes.{name-node}
 use Rattle.subsumption.proofs.Columns.{not-both}
 use Rattle.subsumption.proofs.Passes.{pass-as, pass-then}
 
@@ -48,28 +47,28 @@ abbrev pub weight : Bool → ℕ
 weight true = 1
 weight false = 0
 
-module _ (concepts inclusions : List ℕ) (choose : ℕ → List ℕ) (notes : List ℕ) where
+module _ (concepts inclusions : List ℕ) (choose : ℕ → List ℕ) (firsts : List ℕ) where
   pub record Closing (given columns : List ℕ) (busy : Bool) : Type 0 where
     pub long : length columns ≡ 576
     pub sound : Sound concepts inclusions choose given columns
-    pub taken : busy ≡ false → AllTaken concepts inclusions choose notes columns
+    pub taken : busy ≡ false → AllTaken concepts inclusions choose firsts columns
 
   pub closing-first : (given : List ℕ) → length given ≡ 576 → Closing given given true
   closing-first given h = record { long = h; sound = λ i j l k e. flow-given i j l k e; taken = λ e. not-both true refl e }
 
   pub closing-turn :
       (given before after : List ℕ) (busy changed : Bool) → Closing given before busy
-      → Pass concepts inclusions choose (AllTaken concepts inclusions choose notes) before after changed → Closing given after changed
+      → Pass concepts inclusions choose (AllTaken concepts inclusions choose firsts) before after changed → Closing given after changed
   closing-turn given before after busy changed C p =
       record {
         long = p .long ∙ C .long;
         sound = p .sound given (C .sound);
-        taken = λ e. subst (λ (l : List ℕ). AllTaken concepts inclusions choose notes l) (sym (p .same e)) (p .quiet e);
+        taken = λ e. subst (λ (l : List ℕ). AllTaken concepts inclusions choose firsts l) (sym (p .same e)) (p .quiet e);
       }
 
   pub closing-less :
       (before after : List ℕ) (busy changed : Bool) → busy ≡ true
-      → Pass concepts inclusions choose (AllTaken concepts inclusions choose notes) before after changed
+      → Pass concepts inclusions choose (AllTaken concepts inclusions choose firsts) before after changed
       → slack after + weight changed < slack before + weight busy
   closing-less before after true true e p = omega (arith, p .less refl)
   closing-less before after true false e p = omega (arith, ap slack (p .same refl))
@@ -77,26 +76,22 @@ module _ (concepts inclusions : List ℕ) (choose : ℕ → List ℕ) (notes : L
 
   -- one round
   pub round-quiet :
-      (before one two three after : List ℕ) (a b c changed : Bool) → ((a || b) || c) ≡ false
-      → Pass concepts inclusions choose (AllSettled concepts notes) before one a
+      (before one two after : List ℕ) (a b changed : Bool) → (a || b) ≡ false
+      → Pass concepts inclusions choose (AllSettled concepts firsts choose) before one a
       → Pass concepts inclusions choose (AllIncluded concepts inclusions) one two b
-      → Pass concepts inclusions choose (AllChosen concepts choose) two three c
-      → Pass concepts inclusions choose (AllLinked concepts) three after changed
-      → Pass concepts inclusions choose (AllTaken concepts inclusions choose notes) before after changed
-  round-quiet before one two three after a b c changed e p q r w =
-      subst (λ (t : Bool). Pass concepts inclusions choose (AllTaken concepts inclusions choose notes) before after (t || changed)) e
-      (pass-as (pass-then (pass-then (pass-then p q) r) w) (λ u. record { settled = u .0 .0 .0; included = u .0 .0 .1; chosen = u .0 .1; linked = u .1 }))
+      → Pass concepts inclusions choose (AllLinked concepts) two after changed
+      → Pass concepts inclusions choose (AllTaken concepts inclusions choose firsts) before after changed
+  round-quiet before one two after a b changed e p q r =
+      subst (λ (t : Bool). Pass concepts inclusions choose (AllTaken concepts inclusions choose firsts) before after (t || changed)) e
+      (pass-as (pass-then (pass-then p q) r) (λ u. record { settled = u .0 .0; included = u .0 .1; linked = u .1 }))
 
-  module _ (columns : List ℕ) (F : Firsts concepts notes) (A : AllTaken concepts inclusions choose notes columns) where
-    at : (j : ℕ) (m : Node) → j < countOf concepts → node concepts j ≡ m → SettledBy (countOf concepts) (getD notes j 0) j columns m
-    at j m h e = subst (λ (x : Node). SettledBy (countOf concepts) (getD notes j 0) j columns x) e (A .settled j h .by)
+  module _ (columns : List ℕ) (F : Firsts concepts firsts) (A : AllTaken concepts inclusions choose firsts columns) where
+    at : (j : ℕ) (m : Node) → j < countOf concepts → node concepts j ≡ m → SettledBy (countOf concepts) choose (getD firsts j 0) j columns m
+    at j m h e = subst (λ (x : Node). SettledBy (countOf concepts) choose (getD firsts j 0) j columns x) e (A .settled j h .by)
 
-    first : (j n : ℕ) → j < countOf concepts → node concepts j ≡ nameAt n → FirstNamed concepts j (getD notes j 0)
-    first j n h p = F .each j h (name-node concepts j n p .0)
-
-    one-first : (j k n : ℕ) → j < countOf concepts → k < countOf concepts → node concepts j ≡ nameAt n → node concepts k ≡ nameAt n → getD notes j 0 ≡ getD notes k 0
+    one-first : (j k n : ℕ) → j < countOf concepts → k < countOf concepts → node concepts j ≡ nameAt n → node concepts k ≡ nameAt n → getD firsts j 0 ≡ getD firsts k 0
     one-first j k n h l p q =
-        le-antisymm (first j n h p .least n (getD notes k 0) p (first k n l q .named n q)) (first k n l q .least n (getD notes j 0) q (first j n h p .named n p))
+        le-antisymm (F .each j h .least n (getD firsts k 0) p (F .each k l .named n q)) (F .each k l .least n (getD firsts j 0) q (F .each j h .named n p))
 
     pub all-steps : Steps concepts inclusions choose (λ i j. has columns i j ≡ true)
     all-steps =
@@ -112,29 +107,11 @@ module _ (concepts inclusions : List ℕ) (choose : ℕ → List ℕ) (notes : L
           meet = λ i j a b h l e r s. at j (andAt a b) l e .2 i h r s;
           included = λ i m h l r. A .included m l i h r;
           linked = λ i e f r x y h l m p q s t. A .linked f m e r y l q (record { from = x; row = p; below = s }) i h t;
-          chooses = λ i v k p h l e m r. A .chosen v l k e .down p m i h r;
-          all-chosen = λ i v k h l e r. A .chosen v l k e .up i h r;
+          chooses = λ i v k p h l e m r. at v (varAt k) l e .0 p m i h r;
+          all-chosen = λ i v k h l e r. at v (varAt k) l e .1 i h r;
         }
 
   pub closing-done :
-      (given columns : List ℕ) (busy : Bool) → busy ≡ false → Firsts concepts notes → Closing given columns busy
+      (given columns : List ℕ) (busy : Bool) → busy ≡ false → Firsts concepts firsts → Closing given columns busy
       → Closed concepts inclusions choose given columns
   closing-done given columns busy e F C = record { long = C .long; sound = C .sound; closed = all-steps columns F (C .taken e) }
-
--- what the steps ask, from what the closure asks
-module _ {concepts inclusions atoms assignment : List ℕ} (R : Ready concepts inclusions atoms assignment) where
-  pub ready-nameable : Nameable concepts
-  ready-nameable = record { few = R .few; low = R .low-names }
-
-  pub ready-ordered : Ordered concepts
-  ready-ordered = record { few = R .few; rising = R .rising }
-
-  pub ready-choosable : Choosable concepts atoms assignment
-  ready-choosable = record { few = R .few; numbered = R .numbered; few-atoms = R .few-atoms; atoms-known = R .atoms-known }
-
-  pub ready-sided : Sided concepts inclusions
-  ready-sided = record { few = R .few; left-known = R .left-known; right-known = R .right-known }
-
-  pub ready-paired : Paired inclusions
-  ready-paired =
-      record { left-low = λ m h. omega (arith, R .left-known m h, R .few); right-low = λ m h. omega (arith, R .right-known m h, R .few) }

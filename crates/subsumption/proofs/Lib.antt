@@ -35,7 +35,6 @@ pub mod Picks
 pub mod Choices
 pub mod Passes
 pub mod Settling
-pub mod Naming
 pub mod Linking
 pub mod Closing
 pub mod RowLaws

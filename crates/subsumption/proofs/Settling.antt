@@ -2,86 +2,89 @@
 use Prim.Native.Nat.{ℕ, _+_, _*_, _<_}
 use mathlib.Core.Path.{_≡_, refl, sym, subst}
 use mathlib.Core.List.{List, List·Memᴰ}
-use mathlib.Core.Bool.{Bool, true, false, _||_}
+use mathlib.Core.Bool.{Bool, true, _||_}
 use native.Mathlib.Omega.{arith}
 use lib.ListN.{length, getD}
 use Rattle.subsumption.specs.Tables.{Node, topAt, nameAt, andAt, varAt, node, countOf}
 use Rattle.subsumption.specs.Atoms.{pick}
-use Rattle.subsumption.specs.Closure.{has, Into, Rising, Ordered, Firsts, Settled, SettledBy, Choosable, ChosenAt, ChosenRow, Flow, flow-same, flow-top, flow-named, flow-first, flow-second, flow-meet, flow-chooses, flow-all-chosen, Pass, Takes, Known, chooseFrom}
-use Rattle.subsumption.proofs.Nodes.{node-name, node-exists, node-and, node-var, var-node}
+use Rattle.subsumption.specs.Closure.{has, Into, Rising, Ready, Firsts, Settled, SettledBy, Flow, flow-same, flow-top, flow-named, flow-first, flow-second, flow-meet, flow-chooses, flow-all-chosen, Pass, Takes, Known, chooseFrom}
+use Rattle.subsumption.proofs.Nodes.{node-name, node-exists, node-and, node-var}
 use Rattle.subsumption.proofs.Picks.{ChosenBelow, at-picked}
-use Rattle.subsumption.proofs.Passes.{pass-as, pass-none, pass-then, step-pass, flow-pass}
+use Rattle.subsumption.proofs.Passes.{pass-as, pass-then, step-pass, flow-pass}
 
-module _ {concepts : List ℕ} (O : Ordered concepts) (j : ℕ) (inside : j < countOf concepts) where
+pub ready-known : {concepts inclusions atoms assignment : List ℕ} → Ready concepts inclusions atoms assignment → Known atoms
+ready-known R = record { few = R .few-atoms; low = λ q h. omega (arith, R .atoms-known q h, R .few) }
+
+module _ {concepts inclusions atoms assignment : List ℕ} (R : Ready concepts inclusions atoms assignment) (j : ℕ) (inside : j < countOf concepts) where
   rising : {m : Node} → node concepts j ≡ m → Rising j m
-  rising {m} e = subst (λ (x : Node). Rising j x) e (O .rising j inside)
+  rising {m} e = subst (λ (x : Node). Rising j x) e (R .rising j inside)
 
-  pub first-low : {notes : List ℕ} → Firsts concepts notes → getD concepts (j * 3) 0 ≡ 1 → getD notes j 0 < 192
-  first-low F e = omega (arith, F .each j inside e .low, O .few)
+  pub first-low : {firsts : List ℕ} → Firsts concepts firsts → getD firsts j 0 < 192
+  first-low F = omega (arith, F .each j inside .low, R .few)
 
   pub and-low : getD concepts (j * 3) 0 ≡ 3 → (getD concepts (j * 3 + 1) 0 < 192) × (getD concepts (j * 3 + 2) 0 < 192)
-  and-low e = (omega (arith, rising (node-and concepts j e) .0, O .few), omega (arith, rising (node-and concepts j e) .1, O .few))
+  and-low e = (omega (arith, rising (node-and concepts j e) .0, R .few), omega (arith, rising (node-and concepts j e) .1, R .few))
 
-module _ (concepts inclusions notes : List ℕ) (choose : ℕ → List ℕ) (O : Ordered concepts) (F : Firsts concepts notes)
+  pub var-low : getD concepts (j * 3) 0 ≡ 4 → getD concepts (j * 3 + 1) 0 < length assignment
+  var-low e = R .numbered j _ (node-var concepts j e)
+
+module _ (concepts inclusions atoms assignment firsts : List ℕ) (R : Ready concepts inclusions atoms assignment) (F : Firsts concepts firsts)
     (j : ℕ) (inside : j < countOf concepts) where
   abbrev pub SettledPass : List ℕ → List ℕ → Bool → Type 0
-  SettledPass = Pass concepts inclusions choose (Settled concepts notes j)
+  SettledPass = Pass concepts inclusions (chooseFrom atoms assignment) (Settled concepts firsts (chooseFrom atoms assignment) j)
 
   settled :
       {m : Node} {columns : List ℕ} → node concepts j ≡ m → has columns j j ≡ true
-      → SettledBy (countOf concepts) (getD notes j 0) j columns m → Settled concepts notes j columns
+      → SettledBy (countOf concepts) (chooseFrom atoms assignment) (getD firsts j 0) j columns m
+      → Settled concepts firsts (chooseFrom atoms assignment) j columns
   settled {m} {columns} e s b =
-      record { same = s; by = subst (λ (x : Node). SettledBy (countOf concepts) (getD notes j 0) j columns x) (sym e) b }
+      record { same = s; by = subst (λ (x : Node). SettledBy (countOf concepts) (chooseFrom atoms assignment) (getD firsts j 0) j columns x) (sym e) b }
 
   marked :
       {before after : List ℕ} {changed : Bool} → Takes before after (λ x. x ≡ j) (λ i. i ≡ j) changed
-      → Pass concepts inclusions choose (λ l. has l j j ≡ true) before after changed
+      → Pass concepts inclusions (chooseFrom atoms assignment) (λ l. has l j j ≡ true) before after changed
   marked t =
-      step-pass (O .few) t
-      (λ g s i k h l p q. subst (λ (x : ℕ). Flow concepts inclusions choose g x k) (sym q)
-      (subst (λ (x : ℕ). Flow concepts inclusions choose g j x) (sym p) (flow-same j inside)))
+      step-pass (R .few) t
+      (λ g s i k h l p q. subst (λ (x : ℕ). Flow concepts inclusions (chooseFrom atoms assignment) g x k) (sym q)
+      (subst (λ (x : ℕ). Flow concepts inclusions (chooseFrom atoms assignment) g j x) (sym p) (flow-same j inside)))
       (λ f. f j j inside refl refl)
 
   pub settle-exists :
       (before after : List ℕ) (own : Bool) → getD concepts (j * 3) 0 ≡ 2 → Takes before after (λ x. x ≡ j) (λ i. i ≡ j) own → SettledPass before after own
   settle-exists before after own e t = pass-as (marked t) (λ q. settled (node-exists concepts j e) q tt)
 
-  pub settle-var :
-      (before after : List ℕ) (own : Bool) → getD concepts (j * 3) 0 ≡ 4 → Takes before after (λ x. x ≡ j) (λ i. i ≡ j) own → SettledPass before after own
-  settle-var before after own e t = pass-as (marked t) (λ q. settled (node-var concepts j e) q tt)
-
   pub settle-top :
       (before one after : List ℕ) (own a : Bool) → node concepts j ≡ topAt → Takes before one (λ x. x ≡ j) (λ i. i ≡ j) own
       → Takes one after (λ x. x ≡ j) (λ i. Unit {0}) a → SettledPass before after (own || a)
   settle-top before one after own a e t u = pass-as (pass-then (marked t) filled) (λ q. settled e (q .0) (q .1))
     where
-      filled : Pass concepts inclusions choose (λ l. (i : ℕ) → i < countOf concepts → has l i j ≡ true) one after a
+      filled : Pass concepts inclusions (chooseFrom atoms assignment) (λ l. (i : ℕ) → i < countOf concepts → has l i j ≡ true) one after a
       filled =
-          step-pass (O .few) u
-          (λ g s i k h l p _. subst (λ (x : ℕ). Flow concepts inclusions choose g i x) (sym p) (flow-top i j h inside e))
+          step-pass (R .few) u
+          (λ g s i k h l p _. subst (λ (x : ℕ). Flow concepts inclusions (chooseFrom atoms assignment) g i x) (sym p) (flow-top i j h inside e))
           (λ f i h. f i j h refl tt)
 
   pub settle-name :
       (before one two after : List ℕ) (own a b : Bool) → getD concepts (j * 3) 0 ≡ 1 → Takes before one (λ x. x ≡ j) (λ i. i ≡ j) own
-      → Takes one two (λ x. x ≡ getD notes j 0) (λ i. has one i j ≡ true) a
-      → Takes two after (λ x. x ≡ j) (λ i. has two i (getD notes j 0) ≡ true) b → SettledPass before after ((own || a) || b)
+      → Takes one two (λ x. x ≡ getD firsts j 0) (λ i. has one i j ≡ true) a
+      → Takes two after (λ x. x ≡ j) (λ i. has two i (getD firsts j 0) ≡ true) b → SettledPass before after ((own || a) || b)
   settle-name before one two after own a b kind t u v =
       pass-as (pass-then (pass-then (marked t) there) back) (λ q. settled e (q .0 .0) (q .0 .1, q .1))
     where
       e : node concepts j ≡ nameAt (getD concepts (j * 3 + 1) 0)
       e = node-name concepts j kind
 
-      f : node concepts (getD notes j 0) ≡ nameAt (getD concepts (j * 3 + 1) 0)
-      f = F .each j inside kind .named _ e
+      f : node concepts (getD firsts j 0) ≡ nameAt (getD concepts (j * 3 + 1) 0)
+      f = F .each j inside .named _ e
 
-      known : getD notes j 0 < countOf concepts
-      known = omega (arith, F .each j inside kind .low)
+      known : getD firsts j 0 < countOf concepts
+      known = omega (arith, F .each j inside .low)
 
-      there : Pass concepts inclusions choose (λ l. Into (countOf concepts) l j (getD notes j 0)) one two a
-      there = flow-pass j (getD notes j 0) (O .few) inside (λ g i h w. flow-named i j (getD notes j 0) _ h inside known e f w) u
+      there : Pass concepts inclusions (chooseFrom atoms assignment) (λ l. Into (countOf concepts) l j (getD firsts j 0)) one two a
+      there = flow-pass j (getD firsts j 0) (R .few) inside (λ g i h w. flow-named i j (getD firsts j 0) _ h inside known e f w) u
 
-      back : Pass concepts inclusions choose (λ l. Into (countOf concepts) l (getD notes j 0) j) two after b
-      back = flow-pass (getD notes j 0) j (O .few) known (λ g i h w. flow-named i (getD notes j 0) j _ h known inside f e w) v
+      back : Pass concepts inclusions (chooseFrom atoms assignment) (λ l. Into (countOf concepts) l (getD firsts j 0) j) two after b
+      back = flow-pass (getD firsts j 0) j (R .few) known (λ g i h w. flow-named i (getD firsts j 0) j _ h known inside f e w) v
 
   pub settle-and :
       (before one two three after : List ℕ) (own a b c : Bool) → getD concepts (j * 3) 0 ≡ 3 → Takes before one (λ x. x ≡ j) (λ i. i ≡ j) own
@@ -104,81 +107,60 @@ module _ (concepts inclusions notes : List ℕ) (choose : ℕ → List ℕ) (O :
       e = node-and concepts j kind
 
       x-known : x < countOf concepts
-      x-known = omega (arith, rising O j inside e .0)
+      x-known = omega (arith, rising R j inside e .0)
 
       y-known : y < countOf concepts
-      y-known = omega (arith, rising O j inside e .1)
+      y-known = omega (arith, rising R j inside e .1)
 
-      left : Pass concepts inclusions choose (λ l. Into (countOf concepts) l j x) one two a
-      left = flow-pass j x (O .few) inside (λ g i h z. flow-first i j x y h inside e z) u
+      left : Pass concepts inclusions (chooseFrom atoms assignment) (λ l. Into (countOf concepts) l j x) one two a
+      left = flow-pass j x (R .few) inside (λ g i h z. flow-first i j x y h inside e z) u
 
-      right : Pass concepts inclusions choose (λ l. Into (countOf concepts) l j y) two three b
-      right = flow-pass j y (O .few) inside (λ g i h z. flow-second i j x y h inside e z) v
+      right : Pass concepts inclusions (chooseFrom atoms assignment) (λ l. Into (countOf concepts) l j y) two three b
+      right = flow-pass j y (R .few) inside (λ g i h z. flow-second i j x y h inside e z) v
 
       both :
-          Pass concepts inclusions choose
+          Pass concepts inclusions (chooseFrom atoms assignment)
           (λ l. (i : ℕ) → i < countOf concepts → has l i x ≡ true → has l i y ≡ true → has l i j ≡ true) three after c
       both =
-          step-pass (O .few) w
+          step-pass (R .few) w
           (λ g s i k h l p q.
-          subst (λ (z : ℕ). Flow concepts inclusions choose g i z) (sym p)
+          subst (λ (z : ℕ). Flow concepts inclusions (chooseFrom atoms assignment) g i z) (sym p)
           (flow-meet i j x y h inside e (s i x h x-known (q .0)) (s i y h y-known (q .1))))
           (λ f i h p q. f i j h refl (p, q))
 
--- ---- the row of a variable
-module _ {concepts atoms assignment : List ℕ} (R : Choosable concepts atoms assignment) where
-  pub choosable-known : Known atoms
-  choosable-known = record { few = R .few-atoms; low = λ q h. omega (arith, R .atoms-known q h, R .few) }
-
-  pub var-low : (j : ℕ) → getD concepts (j * 3) 0 ≡ 4 → getD concepts (j * 3 + 1) 0 < length assignment
-  var-low j e = R .numbered j _ (node-var concepts j e)
-
-module _ (concepts inclusions atoms assignment : List ℕ) (R : Choosable concepts atoms assignment) (j : ℕ) (inside : j < countOf concepts) where
-  abbrev pub ChosenPass : List ℕ → List ℕ → Bool → Type 0
-  ChosenPass = Pass concepts inclusions (chooseFrom atoms assignment) (ChosenRow concepts (chooseFrom atoms assignment) j)
-
-  pub choose-none : (columns : List ℕ) → (getD concepts (j * 3) 0 ≡ 4 → ⊥) → ChosenPass columns columns false
-  choose-none columns ne = pass-none (λ k e. absurd (ne (var-node concepts j k e .0)))
-
-  pub choose-both :
-      (before one after : List ℕ) (a b : Bool) → getD concepts (j * 3) 0 ≡ 4
-      → Takes before one (λ p. List·Memᴰ p (pick atoms (getD assignment (getD concepts (j * 3 + 1) 0) 0))) (λ i. has before i j ≡ true) a
-      → Takes one after (λ x. x ≡ j)
-      (λ i. (p : ℕ) → List·Memᴰ p (pick atoms (getD assignment (getD concepts (j * 3 + 1) 0) 0)) → has one i p ≡ true) b
-      → ChosenPass before after (a || b)
-  choose-both before one after a b kind u v = pass-as (pass-then down up) (λ q k f. row q k (var-node concepts j k f .1))
+  pub settle-var :
+      (before one two after : List ℕ) (own a b : Bool) → getD concepts (j * 3) 0 ≡ 4 → Takes before one (λ x. x ≡ j) (λ i. i ≡ j) own
+      → Takes one two (λ p. List·Memᴰ p (pick atoms (getD assignment (getD concepts (j * 3 + 1) 0) 0))) (λ i. has one i j ≡ true) a
+      → Takes two after (λ x. x ≡ j)
+      (λ i. (p : ℕ) → List·Memᴰ p (pick atoms (getD assignment (getD concepts (j * 3 + 1) 0) 0)) → has two i p ≡ true) b
+      → SettledPass before after ((own || a) || b)
+  settle-var before one two after own a b kind t u v =
+      pass-as (pass-then (pass-then (marked t) down) up) (λ q. settled e (q .0 .0) (q .0 .1, q .1))
     where
-      n : ℕ
-      n = getD concepts (j * 3 + 1) 0
+      k : ℕ
+      k = getD concepts (j * 3 + 1) 0
 
-      e : node concepts j ≡ varAt n
+      e : node concepts j ≡ varAt k
       e = node-var concepts j kind
 
-      row :
-          ((p : ℕ) → List·Memᴰ p (chooseFrom atoms assignment n) → Into (countOf concepts) before j p)
-          × ((i : ℕ) → i < countOf concepts → ((p : ℕ) → List·Memᴰ p (chooseFrom atoms assignment n) → has before i p ≡ true) → has before i j ≡ true)
-          → (k : ℕ) → n ≡ k → ChosenAt (countOf concepts) (chooseFrom atoms assignment k) j before
-      row q k f =
-          subst (λ (x : ℕ). ChosenAt (countOf concepts) (chooseFrom atoms assignment x) j before) f (record { down = q .0; up = q .1 })
-
-      chosen-known : (z : ℕ) → List·Memᴰ z (chooseFrom atoms assignment n) → z < countOf concepts
+      chosen-known : (z : ℕ) → List·Memᴰ z (chooseFrom atoms assignment k) → z < countOf concepts
       chosen-known z m =
-          let c : ChosenBelow (length atoms) atoms (getD assignment n 0) z = at-picked atoms (getD assignment n 0) z m in
+          let c : ChosenBelow (length atoms) atoms (getD assignment k 0) z = at-picked atoms (getD assignment k 0) z m in
           subst (λ (y : ℕ). y < countOf concepts) (c .found) (R .atoms-known (c .place) (c .before))
 
       down :
           Pass concepts inclusions (chooseFrom atoms assignment)
-          (λ l. (p : ℕ) → List·Memᴰ p (chooseFrom atoms assignment n) → Into (countOf concepts) l j p) before one a
+          (λ l. (p : ℕ) → List·Memᴰ p (chooseFrom atoms assignment k) → Into (countOf concepts) l j p) one two a
       down =
-          step-pass (R .few) u (λ g s i p h l m q. flow-chooses i j n p h inside e m (s i j h inside q)) (λ f p m i h q. f i p h m q)
+          step-pass (R .few) u (λ g s i p h l m q. flow-chooses i j k p h inside e m (s i j h inside q)) (λ f p m i h q. f i p h m q)
 
       up :
           Pass concepts inclusions (chooseFrom atoms assignment)
-          (λ l. (i : ℕ) → i < countOf concepts → ((p : ℕ) → List·Memᴰ p (chooseFrom atoms assignment n) → has l i p ≡ true) → has l i j ≡ true)
-          one after b
+          (λ l. (i : ℕ) → i < countOf concepts → ((p : ℕ) → List·Memᴰ p (chooseFrom atoms assignment k) → has l i p ≡ true) → has l i j ≡ true)
+          two after b
       up =
           step-pass (R .few) v
           (λ g s i x h l p q.
           subst (λ (z : ℕ). Flow concepts inclusions (chooseFrom atoms assignment) g i z) (sym p)
-          (flow-all-chosen i j n h inside e (λ z m. s i z h (chosen-known z m) (q z m))))
+          (flow-all-chosen i j k h inside e (λ z m. s i z h (chosen-known z m) (q z m))))
           (λ f i h q. f i j h refl q)

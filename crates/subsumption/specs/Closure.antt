@@ -48,83 +48,6 @@ slack (w ∷ ws) = (2 ^ 64 - w) + slack ws
 abbrev pub Into : ℕ → List ℕ → ℕ → ℕ → Type 0
 Into count columns x y = (i : ℕ) → i < count → has columns i x ≡ true → has columns i y ≡ true
 
--- the rows in order: few, and inner ids smaller
-pub record Ordered (concepts : List ℕ) : Type 0 where
-  pub few : countOf concepts ≤ 192
-  pub rising : (i : ℕ) → i < countOf concepts → Rising i (node concepts i)
-
--- the step at the row j is taken; names go by way of the first row of that name, existentials and variables have no step here
-abbrev pub SettledBy : ℕ → ℕ → ℕ → List ℕ → Node → Type 0
-SettledBy count first j columns topAt = (i : ℕ) → i < count → has columns i j ≡ true
-SettledBy count first j columns (nameAt n) = Into count columns j first × Into count columns first j
-SettledBy count first j columns (existsAt r x) = Unit {0}
-SettledBy count first j columns (andAt a b) =
-    Into count columns j a × Into count columns j b × ((i : ℕ) → i < count → has columns i a ≡ true → has columns i b ≡ true → has columns i j ≡ true)
-SettledBy count first j columns (varAt k) = Unit {0}
-
-pub record Settled (concepts notes : List ℕ) (j : ℕ) (columns : List ℕ) : Type 0 where
-  pub same : has columns j j ≡ true
-  pub by : SettledBy (countOf concepts) (getD notes j 0) j columns (node concepts j)
-
-abbrev pub AllSettled : List ℕ → List ℕ → List ℕ → Type 0
-AllSettled concepts notes columns = (j : ℕ) → j < countOf concepts → Settled concepts notes j columns
-
--- what the steps at variables ask: their numbers are in the assignment, and the atoms are rows
-pub record Choosable (concepts atoms assignment : List ℕ) : Type 0 where
-  pub few : countOf concepts ≤ 192
-  pub numbered : (i k : ℕ) → node concepts i ≡ varAt k → k < length assignment
-  pub few-atoms : length atoms ≤ 64
-  pub atoms-known : (q : ℕ) → q < length atoms → getD atoms q 0 < countOf concepts
-
--- the steps at the row j of a variable are taken
-pub record ChosenAt (count : ℕ) (chosen : List ℕ) (j : ℕ) (columns : List ℕ) : Type 0 where
-  pub down : (p : ℕ) → List·Memᴰ p chosen → Into count columns j p
-  pub up : (i : ℕ) → i < count → ((p : ℕ) → List·Memᴰ p chosen → has columns i p ≡ true) → has columns i j ≡ true
-
-abbrev pub ChosenRow : List ℕ → (ℕ → List ℕ) → ℕ → List ℕ → Type 0
-ChosenRow concepts choose j columns = (k : ℕ) → node concepts j ≡ varAt k → ChosenAt (countOf concepts) (choose k) j columns
-
-abbrev pub AllChosen : List ℕ → (ℕ → List ℕ) → List ℕ → Type 0
-AllChosen concepts choose columns = (j : ℕ) → j < countOf concepts → ChosenRow concepts choose j columns
-
--- the sides of the inclusions are ids, and are rows
-pub record Paired (pairs : List ℕ) : Type 0 where
-  pub left-low : (m : ℕ) → m < pairsOf pairs → leftOf pairs m < 192
-  pub right-low : (m : ℕ) → m < pairsOf pairs → rightOf pairs m < 192
-
-pub record Sided (concepts inclusions : List ℕ) : Type 0 where
-  pub few : countOf concepts ≤ 192
-  pub left-known : (m : ℕ) → m < pairsOf inclusions → leftOf inclusions m < countOf concepts
-  pub right-known : (m : ℕ) → m < pairsOf inclusions → rightOf inclusions m < countOf concepts
-
-abbrev pub AllIncluded : List ℕ → List ℕ → List ℕ → Type 0
-AllIncluded concepts inclusions columns =
-    (m : ℕ) → m < pairsOf inclusions → Into (countOf concepts) columns (leftOf inclusions m) (rightOf inclusions m)
-
--- the existential e of that role has its inner id below that inner id
-pub record Linkable (concepts columns : List ℕ) (role inner e : ℕ) : Type 0 where
-  pub from : ℕ
-  pub row : node concepts e ≡ existsAt role from
-  pub below : has columns from inner ≡ true
-
-abbrev pub LinkedTo : List ℕ → ℕ → List ℕ → Type 0
-LinkedTo concepts f columns =
-    (e r y : ℕ) → e < countOf concepts → node concepts f ≡ existsAt r y → Linkable concepts columns r y e → Into (countOf concepts) columns e f
-
-abbrev pub AllLinked : List ℕ → List ℕ → Type 0
-AllLinked concepts columns = (f : ℕ) → f < countOf concepts → LinkedTo concepts f columns
-
-pub record Links (concepts columns : List ℕ) (role inner e : ℕ) (answer : Bool) : Type 0 where
-  pub found : answer ≡ true → Linkable concepts columns role inner e
-  pub none : answer ≡ false → Linkable concepts columns role inner e → ⊥
-
--- the first that links, from `start` on; the number of rows if none does
-pub record NextLink (concepts columns : List ℕ) (role inner start e : ℕ) : Type 0 where
-  pub from : start ≤ e
-  pub within : e ≤ countOf concepts
-  pub none : (d : ℕ) → start ≤ d → d < e → Linkable concepts columns role inner d → ⊥
-  pub found : e < countOf concepts → Linkable concepts columns role inner e
-
 -- of the rows of j's name, k is the first
 pub record FirstNamed (concepts : List ℕ) (j k : ℕ) : Type 0 where
   pub low : k ≤ j
@@ -143,28 +66,73 @@ pub record Seen (concepts : List ℕ) (j : ℕ) (seen : List ℕ) : Type 0 where
   pub named : (n i : ℕ) → i < j → node concepts i ≡ nameAt n → node concepts (getD seen n 0) ≡ nameAt n
   pub least : (n i : ℕ) → i < j → node concepts i ≡ nameAt n → getD seen n 0 ≤ i
 
--- the first existential from `start` on; the number of rows if there is none
-pub record NextSome (concepts : List ℕ) (start e : ℕ) : Type 0 where
+pub record Firsts (concepts firsts : List ℕ) : Type 0 where
+  pub long : length firsts ≡ 192
+  pub each : (j : ℕ) → j < countOf concepts → FirstNamed concepts j (getD firsts j 0)
+
+-- the steps at the row j are taken: names go by way of the first row of that name, existentials have no step here
+abbrev pub SettledBy : ℕ → (ℕ → List ℕ) → ℕ → ℕ → List ℕ → Node → Type 0
+SettledBy count choose first j columns topAt = (i : ℕ) → i < count → has columns i j ≡ true
+SettledBy count choose first j columns (nameAt n) = Into count columns j first × Into count columns first j
+SettledBy count choose first j columns (existsAt r x) = Unit {0}
+SettledBy count choose first j columns (andAt a b) =
+    Into count columns j a × Into count columns j b × ((i : ℕ) → i < count → has columns i a ≡ true → has columns i b ≡ true → has columns i j ≡ true)
+SettledBy count choose first j columns (varAt k) =
+    ((p : ℕ) → List·Memᴰ p (choose k) → Into count columns j p)
+    × ((i : ℕ) → i < count → ((p : ℕ) → List·Memᴰ p (choose k) → has columns i p ≡ true) → has columns i j ≡ true)
+
+pub record Settled (concepts firsts : List ℕ) (choose : ℕ → List ℕ) (j : ℕ) (columns : List ℕ) : Type 0 where
+  pub same : has columns j j ≡ true
+  pub by : SettledBy (countOf concepts) choose (getD firsts j 0) j columns (node concepts j)
+
+abbrev pub AllSettled : List ℕ → List ℕ → (ℕ → List ℕ) → List ℕ → Type 0
+AllSettled concepts firsts choose columns = (j : ℕ) → j < countOf concepts → Settled concepts firsts choose j columns
+
+abbrev pub AllIncluded : List ℕ → List ℕ → List ℕ → Type 0
+AllIncluded concepts inclusions columns =
+    (m : ℕ) → m < pairsOf inclusions → Into (countOf concepts) columns (leftOf inclusions m) (rightOf inclusions m)
+
+-- the existential e of that role has its inner id below that inner id
+pub record Linkable (concepts columns : List ℕ) (role inner e : ℕ) : Type 0 where
+  pub from : ℕ
+  pub row : node concepts e ≡ existsAt role from
+  pub below : has columns from inner ≡ true
+
+abbrev pub LinkedTo : List ℕ → ℕ → List ℕ → Type 0
+LinkedTo concepts f columns =
+    (e r y : ℕ) → e < countOf concepts → node concepts f ≡ existsAt r y → Linkable concepts columns r y e → Into (countOf concepts) columns e f
+
+abbrev pub AllLinked : List ℕ → List ℕ → Type 0
+AllLinked concepts columns = (f : ℕ) → f < countOf concepts → LinkedTo concepts f columns
+
+-- n is the first existential from the row e on, or the number of rows
+pub record OnwardFrom (concepts : List ℕ) (e n : ℕ) : Type 0 where
+  pub from : e ≤ n
+  pub within : n ≤ countOf concepts
+  pub none : (d r x : ℕ) → e ≤ d → d < n → node concepts d ≡ existsAt r x → ⊥
+
+pub record OnwardTo (concepts onward : List ℕ) (low : ℕ) : Type 0 where
+  pub long : length onward ≡ 193
+  pub each : (e : ℕ) → low ≤ e → e ≤ countOf concepts → OnwardFrom concepts e (getD onward e 0)
+
+abbrev pub Onward : List ℕ → List ℕ → Type 0
+Onward concepts onward = OnwardTo concepts onward 0
+
+-- what looking for existentials asks of the rows
+pub record Inner (concepts : List ℕ) : Type 0 where
+  pub few : countOf concepts ≤ 192
+  pub low : (e r x : ℕ) → e < countOf concepts → node concepts e ≡ existsAt r x → x < 192
+
+pub record Links (concepts columns : List ℕ) (role inner e : ℕ) (answer : Bool) : Type 0 where
+  pub found : answer ≡ true → Linkable concepts columns role inner e
+  pub none : answer ≡ false → Linkable concepts columns role inner e → ⊥
+
+-- the first that links, from `start` on; the number of rows if none does
+pub record NextLink (concepts columns : List ℕ) (role inner start e : ℕ) : Type 0 where
   pub from : start ≤ e
   pub within : e ≤ countOf concepts
-  pub none : (d : ℕ) → start ≤ d → d < e → getD concepts (d * 3) 0 ≡ 2 → ⊥
-  pub found : e < countOf concepts → getD concepts (e * 3) 0 ≡ 2
-
--- an existential, or the number of rows
-pub record AtSome (concepts : List ℕ) (e : ℕ) : Type 0 where
-  pub within : e ≤ countOf concepts
-  pub found : e < countOf concepts → getD concepts (e * 3) 0 ≡ 2
-
--- the note of a name row is the first row of its name
-pub record Firsts (concepts notes : List ℕ) : Type 0 where
-  pub long : length notes ≡ 193
-  pub each : (j : ℕ) → j < countOf concepts → getD concepts (j * 3) 0 ≡ 1 → FirstNamed concepts j (getD notes j 0)
-
--- and that of an existential the next one; the note at 192 is the first existential
-pub record Noted (concepts notes : List ℕ) : Type 0 where
-  pub names : Firsts concepts notes
-  pub first : NextSome concepts 0 (getD notes 192 0)
-  pub next : (e : ℕ) → e < countOf concepts → getD concepts (e * 3) 0 ≡ 2 → NextSome concepts (e + 1) (getD notes e 0)
+  pub none : (d : ℕ) → start ≤ d → d < e → Linkable concepts columns role inner d → ⊥
+  pub found : e < countOf concepts → Linkable concepts columns role inner e
 
 pub record IsNamed (concepts : List ℕ) (k name : ℕ) (answer : Bool) : Type 0 where
   pub found : answer ≡ true → node concepts k ≡ nameAt name
@@ -234,29 +202,10 @@ module _ (concepts inclusions : List ℕ) (choose : ℕ → List ℕ) where
     pub quiet : changed ≡ false → Quiet before
 
   -- everything is taken
-  pub record AllTaken (notes columns : List ℕ) : Type 0 where
-    pub settled : AllSettled concepts notes columns
+  pub record AllTaken (firsts columns : List ℕ) : Type 0 where
+    pub settled : AllSettled concepts firsts choose columns
     pub included : AllIncluded concepts inclusions columns
-    pub chosen : AllChosen concepts choose columns
     pub linked : AllLinked concepts columns
-
--- passes of steps that no inclusion, no choice, or no row has a part in
-abbrev pub RowPass : List ℕ → (List ℕ → Type 0) → List ℕ → List ℕ → Bool → Type 0
-RowPass concepts Quiet before after changed =
-    (inclusions : List ℕ) (choose : ℕ → List ℕ) → Pass concepts inclusions choose Quiet before after changed
-
-abbrev pub ChoicePass : List ℕ → (ℕ → List ℕ) → (List ℕ → Type 0) → List ℕ → List ℕ → Bool → Type 0
-ChoicePass concepts choose Quiet before after changed = (inclusions : List ℕ) → Pass concepts inclusions choose Quiet before after changed
-
-abbrev pub InclusionPass : List ℕ → List ℕ → List ℕ → Bool → Type 0
-InclusionPass inclusions before after changed =
-    (concepts : List ℕ) (choose : ℕ → List ℕ) → Sided concepts inclusions
-    → Pass concepts inclusions choose (AllIncluded concepts inclusions) before after changed
-
--- the k-th of n places, counted from the last one if `down`
-unfoldable pub turn : Bool → ℕ → ℕ → ℕ
-turn true n k = n - 1 - k
-turn false n k = k
 
 -- what one word does: it takes in the bits of `add`
 pub record Absorbs (before after : List ℕ) (at add : ℕ) (changed : Bool) : Type 0 where

@@ -1,14 +1,13 @@
 // The closure of the columns: column j is the set of ids known to be below j, three words of 64 bits.
 // Private to the crate.
-use crate::notes::note_rows;
 ghost use mathlib.Core.Path.{_≡_};
-ghost use Prim.Native.Nat.{ℕ, _*_, _≤_, _<_};
+ghost use Prim.Native.Nat.{ℕ, _+_, _≤_, _<_};
 ghost use mathlib.Core.Bool.{true};
 ghost use mathlib.Core.List.{List·Memᴰ};
-ghost use lib.ListN.{length, getD};
 ghost use Rattle.subsumption.specs.Tables.{countOf};
 ghost use Rattle.subsumption.specs.Atoms.{pick};
-ghost use Rattle.subsumption.specs.Closure.{has, Absorbs, Takes, inThree, Known, Common, Ready, Ordered, Firsts, Noted, Settled, AllSettled, Choosable, chooseFrom, ChosenRow, AllChosen, Paired, RowPass, ChoicePass, InclusionPass, Pass, AllTaken, LinkedTo, AllLinked, Links, AtSome, NextLink, turn, Empty, Closed};
+ghost use lib.ListN.{length};
+ghost use Rattle.subsumption.specs.Closure.{has, Absorbs, Takes, inThree, Known, Common, Ready, Nameable, Seen, Firsts, Settled, chooseFrom, Pass, AllSettled, AllIncluded, LinkedTo, AllLinked, AllTaken, Inner, OnwardFrom, OnwardTo, Onward, Links, NextLink, IsNamed, FirstNamed, Empty, Closed};
 
 const ALL: u64 = 18446744073709551615;
 
@@ -158,18 +157,29 @@ fn spread(atoms: &[u16], choice: u64, columns: &mut [u64], from: usize) -> bool
     changed
 }
 
-// The steps at the row j. A variable's are left to `choose`, an existential has none here.
-fn settle(concepts: &[u16], notes: &[u16], columns: &mut [u64], j: usize) -> bool
-    requires { ⌜ Ordered (now concepts) ⌝ }
-    requires { ⌜ Firsts (now concepts) (now notes) ⌝ }
+// The steps at the row j.
+fn settle(
+    concepts: &[u16],
+    inclusions: &[u16],
+    atoms: &[u16],
+    assignment: &[u64],
+    firsts: &[u16],
+    columns: &mut [u64],
+    j: usize,
+) -> bool
+    requires { ⌜ Ready (now concepts) (now inclusions) (now atoms) (now assignment) ⌝ }
+    requires { ⌜ Firsts (now concepts) (now firsts) ⌝ }
     requires { ⌜ length (now columns) ≡ 576 ⌝ }
     requires { ⌜ j < countOf (now concepts) ⌝ }
-    ensures { λ r. ⌜ RowPass (now (concepts .entry)) (Settled (now (concepts .entry)) (now (notes .entry)) j) (now (columns .entry)) (now (columns .exit)) r ⌝ }
+    ensures { λ r. ⌜ Pass (now (concepts .entry)) (now (inclusions .entry)) (chooseFrom (now (atoms .entry)) (now (assignment .entry)))
+        (Settled (now (concepts .entry)) (now (firsts .entry)) (chooseFrom (now (atoms .entry)) (now (assignment .entry))) j)
+        (now (columns .entry)) (now (columns .exit)) r ⌝ }
 {
     let kind = concepts[j * 3];
+    let x = concepts[j * 3 + 1] as usize;
     let own = mark(columns, j);
     if kind == 1 {
-        let first = notes[j] as usize;
+        let first = firsts[j] as usize;
         let a = flow(columns, j, first);
         let b = flow(columns, first, j);
         return own | a | b;
@@ -178,7 +188,6 @@ fn settle(concepts: &[u16], notes: &[u16], columns: &mut [u64], j: usize) -> boo
         return own;
     }
     if kind == 3 {
-        let x = concepts[j * 3 + 1] as usize;
         let y = concepts[j * 3 + 2] as usize;
         let a = flow(columns, j, x);
         let b = flow(columns, j, y);
@@ -186,112 +195,79 @@ fn settle(concepts: &[u16], notes: &[u16], columns: &mut [u64], j: usize) -> boo
         return own | a | b | c;
     }
     if kind == 4 {
-        return own;
+        let choice = assignment[x];
+        let a = spread(atoms, choice, columns, j);
+        let b = gather(atoms, choice, columns, j);
+        return own | a | b;
     }
     let a = fill(columns, j);
     own | a
 }
 
-fn turned(down: bool, count: usize, k: usize) -> usize
-    requires { ⌜ k < count ⌝ }
-    ensures { λ r. ⌜ r ≡ turn down count k ⌝ }
-    ensures { λ r. ⌜ r < count ⌝ }
-{
-    if down {
-        return count - 1 - k;
-    }
-    k
-}
-
 // The steps at every row.
-fn settle_all(concepts: &[u16], notes: &[u16], columns: &mut [u64], down: bool) -> bool
-    requires { ⌜ Ordered (now concepts) ⌝ }
-    requires { ⌜ Firsts (now concepts) (now notes) ⌝ }
-    requires { ⌜ length (now columns) ≡ 576 ⌝ }
-    ensures { λ r. ⌜ RowPass (now (concepts .entry)) (AllSettled (now (concepts .entry)) (now (notes .entry))) (now (columns .entry)) (now (columns .exit)) r ⌝ }
-{
-    let count = concepts.len() / 3;
-    let mut changed = false;
-    let mut k = 0;
-    while k < count {
-        let j = turned(down, count, k);
-        let new = settle(concepts, notes, columns, j);
-        changed = changed | new;
-        k += 1;
-    }
-    changed
-}
-
-// The inclusions: what is below a left side is below the right side.
-fn include_all(inclusions: &[u16], columns: &mut [u64], down: bool) -> bool
-    requires { ⌜ Paired (now inclusions) ⌝ }
-    requires { ⌜ length (now columns) ≡ 576 ⌝ }
-    ensures { λ r. ⌜ InclusionPass (now (inclusions .entry)) (now (columns .entry)) (now (columns .exit)) r ⌝ }
-{
-    let count = inclusions.len() / 2;
-    let mut changed = false;
-    let mut k = 0;
-    while k < count {
-        let m = turned(down, count, k);
-        let left = inclusions[m * 2] as usize;
-        let right = inclusions[m * 2 + 1] as usize;
-        let new = flow(columns, left, right);
-        changed = changed | new;
-        k += 1;
-    }
-    changed
-}
-
-// The steps at the row j, if it is a variable.
-fn choose(
+fn settle_all(
     concepts: &[u16],
+    inclusions: &[u16],
     atoms: &[u16],
     assignment: &[u64],
+    firsts: &[u16],
     columns: &mut [u64],
-    j: usize,
 ) -> bool
-    requires { ⌜ Choosable (now concepts) (now atoms) (now assignment) ⌝ }
+    requires { ⌜ Ready (now concepts) (now inclusions) (now atoms) (now assignment) ⌝ }
+    requires { ⌜ Firsts (now concepts) (now firsts) ⌝ }
     requires { ⌜ length (now columns) ≡ 576 ⌝ }
-    requires { ⌜ j < countOf (now concepts) ⌝ }
-    ensures { λ r. ⌜ ChoicePass (now (concepts .entry)) (chooseFrom (now (atoms .entry)) (now (assignment .entry)))
-        (ChosenRow (now (concepts .entry)) (chooseFrom (now (atoms .entry)) (now (assignment .entry))) j)
-        (now (columns .entry)) (now (columns .exit)) r ⌝ }
-{
-    if concepts[j * 3] != 4 {
-        return false;
-    }
-    let choice = assignment[concepts[j * 3 + 1] as usize];
-    let a = spread(atoms, choice, columns, j);
-    let b = gather(atoms, choice, columns, j);
-    a | b
-}
-
-// The steps at every variable's row.
-fn choose_all(concepts: &[u16], atoms: &[u16], assignment: &[u64], columns: &mut [u64]) -> bool
-    requires { ⌜ Choosable (now concepts) (now atoms) (now assignment) ⌝ }
-    requires { ⌜ length (now columns) ≡ 576 ⌝ }
-    ensures { λ r. ⌜ ChoicePass (now (concepts .entry)) (chooseFrom (now (atoms .entry)) (now (assignment .entry)))
-        (AllChosen (now (concepts .entry)) (chooseFrom (now (atoms .entry)) (now (assignment .entry))))
+    ensures { λ r. ⌜ Pass (now (concepts .entry)) (now (inclusions .entry)) (chooseFrom (now (atoms .entry)) (now (assignment .entry)))
+        (AllSettled (now (concepts .entry)) (now (firsts .entry)) (chooseFrom (now (atoms .entry)) (now (assignment .entry))))
         (now (columns .entry)) (now (columns .exit)) r ⌝ }
 {
     let count = concepts.len() / 3;
     let mut changed = false;
     let mut j = 0;
     while j < count {
-        let new = choose(concepts, atoms, assignment, columns, j);
+        let new = settle(concepts, inclusions, atoms, assignment, firsts, columns, j);
         changed = changed | new;
         j += 1;
     }
     changed
 }
 
-// Whether the existential e has that role and its inner id below that inner id.
-fn links(concepts: &[u16], columns: &[u64], role: u16, inner: usize, e: usize) -> bool
-    requires { ⌜ Ordered (now concepts) ⌝ }
+// The inclusions: what is below a left side is below the right side.
+fn include_all(
+    concepts: &[u16],
+    inclusions: &[u16],
+    atoms: &[u16],
+    assignment: &[u64],
+    columns: &mut [u64],
+) -> bool
+    requires { ⌜ Ready (now concepts) (now inclusions) (now atoms) (now assignment) ⌝ }
     requires { ⌜ length (now columns) ≡ 576 ⌝ }
-    requires { ⌜ (inner < 192) × (e < countOf (now concepts)) × (getD (now concepts) (e * 3) 0 ≡ 2) ⌝ }
+    ensures { λ r. ⌜ Pass (now (concepts .entry)) (now (inclusions .entry)) (chooseFrom (now (atoms .entry)) (now (assignment .entry)))
+        (AllIncluded (now (concepts .entry)) (now (inclusions .entry)))
+        (now (columns .entry)) (now (columns .exit)) r ⌝ }
+{
+    let count = inclusions.len() / 2;
+    let mut changed = false;
+    let mut m = 0;
+    while m < count {
+        let left = inclusions[m * 2] as usize;
+        let right = inclusions[m * 2 + 1] as usize;
+        let new = flow(columns, left, right);
+        changed = changed | new;
+        m += 1;
+    }
+    changed
+}
+
+// Whether the row e is an existential of that role whose inner id is below that inner id.
+fn links(concepts: &[u16], columns: &[u64], role: u16, inner: usize, e: usize) -> bool
+    requires { ⌜ Inner (now concepts) ⌝ }
+    requires { ⌜ length (now columns) ≡ 576 ⌝ }
+    requires { ⌜ (inner < 192) × (e < countOf (now concepts)) ⌝ }
     ensures { λ r. ⌜ Links (now (concepts .entry)) (now (columns .entry)) role inner e r ⌝ }
 {
+    if concepts[e * 3] != 2 {
+        return false;
+    }
     if concepts[e * 3 + 1] != role {
         return false;
     }
@@ -299,68 +275,88 @@ fn links(concepts: &[u16], columns: &[u64], role: u16, inner: usize, e: usize) -
     below(columns, from, inner)
 }
 
-// The first such row, from the existential `start` on.
+// The first such row, from `start` on.
 fn next_link(
     concepts: &[u16],
-    notes: &[u16],
+    onward: &[u16],
     columns: &[u64],
     role: u16,
     inner: usize,
     start: usize,
 ) -> usize
-    requires { ⌜ Ordered (now concepts) ⌝ }
-    requires { ⌜ Noted (now concepts) (now notes) ⌝ }
+    requires { ⌜ Inner (now concepts) ⌝ }
     requires { ⌜ length (now columns) ≡ 576 ⌝ }
-    requires { ⌜ (inner < 192) × AtSome (now concepts) start ⌝ }
+    requires { ⌜ (inner < 192) × (start ≤ countOf (now concepts)) ⌝ }
+    requires { ⌜ Onward (now concepts) (now onward) ⌝ }
     ensures { λ r. ⌜ NextLink (now (concepts .entry)) (now (columns .entry)) role inner start r ⌝ }
 {
     let count = concepts.len() / 3;
-    let mut e = start;
+    let mut e = onward[start] as usize;
     while e < count {
         if links(concepts, columns, role, inner, e) {
             return e;
         }
-        e = notes[e] as usize;
+        e = onward[e + 1] as usize;
     }
     count
 }
 
 // An existential f: what is below an existential of f's role whose inner id is below f's inner id is below f.
-fn link_to(concepts: &[u16], notes: &[u16], columns: &mut [u64], f: usize) -> bool
-    requires { ⌜ Ordered (now concepts) ⌝ }
-    requires { ⌜ Noted (now concepts) (now notes) ⌝ }
+fn link_to(
+    concepts: &[u16],
+    inclusions: &[u16],
+    atoms: &[u16],
+    assignment: &[u64],
+    onward: &[u16],
+    columns: &mut [u64],
+    f: usize,
+) -> bool
+    requires { ⌜ Ready (now concepts) (now inclusions) (now atoms) (now assignment) ⌝ }
     requires { ⌜ length (now columns) ≡ 576 ⌝ }
-    requires { ⌜ (f < countOf (now concepts)) × (getD (now concepts) (f * 3) 0 ≡ 2) ⌝ }
-    ensures { λ r. ⌜ RowPass (now (concepts .entry)) (LinkedTo (now (concepts .entry)) f) (now (columns .entry)) (now (columns .exit)) r ⌝ }
+    requires { ⌜ f < countOf (now concepts) ⌝ }
+    requires { ⌜ Onward (now concepts) (now onward) ⌝ }
+    ensures { λ r. ⌜ Pass (now (concepts .entry)) (now (inclusions .entry)) (chooseFrom (now (atoms .entry)) (now (assignment .entry)))
+        (LinkedTo (now (concepts .entry)) f)
+        (now (columns .entry)) (now (columns .exit)) r ⌝ }
 {
+    if concepts[f * 3] != 2 {
+        return false;
+    }
     let role = concepts[f * 3 + 1];
     let inner = concepts[f * 3 + 2] as usize;
     let count = concepts.len() / 3;
-    let start = notes[192] as usize;
     let mut changed = false;
-    let mut e = next_link(concepts, notes, columns, role, inner, start);
+    let mut e = next_link(concepts, onward, columns, role, inner, 0);
     while e < count {
         let new = flow(columns, e, f);
         changed = changed | new;
-        let after = notes[e] as usize;
-        e = next_link(concepts, notes, columns, role, inner, after);
+        e = next_link(concepts, onward, columns, role, inner, e + 1);
     }
     changed
 }
 
-fn link_all(concepts: &[u16], notes: &[u16], columns: &mut [u64]) -> bool
-    requires { ⌜ Ordered (now concepts) ⌝ }
-    requires { ⌜ Noted (now concepts) (now notes) ⌝ }
+fn link_all(
+    concepts: &[u16],
+    inclusions: &[u16],
+    atoms: &[u16],
+    assignment: &[u64],
+    onward: &[u16],
+    columns: &mut [u64],
+) -> bool
+    requires { ⌜ Ready (now concepts) (now inclusions) (now atoms) (now assignment) ⌝ }
     requires { ⌜ length (now columns) ≡ 576 ⌝ }
-    ensures { λ r. ⌜ RowPass (now (concepts .entry)) (AllLinked (now (concepts .entry))) (now (columns .entry)) (now (columns .exit)) r ⌝ }
+    requires { ⌜ Onward (now concepts) (now onward) ⌝ }
+    ensures { λ r. ⌜ Pass (now (concepts .entry)) (now (inclusions .entry)) (chooseFrom (now (atoms .entry)) (now (assignment .entry)))
+        (AllLinked (now (concepts .entry)))
+        (now (columns .entry)) (now (columns .exit)) r ⌝ }
 {
     let count = concepts.len() / 3;
     let mut changed = false;
-    let mut f = notes[192] as usize;
+    let mut f = 0;
     while f < count {
-        let new = link_to(concepts, notes, columns, f);
+        let new = link_to(concepts, inclusions, atoms, assignment, onward, columns, f);
         changed = changed | new;
-        f = notes[f] as usize;
+        f += 1;
     }
     changed
 }
@@ -371,24 +367,83 @@ fn round(
     inclusions: &[u16],
     atoms: &[u16],
     assignment: &[u64],
-    notes: &[u16],
+    firsts: &[u16],
+    onward: &[u16],
     columns: &mut [u64],
-    down: bool,
 ) -> bool
     requires { ⌜ Ready (now concepts) (now inclusions) (now atoms) (now assignment) ⌝ }
-    requires { ⌜ Noted (now concepts) (now notes) ⌝ }
+    requires { ⌜ Firsts (now concepts) (now firsts) ⌝ }
     requires { ⌜ length (now columns) ≡ 576 ⌝ }
+    requires { ⌜ Onward (now concepts) (now onward) ⌝ }
     ensures { λ r. ⌜ Pass (now (concepts .entry)) (now (inclusions .entry)) (chooseFrom (now (atoms .entry)) (now (assignment .entry)))
-        (AllTaken (now (concepts .entry)) (now (inclusions .entry)) (chooseFrom (now (atoms .entry)) (now (assignment .entry))) (now (notes .entry)))
+        (AllTaken (now (concepts .entry)) (now (inclusions .entry)) (chooseFrom (now (atoms .entry)) (now (assignment .entry))) (now (firsts .entry)))
         (now (columns .entry)) (now (columns .exit)) r ⌝ }
 {
-    let a = settle_all(concepts, notes, columns, down);
-    let b = include_all(inclusions, columns, down);
-    let c = choose_all(concepts, atoms, assignment, columns);
-    if a | b | c {
+    let a = settle_all(concepts, inclusions, atoms, assignment, firsts, columns);
+    let b = include_all(concepts, inclusions, atoms, assignment, columns);
+    if a | b {
         return true;
     }
-    link_all(concepts, notes, columns)
+    link_all(concepts, inclusions, atoms, assignment, onward, columns)
+}
+
+fn is_named(concepts: &[u16], k: usize, name: u16) -> bool
+    requires { ⌜ k < countOf (now concepts) ⌝ }
+    ensures { λ r. ⌜ IsNamed (now (concepts .entry)) k name r ⌝ }
+{
+    if concepts[k * 3] != 1 {
+        return false;
+    }
+    concepts[k * 3 + 1] == name
+}
+
+// The first row of j's name: the one seen, or j itself.
+fn first_named(concepts: &[u16], seen: &[u16], j: usize) -> usize
+    requires { ⌜ Nameable (now concepts) ⌝ }
+    requires { ⌜ Seen (now concepts) j (now seen) ⌝ }
+    requires { ⌜ j < countOf (now concepts) ⌝ }
+    ensures { λ r. ⌜ FirstNamed (now (concepts .entry)) j r ⌝ }
+{
+    if concepts[j * 3] != 1 {
+        return j;
+    }
+    let name = concepts[j * 3 + 1];
+    let first = seen[name as usize] as usize;
+    if is_named(concepts, first, name) {
+        return first;
+    }
+    j
+}
+
+fn note_seen(concepts: &[u16], j: usize, first: usize, seen: &mut [u16])
+    requires { ⌜ Nameable (now concepts) ⌝ }
+    requires { ⌜ Seen (now concepts) j (now seen) ⌝ }
+    requires { ⌜ j < countOf (now concepts) ⌝ }
+    requires { ⌜ FirstNamed (now concepts) j first ⌝ }
+    ensures { λ _. ⌜ Seen (now (concepts .entry)) (j + 1) (now (seen .exit)) ⌝ }
+{
+    if concepts[j * 3] != 1 {
+        return;
+    }
+    let name = concepts[j * 3 + 1] as usize;
+    seen[name] = first as u16;
+}
+
+// One walk, by a table of the names.
+fn note_firsts(concepts: &[u16], firsts: &mut [u16])
+    requires { ⌜ Nameable (now concepts) ⌝ }
+    requires { ⌜ length (now firsts) ≡ 192 ⌝ }
+    ensures { λ r. ⌜ Firsts (now (concepts .entry)) (now (firsts .exit)) ⌝ }
+{
+    let count = concepts.len() / 3;
+    let mut seen = [0u16; 1000];
+    let mut j = 0;
+    while j < count {
+        let first = first_named(concepts, &seen, j);
+        note_seen(concepts, j, first, &mut seen);
+        firsts[j] = first as u16;
+        j += 1;
+    }
 }
 
 pub fn clear(columns: &mut [u64])
@@ -402,7 +457,35 @@ pub fn clear(columns: &mut [u64])
     }
 }
 
-// Closes the columns from what they hold. Rounds go up and down in turn, so that chains of either direction end soon.
+// The first existential from the row e on, given those from the next row on; the number of rows if there is none.
+fn onward_from(concepts: &[u16], onward: &[u16], e: usize) -> u16
+    requires { ⌜ countOf (now concepts) ≤ 192 ⌝ }
+    requires { ⌜ e < countOf (now concepts) ⌝ }
+    requires { ⌜ OnwardTo (now concepts) (now onward) (e + 1) ⌝ }
+    ensures { λ r. ⌜ OnwardFrom (now (concepts .entry)) e r ⌝ }
+{
+    if concepts[e * 3] == 2 {
+        return e as u16;
+    }
+    onward[e + 1]
+}
+
+fn note_onward(concepts: &[u16], onward: &mut [u16])
+    requires { ⌜ countOf (now concepts) ≤ 192 ⌝ }
+    requires { ⌜ length (now onward) ≡ 193 ⌝ }
+    ensures { λ r. ⌜ Onward (now (concepts .entry)) (now (onward .exit)) ⌝ }
+{
+    let count = concepts.len() / 3;
+    onward[count] = count as u16;
+    let mut e = count;
+    while e > 0 {
+        e -= 1;
+        let next = onward_from(concepts, onward, e);
+        onward[e] = next;
+    }
+}
+
+// Closes the columns from what they hold.
 pub fn close(
     concepts: &[u16],
     inclusions: &[u16],
@@ -414,9 +497,10 @@ pub fn close(
     requires { ⌜ length (now columns) ≡ 576 ⌝ }
     ensures { λ r. ⌜ Closed (now (concepts .entry)) (now (inclusions .entry)) (chooseFrom (now (atoms .entry)) (now (assignment .entry))) (now (columns .entry)) (now (columns .exit)) ⌝ }
 {
-    let mut notes = [0u16; 193];
-    note_rows(concepts, &mut notes);
-    let mut down = false;
+    let mut firsts = [0u16; 192];
+    note_firsts(concepts, &mut firsts);
+    let mut onward = [0u16; 193];
+    note_onward(concepts, &mut onward);
     let mut busy = true;
     while busy {
         busy = round(
@@ -424,10 +508,9 @@ pub fn close(
             inclusions,
             atoms,
             assignment,
-            &notes,
+            &firsts,
+            &onward,
             columns,
-            down,
         );
-        down = !down;
     }
 }

@@ -6,7 +6,6 @@ mod closure;
 mod decide;
 mod ground;
 mod listing;
-mod notes;
 pub mod refusal;
 mod rows;
 mod table;

@@ -1,65 +1,64 @@
-use Prim.Native.Nat.{_-_}
+use Prim.Native.Nat.{ℕ, _+_, _*_, _-_, _<_, _≤_}
 use native.Mathlib.Omega.{arith}
-use Rattle.subsumption.proofs.Passes.{IncludedTo, included-none, included-more, included-done}
+use Rattle.subsumption.specs.Tables.{countOf, leftOf, rightOf}
+use Rattle.subsumption.specs.Closure.{Pass, Into, chooseFrom, flow-included}
+use Rattle.subsumption.proofs.Passes.{loop-first, loop-more, loop-done, flow-pass}
 use Rattle.subsumption.proofs.closure.include_all.Statement.{statement}
 use Rattle.subsumption.proofs.closure.include_all.Tie as tie
 
 abbrev Inv-loop : tie.InvT-loop
-Inv-loop inclusions columns₀ down count changed₀ k₀ columns changed k = IncludedTo inclusions down columns₀ columns changed k
+Inv-loop concepts inclusions atoms assignment columns₀ count changed₀ m₀ columns changed m = (m ≤ count) × Pass concepts inclusions (chooseFrom atoms assignment) (λ l. (k : ℕ) → k < m → Into (countOf concepts) l (leftOf inclusions k) (rightOf inclusions k)) columns₀ columns changed
 
 abbrev μ-loop : tie.MeasureT-loop
-μ-loop inclusions columns₀ down count changed₀ k₀ columns changed k = count - k
+μ-loop concepts inclusions atoms assignment columns₀ count changed₀ m₀ columns changed m = count - m
 
 loop-holds : tie.Need-loop-holds Inv-loop μ-loop
-loop-holds c = included-none _ _ _
-
-turned-requires : tie.Need-turned-requires Inv-loop μ-loop
-turned-requires c κs = omega arith
+loop-holds c = (omega arith, loop-first (λ k l. Into (countOf (c .before .before .before .before .before .args .concepts .now)) l (leftOf (c .before .before .before .before .before .args .inclusions .now) k) (rightOf (c .before .before .before .before .before .args .inclusions .now) k)) _)
 
 mul-left : tie.Need-mul-left Inv-loop μ-loop
-mul-left c = omega (arith, c .turned .ensures .1)
+mul-left c = omega arith
 
 mul-left-2 : tie.Need-mul-left-2 Inv-loop μ-loop
-mul-left-2 c = omega (arith, c .turned .ensures .1)
+mul-left-2 c = omega arith
 
 shared-slice-read-left : tie.Need-shared-slice-read-left Inv-loop μ-loop
-shared-slice-read-left c = omega (arith, c .before .turned .ensures .1)
+shared-slice-read-left c = omega arith
 
 cast-left : tie.Need-cast-left Inv-loop μ-loop
-cast-left c = omega (arith, c .before .before .before .before .before .before .pre .0 .left-low (c .before .turned .result) (c .before .turned .ensures .1))
+cast-left c = omega (arith, c .shared-slice-known5 .given (c .before .before .loop .m * 2))
 
 mul-right : tie.Need-mul-right Inv-loop μ-loop
-mul-right c = omega (arith, c .before .turned .ensures .1)
+mul-right c = omega arith
 
 add-right : tie.Need-add-right Inv-loop μ-loop
-add-right c = omega (arith, c .before .turned .ensures .1)
+add-right c = omega arith
 
 mul-right-2 : tie.Need-mul-right-2 Inv-loop μ-loop
-mul-right-2 c = omega (arith, c .before .turned .ensures .1)
+mul-right-2 c = omega arith
 
 shared-slice-read-right : tie.Need-shared-slice-read-right Inv-loop μ-loop
-shared-slice-read-right c = omega (arith, c .before .before .turned .ensures .1)
+shared-slice-read-right c = omega arith
 
 cast-right : tie.Need-cast-right Inv-loop μ-loop
-cast-right c = omega (arith, c .before .before .before .before .before .before .before .pre .0 .right-low (c .before .before .turned .result) (c .before .before .turned .ensures .1))
+cast-right c = omega (arith, c .shared-slice-known6 .given (c .before .before .before .loop .m * 2 + 1))
 
 flow-requires : tie.Need-flow-requires Inv-loop μ-loop
-flow-requires c κs = (omega (arith, c .before .before .before .before .before .loop .inv .long), (c .before .before .before .before .before .before .before .before .pre .0 .left-low (c .before .before .before .turned .result) (c .before .before .before .turned .ensures .1), c .before .before .before .before .before .before .before .before .pre .0 .right-low (c .before .before .before .turned .result) (c .before .before .before .turned .ensures .1)))
+flow-requires c κs = (omega arith, (omega (arith, c .before .before .before .before .before .before .before .before .before .before .pre .0 .left-known (c .before .before .before .before .loop .m) (omega arith), c .before .before .before .before .before .before .before .before .before .before .pre .0 .few), omega (arith, c .before .before .before .before .before .before .before .before .before .before .pre .0 .right-known (c .before .before .before .before .loop .m) (omega arith), c .before .before .before .before .before .before .before .before .before .before .pre .0 .few)))
 
-add-k : tie.Need-add-k Inv-loop μ-loop
-add-k c = omega arith
+add-m : tie.Need-add-m Inv-loop μ-loop
+add-m c = omega arith
 
 loop-less : tie.Need-loop-less Inv-loop μ-loop
 loop-less c = omega arith
 
 loop-again : tie.Need-loop-again Inv-loop μ-loop
-loop-again c = included-more _ _ _ _ _ _ _ _ _ (c .before .before .before .before .before .before .before .before .loop .inv) (omega arith) (c .before .before .before .before .before .before .turned .ensures .0) (c .before .before .before .before .before .before .turned .ensures .1) (c .before .before .flow .ensures)
+loop-again c = (omega arith, loop-more (λ k l. Into (countOf (c .before .before .before .before .before .before .before .before .before .before .before .before .before .args .concepts .now)) l (leftOf (c .before .before .before .before .before .before .before .before .before .before .before .before .before .args .inclusions .now) k) (rightOf (c .before .before .before .before .before .before .before .before .before .before .before .before .before .args .inclusions .now) k)) _ (c .before .before .before .before .before .before .before .loop .inv .1) (flow-pass _ _ (c .before .before .before .before .before .before .before .before .before .before .before .before .before .pre .0 .few) (c .before .before .before .before .before .before .before .before .before .before .before .before .before .pre .0 .left-known (c .before .before .before .before .before .before .before .loop .m) (omega arith)) (λ g i h w. flow-included i (c .before .before .before .before .before .before .before .loop .m) h (omega arith) w) (c .before .before .flow .ensures)))
 
 same-length : tie.Need-same-length Inv-loop μ-loop
-same-length c = c .before .loop .inv .long
+same-length c = omega arith
 
 returns : tie.Need-returns Inv-loop μ-loop
-returns c = included-done _ _ _ _ _ _ (c .before .loop .inv) (omega arith)
+returns c = loop-done (λ k l. Into (countOf (c .before .before .before .before .before .before .before .args .concepts .now)) l (leftOf (c .before .before .before .before .before .before .before .args .inclusions .now) k) (rightOf (c .before .before .before .before .before .before .before .args .inclusions .now) k)) _ _ (omega arith) (c .before .loop .inv .1)
 
 pub include-all-spec : {M : Type 1} → statement M
 include-all-spec =
@@ -68,7 +67,6 @@ include-all-spec =
     Inv-loop
     μ-loop
     loop-holds
-    turned-requires
     mul-left
     mul-left-2
     shared-slice-read-left
@@ -79,7 +77,7 @@ include-all-spec =
     shared-slice-read-right
     cast-right
     flow-requires
-    add-k
+    add-m
     loop-less
     loop-again
     same-length

@@ -1,47 +1,36 @@
-use Prim.Native.Nat.{_-_}
+use Prim.Native.Nat.{ℕ, _-_, _<_, _≤_}
 use native.Mathlib.Omega.{arith}
-use Rattle.subsumption.proofs.Linking.{LinkedBelow, below-first, below-more, below-done}
+use Rattle.subsumption.specs.Closure.{Pass, LinkedTo, chooseFrom}
+use Rattle.subsumption.proofs.Passes.{loop-first, loop-more, loop-done}
 use Rattle.subsumption.proofs.closure.link_all.Statement.{statement}
 use Rattle.subsumption.proofs.closure.link_all.Tie as tie
 
 abbrev Inv-loop : tie.InvT-loop
-Inv-loop concepts notes columns₀ count changed₀ f₀ columns changed f = LinkedBelow concepts columns₀ columns changed f
+Inv-loop concepts inclusions atoms assignment onward columns₀ count changed₀ f₀ columns changed f = (f ≤ count) × Pass concepts inclusions (chooseFrom atoms assignment) (λ l. (k : ℕ) → k < f → LinkedTo concepts k l) columns₀ columns changed
 
 abbrev μ-loop : tie.MeasureT-loop
-μ-loop concepts notes columns₀ count changed₀ f₀ columns changed f = count - f
-
-shared-slice-read-f : tie.Need-shared-slice-read-f Inv-loop μ-loop
-shared-slice-read-f c = omega (arith, c .before .before .before .before .pre .1 .0 .names .long)
-
-cast-f : tie.Need-cast-f Inv-loop μ-loop
-cast-f c = omega (arith, c .before .before .before .before .pre .1 .0 .first .within, c .before .before .before .before .pre .0 .few)
+μ-loop concepts inclusions atoms assignment onward columns₀ count changed₀ f₀ columns changed f = count - f
 
 loop-holds : tie.Need-loop-holds Inv-loop μ-loop
-loop-holds c = below-first _ _ _ (c .before .before .before .before .pre .1 .0 .first)
+loop-holds c = (omega arith, loop-first (λ k l. LinkedTo (c .before .before .before .before .before .before .args .concepts .now) k l) _)
 
 link-to-requires : tie.Need-link-to-requires Inv-loop μ-loop
-link-to-requires c κs = (c .before .before .before .before .before .before .before .pre .0, (c .before .before .before .before .before .before .before .pre .1 .0, (omega (arith, c .before .before .loop .inv .long, c .before .before .before .before .before .before .before .pre .1 .1), (omega arith, c .before .before .loop .inv .at .found (omega arith)))))
+link-to-requires c κs = (c .before .before .before .before .before .before .before .before .before .pre .0, (omega (arith, c .before .before .loop .inv .1 .long, c .before .before .before .before .before .before .before .before .before .pre .1 .0), (omega arith, c .before .before .before .before .before .before .before .before .before .pre .1 .1)))
 
-mul-f : tie.Need-mul-f Inv-loop μ-loop
-mul-f c = omega (arith, c .before .before .before .before .before .before .before .before .before .before .pre .0 .few)
-
-shared-slice-read-f-2 : tie.Need-shared-slice-read-f-2 Inv-loop μ-loop
-shared-slice-read-f-2 c = omega (arith, c .before .before .before .before .before .before .before .before .before .before .before .pre .0 .few, c .before .before .before .before .before .before .before .before .before .before .before .pre .1 .0 .names .long)
-
-cast-f-2 : tie.Need-cast-f-2 Inv-loop μ-loop
-cast-f-2 c = omega (arith, c .before .before .before .before .before .before .before .before .before .before .before .pre .1 .0 .next (c .before .before .before .before .before .before .loop .f) (omega arith) (c .before .before .before .before .before .before .loop .inv .at .found (omega arith)) .within, c .before .before .before .before .before .before .before .before .before .before .before .pre .0 .few)
+add-f : tie.Need-add-f Inv-loop μ-loop
+add-f c = omega arith
 
 loop-less : tie.Need-loop-less Inv-loop μ-loop
-loop-less c = omega (arith, c .before .before .before .before .before .before .before .before .before .before .before .pre .1 .0 .next (c .before .before .before .before .before .before .loop .f) (omega arith) (c .before .before .before .before .before .before .loop .inv .at .found (omega arith)) .from)
+loop-less c = omega arith
 
 loop-again : tie.Need-loop-again Inv-loop μ-loop
-loop-again c = below-more _ _ _ _ _ _ _ _ (c .before .before .before .before .before .before .loop .inv) (c .before .before .before .link-to .ensures) (c .before .before .before .link-to .kept .1 .1 .0) (c .before .before .before .before .before .before .before .before .before .before .before .pre .1 .0 .next (c .before .before .before .before .before .before .loop .f) (omega arith) (c .before .before .before .before .before .before .loop .inv .at .found (omega arith)))
+loop-again c = (omega arith, loop-more (λ k l. LinkedTo (c .before .before .before .before .before .before .before .before .before .before .before .before .args .concepts .now) k l) _ (c .before .before .before .before .before .loop .inv .1) (c .before .before .link-to .ensures))
 
 same-length : tie.Need-same-length Inv-loop μ-loop
-same-length c = c .before .loop .inv .long
+same-length c = c .before .loop .inv .1 .long
 
 returns : tie.Need-returns Inv-loop μ-loop
-returns c = below-done _ _ _ _ _ (c .before .loop .inv) (omega arith)
+returns c = loop-done (λ k l. LinkedTo (c .before .before .before .before .before .before .before .before .args .concepts .now) k l) _ _ (omega arith) (c .before .loop .inv .1)
 
 pub link-all-spec : {M : Type 1} → statement M
 link-all-spec =
@@ -49,13 +38,9 @@ link-all-spec =
     (tie.spec
     Inv-loop
     μ-loop
-    shared-slice-read-f
-    cast-f
     loop-holds
     link-to-requires
-    mul-f
-    shared-slice-read-f-2
-    cast-f-2
+    add-f
     loop-less
     loop-again
     same-length

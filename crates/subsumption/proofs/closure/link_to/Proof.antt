@@ -1,14 +1,26 @@
 use Prim.Native.Nat.{_-_}
 use native.Mathlib.Omega.{arith}
-use Rattle.subsumption.proofs.Linking.{Linked, at-next, inner-less, linked-first, linked-kind, linked-more, linked-done}
+use Rattle.subsumption.proofs.Linking.{Linked, ready-inner, inner-low, not-linked, linked-first, linked-more, linked-done}
 use Rattle.subsumption.proofs.closure.link_to.Statement.{statement}
 use Rattle.subsumption.proofs.closure.link_to.Tie as tie
 
 abbrev Inv-loop : tie.InvT-loop
-Inv-loop concepts notes columns₀ f role inner count start changed₀ e₀ columns changed e = Linked concepts f columns₀ columns changed e
+Inv-loop concepts inclusions atoms assignment onward columns₀ f role inner count changed₀ e₀ columns changed e = Linked concepts inclusions atoms assignment f columns₀ columns changed e
 
 abbrev μ-loop : tie.MeasureT-loop
-μ-loop concepts notes columns₀ f role inner count start changed₀ e₀ columns changed e = count - e
+μ-loop concepts inclusions atoms assignment onward columns₀ f role inner count changed₀ e₀ columns changed e = count - e
+
+mul-if1 : tie.Need-mul-if1 Inv-loop μ-loop
+mul-if1 c = omega arith
+
+mul-if1-2 : tie.Need-mul-if1-2 Inv-loop μ-loop
+mul-if1-2 c = omega arith
+
+shared-slice-read-if1 : tie.Need-shared-slice-read-if1 Inv-loop μ-loop
+shared-slice-read-if1 c = omega arith
+
+returns : tie.Need-returns Inv-loop μ-loop
+returns c = not-linked (c .before .before .before .before .before .before .before .before .args .concepts .now) (c .before .before .before .before .before .before .before .before .args .inclusions .now) (c .before .before .before .before .before .before .before .before .args .atoms .now) (c .before .before .before .before .before .before .before .before .args .assignment .now) _ _ (c .if1 .taken)
 
 mul-role : tie.Need-mul-role Inv-loop μ-loop
 mul-role c = omega arith
@@ -35,46 +47,34 @@ shared-slice-read-inner : tie.Need-shared-slice-read-inner Inv-loop μ-loop
 shared-slice-read-inner c = omega arith
 
 cast-inner : tie.Need-cast-inner Inv-loop μ-loop
-cast-inner c = omega (arith, inner-less (c .before .before .before .before .before .pre .0) _ (c .before .before .before .before .before .pre .1 .1 .1 .0) (c .before .before .before .before .before .pre .1 .1 .1 .1))
-
-shared-slice-read-start : tie.Need-shared-slice-read-start Inv-loop μ-loop
-shared-slice-read-start c = omega (arith, c .before .before .before .before .before .before .pre .1 .0 .names .long)
-
-cast-start : tie.Need-cast-start Inv-loop μ-loop
-cast-start c = omega (arith, c .before .before .before .before .before .before .pre .1 .0 .first .within, c .before .before .before .before .before .before .pre .0 .few)
+cast-inner c = omega (arith, inner-low _ (c .before .before .before .before .before .before .before .before .before .before .args .columns .now) 0 0 _ (ready-inner (c .before .before .before .before .before .before .before .before .before .before .pre .0)) (c .before .before .before .before .before .before .before .before .before .before .pre .1 .1 .0) (c .before .before .if1 .left))
 
 next-link-requires : tie.Need-next-link-requires Inv-loop μ-loop
-next-link-requires c κs = (c .before .before .before .before .before .before .before .pre .0, (c .before .before .before .before .before .before .before .pre .1 .0, (c .before .before .before .before .before .before .before .pre .1 .1 .0, (omega (arith, inner-less (c .before .before .before .before .before .before .before .pre .0) _ (c .before .before .before .before .before .before .before .pre .1 .1 .1 .0) (c .before .before .before .before .before .before .before .pre .1 .1 .1 .1), c .before .before .before .before .before .before .before .pre .0 .few), at-next (c .before .before .before .before .before .before .before .pre .1 .0 .first)))))
+next-link-requires c κs = (ready-inner (c .before .before .before .before .before .before .before .before .before .before .before .pre .0), (c .before .before .before .before .before .before .before .before .before .before .before .pre .1 .0, ((inner-low _ (c .before .before .before .before .before .before .before .before .before .before .before .args .columns .now) 0 0 _ (ready-inner (c .before .before .before .before .before .before .before .before .before .before .before .pre .0)) (c .before .before .before .before .before .before .before .before .before .before .before .pre .1 .1 .0) (c .before .before .before .if1 .left), omega arith), c .before .before .before .before .before .before .before .before .before .before .before .pre .1 .1 .1)))
 
 loop-holds : tie.Need-loop-holds Inv-loop μ-loop
-loop-holds c = linked-first _ _ _ _ _ (c .before .before .before .before .before .before .before .before .pre .1 .0 .first) (c .next-link .ensures)
+loop-holds c = linked-first _ _ _ _ _ _ _ (c .next-link .ensures)
 
 flow-requires : tie.Need-flow-requires Inv-loop μ-loop
-flow-requires c κs = (omega (arith, c .before .before .loop .inv .long, c .before .before .before .before .before .before .before .before .before .before .before .pre .1 .1 .0), (omega (arith, c .before .before .before .before .before .before .before .before .before .before .before .pre .0 .few), omega (arith, c .before .before .before .before .before .before .before .before .before .before .before .pre .0 .few, c .before .before .before .before .before .before .before .before .before .before .before .pre .1 .1 .1 .0)))
+flow-requires c κs = (omega (arith, c .before .before .loop .inv .passed .long, c .before .before .before .before .before .before .before .before .before .before .before .before .before .before .before .pre .1 .0), (omega (arith, c .before .before .before .before .before .before .before .before .before .before .before .before .before .before .before .pre .0 .few), omega (arith, c .before .before .before .before .before .before .before .before .before .before .before .before .before .before .before .pre .0 .few)))
 
-mul-after : tie.Need-mul-after Inv-loop μ-loop
-mul-after c = omega (arith, c .before .before .before .before .before .before .before .before .before .before .before .before .before .before .pre .0 .few)
-
-shared-slice-read-after : tie.Need-shared-slice-read-after Inv-loop μ-loop
-shared-slice-read-after c = omega (arith, c .before .before .before .before .before .before .before .before .before .before .before .before .before .before .before .pre .0 .few, c .before .before .before .before .before .before .before .before .before .before .before .before .before .before .before .pre .1 .0 .names .long)
-
-cast-after : tie.Need-cast-after Inv-loop μ-loop
-cast-after c = omega (arith, c .before .before .before .before .before .before .before .before .before .before .before .before .before .before .before .pre .1 .0 .next (c .before .before .before .before .before .before .loop .e) (omega arith) (linked-kind _ _ _ (c .before .before .before .before .before .before .loop .inv) (omega arith)) .within, c .before .before .before .before .before .before .before .before .before .before .before .before .before .before .before .pre .0 .few)
+add-next-link : tie.Need-add-next-link Inv-loop μ-loop
+add-next-link c = omega arith
 
 next-link-requires-2 : tie.Need-next-link-requires-2 Inv-loop μ-loop
-next-link-requires-2 c κs = (c .before .before .before .before .before .before .before .before .before .before .before .before .before .before .before .before .pre .0, (c .before .before .before .before .before .before .before .before .before .before .before .before .before .before .before .before .pre .1 .0, (omega (arith, c .before .before .before .before .flow .ensures .long, c .before .before .before .before .before .before .before .loop .inv .long, c .before .before .before .before .before .before .before .before .before .before .before .before .before .before .before .before .pre .1 .1 .0), (omega (arith, inner-less (c .before .before .before .before .before .before .before .before .before .before .before .before .before .before .before .before .pre .0) _ (c .before .before .before .before .before .before .before .before .before .before .before .before .before .before .before .before .pre .1 .1 .1 .0) (c .before .before .before .before .before .before .before .before .before .before .before .before .before .before .before .before .pre .1 .1 .1 .1), c .before .before .before .before .before .before .before .before .before .before .before .before .before .before .before .before .pre .0 .few), at-next (c .before .before .before .before .before .before .before .before .before .before .before .before .before .before .before .before .pre .1 .0 .next (c .before .before .before .before .before .before .before .loop .e) (omega arith) (linked-kind _ _ _ (c .before .before .before .before .before .before .before .loop .inv) (omega arith)))))))
+next-link-requires-2 c κs = (ready-inner (c .before .before .before .before .before .before .before .before .before .before .before .before .before .before .before .before .before .before .before .pre .0), (omega (arith, c .before .before .before .before .before .before .loop .inv .passed .long, c .before .before .before .before .before .before .before .before .before .before .before .before .before .before .before .before .before .before .before .pre .1 .0), ((inner-low _ (c .before .before .before .before .before .before .before .before .before .before .before .before .before .before .before .before .before .before .before .args .columns .now) 0 0 _ (ready-inner (c .before .before .before .before .before .before .before .before .before .before .before .before .before .before .before .before .before .before .before .pre .0)) (c .before .before .before .before .before .before .before .before .before .before .before .before .before .before .before .before .before .before .before .pre .1 .1 .0) (c .before .before .before .before .before .before .before .before .before .before .before .if1 .left), omega arith), c .before .before .before .before .before .before .before .before .before .before .before .before .before .before .before .before .before .before .before .pre .1 .1 .1)))
 
 loop-less : tie.Need-loop-less Inv-loop μ-loop
-loop-less c = omega (arith, c .before .before .before .before .before .before .before .before .before .before .before .before .before .before .before .before .before .pre .1 .0 .next (c .before .before .before .before .before .before .before .before .loop .e) (omega arith) (linked-kind _ _ _ (c .before .before .before .before .before .before .before .before .loop .inv) (omega arith)) .from, c .next-link2 .ensures .from)
+loop-less c = omega (arith, c .next-link2 .ensures .from, c .next-link2 .ensures .within)
 
 loop-again : tie.Need-loop-again Inv-loop μ-loop
-loop-again c = linked-more _ _ (c .before .before .before .before .before .before .before .before .before .before .before .before .before .before .before .before .before .pre .0) (c .before .before .before .before .before .before .before .before .before .before .before .before .before .before .before .before .before .pre .1 .1 .1 .0) (c .before .before .before .before .before .before .before .before .before .before .before .before .before .before .before .before .before .pre .1 .1 .1 .1) _ _ _ _ _ _ _ _ (c .before .before .before .before .before .before .before .before .loop .inv) (omega arith) (c .before .before .before .before .before .flow .ensures) (c .before .before .before .before .before .before .before .before .before .before .before .before .before .before .before .before .before .pre .1 .0 .next (c .before .before .before .before .before .before .before .before .loop .e) (omega arith) (linked-kind _ _ _ (c .before .before .before .before .before .before .before .before .loop .inv) (omega arith))) (c .next-link2 .ensures)
+loop-again c = linked-more _ _ _ _ _ (c .before .before .before .before .before .before .before .before .before .before .before .before .before .before .before .before .before .before .before .before .pre .0) (c .before .before .before .before .before .before .before .before .before .before .before .before .before .before .before .before .before .before .before .before .pre .1 .1 .0) (c .before .before .before .before .before .before .before .before .before .before .before .before .if1 .left) _ _ _ _ _ _ _ (c .before .before .before .before .before .before .before .loop .inv) (omega arith) (c .before .before .before .before .flow .ensures) (c .next-link2 .ensures)
 
 same-length : tie.Need-same-length Inv-loop μ-loop
-same-length c = c .before .loop .inv .long
+same-length c = c .before .loop .inv .passed .long
 
-returns : tie.Need-returns Inv-loop μ-loop
-returns c = linked-done _ _ _ _ _ _ (c .before .loop .inv) (omega arith)
+returns-2 : tie.Need-returns-2 Inv-loop μ-loop
+returns-2 c = linked-done _ _ _ _ _ _ _ _ _ (c .before .loop .inv) (omega arith)
 
 pub link-to-spec : {M : Type 1} → statement M
 link-to-spec =
@@ -82,6 +82,10 @@ link-to-spec =
     (tie.spec
     Inv-loop
     μ-loop
+    mul-if1
+    mul-if1-2
+    shared-slice-read-if1
+    returns
     mul-role
     add-role
     mul-role-2
@@ -91,16 +95,12 @@ link-to-spec =
     mul-inner-2
     shared-slice-read-inner
     cast-inner
-    shared-slice-read-start
-    cast-start
     next-link-requires
     loop-holds
     flow-requires
-    mul-after
-    shared-slice-read-after
-    cast-after
+    add-next-link
     next-link-requires-2
     loop-less
     loop-again
     same-length
-    returns)
+    returns-2)

@@ -1,32 +1,30 @@
 use native.Mathlib.Omega.{arith}
+use borrow.Author.Needs.{needs}
 use Rattle.subsumption.proofs.Passes.{pass-busy, pass-then}
-use Rattle.subsumption.proofs.Closing.{ready-ordered, ready-paired, ready-sided, ready-choosable, round-quiet}
+use Rattle.subsumption.proofs.Closing.{round-quiet}
 use Rattle.subsumption.proofs.closure.round.Statement.{statement}
 use Rattle.subsumption.proofs.closure.round.Tie as tie
 
 settle-all-requires : tie.Need-settle-all-requires
-settle-all-requires c κs = (ready-ordered (c .before .before .before .before .before .before .before .pre .0), (c .before .before .before .before .before .before .before .pre .1 .0 .names, c .before .before .before .before .before .before .before .pre .1 .1))
+settle-all-requires c κs = search needs
 
 include-all-requires : tie.Need-include-all-requires
-include-all-requires c κs = (ready-paired (c .before .before .before .before .before .before .before .before .before .before .before .pre .0), omega arith)
-
-choose-all-requires : tie.Need-choose-all-requires
-choose-all-requires c κs = (ready-choosable (c .before .before .before .before .before .before .before .before .before .before .before .before .before .before .before .pre .0), omega arith)
+include-all-requires c κs = search needs
 
 same-length : tie.Need-same-length
 same-length c = omega arith
 
 returns : tie.Need-returns
-returns c = pass-busy (pass-then (pass-then (c .before .before .before .before .before .before .before .before .before .before .before .settle-all .ensures _ _) (c .before .before .before .before .before .before .before .include-all .ensures _ _ (ready-sided (c .before .before .before .before .before .before .before .before .before .before .before .before .before .before .before .before .before .before .before .pre .0)))) (c .before .before .before .choose-all .ensures _)) (c .if1 .taken)
+returns c = pass-busy (pass-then (c .before .before .before .before .before .before .before .settle-all .ensures) (c .before .before .before .include-all .ensures)) (c .if1 .taken)
 
 link-all-requires : tie.Need-link-all-requires
-link-all-requires c κs = (ready-ordered (c .before .before .before .before .before .before .before .before .before .before .before .before .before .before .before .before .before .before .before .before .pre .0), (c .before .before .before .before .before .before .before .before .before .before .before .before .before .before .before .before .before .before .before .before .pre .1 .0, omega arith))
+link-all-requires c κs = (c .before .before .before .before .before .before .before .before .before .before .before .before .before .before .before .before .before .pre .0, (omega (arith, c .before .before .before .before .include-all .ensures .long, c .before .before .before .before .before .before .before .before .settle-all .ensures .long, c .before .before .before .before .before .before .before .before .before .before .before .before .before .before .before .before .before .pre .1 .1 .0), c .before .before .before .before .before .before .before .before .before .before .before .before .before .before .before .before .before .pre .1 .1 .1))
 
 same-length-2 : tie.Need-same-length-2
 same-length-2 c = omega arith
 
 returns-2 : tie.Need-returns-2
-returns-2 c = round-quiet _ _ _ _ _ _ _ _ _ _ _ _ _ (c .before .before .before .before .if1 .left) (c .before .before .before .before .before .before .before .before .before .before .before .before .before .before .before .settle-all .ensures _ _) (c .before .before .before .before .before .before .before .before .before .before .before .include-all .ensures _ _ (ready-sided (c .before .before .before .before .before .before .before .before .before .before .before .before .before .before .before .before .before .before .before .before .before .before .before .pre .0))) (c .before .before .before .before .before .before .before .choose-all .ensures _) (c .before .before .link-all .ensures _ _)
+returns-2 c = round-quiet _ _ _ _ _ _ _ _ _ _ _ (c .before .before .before .before .if1 .left) (c .before .before .before .before .before .before .before .before .before .before .before .settle-all .ensures) (c .before .before .before .before .before .before .before .include-all .ensures) (c .before .before .link-all .ensures)
 
 pub round-spec : {M : Type 1} → statement M
 round-spec =
@@ -34,7 +32,6 @@ round-spec =
     (tie.spec
     settle-all-requires
     include-all-requires
-    choose-all-requires
     same-length
     returns
     link-all-requires

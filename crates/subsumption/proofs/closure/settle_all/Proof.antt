@@ -1,38 +1,36 @@
-use Prim.Native.Nat.{_-_}
+use Prim.Native.Nat.{ℕ, _-_, _<_, _≤_}
 use native.Mathlib.Omega.{arith}
-use Rattle.subsumption.proofs.Passes.{SettledTo, settled-none, settled-more, settled-done}
+use Rattle.subsumption.specs.Closure.{Pass, Settled, chooseFrom}
+use Rattle.subsumption.proofs.Passes.{loop-first, loop-more, loop-done}
 use Rattle.subsumption.proofs.closure.settle_all.Statement.{statement}
 use Rattle.subsumption.proofs.closure.settle_all.Tie as tie
 
 abbrev Inv-loop : tie.InvT-loop
-Inv-loop concepts notes columns₀ down count changed₀ k₀ columns changed k = SettledTo concepts notes down columns₀ columns changed k
+Inv-loop concepts inclusions atoms assignment firsts columns₀ count changed₀ j₀ columns changed j = (j ≤ count) × Pass concepts inclusions (chooseFrom atoms assignment) (λ l. (k : ℕ) → k < j → Settled concepts firsts (chooseFrom atoms assignment) k l) columns₀ columns changed
 
 abbrev μ-loop : tie.MeasureT-loop
-μ-loop concepts notes columns₀ down count changed₀ k₀ columns changed k = count - k
+μ-loop concepts inclusions atoms assignment firsts columns₀ count changed₀ j₀ columns changed j = count - j
 
 loop-holds : tie.Need-loop-holds Inv-loop μ-loop
-loop-holds c = settled-none _ _ _ _
-
-turned-requires : tie.Need-turned-requires Inv-loop μ-loop
-turned-requires c κs = omega arith
+loop-holds c = (omega arith, loop-first (λ k l. Settled (c .before .before .before .before .before .before .args .concepts .now) (c .before .before .before .before .before .before .args .firsts .now) (chooseFrom (c .before .before .before .before .before .before .args .atoms .now) (c .before .before .before .before .before .before .args .assignment .now)) k l) _)
 
 settle-requires : tie.Need-settle-requires Inv-loop μ-loop
-settle-requires c κs = (c .before .before .before .before .before .before .before .pre .0, (c .before .before .before .before .before .before .before .pre .1 .0, (omega (arith, c .before .before .before .loop .inv .long), c .before .turned .ensures .1)))
+settle-requires c κs = (c .before .before .before .before .before .before .before .before .before .pre .0, (c .before .before .before .before .before .before .before .before .before .pre .1 .0, (omega arith, omega arith)))
 
-add-k : tie.Need-add-k Inv-loop μ-loop
-add-k c = omega arith
+add-j : tie.Need-add-j Inv-loop μ-loop
+add-j c = omega arith
 
 loop-less : tie.Need-loop-less Inv-loop μ-loop
 loop-less c = omega arith
 
 loop-again : tie.Need-loop-again Inv-loop μ-loop
-loop-again c = settled-more _ _ _ _ _ _ _ _ _ _ (c .before .before .before .before .before .before .loop .inv) (omega arith) (c .before .before .before .before .turned .ensures .0) (c .before .before .settle .kept .1 .1 .0) (c .before .before .settle .ensures)
+loop-again c = (omega arith, loop-more (λ k l. Settled (c .before .before .before .before .before .before .before .before .before .before .before .before .args .concepts .now) (c .before .before .before .before .before .before .before .before .before .before .before .before .args .firsts .now) (chooseFrom (c .before .before .before .before .before .before .before .before .before .before .before .before .args .atoms .now) (c .before .before .before .before .before .before .before .before .before .before .before .before .args .assignment .now)) k l) _ (c .before .before .before .before .before .loop .inv .1) (c .before .before .settle .ensures))
 
 same-length : tie.Need-same-length Inv-loop μ-loop
-same-length c = c .before .loop .inv .long
+same-length c = omega arith
 
 returns : tie.Need-returns Inv-loop μ-loop
-returns c = settled-done _ _ _ _ _ _ _ (c .before .loop .inv) (omega arith)
+returns c = loop-done (λ k l. Settled (c .before .before .before .before .before .before .before .before .args .concepts .now) (c .before .before .before .before .before .before .before .before .args .firsts .now) (chooseFrom (c .before .before .before .before .before .before .before .before .args .atoms .now) (c .before .before .before .before .before .before .before .before .args .assignment .now)) k l) _ _ (omega arith) (c .before .loop .inv .1)
 
 pub settle-all-spec : {M : Type 1} → statement M
 settle-all-spec =
@@ -41,9 +39,8 @@ settle-all-spec =
     Inv-loop
     μ-loop
     loop-holds
-    turned-requires
     settle-requires
-    add-k
+    add-j
     loop-less
     loop-again
     same-length

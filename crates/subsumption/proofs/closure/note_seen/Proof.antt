@@ -1,8 +1,8 @@
 use native.Mathlib.Omega.{arith}
-use Rattle.subsumption.proofs.Naming.{name-low, seen-skip, seen-more}
+use Rattle.subsumption.proofs.Linking.{name-low, seen-skip, seen-more}
 use borrow.Author.Needs.{needs}
-use Rattle.subsumption.proofs.notes.note_seen.Statement.{statement}
-use Rattle.subsumption.proofs.notes.note_seen.Tie as tie
+use Rattle.subsumption.proofs.closure.note_seen.Statement.{statement}
+use Rattle.subsumption.proofs.closure.note_seen.Tie as tie
 
 mul-if1 : tie.Need-mul-if1
 mul-if1 c = omega arith

@@ -2,9 +2,9 @@ use Prim.Native.Nat.{_-_}
 use native.Mathlib.Omega.{arith}
 use borrow.Author.Needs.{needs}
 use Rattle.subsumption.specs.Closure.{Seen}
-use Rattle.subsumption.proofs.Naming.{FirstsTo, firsts-none, firsts-more, firsts-done, seen-none}
-use Rattle.subsumption.proofs.notes.note_names.Statement.{statement}
-use Rattle.subsumption.proofs.notes.note_names.Tie as tie
+use Rattle.subsumption.proofs.Linking.{FirstsTo, firsts-none, firsts-more, firsts-done, seen-none}
+use Rattle.subsumption.proofs.closure.note_firsts.Statement.{statement}
+use Rattle.subsumption.proofs.closure.note_firsts.Tie as tie
 
 abbrev Inv-loop : tie.InvT-loop
 Inv-loop concepts firsts₀ count seen₀ j₀ firsts seen j = FirstsTo concepts j firsts × Seen concepts j seen
@@ -27,14 +27,14 @@ slice-aggregate-note-seen c = search needs
 note-seen-requires : tie.Need-note-seen-requires Inv-loop μ-loop
 note-seen-requires c κs = (c .before .before .before .before .before .before .before .pre .0, (c .before .before .before .before .loop .inv .1, (omega arith, c .before .first-named .ensures)))
 
-cast-notes : tie.Need-cast-notes Inv-loop μ-loop
-cast-notes c = omega (arith, c .before .before .before .first-named .ensures .low, c .before .before .before .before .before .before .before .before .before .pre .0 .few)
+cast-firsts : tie.Need-cast-firsts Inv-loop μ-loop
+cast-firsts c = omega (arith, c .before .before .before .first-named .ensures .low, c .before .before .before .before .before .before .before .before .before .pre .0 .few)
 
-mul-notes : tie.Need-mul-notes Inv-loop μ-loop
-mul-notes c = omega arith
+mul-firsts : tie.Need-mul-firsts Inv-loop μ-loop
+mul-firsts c = omega arith
 
-slice-write-notes : tie.Need-slice-write-notes Inv-loop μ-loop
-slice-write-notes c = omega (arith, c .before .before .before .before .before .before .loop .inv .0 .long, c .before .before .before .before .before .before .before .before .before .pre .0 .few)
+slice-write-firsts : tie.Need-slice-write-firsts Inv-loop μ-loop
+slice-write-firsts c = omega (arith, c .before .before .before .before .before .before .loop .inv .0 .long, c .before .before .before .before .before .before .before .before .before .pre .0 .few)
 
 add-j : tie.Need-add-j Inv-loop μ-loop
 add-j c = omega arith
@@ -51,8 +51,8 @@ same-length c = omega (arith, c .before .loop .inv .0 .long, c .before .before .
 returns : tie.Need-returns Inv-loop μ-loop
 returns c = firsts-done _ _ _ (c .before .loop .inv .0) (omega arith)
 
-pub note-names-spec : {M : Type 1} → statement M
-note-names-spec =
+pub note-firsts-spec : {M : Type 1} → statement M
+note-firsts-spec =
     tie.close
     (tie.spec
     Inv-loop
@@ -62,9 +62,9 @@ note-names-spec =
     first-named-requires
     slice-aggregate-note-seen
     note-seen-requires
-    cast-notes
-    mul-notes
-    slice-write-notes
+    cast-firsts
+    mul-firsts
+    slice-write-firsts
     add-j
     loop-less
     loop-again

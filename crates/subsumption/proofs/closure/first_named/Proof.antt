@@ -1,8 +1,8 @@
 use native.Mathlib.Omega.{arith}
-use Rattle.subsumption.proofs.Naming.{first-unnamed, name-low, first-seen, first-new}
+use Rattle.subsumption.proofs.Linking.{first-unnamed, name-low, first-seen, first-new}
 use borrow.Author.Needs.{needs}
-use Rattle.subsumption.proofs.notes.first_named.Statement.{statement}
-use Rattle.subsumption.proofs.notes.first_named.Tie as tie
+use Rattle.subsumption.proofs.closure.first_named.Statement.{statement}
+use Rattle.subsumption.proofs.closure.first_named.Tie as tie
 
 mul-if1 : tie.Need-mul-if1
 mul-if1 c = omega arith

@@ -1,7 +1,7 @@
 use native.Mathlib.Omega.{arith}
-use Rattle.subsumption.proofs.Naming.{named-not, named-same}
-use Rattle.subsumption.proofs.notes.is_named.Statement.{statement}
-use Rattle.subsumption.proofs.notes.is_named.Tie as tie
+use Rattle.subsumption.proofs.Linking.{named-not, named-same}
+use Rattle.subsumption.proofs.closure.is_named.Statement.{statement}
+use Rattle.subsumption.proofs.closure.is_named.Tie as tie
 
 mul-if1 : tie.Need-mul-if1
 mul-if1 c = omega arith
