@@ -22,16 +22,16 @@ abbrev pub Decided : Type 0 → Bool → Type 0
 Decided P true = P
 Decided P false = P → ⊥
 
--- The questions whose right side holds a variable just where `right` says so: in the columns, and holding under an assignment.
-abbrev pub Seen : List ℕ → List Bool → List ℕ → Bool → Type 0
-Seen columns held questions right =
-    (m : ℕ) → m < pairsOf questions → markAt held (rightOf questions m) ≡ right → has columns (leftOf questions m) (rightOf questions m) ≡ true
-
 -- The tables are accepted, their atoms are at hand, and so are columns that hold under every assignment.
 pub record Prepared (t : Tables) (ids ground : List ℕ) : Type 0 where
   pub passed : tableFault t ≡ Done
   pub listed : ids ≡ atoms t
   pub grounded : Grounded t ground
+
+-- The questions whose right side holds a variable just where `right` says so: in the columns, and holding under an assignment.
+abbrev pub Seen : List ℕ → List Bool → List ℕ → Bool → Type 0
+Seen columns held questions right =
+    (m : ℕ) → m < pairsOf questions → markAt held (rightOf questions m) ≡ right → has columns (leftOf questions m) (rightOf questions m) ≡ true
 
 abbrev pub Hold : Tables → List ℕ → Bool → Type 0
 Hold t assignment right =

@@ -1,7 +1,6 @@
 use mathlib.Core.Path.{refl, sym}
 use lib.Seq.{length-take-le}
 use native.Mathlib.Omega.{arith}
-use borrow.Author.Needs.{needs}
 use Rattle.subsumption.specs.Tables.{tables}
 use Rattle.matching.proofs.ChoosingFaults.{found, choosing-rejected, choosing-found}
 use Rattle.matching.proofs.chosen.put_chosen.Statement.{statement}
@@ -14,23 +13,23 @@ use Rattle.subsumption.proofs.list_atoms.Reads as list-atoms-reads
 
 -- src/chosen.rt:134:72
 slice-aggregate-list-atoms : tie.Need-slice-aggregate-list-atoms
-slice-aggregate-list-atoms c = search needs
+slice-aggregate-list-atoms c = omega arith
 
 -- src/chosen.rt:134:9
 list-atoms-requires : tie.Need-list-atoms-requires
-list-atoms-requires c κs = search needs
+list-atoms-requires c κs = omega arith
 
 -- src/chosen.rt:136:26
 enum-known-atoms : tie.Need-enum-known-atoms
-enum-known-atoms c = search needs
+enum-known-atoms c = omega arith
 
 -- src/chosen.rt:136:49
 refused-with-requires : tie.Need-refused-with-requires
-refused-with-requires c κs = search needs
+refused-with-requires c κs = omega arith
 
 -- src/chosen.rt:137:23
 enum-known-atoms-2 : tie.Need-enum-known-atoms-2
-enum-known-atoms-2 c = search needs
+enum-known-atoms-2 c = omega arith
 
 -- src/chosen.rt:137:43
 array-share-prefix-ids : tie.Need-array-share-prefix-ids
@@ -50,7 +49,7 @@ returns c = choosing-rejected _ _ _ _ _ _ _ (c .before .before .before .before .
 
 -- src/chosen.rt:121:1
 same-length : tie.Need-same-length
-same-length c = search needs
+same-length c = omega arith
 
 -- src/chosen.rt:121:1
 returns-2 : tie.Need-returns-2

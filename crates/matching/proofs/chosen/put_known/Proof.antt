@@ -1,6 +1,5 @@
 use Prim.Native.Nat.{_<_}
 use native.Mathlib.Omega.{arith}
-use borrow.Author.Needs.{needs}
 use Rattle.subsumption.proofs.Refusals.{is-done}
 use Rattle.matching.proofs.ChoosingFaults.{choices-length, choices-low, known-unknown, known-choices, known-short, known-done, chosen-refused, chosen-done}
 use Rattle.matching.proofs.chosen.put_known.Statement.{statement}
@@ -15,11 +14,11 @@ returns c = chosen-refused _ _ _ _ (known-unknown _ _ _ _ _ (omega arith))
 
 -- src/chosen.rt:96:9
 check-assignment-requires : tie.Need-check-assignment-requires
-check-assignment-requires c κs = search needs
+check-assignment-requires c κs = omega arith
 
 -- src/chosen.rt:97:29
 enum-known-choices : tie.Need-enum-known-choices
-enum-known-choices c = search needs
+enum-known-choices c = omega arith
 
 -- src/chosen.rt:98:9
 returns-2 : tie.Need-returns-2
@@ -28,7 +27,7 @@ returns-2 c =
     chosen-refused _ _ _ _ (search known-choices)
 
 enum-told : tie.Need-enum-told
-enum-told c = search needs
+enum-told c = omega arith
 
 -- src/chosen.rt:101:9
 returns-3 : tie.Need-returns-3
@@ -36,7 +35,7 @@ returns-3 c = chosen-refused _ _ _ _ (known-short _ _ _ _ _ (omega arith) (is-do
 
 -- src/chosen.rt:103:18
 mul-choice : tie.Need-mul-choice
-mul-choice c = search needs
+mul-choice c = omega arith
 
 -- src/chosen.rt:103:18
 shared-slice-read-choice : tie.Need-shared-slice-read-choice
@@ -51,7 +50,7 @@ put-picked-requires c κs = (
 
 -- src/chosen.rt:82:1
 same-length : tie.Need-same-length
-same-length c = search needs
+same-length c = omega arith
 
 -- src/chosen.rt:82:1
 returns-4 : tie.Need-returns-4

@@ -1,40 +1,40 @@
+use native.Mathlib.Omega.{arith}
 use Rattle.matching.proofs.LineChecks.{line-left, line-right, line-rule}
-use borrow.Author.Needs.{needs}
 use Rattle.matching.proofs.derivation.line_follows.Statement.{statement}
 use Rattle.matching.proofs.derivation.line_follows.Tie as tie
 
 mul-number-at : tie.Need-mul-number-at
-mul-number-at c = search needs
+mul-number-at c = omega arith
 
 number-at-requires : tie.Need-number-at-requires
-number-at-requires c κs = search needs
+number-at-requires c κs = omega arith
 
 mul-number-at-2 : tie.Need-mul-number-at-2
-mul-number-at-2 c = search needs
+mul-number-at-2 c = omega arith
 
 add-number-at : tie.Need-add-number-at
-add-number-at c = search needs
+add-number-at c = omega arith
 
 number-at-requires-2 : tie.Need-number-at-requires-2
-number-at-requires-2 c κs = search needs
+number-at-requires-2 c κs = omega arith
 
 mul-number-at-3 : tie.Need-mul-number-at-3
-mul-number-at-3 c = search needs
+mul-number-at-3 c = omega arith
 
 add-number-at-2 : tie.Need-add-number-at-2
-add-number-at-2 c = search needs
+add-number-at-2 c = omega arith
 
 number-at-requires-3 : tie.Need-number-at-requires-3
-number-at-requires-3 c κs = search needs
+number-at-requires-3 c κs = omega arith
 
 mul-number-at-4 : tie.Need-mul-number-at-4
-mul-number-at-4 c = search needs
+mul-number-at-4 c = omega arith
 
 add-number-at-3 : tie.Need-add-number-at-3
-add-number-at-3 c = search needs
+add-number-at-3 c = omega arith
 
 number-at-requires-4 : tie.Need-number-at-requires-4
-number-at-requires-4 c κs = search needs
+number-at-requires-4 c κs = omega arith
 
 returns : tie.Need-returns
 returns c = line-left _ _ _ _ (c .before .before .before .before .before .before .before .before .before .before .before .args .marks .now) _ _ (c .before .before .before .before .before .before .before .before .before .before .before .pre .0) (c .before .before .before .before .before .before .before .before .before .before .before .pre .1 .0) _ (c .before .before .before .number-at2 .ensures) (c .if1 .taken)

@@ -1,8 +1,8 @@
+use native.Mathlib.Omega.{arith}
 use mathlib.Core.Path.{refl}
 use Rattle.subsumption.proofs.Refusals.{is-done}
 use Rattle.subsumption.proofs.Accepted.{wellFormed}
 use Rattle.matching.proofs.Answering.{finds-refused, finds-filled, finds-nothing, finding-refused, finding-short}
-use borrow.Author.Needs.{needs}
 use Rattle.matching.proofs.find.find_assignment.Statement.{statement}
 use Rattle.matching.proofs.find.find_assignment.Tie as tie
 use Rattle.matching.proofs.find.find_assignment.Reads as reads
@@ -13,18 +13,18 @@ use Rattle.subsumption.proofs.check_tables.Reads as check-tables-reads
 
 -- src/find.rt:109:9
 check-tables-requires : tie.Need-check-tables-requires
-check-tables-requires c κs = search needs
+check-tables-requires c κs = omega arith
 
 -- src/find.rt:110:29
 enum-known-checked : tie.Need-enum-known-checked
-enum-known-checked c = search needs
+enum-known-checked c = omega arith
 
 -- src/find.rt:111:9
 returns : tie.Need-returns
 returns c = finds-refused _ (c .before .before .before .before .before .before .before .before .args .out .now) _ _ (finding-refused _ _ _ _ (c .before .before .before .check-tables .ensures) (c .before .checked .given .1)) refl
 
 enum-told : tie.Need-enum-told
-enum-told c = search needs
+enum-told c = omega arith
 
 -- src/find.rt:115:9
 returns-2 : tie.Need-returns-2
@@ -40,7 +40,7 @@ write-choice-requires c κs = (wellFormed _ (is-done _ _ (c .before .before .bef
 
 -- src/find.rt:121:9
 same-length : tie.Need-same-length
-same-length c = search needs
+same-length c = omega arith
 
 -- src/find.rt:121:9
 returns-3 : tie.Need-returns-3

@@ -1,7 +1,6 @@
 use mathlib.Core.Path.{refl, sym}
 use native.Mathlib.Omega.{arith}
 use lib.Seq.{length-take-le}
-use borrow.Author.Needs.{needs}
 use Rattle.subsumption.proofs.Accepted.{wellFormed}
 use Rattle.matching.proofs.Answering.{all-zeros, full-atoms, whole, every-atom, first-found, nothing-found}
 use Rattle.matching.proofs.NogoodLaws.{nogoods-none}
@@ -17,13 +16,13 @@ use Rattle.matching.proofs.solve.some_solution.Reads as some-solution-r
 use Rattle.subsumption.proofs.close_ground.Reads as close-ground-reads
 
 slice-aggregate-fetch-atoms : tie.Need-slice-aggregate-fetch-atoms
-slice-aggregate-fetch-atoms c = search needs
+slice-aggregate-fetch-atoms c = omega arith
 
 fetch-atoms-requires : tie.Need-fetch-atoms-requires
 fetch-atoms-requires c κs = (c .before .before .before .before .pre, omega arith)
 
 slice-aggregate-close-ground : tie.Need-slice-aggregate-close-ground
-slice-aggregate-close-ground c = search needs
+slice-aggregate-close-ground c = omega arith
 
 close-ground-requires : tie.Need-close-ground-requires
 close-ground-requires c κs = (c .before .before .before .before .before .before .before .pre, refl)
@@ -38,10 +37,10 @@ slice-aggregate-some-solution : tie.Need-slice-aggregate-some-solution
 slice-aggregate-some-solution c = sym (length-take-le _ _ (omega (arith, c .before .before .before .before .before .before .fetch-atoms .ensures .count, wellFormed _ (c .before .before .before .before .before .before .before .before .before .before .before .pre) .few-atoms, c .before .before .before .before .before .before .fetch-atoms .kept .1 .1 .1 .1 .0)))
 
 slice-aggregate-some-solution-2 : tie.Need-slice-aggregate-some-solution-2
-slice-aggregate-some-solution-2 c = search needs
+slice-aggregate-some-solution-2 c = omega arith
 
 slice-aggregate-some-solution-3 : tie.Need-slice-aggregate-some-solution-3
-slice-aggregate-some-solution-3 c = search needs
+slice-aggregate-some-solution-3 c = omega arith
 
 some-solution-requires : tie.Need-some-solution-requires
 some-solution-requires c κs = ((record { passed = c .before .before .before .before .before .before .before .before .before .before .before .before .before .pre; listed = c .before .before .before .before .before .before .before .before .fetch-atoms .ensures .list; grounded = c .before .before .before .before .before .close-ground .ensures }), (whole _ (c .before .before .before .before .before .before .before .before .before .before .before .before .before .pre) _ _ all-zeros refl (full-atoms _ _ _ (c .before .before .before .before .before .before .before .before .fetch-atoms .ensures .count) (c .before .before .before .all-atoms .ensures)), (every-atom _ (c .before .before .before .before .before .before .before .before .before .before .before .before .before .pre) _ (full-atoms _ _ _ (c .before .before .before .before .before .before .before .before .fetch-atoms .ensures .count) (c .before .before .before .all-atoms .ensures)), (nogoods-none _ _ refl refl))))
@@ -53,10 +52,10 @@ slice-aggregate-first-solution : tie.Need-slice-aggregate-first-solution
 slice-aggregate-first-solution c = sym (length-take-le _ _ (omega (arith, c .before .before .before .before .before .before .before .before .before .before .before .before .before .fetch-atoms .ensures .count, wellFormed _ (c .before .before .before .before .before .before .before .before .before .before .before .before .before .before .before .before .before .before .pre) .few-atoms, c .before .before .before .before .before .before .before .before .before .before .before .before .before .fetch-atoms .kept .1 .1 .1 .1 .0)))
 
 slice-aggregate-first-solution-2 : tie.Need-slice-aggregate-first-solution-2
-slice-aggregate-first-solution-2 c = search needs
+slice-aggregate-first-solution-2 c = omega arith
 
 slice-aggregate-first-solution-3 : tie.Need-slice-aggregate-first-solution-3
-slice-aggregate-first-solution-3 c = search needs
+slice-aggregate-first-solution-3 c = omega arith
 
 first-solution-requires : tie.Need-first-solution-requires
 first-solution-requires c κs = ((record { passed = c .before .before .before .before .before .before .before .before .before .before .before .before .before .before .before .before .before .before .before .before .pre; listed = c .before .before .before .before .before .before .before .before .before .before .before .before .before .before .before .fetch-atoms .ensures .list; grounded = c .before .before .before .before .before .before .before .before .before .before .before .before .close-ground .ensures }), (c .before .before .before .before .before .before .some-solution .ensures .1, (whole _ (c .before .before .before .before .before .before .before .before .before .before .before .before .before .before .before .before .before .before .before .before .pre) _ _ all-zeros refl (full-atoms _ _ _ (c .before .before .before .before .before .before .before .before .before .before .before .before .before .before .before .fetch-atoms .ensures .count) (c .before .before .before .before .before .before .before .before .before .before .all-atoms .ensures)), answers-found _ _ _ (c .before .before .before .before .before .before .some-solution .result .found) _ _ (c .before .before .before .before .before .before .some-solution .ensures .0) (c .before .before .before .if1 .taken))))

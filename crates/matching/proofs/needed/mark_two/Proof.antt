@@ -1,5 +1,5 @@
+use native.Mathlib.Omega.{arith}
 use Rattle.matching.proofs.Premises.{two-marked, grown-set}
-use borrow.Author.Needs.{needs}
 use Rattle.matching.proofs.needed.mark_two.Statement.{statement}
 use Rattle.matching.proofs.needed.mark_two.Tie as tie
 
@@ -10,7 +10,7 @@ mark-pair-requires-2 : tie.Need-mark-pair-requires-2
 mark-pair-requires-2 c κs = (grown-set _ _ _ _ _ (c .before .before .before .before .before .before .pre .0) (c .before .before .before .before .before .before .pre .1 .0 .0) (c .before .before .before .before .before .before .pre .1 .0 .1) (c .before .before .before .mark-pair .ensures) .square, c .before .before .before .before .before .before .pre .1 .1)
 
 same-length : tie.Need-same-length
-same-length c = search needs
+same-length c = omega arith
 
 returns : tie.Need-returns
 returns c = two-marked _ _ _ _ _ _ _ _ (c .before .before .before .before .before .before .before .before .before .pre .0) (c .before .before .before .before .before .before .before .before .before .pre .1 .0 .0) (c .before .before .before .before .before .before .before .before .before .pre .1 .0 .1) (c .before .before .before .before .before .before .before .before .before .pre .1 .1 .0) (c .before .before .before .before .before .before .before .before .before .pre .1 .1 .1) (c .before .before .before .before .before .before .mark-pair .ensures) (c .before .before .mark-pair2 .ensures)

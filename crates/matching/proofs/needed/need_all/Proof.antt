@@ -1,7 +1,6 @@
 use native.Mathlib.Omega.{arith}
 use Rattle.matching.proofs.Premises.{all-hit, all-miss}
 use Rattle.matching.proofs.RuleLines.{variable-numbered}
-use borrow.Author.Needs.{needs}
 use Rattle.matching.proofs.needed.need_all.Statement.{statement}
 use Rattle.matching.proofs.needed.need_all.Tie as tie
 
@@ -9,7 +8,7 @@ returns : tie.Need-returns
 returns c = all-miss _ _ _ _ (c .before .before .before .before .before .args .needed .now) _ (c .if1 .taken)
 
 cast-k : tie.Need-cast-k
-cast-k c = search needs
+cast-k c = omega arith
 
 mul-mark-all : tie.Need-mul-mark-all
 mul-mark-all c = omega (arith, variable-numbered _ _ _ _ (c .before .if1 .left) (c .before .before .before .before .before .before .pre .1 .1 .0))

@@ -1,7 +1,6 @@
 use native.Mathlib.Omega.{arith}
 use Rattle.matching.proofs.Premises.{marked-miss, pair-marked}
 use Rattle.matching.proofs.RuleLines.{pair-left, pair-right}
-use borrow.Author.Needs.{needs}
 use Rattle.matching.proofs.needed.need_inclusion.Statement.{statement}
 use Rattle.matching.proofs.needed.need_inclusion.Tie as tie
 
@@ -12,10 +11,10 @@ pair-at-requires : tie.Need-pair-at-requires
 pair-at-requires c κs = omega arith
 
 cast-l : tie.Need-cast-l
-cast-l c = search needs
+cast-l c = omega arith
 
 cast-r : tie.Need-cast-r
-cast-r c = search needs
+cast-r c = omega arith
 
 mark-two-requires : tie.Need-mark-two-requires
 mark-two-requires c κs = (c .before .before .before .before .before .before .before .pre .0, ((c .before .before .before .before .before .before .before .pre .1 .1 .0, pair-left _ (c .before .before .before .before .before .before .before .args .inclusions .now) (c .before .before .before .before .before .before .before .args .extra) _ (c .before .before .before .before .before .before .before .pre .1 .0) (omega arith) (c .before .before .before .pair-at .ensures)), (pair-right _ (c .before .before .before .before .before .before .before .args .inclusions .now) (c .before .before .before .before .before .before .before .args .extra) _ (c .before .before .before .before .before .before .before .pre .1 .0) (omega arith) (c .before .before .before .pair-at .ensures), c .before .before .before .before .before .before .before .pre .1 .1 .1)))

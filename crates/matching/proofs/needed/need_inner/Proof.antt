@@ -1,6 +1,6 @@
+use native.Mathlib.Omega.{arith}
 use Rattle.matching.proofs.Premises.{marked-hit, marked-miss}
 use Rattle.matching.proofs.RuleLines.{exists-rising}
-use borrow.Author.Needs.{needs}
 use Rattle.matching.proofs.needed.need_inner.Statement.{statement}
 use Rattle.matching.proofs.needed.need_inner.Tie as tie
 
@@ -11,10 +11,10 @@ returns-2 : tie.Need-returns-2
 returns-2 c = marked-miss _ _ (c .before .before .before .before .before .args .needed .now) _ _ _ _ (λ h. c .if2 .taken (h .1))
 
 cast-a : tie.Need-cast-a
-cast-a c = search needs
+cast-a c = omega arith
 
 cast-b : tie.Need-cast-b
-cast-b c = search needs
+cast-b c = omega arith
 
 mark-two-requires : tie.Need-mark-two-requires
 mark-two-requires c κs = (c .before .before .before .before .before .before .before .before .pre .0, ((exists-rising _ _ _ _ (c .before .before .before .before .before .if1 .left) (c .before .before .before .before .before .before .before .before .pre .1 .0), exists-rising _ _ _ _ (c .before .before .before .if2 .left) (c .before .before .before .before .before .before .before .before .pre .1 .1)), (exists-rising _ _ _ _ (c .before .before .before .before .before .if1 .left) (c .before .before .before .before .before .before .before .before .pre .1 .0), exists-rising _ _ _ _ (c .before .before .before .if2 .left) (c .before .before .before .before .before .before .before .before .pre .1 .1))))

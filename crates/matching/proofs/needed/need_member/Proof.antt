@@ -1,6 +1,6 @@
+use native.Mathlib.Omega.{arith}
 use Rattle.matching.proofs.Premises.{marked-miss, first-marked, second-marked}
 use Rattle.matching.proofs.RuleLines.{and-rising}
-use borrow.Author.Needs.{needs}
 use Rattle.matching.proofs.needed.need_member.Statement.{statement}
 use Rattle.matching.proofs.needed.need_member.Tie as tie
 
@@ -8,7 +8,7 @@ returns : tie.Need-returns
 returns c = marked-miss _ _ (c .before .before .before .args .needed .now) _ _ _ _ (c .if1 .taken)
 
 cast-a : tie.Need-cast-a
-cast-a c = search needs
+cast-a c = omega arith
 
 mark-two-requires : tie.Need-mark-two-requires
 mark-two-requires c κs = (c .before .before .before .before .before .before .pre .0, ((and-rising _ _ _ _ (c .before .before .before .if1 .left) (c .before .before .before .before .before .before .pre .1 .0) .0, c .before .before .before .before .before .before .pre .1 .1), (and-rising _ _ _ _ (c .before .before .before .if1 .left) (c .before .before .before .before .before .before .pre .1 .0) .0, c .before .before .before .before .before .before .pre .1 .1)))
@@ -20,7 +20,7 @@ returns-2 : tie.Need-returns-2
 returns-2 c = first-marked _ _ _ _ _ _ _ _ (c .before .before .before .before .before .before .if1 .left) (c .before .before .before .before .before .if2 .taken) (c .before .before .mark-two .ensures)
 
 cast-b : tie.Need-cast-b
-cast-b c = search needs
+cast-b c = omega arith
 
 mark-two-requires-2 : tie.Need-mark-two-requires-2
 mark-two-requires-2 c κs = (c .before .before .before .before .before .before .pre .0, ((and-rising _ _ _ _ (c .before .before .before .if1 .left) (c .before .before .before .before .before .before .pre .1 .0) .1, c .before .before .before .before .before .before .pre .1 .1), (and-rising _ _ _ _ (c .before .before .before .if1 .left) (c .before .before .before .before .before .before .pre .1 .0) .1, c .before .before .before .before .before .before .pre .1 .1)))

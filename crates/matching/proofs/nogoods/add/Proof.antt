@@ -2,7 +2,6 @@ use Rattle.matching.proofs.NogoodLaws.{added-none, added-one}
 use lib.ListN.{length-set}
 use mathlib.Core.Path.{_∙_}
 use native.Mathlib.Omega.{arith}
-use borrow.Author.Needs.{needs}
 use Rattle.matching.proofs.nogoods.add.Statement.{statement}
 use Rattle.matching.proofs.nogoods.add.Tie as tie
 use Rattle.matching.proofs.nogoods.add.Reads as reads
@@ -11,7 +10,7 @@ use Rattle.matching.proofs.nogoods.put.Reads as put-reads
 
 -- src/nogoods.rt:43:18
 slice-read-filled : tie.Need-slice-read-filled
-slice-read-filled c = search needs
+slice-read-filled c = omega arith
 
 -- src/nogoods.rt:45:9
 returns : tie.Need-returns
@@ -19,31 +18,31 @@ returns c = added-none _ _ _ (c .before .before .before .pre .0)
 
 -- src/nogoods.rt:47:14
 mul-at : tie.Need-mul-at
-mul-at c = search needs
+mul-at c = omega arith
 
 -- src/nogoods.rt:48:16
 add-put : tie.Need-add-put
-add-put c = search needs
+add-put c = omega arith
 
 -- src/nogoods.rt:48:5
 put-requires : tie.Need-put-requires
-put-requires c κs = search needs
+put-requires c κs = omega arith
 
 -- src/nogoods.rt:49:16
 add-put-2 : tie.Need-add-put-2
-add-put-2 c = search needs
+add-put-2 c = omega arith
 
 -- src/nogoods.rt:49:5
 put-requires-2 : tie.Need-put-requires-2
-put-requires-2 c κs = search needs
+put-requires-2 c κs = omega arith
 
 -- src/nogoods.rt:50:16
 add-store : tie.Need-add-store
-add-store c = search needs
+add-store c = omega arith
 
 -- src/nogoods.rt:50:5
 slice-write-store : tie.Need-slice-write-store
-slice-write-store c = search needs
+slice-write-store c = omega arith
 
 -- src/nogoods.rt:38:1
 same-length : tie.Need-same-length

@@ -1,6 +1,6 @@
+use native.Mathlib.Omega.{arith}
 use Rattle.matching.proofs.RuleLines.{and-rising}
 use Rattle.matching.proofs.RuleLines.{both-kind, both-first, both-second}
-use borrow.Author.Needs.{needs}
 use Rattle.matching.proofs.rules.by_both.Statement.{statement}
 use Rattle.matching.proofs.rules.by_both.Tie as tie
 
@@ -8,13 +8,13 @@ returns : tie.Need-returns
 returns c = search both-kind
 
 cast-has-mark : tie.Need-cast-has-mark
-cast-has-mark c = search needs
+cast-has-mark c = omega arith
 
 has-mark-requires : tie.Need-has-mark-requires
 has-mark-requires c κs = (c .before .before .before .before .pre .0, (c .before .before .before .before .pre .1 .1, and-rising _ _ _ _ (c .before .if1 .left) (c .before .before .before .before .pre .1 .0) .0))
 
 cast-has-mark-2 : tie.Need-cast-has-mark-2
-cast-has-mark-2 c = search needs
+cast-has-mark-2 c = omega arith
 
 has-mark-requires-2 : tie.Need-has-mark-requires-2
 has-mark-requires-2 c κs = (c .before .before .before .before .before .before .before .pre .0, (c .before .before .before .before .before .before .before .pre .1 .1, and-rising _ _ _ _ (c .before .before .before .before .if1 .left) (c .before .before .before .before .before .before .before .pre .1 .0) .1))

@@ -1,3 +1,4 @@
+use native.Mathlib.Omega.{arith}
 use Rattle.matching.proofs.RuleLines.{inner-left, inner-right, inner-role, inner-mark, exists-rising}
 use borrow.Author.Needs.{needs}
 use Rattle.matching.proofs.rules.by_inner.Statement.{statement}
@@ -13,10 +14,10 @@ returns-3 : tie.Need-returns-3
 returns-3 c = search inner-role
 
 cast-has-mark : tie.Need-cast-has-mark
-cast-has-mark c = search needs
+cast-has-mark c = omega arith
 
 cast-has-mark-2 : tie.Need-cast-has-mark-2
-cast-has-mark-2 c = search needs
+cast-has-mark-2 c = omega arith
 
 has-mark-requires : tie.Need-has-mark-requires
 has-mark-requires c κs = search (exists-rising, needs)

@@ -1,3 +1,4 @@
+use native.Mathlib.Omega.{arith}
 use Rattle.matching.proofs.Refuting.{known-refuted, can-split}
 use borrow.Author.Needs.{needs}
 use Rattle.matching.proofs.solve.next_step.Statement.{statement}
@@ -11,15 +12,15 @@ use Rattle.matching.proofs.solve.step_by_test.Reads as step-by-test-rea
 
 -- src/solve.rt:243:9
 choose-requires : tie.Need-choose-requires
-choose-requires c κs = search needs
+choose-requires c κs = omega arith
 
 -- src/solve.rt:244:9
 look-up-requires : tie.Need-look-up-requires
-look-up-requires c κs = search needs
+look-up-requires c κs = omega arith
 
 -- src/solve.rt:248:9
 same-length : tie.Need-same-length
-same-length c = search needs
+same-length c = omega arith
 
 -- src/solve.rt:248:9
 returns : tie.Need-returns
@@ -27,11 +28,11 @@ returns c = (known-refuted _ _ _ _ (c .before .before .before .look-up .result .
 
 -- src/solve.rt:257:8
 can-split-requires : tie.Need-can-split-requires
-can-split-requires c κs = search needs
+can-split-requires c κs = omega arith
 
 -- src/solve.rt:258:9
 same-length-2 : tie.Need-same-length-2
-same-length-2 c = search needs
+same-length-2 c = omega arith
 
 -- src/solve.rt:258:9
 returns-2 : tie.Need-returns-2
@@ -43,7 +44,7 @@ step-by-test-requires c κs = search needs
 
 -- src/solve.rt:225:1
 same-length-3 : tie.Need-same-length-3
-same-length-3 c = search needs
+same-length-3 c = omega arith
 
 -- src/solve.rt:225:1
 returns-3 : tie.Need-returns-3

@@ -1,3 +1,4 @@
+use native.Mathlib.Omega.{arith}
 use Rattle.matching.proofs.Refuting.{through, tried-done, tried-all}
 use Rattle.matching.proofs.Searching.{picked-at}
 use borrow.Author.Needs.{needs}
@@ -20,7 +21,7 @@ is-within-requires c κs = search needs
 
 -- src/solve.rt:156:9
 same-length : tie.Need-same-length
-same-length c = search needs
+same-length c = omega arith
 
 -- src/solve.rt:156:9
 returns : tie.Need-returns
@@ -28,23 +29,23 @@ returns c = (tried-done _ (c .before .before .before .before .before .before .be
 
 -- src/solve.rt:164:41
 pair-outside-requires : tie.Need-pair-outside-requires
-pair-outside-requires c κs = search needs
+pair-outside-requires c κs = omega arith
 
 -- src/solve.rt:164:9
 pick-undecided-requires : tie.Need-pick-undecided-requires
-pick-undecided-requires c κs = search needs
+pick-undecided-requires c κs = omega arith
 
 -- src/solve.rt:166:18
 enum-known-pick : tie.Need-enum-known-pick
-enum-known-pick c = search needs
+enum-known-pick c = omega arith
 
 -- src/solve.rt:173:26
 enum-told : tie.Need-enum-told
-enum-told c = search needs
+enum-told c = omega arith
 
 -- src/solve.rt:129:1
 same-length-2 : tie.Need-same-length-2
-same-length-2 c = search needs
+same-length-2 c = omega arith
 
 -- src/solve.rt:129:1
 returns-2 : tie.Need-returns-2
@@ -52,7 +53,7 @@ returns-2 c = (picked-at _ _ _ _ (c .before .before .before .pick-undecided .ens
 
 -- src/solve.rt:129:1
 same-length-3 : tie.Need-same-length-3
-same-length-3 c = search needs
+same-length-3 c = omega arith
 
 -- src/solve.rt:129:1
 returns-3 : tie.Need-returns-3

@@ -6,7 +6,6 @@ use Rattle.matching.proofs.Answering.{all-zeros}
 use borrow.Author.Tests.{not-true, not-false}
 use lib.Seq.{length-take-le}
 use mathlib.Core.Path.{refl, sym}
-use borrow.Author.Needs.{needs}
 use Rattle.matching.proofs.solve.try_low.Statement.{statement}
 use Rattle.matching.proofs.solve.try_low.Tie as tie
 use Rattle.matching.proofs.solve.try_low.Reads as reads
@@ -37,7 +36,7 @@ add-requires c κs = (c .before .before .before .before .before .before .before 
 
 -- src/solve.rt:73:9
 same-length : tie.Need-same-length
-same-length c = search needs
+same-length c = omega arith
 
 -- src/solve.rt:73:9
 returns : tie.Need-returns
@@ -65,7 +64,7 @@ add-requires-2 c κs = (c .before .before .before .before .before .before .befor
 
 -- src/solve.rt:93:9
 same-length-2 : tie.Need-same-length-2
-same-length-2 c = search needs
+same-length-2 c = omega arith
 
 -- src/solve.rt:93:9
 returns-2 : tie.Need-returns-2

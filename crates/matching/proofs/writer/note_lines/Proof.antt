@@ -1,7 +1,6 @@
 use Prim.Native.Nat.{ℕ}
 use Rattle.matching.proofs.Notes.{measure-less}
 use native.Mathlib.Omega.{arith}
-use borrow.Author.Needs.{needs}
 use Prim.Native.Nat.{_+_, _*_}
 use mathlib.Core.Path.{_≡_, refl, _∙_, ap}
 use mathlib.Core.Bool.{false}
@@ -27,7 +26,7 @@ next-line-requires : tie.Need-next-line-requires Inv-loop μ-loop
 next-line-requires c κs = (c .before .before .before .before .before .before .before .before .pre .0, c .before .loop .inv .1 .1 .0 .marked .square)
 
 enum-known-next : tie.Need-enum-known-next Inv-loop μ-loop
-enum-known-next c = search needs
+enum-known-next c = omega arith
 
 cast-write-line : tie.Need-cast-write-line Inv-loop μ-loop
 cast-write-line c = omega (arith, (found-line _ _ _ _ _ _ _ (c .before .before .before .before .next-line .ensures) _ _ _ _ (c .before .before .next .given .1)) .gives .rule-low)
@@ -78,7 +77,7 @@ loop-again : tie.Need-loop-again Inv-loop μ-loop
 loop-again c = (c .before .before .before .before .mark-pair .kept .0 ∙ c .before .before .before .before .before .before .before .before .before .before .before .before .before .before .before .loop .inv .0, (c .before .before .before .before .before .before .before .before .write-line .ensures .size ∙ c .before .before .before .before .before .before .before .before .before .before .before .before .before .before .before .loop .inv .1 .0, (noted-more _ _ _ _ _ _ _ (c .before .before .before .before .before .before .before .before .before .before .before .before .before .before .before .loop .inv .1 .1 .0) _ _ _ _ (found-line _ _ _ _ _ _ _ (c .before .before .before .before .before .before .before .before .before .before .before .before .before .next-line .ensures) _ _ _ _ (c .before .before .before .before .before .before .before .before .before .before .before .next .given .1)) (c .before .before .before .before .before .before .before .before .before .before .before .before .before .before .before .before .before .before .before .before .before .before .pre .0 .ready) _ _ (c .before .before .before .before .before .before .before .before .write-line .ensures) (c .before .before .before .before .mark-pair .ensures), noted-other _ _ _ _ _ _ _ (c .before .before .before .before .before .before .before .before .before .before .before .before .before .before .before .loop .inv .1 .1 .0) _ _ _ _ (found-line _ _ _ _ _ _ _ (c .before .before .before .before .before .before .before .before .before .before .before .before .before .next-line .ensures) _ _ _ _ (c .before .before .before .before .before .before .before .before .before .before .before .next .given .1)) (c .before .before .before .before .before .before .before .before .before .before .before .before .before .before .before .before .before .before .before .before .before .before .pre .0 .ready) _ _ (c .before .before .before .before .before .before .before .before .write-line .ensures) (c .before .before .before .before .mark-pair .ensures) _ _ _ (c .before .before .before .before .before .before .before .before .before .before .before .before .before .before .before .before .before .before .before .before .before .before .pre .1 .0 .left-known) (c .before .before .before .before .before .before .before .before .before .before .before .before .before .before .before .before .before .before .before .before .before .before .pre .1 .0 .right-known) (c .before .is-pair .ensures) (c .if1 .left) (c .before .before .before .before .before .before .before .before .before .before .before .before .before .before .before .loop .inv .1 .1 .1))))
 
 enum-told : tie.Need-enum-told Inv-loop μ-loop
-enum-told c = search needs
+enum-told c = omega arith
 
 same-length-3 : tie.Need-same-length-3 Inv-loop μ-loop
 same-length-3 c = c .before .before .before .before .before .loop .inv .0

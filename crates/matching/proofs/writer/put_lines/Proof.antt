@@ -12,7 +12,7 @@ use Rattle.matching.proofs.writer.put_lines.Statement.{statement}
 use Rattle.matching.proofs.writer.put_lines.Tie as tie
 
 slice-aggregate-fetch-atoms : tie.Need-slice-aggregate-fetch-atoms
-slice-aggregate-fetch-atoms c = search needs
+slice-aggregate-fetch-atoms c = omega arith
 
 fetch-atoms-requires : tie.Need-fetch-atoms-requires
 fetch-atoms-requires c κs = (asked-tables _ _ _ _ (c .before .before .before .before .before .before .pre .0), search needs)
@@ -51,7 +51,7 @@ write-lines-requires : tie.Need-write-lines-requires
 write-lines-requires c κs = (asked-grounds _ _ _ _ _ _ (c .before .before .before .before .before .before .before .before .before .before .before .before .before .pre .0) (c .before .before .before .before .before .before .fetch-atoms .ensures), (asked-subsumed _ _ _ _ _ _ (c .before .before .before .before .before .before .before .before .before .before .before .before .before .pre .0) (c .before .before .before .before .before .before .fetch-atoms .ensures) (c .before .before .before .before .before .before .before .before .before .before .before .before .before .pre .1 .0), (blank-marks _ (asked-few _ _ _ _ (c .before .before .before .before .before .before .before .before .before .before .before .before .before .pre .0)), (blank-marks _ (asked-few _ _ _ _ (c .before .before .before .before .before .before .before .before .before .before .before .before .before .pre .0)), (notes-long _ (asked-few _ _ _ _ (c .before .before .before .before .before .before .before .before .before .before .before .before .before .pre .0)), c .before .before .before .before .before .before .before .before .before .before .before .before .before .pre .1 .1)))))
 
 same-length : tie.Need-same-length
-same-length c = search needs
+same-length c = c .before .before .before .before .before .write-lines .kept .1 .1 .1 .1 .1 .1 .1 .1 .1 .0
 
 returns : tie.Need-returns
 returns c = c .before .before .before .before .before .write-lines .ensures .each (tables (c .before .before .before .before .before .before .before .before .before .before .before .before .before .before .before .before .before .before .before .args .concepts .now) (c .before .before .before .before .before .before .before .before .before .before .before .before .before .before .before .before .before .before .before .args .inclusions .now) (c .before .before .before .before .before .before .before .before .before .before .before .before .before .before .before .before .before .before .before .args .questions .now) (c .before .before .before .before .before .before .before .before .before .before .before .before .before .before .before .before .before .before .before .args .variables)) (fetched-of _ _ _ (c .before .before .before .before .before .before .before .before .before .before .before .before .fetch-atoms .ensures))
