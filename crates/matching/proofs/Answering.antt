@@ -31,6 +31,7 @@ use Rattle.matching.specs.declared.find.Match.{Match}
 use Rattle.matching.specs.declared.find.Match.the-variants.{Filled, Nothing, Rejected as No}
 use Rattle.matching.specs.Finding.{findingFault, Finds}
 use Rattle.matching.proofs.Choices.{one-bit}
+use Rattle.matching.proofs.Conjoined.{some-solves}
 use Rattle.matching.proofs.Locality.{none-by-substitution}
 use Rattle.matching.proofs.Fronts.{front-known, front-within, accepted-bits, accept, within-accepted}
 
@@ -201,6 +202,7 @@ module _ (t : Tables) (before after : List ℕ) where
         let found : Found t choice = subst (λ (z : Bool). FoundBy t z choice) y g in
         subst (λ (z : Outcome). Finds t before after z Filled) passed
         (record {
+          some = some-solves t (wellFormed t (sym e ∙ f)) _ (found .first .solves);
           size = c .size;
           first = subst (First t) (sym (front-copied choice (found .long) (wellFormed t (sym e ∙ f) .few-variables) c)) (found .first);
           rest = rest-kept choice c;

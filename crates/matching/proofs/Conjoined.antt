@@ -10,6 +10,7 @@ use Rattle.subsumption.proofs.WellFormed.{WellFormed}
 use Rattle.subsumption.proofs.Inward.{Ground}
 use Rattle.subsumption.proofs.Chosen.{chosen-ground}
 use Rattle.matching.specs.Solving.{Solves, Substitution, substituted, SolvesBy}
+use Rattle.matching.specs.Finding.{SomeSolves}
 use Rattle.matching.proofs.Readings.{member-reads}
 
 unfoldable pub conjoined : List ℕ → List ℕ → Concept
@@ -50,3 +51,6 @@ module _ (t : Tables) (wf : WellFormed t) (α : List ℕ) where
       (s m l I obeys x k
       (member-reads I (substituted (asSubstitution .concept) I) (assigned t α I) (λ v z u a p n. conjoined-out I (t .concepts) z n a)
       (tree (t .concepts) (leftOf (t .questions) m)) x k h))
+
+  pub some-solves : Solves t α → SomeSolves t
+  some-solves s = record { substitution = asSubstitution; solves = solves-by-substitution s }

@@ -24,7 +24,7 @@ use Rattle.subsumption.proofs.RuleSoundness.{follows-sound}
 use Rattle.subsumption.proofs.RuleCompleteness.{rules-complete}
 use Rattle.subsumption.proofs.Chosen.{chosen-known}
 use Rattle.matching.specs.Solving.{Solves, takes, Earlier}
-use Rattle.matching.specs.Samples.{Saying, below, notBelow, parts, filling, noFilling, Says, Card, Holds}
+use Rattle.matching.specs.Samples.{Saying, alwaysBelow, neverBelow, below, notBelow, parts, filling, noFilling, Says, Card, Holds}
 use Rattle.matching.proofs.Locality.{none-by-substitution}
 use Rattle.matching.proofs.ChoosingFaults.{choices-length, choices-low}
 use Rattle.matching.proofs.Members.{anyIn, anyIn-intro, anyIn-elim}
@@ -231,12 +231,22 @@ solvedBy t marks = allBelow (pairsOf (t .questions)) (λ m. markAt marks (leftOf
 unfoldable pub refuted : Tables → ℕ → List ℕ → Bool
 refuted t n α = let marks = rounds t α (lines t) n in both (closedTest t α (lines t) marks) (not (solvedBy t marks))
 
+-- both are ids, and the test passes
+unfoldable pub onIds : Tables → ℕ → ℕ → Bool → Bool
+onIds t i j test = both (ltb i (countOf (t .concepts))) (both (ltb j (countOf (t .concepts))) test)
+
+-- the marks after n rounds have the pair; they are closed, and do not
+unfoldable pub marks : Tables → ℕ → List ℕ → ℕ → ℕ → Bool
+marks t n α i j = markAt (rounds t α (lines t) n) i j
+
+unfoldable pub misses : Tables → ℕ → List ℕ → ℕ → ℕ → Bool
+misses t n α i j = let marked = rounds t α (lines t) n in both (closedTest t α (lines t) marked) (not (markAt marked i j))
+
 unfoldable pub saysTest : Tables → ℕ → Saying → Bool
-saysTest t n (below α i j) =
-    both (isDone (assignmentFault t α)) (both (ltb i (countOf (t .concepts))) (both (ltb j (countOf (t .concepts))) (markAt (rounds t α (lines t) n) i j)))
-saysTest t n (notBelow α i j) =
-    let marks = rounds t α (lines t) n in
-    both (isDone (assignmentFault t α)) (both (ltb i (countOf (t .concepts))) (both (ltb j (countOf (t .concepts))) (both (closedTest t α (lines t) marks) (not (markAt marks i j)))))
+saysTest t n (alwaysBelow i j) = onIds t i j (allIn (λ α. marks t n α i j) (assignments t))
+saysTest t n (neverBelow i j) = onIds t i j (allIn (λ α. misses t n α i j) (assignments t))
+saysTest t n (below α i j) = both (isDone (assignmentFault t α)) (onIds t i j (marks t n α i j))
+saysTest t n (notBelow α i j) = both (isDone (assignmentFault t α)) (onIds t i j (misses t n α i j))
 saysTest t n (parts ids) = sameList (atoms t) ids
 saysTest t n (filling α) =
     both (isDone (assignmentFault t α)) (both (solvedBy t (rounds t α (lines t) n)) (allIn (λ β. or (sameList β α) (or (earlierTest (t .variables) (length (atoms t)) α β) (refuted t n β))) (assignments t)))
@@ -250,21 +260,35 @@ module _ (t : Tables) (n : ℕ) (ok : tableFault t ≡ Done) where
       let wf = wellFormed t ok in
       true≢false (sym (allBelow-intro _ _ (λ m l. closed-complete t α wf _ c _ _ (wf .question-left m l) (wf .question-right m l) (s m l))) ∙ not-true _ q)
 
+  ids-pass : (i j : ℕ) (test : Bool) → onIds t i j test ≡ true → (i < countOf (t .concepts)) × (j < countOf (t .concepts)) × (test ≡ true)
+  unfolding onIds
+  ids-pass i j test h =
+      let (l, q) = both-true _ _ h in
+      let (k, m) = both-true _ _ q in
+      (ltb-true _ _ l, ltb-true _ _ k, m)
+
+  marks-below : (α : List ℕ) (i j : ℕ) → i < countOf (t .concepts) → j < countOf (t .concepts) → marks t n α i j ≡ true → Subsumed t α i j
+  unfolding marks
+  marks-below α i j l k m = rounds-sound t α (wellFormed t ok) (lines t) n i j l k m
+
+  misses-not : (α : List ℕ) (i j : ℕ) → i < countOf (t .concepts) → j < countOf (t .concepts) → misses t n α i j ≡ true → Subsumed t α i j → ⊥
+  unfolding misses
+  misses-not α i j l k h s =
+      let (c, m) = both-true _ _ h in
+      true≢false (sym (closed-complete t α (wellFormed t ok) _ c i j l k s) ∙ not-true _ m)
+
   test-says : (s : Saying) → saysTest t n s ≡ true → Says t s
   unfolding saysTest solvedBy
+  test-says (alwaysBelow i j) h = let (l, k, m) = ids-pass i j _ h in λ α a. marks-below α i j l k (allIn-at _ (all-assignments t α a) m)
+  test-says (neverBelow i j) h = let (l, k, m) = ids-pass i j _ h in λ α a. misses-not α i j l k (allIn-at _ (all-assignments t α a) m)
   test-says (below α i j) h =
       let (a, p) = both-true _ _ h in
-      let (l, q) = both-true _ _ p in
-      let (k, m) = both-true _ _ q in
-      (is-done _ a, rounds-sound t α (wellFormed t ok) (lines t) n i j (ltb-true _ _ l) (ltb-true _ _ k) m)
+      let (l, k, m) = ids-pass i j _ p in
+      (is-done _ a, marks-below α i j l k m)
   test-says (notBelow α i j) h =
       let (a, p) = both-true _ _ h in
-      let (l, q) = both-true _ _ p in
-      let (k, u) = both-true _ _ q in
-      let (c, m) = both-true _ _ u in (
-        is-done _ a,
-        λ s. true≢false (sym (closed-complete t α (wellFormed t ok) _ c i j (ltb-true _ _ l) (ltb-true _ _ k) s) ∙ not-true _ m),
-      )
+      let (l, k, m) = ids-pass i j _ p in
+      (is-done _ a, misses-not α i j l k m)
   test-says (parts ids) h = same-list _ _ h
   test-says (filling α) h =
       let (a, p) = both-true _ _ h in

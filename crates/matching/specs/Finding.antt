@@ -17,8 +17,14 @@ use Rattle.matching.specs.Solving.{Substitution, SolvesBy, First}
 unfoldable pub findingFault : Tables → ℕ → Outcome
 findingFault t size = orElse (tableFault t) (bufferFault (t .variables) size)
 
--- One number a variable is written, the first assignment that solves; the rest of the buffer keeps its values.
+-- Some substitution makes every question hold.
+pub record SomeSolves (t : Tables) : Type 0 where
+  pub substitution : Substitution t
+  pub solves : SolvesBy t substitution
+
+-- A substitution solves; one number a variable is written, the first assignment that solves; the rest of the buffer keeps its values.
 pub record FilledBy (t : Tables) (before after : List ℕ) : Type 0 where
+  pub some : SomeSolves t
   pub size : length after ≡ length before
   pub first : First t (take (t .variables) after)
   pub rest : drop (t .variables) after ≡ drop (t .variables) before

@@ -9,9 +9,11 @@ use Rattle.subsumption.specs.Subsumption.{Subsumed}
 use Rattle.subsumption.specs.Check.{tableFault, assignmentFault}
 use Rattle.matching.specs.Solving.{Substitution, SolvesBy, First}
 
--- What a card says of its tables: a pair is below under an assignment, or is not; which the atoms are; the first assignment that solves;
--- that no substitution of any size solves (01: refusal 10).
+-- What a card says of its tables: a pair is below under every accepted assignment, or under none; it is below under one assignment, or is
+-- not; which the atoms are; the first assignment that solves; that no substitution of any size solves (01: refusal 10).
 pub data Saying : Type 0 where
+  alwaysBelow : ℕ → ℕ → Saying
+  neverBelow : ℕ → ℕ → Saying
   below : List ℕ → ℕ → ℕ → Saying
   notBelow : List ℕ → ℕ → ℕ → Saying
   parts : List ℕ → Saying
@@ -19,13 +21,20 @@ pub data Saying : Type 0 where
   noFilling : Saying
 
 abbrev pub Says : Tables → Saying → Type 0
+Says t (alwaysBelow i j) = (assignment : List ℕ) → assignmentFault t assignment ≡ Done → Subsumed t assignment i j
+Says t (neverBelow i j) = (assignment : List ℕ) → assignmentFault t assignment ≡ Done → Subsumed t assignment i j → ⊥
 Says t (below assignment i j) = (assignmentFault t assignment ≡ Done) × Subsumed t assignment i j
 Says t (notBelow assignment i j) = (assignmentFault t assignment ≡ Done) × (Subsumed t assignment i j → ⊥)
 Says t (parts ids) = atoms t ≡ ids
 Says t (filling assignment) = First t assignment
 Says t noFilling = (σ : Substitution t) → SolvesBy t σ → ⊥
 
+-- The cards' letters.
+pub data Letter : Type 0 where
+  A B C D E F G H I J K L : Letter
+
 pub record Card : Type 0 where
+  pub letter : Letter
   pub tables : Tables
   pub saying : Saying
 
@@ -47,22 +56,22 @@ looped = tables (1 ∷ 1 ∷ 0 ∷ 2 ∷ 0 ∷ 0 ∷ 2 ∷ 0 ∷ 1 ∷ []) (0 �
 unfoldable pub questions : List ℕ
 questions = 5 ∷ 3 ∷ 2 ∷ 4 ∷ []
 
-abbrev pub card : Tables → Saying → Card
-card t saying = record { tables = t; saying = saying }
+abbrev pub card : Letter → Tables → Saying → Card
+card letter t saying = record { letter = letter; tables = t; saying = saying }
 
--- The cards, A first. A choice is written as its number: position 0 is id 0, position 1 is id 2, position 2 is id 3.
+-- The cards. A choice is written as its number: position 0 is id 0, position 1 is id 2, position 2 is id 3.
 unfoldable pub cards : List Card
 cards =
-    card (house questions) (below (0 ∷ []) 2 3)
-    ∷ card (house questions) (notBelow (0 ∷ []) 3 2)
-    ∷ card (house questions) (below (4 ∷ []) 5 3)
-    ∷ card (house questions) (notBelow (0 ∷ []) 5 3)
-    ∷ card (house questions) (below (0 ∷ []) 0 4)
-    ∷ card (house questions) (below (1 ∷ []) 4 0)
-    ∷ card (house questions) (parts (0 ∷ 2 ∷ 3 ∷ []))
-    ∷ card (house questions) (filling (4 ∷ []))
-    ∷ card (house (5 ∷ 3 ∷ 0 ∷ 4 ∷ [])) noFilling
-    ∷ card (house []) (filling (0 ∷ []))
-    ∷ card looped (below [] 0 2)
-    ∷ card looped (notBelow [] 1 0)
+    card A (house questions) (alwaysBelow 2 3)
+    ∷ card B (house questions) (neverBelow 3 2)
+    ∷ card C (house questions) (below (4 ∷ []) 5 3)
+    ∷ card D (house questions) (notBelow (0 ∷ []) 5 3)
+    ∷ card E (house questions) (below (0 ∷ []) 0 4)
+    ∷ card F (house questions) (below (1 ∷ []) 4 0)
+    ∷ card G (house questions) (parts (0 ∷ 2 ∷ 3 ∷ []))
+    ∷ card H (house questions) (filling (4 ∷ []))
+    ∷ card I (house (5 ∷ 3 ∷ 0 ∷ 4 ∷ [])) noFilling
+    ∷ card J (house []) (filling (0 ∷ []))
+    ∷ card K looped (alwaysBelow 0 2)
+    ∷ card L looped (neverBelow 1 0)
     ∷ []
