@@ -8,7 +8,8 @@ use native.Mathlib.Omega.{arith}
 use lib.Dec.{eqb}
 use lib.ListN.{length, getD, set, length-set, replicate, getD-replicate, List·getD-eq-default, length-replicate}
 use lib.Seq.{getD-set-same, getD-set-other}
-use borrow.Author.Tests.{eq-eqb, ne-eqb, eqb-true, lt-ltb, le-ltb}
+use borrow.Author.Tests.{eq-eqb, ne-eqb, eqb-true, lt-ltb, le-ltb, ltb-false}
+use Rattle.subsumption.specs.declared.refusal.Refusal.{Refusal}
 use Rattle.subsumption.specs.declared.refusal.Refusal.the-variants.{TooManyAtoms}
 use Rattle.subsumption.specs.declared.refusal.Outcome.{Outcome}
 use Rattle.subsumption.specs.declared.refusal.Outcome.the-variants.{Done, Refused}
@@ -18,8 +19,9 @@ use Rattle.subsumption.specs.Tables.{Tables, or, both, anyBelow, node, d
 use Rattle.subsumption.specs.Atoms.{isAtomic, occurs, inInclusion, inQuestion, isAtom, keep, atoms}
 use Rattle.subsumption.specs.Refusal.{orElse, refuseIf}
 use Rattle.subsumption.specs.Check.{inclusionFault, sidesFault, atomsFault, useFault}
-use Rattle.subsumption.specs.Marks.{Layered, Known, markAt, VariableMarks, MarkedBy, inPair, onSide, inGroundRight, onGroundRight, Spread, Narrowed, AtomMarks, markedIds}
+use Rattle.subsumption.specs.Marks.{Layered, Known, markAt, VariableMarks, MarkedBy, inPair, onSide, inGroundRight, onGroundRight, Spread, Narrowed, AtomMarks, Used, markedIds}
 use Rattle.subsumption.proofs.Bools.{or-cases, or-first, or-second, both-true, both-intro, both-skip, both-none, anyBelow-intro, anyBelow-elim, eq-or-ne, last-cases, le-or-lt, same-bool}
+use Rattle.subsumption.proofs.Refusals.{passed-if, passed-second}
 use Rattle.subsumption.proofs.Marks.{row-node}
 
 pub atomic-name : (k a b : ℕ) → k ≡ 1 → true ≡ isAtomic (decode k a b)
@@ -148,10 +150,17 @@ module _ (t : Tables) (x y : Outcome) (n : ℕ) (marks : List Bool) (ex : x ≡ 
   counted : n ≡ length (atoms t)
   counted = en ∙ ap length (atoms-listed t marks m)
 
-  pub use-many : 64 < n → Refused TooManyAtoms ≡ useFault t
+  pub use-many : (after : List Bool) → 64 < n → Used t after (Refused TooManyAtoms)
   unfolding useFault atomsFault orElse refuseIf
-  use-many h = rw (← ex, hx, ← ey, hy, ← counted, lt-ltb 64 n h)
+  use-many after h = record { answered = rw (← ex, hx, ← ey, hy, ← counted, lt-ltb 64 n h); marked = λ e. absurd (let z : _≡_ {A = ℕ} 0 1 = cc e in omega arith) }
 
-  pub use-few : n ≤ 64 → Done ≡ useFault t
+  pub use-few : n ≤ 64 → Used t marks Done
   unfolding useFault atomsFault orElse refuseIf
-  use-few h = rw (← ex, hx, ← ey, hy, ← counted, le-ltb 64 n h)
+  use-few h = record { answered = rw (← ex, hx, ← ey, hy, ← counted, le-ltb 64 n h); marked = λ e. m }
+
+pub use-refused : (t : Tables) (marks : List Bool) (r : Refusal) → Refused r ≡ useFault t → Used t marks (Refused r)
+use-refused t marks r e = record { answered = e; marked = λ h. absurd (let z : _≡_ {A = ℕ} 0 1 = cc h in omega arith) }
+
+pub used-few : (t : Tables) → useFault t ≡ Done → length (atoms t) ≤ 64
+unfolding useFault atomsFault
+used-few t h = ltb-false 64 _ (passed-if _ _ (passed-second _ _ (passed-second _ _ h)))

@@ -5,8 +5,7 @@ use mathlib.Core.List.{List}
 use mathlib.Core.Bool.{Bool, true, false, _||_}
 use native.Mathlib.Omega.{arith}
 use native.Mathlib.Nat.{le-antisymm}
-use lib.ListN.{length, getD, set, length-set}
-use lib.Seq.{getD-set-same, getD-set-other}
+use lib.ListN.{length, getD}
 use lib.Dec.{eqb}
 use borrow.Author.Tests.{eqb-true, eqb-false}
 use Rattle.subsumption.specs.Tables.{Node, topAt, nameAt, andAt, varAt, node, countOf}
@@ -15,27 +14,6 @@ use Rattle.subsumption.specs.Closure.{has, slack, Firsts, SettledBy, Ste
 use Rattle.subsumption.proofs.Bits.{bit-of-zero}
 use Rattle.subsumption.proofs.Columns.{not-both}
 use Rattle.subsumption.proofs.Passes.{pass-as, pass-then}
-
--- clearing
-pub record Cleared (p : ℕ) (columns : List ℕ) : Type 0 where
-  pub within : p ≤ 576
-  pub long : length columns ≡ 576
-  pub zeros : (q : ℕ) → q < p → getD columns q 0 ≡ 0
-
-pub cleared-none : (columns : List ℕ) → length columns ≡ 576 → Cleared 0 columns
-cleared-none columns h = record { within = omega arith; long = h; zeros = λ q l. absurd (omega arith) }
-
-pub cleared-more : (p : ℕ) (columns : List ℕ) → Cleared p columns → p < 576 → Cleared (p + 1) (set columns p 0)
-cleared-more p columns C h =
-    record { within = omega arith; long = length-set columns p 0 ∙ C .long; zeros = λ q l. go q l (eqb q p) refl }
-  where
-    go : (q : ℕ) → q < p + 1 → (t : Bool) → eqb q p ≡ t → getD (set columns p 0) q 0 ≡ 0
-    go q l true s =
-        ap (λ (x : ℕ). getD (set columns p 0) x 0) (eqb-true q p s) ∙ getD-set-same columns p 0 0 (omega (arith, C .long))
-    go q l false s = getD-set-other columns p q 0 0 (eqb-false q p s) ∙ C .zeros q (omega (arith, eqb-false q p s))
-
-pub cleared-done : (p : ℕ) (columns : List ℕ) → Cleared p columns → 576 ≤ p → Empty columns
-cleared-done p columns C h = record { long = C .long; zeros = λ q l. C .zeros q (omega arith) }
 
 pub nothing :
     (columns : List ℕ) → Empty columns → (i j : ℕ) → i < 192 → j < 192 → has columns i j ≡ true → ⊥

@@ -1,41 +1,36 @@
 -- From passed checks to the closure, and from its columns to the answer.
-use Prim.Native.Nat.{ℕ, _<_, _≤_}
+use Prim.Native.Nat.{ℕ, _*_, _<_, _≤_}
 use mathlib.Core.Path.{_≡_, refl, sym, ap, _∙_, subst}
-use mathlib.Core.List.{List, _++_}
+use mathlib.Core.List.{List}
 use mathlib.Core.Bool.{Bool, true, false, not, false≢true}
 use native.Mathlib.Omega.{arith}
 use lib.Dec.{eqb}
-use lib.ListN.{length, getD, take, drop}
-use lib.Seq.{take-append-seam}
-use borrow.Author.Tests.{eqb-true, ltb-true, not-false}
+use lib.ListN.{length, getD, replicate, getD-replicate, length-replicate}
+use borrow.Author.Tests.{eqb-true, ltb-true, lt-ltb, not-false}
 use Rattle.subsumption.specs.declared.refusal.Outcome.{Outcome}
 use Rattle.subsumption.specs.declared.refusal.Outcome.the-variants.{Done, Refused}
 use Rattle.subsumption.specs.declared.refusal.Refusal.{Refusal}
-use Rattle.subsumption.specs.declared.decide.Decision.the-variants.{Yes, No, Rejected}
+use Rattle.subsumption.specs.declared.decide.Decision.the-variants.{Yes, No}
 use Rattle.subsumption.specs.Tables.{Tables, tables, countOf}
 use Rattle.subsumption.specs.Atoms.{atoms}
 use Rattle.subsumption.specs.Subsumption.{Subsumed}
-use Rattle.subsumption.specs.Refusal.{orElse}
-use Rattle.subsumption.specs.Check.{noConcept, aloneFault, tableFault, pairFault, assignmentFaultAt, assignmentFault}
+use Rattle.subsumption.specs.Refusal.{replyDone, replyRefused, replyOf, Replies, orElse}
+use Rattle.subsumption.specs.Check.{bufferFault, noConcept, aloneFault, tableFault, pairFault, assignmentFaultAt, assignmentFault}
 use Rattle.subsumption.specs.Closure.{has, Ready, chooseFrom, Empty, Closed}
-use Rattle.subsumption.specs.Ground.{ColumnsOf}
+use Rattle.subsumption.specs.Ground.{Accepted, Prepared, ForAccepted, ColumnsOf}
 use Rattle.subsumption.specs.Rows.{Written}
-use Rattle.subsumption.specs.Table.{writingFault, TableOf, Wrote}
-use Rattle.subsumption.specs.Decide.{decidingFault, Tells, Answers, Decides}
-use Rattle.subsumption.specs.Marks.{inFront}
+use Rattle.subsumption.specs.Table.{rowStart, writingFault, TableOf, Left, Wrote}
+use Rattle.subsumption.specs.Decide.{decidingFault, decisionReply, Tells, Decides}
 use Rattle.subsumption.proofs.WellFormed.{WellFormed}
-use Rattle.subsumption.proofs.Bools.{or-false}
-use Rattle.subsumption.proofs.Refusals.{passed-first, passed-second, passed-if, goes-on, is-done}
+use Rattle.subsumption.proofs.Bools.{or-false, or-skip}
+use Rattle.subsumption.proofs.Refusals.{passed-first, passed-second, passed-if, done-if, stops, goes-on, both-done, refuses}
 use Rattle.subsumption.proofs.AtomLaws.{atom-known}
 use Rattle.subsumption.proofs.Chosen.{getD-member}
 use Rattle.subsumption.proofs.Accepted.{wellFormed, table-concepts, concepts-named}
+use Rattle.subsumption.proofs.ListingLaws.{pair-tables}
 use Rattle.subsumption.proofs.Closing.{nothing}
 use Rattle.subsumption.proofs.RowLaws.{table-of}
 use Rattle.subsumption.proofs.Completeness.{closed-exactly}
-
--- the list in front of a buffer, taken out again
-pub take-front : (xs before : List ℕ) (n : ℕ) → n ≡ length xs → take n (inFront xs before) ≡ xs
-take-front xs before n e = rw e (take-append-seam xs (drop (length xs) before))
 
 module _ (t : Tables) (assignment : List ℕ) (h : tableFault t ≡ Done) where
   pub count-assignment : assignmentFault t assignment ≡ Done → length assignment ≡ t .variables
@@ -58,33 +53,39 @@ module _ (t : Tables) (assignment : List ℕ) (h : tableFault t ≡ Done) where
         atoms-known = λ q l. atom-known t (getD (atoms t) q 0) (getD-member (atoms t) q l);
       }
 
--- the atoms as they were put into a buffer
-pub ready-from :
-    (cs is qs : List ℕ) (v : ℕ) (assignment before ids : List ℕ) (n : ℕ) → tableFault (tables cs is qs v) ≡ Done
-    → assignmentFault (tables cs is qs v) assignment ≡ Done → n ≡ length (atoms (tables cs is qs v)) → ids ≡ inFront (atoms (tables cs is qs v)) before
-    → Ready cs is (take n ids) assignment
-ready-from cs is qs v assignment before ids n h k e f =
-    subst (λ (z : List ℕ). Ready cs is z assignment) (sym (ap (take n) f ∙ take-front (atoms (tables cs is qs v)) before n e)) (ready (tables cs is qs v) assignment h k)
+-- columns that hold nothing
+pub no-columns : Empty (replicate 576 0)
+no-columns = record { long = length-replicate {A = ℕ} 576 0; zeros = λ p h. getD-replicate 576 p 0 0 h }
 
-pub columns-from :
-    (cs is qs : List ℕ) (v : ℕ) (assignment before ids given columns : List ℕ) (n : ℕ) → tableFault (tables cs is qs v) ≡ Done
-    → n ≡ length (atoms (tables cs is qs v)) → ids ≡ inFront (atoms (tables cs is qs v)) before → Empty given
-    → Closed cs is (chooseFrom (take n ids) assignment) given columns → ColumnsOf (tables cs is qs v) assignment columns
-columns-from cs is qs v assignment before ids given columns n h e f E c =
-    let wf = wellFormed (tables cs is qs v) h in
-    closed-exactly (tables cs is qs v) assignment given columns wf
-    (λ i j l k m. absurd (nothing given E i j (omega (arith, wf .few)) (omega (arith, wf .few)) m))
-    (subst (λ (z : List ℕ). Closed cs is (chooseFrom z assignment) given columns) (ap (take n) f ∙ take-front (atoms (tables cs is qs v)) before n e) c)
+-- ---- what the accepted tables and their atoms give
+module _ (cs is qs : List ℕ) (v : ℕ) (assignment ids : List ℕ) (a : Accepted (tables cs is qs v) ids) where
+  -- check 9, given the number of atoms
+  pub choices-fault : (r : Outcome) → r ≡ assignmentFaultAt (length ids) v assignment → r ≡ assignmentFault (tables cs is qs v) assignment
+  unfolding assignmentFault
+  choices-fault r f = f ∙ ap (λ (z : List ℕ). assignmentFaultAt (length z) v assignment) (a .listed)
 
-pub assignment-by-count :
-    (t : Tables) (assignment : List ℕ) (n : ℕ) (r : Outcome) → n ≡ length (atoms t) → r ≡ assignmentFaultAt n (t .variables) assignment → r ≡ assignmentFault t assignment
-unfolding assignmentFault
-assignment-by-count t assignment n r e f = f ∙ ap (λ (z : ℕ). assignmentFaultAt z (t .variables) assignment) e
+  pub accepted-ready : (x : Outcome) → x ≡ assignmentFaultAt (length ids) v assignment → x ≡ Done → Ready cs is ids assignment
+  accepted-ready x e f =
+      subst (λ (z : List ℕ). Ready cs is z assignment) (sym (a .listed)) (ready (tables cs is qs v) assignment (a .passed) (sym (choices-fault x e) ∙ f))
 
--- a pair given alone is checked with the tables
-pub pair-tables : (t : Tables) (left right : ℕ) → pairFault t left right ≡ Done → tableFault t ≡ Done
-unfolding pairFault tableFault
-pair-tables t left right h = sym (goes-on _ _ _ Done refl (passed-first _ _ h) (sym (passed-second _ _ (passed-second _ _ h))))
+  pub accepted-columns :
+      (given columns : List ℕ) → Empty given → Closed cs is (chooseFrom ids assignment) given columns → ColumnsOf (tables cs is qs v) assignment columns
+  accepted-columns given columns E c =
+      let wf = wellFormed (tables cs is qs v) (a .passed) in
+      closed-exactly (tables cs is qs v) assignment given columns wf
+      (λ i j l k m. absurd (nothing given E i j (omega (arith, wf .few)) (omega (arith, wf .few)) m))
+      (subst (λ (z : List ℕ). Closed cs is (chooseFrom z assignment) given columns) (a .listed) c)
+
+-- the same for tables accepted with some questions
+module _ (cs is : List ℕ) (v : ℕ) (ids : List ℕ) (p : Prepared cs is v ids) where
+  pub few-atoms : length ids ≤ 64
+  few-atoms = omega (arith, ap length (p .accepted .listed), wellFormed _ (p .accepted .passed) .few-atoms)
+
+  pub few-concepts : countOf cs ≤ 192
+  few-concepts = wellFormed _ (p .accepted .passed) .few
+
+  pub prepared-ready : (assignment : List ℕ) (x : Outcome) → x ≡ assignmentFaultAt (length ids) v assignment → x ≡ Done → Ready cs is ids assignment
+  prepared-ready assignment x e f = accepted-ready cs is (p .questions) v assignment ids (p .accepted) x e f
 
 -- what an asked pair's checks leave
 module _ (t : Tables) (assignment : List ℕ) (left right : ℕ) (h : decidingFault t assignment left right ≡ Done) where
@@ -114,29 +115,98 @@ module _ (t : Tables) (assignment : List ℕ) (left right : ℕ) (h : decidingFa
   pub asked-few : countOf (t .concepts) ≤ 192
   asked-few = wellFormed t asked-tables .few
 
-  pub told : (columns : List ℕ) (r : Bool) → ColumnsOf t assignment columns → r ≡ has columns left right → Tells t assignment left right r
-  told columns true c e = c .sound left right asked-left asked-right (sym e)
-  told columns false c e = λ s. false≢true (e ∙ c .complete left right asked-left asked-right s)
+module _ (t : Tables) (left right : ℕ) (h : pairFault t left right ≡ Done) where
+  pub pair-left : left < countOf (t .concepts)
+  unfolding pairFault aloneFault noConcept
+  pair-left = ltb-true _ _ (not-false _ (or-false _ _ (passed-if _ _ (passed-first _ _ (passed-second _ _ h))) .0))
 
+  pub pair-right : right < countOf (t .concepts)
+  unfolding pairFault aloneFault noConcept
+  pair-right = ltb-true _ _ (not-false _ (or-false _ _ (passed-if _ _ (passed-first _ _ (passed-second _ _ h))) .1))
+
+-- ---- the decision
 module _ (t : Tables) (assignment : List ℕ) (left right : ℕ) where
-  pub decides-refused : (r : Refusal) → Refused r ≡ decidingFault t assignment left right → Decides t assignment left right (Rejected r)
-  decides-refused r e = subst (λ (f : Outcome). Answers t assignment left right f (Rejected r)) e refl
+  pub decides-refused : (r : Refusal) → Refused r ≡ decidingFault t assignment left right → Decides t assignment left right (replyRefused r)
+  decides-refused r e = subst (λ (f : Outcome). Replies f (Tells t assignment left right) (replyRefused r)) e refl
 
-  pub decides-yes : (b : Bool) → decidingFault t assignment left right ≡ Done → Tells t assignment left right b → b ≡ true → Decides t assignment left right Yes
-  decides-yes b h s e = subst (λ (f : Outcome). Answers t assignment left right f Yes) (sym h) (subst (Tells t assignment left right) e s)
+  decides : (value : ℕ) → decidingFault t assignment left right ≡ Done → Tells t assignment left right value → Decides t assignment left right (replyDone value)
+  decides value h s = subst (λ (f : Outcome). Replies f (Tells t assignment left right) (replyDone value)) (sym h) (refl, s)
 
-  pub decides-no : (b : Bool) → decidingFault t assignment left right ≡ Done → Tells t assignment left right b → b ≡ false → Decides t assignment left right No
-  decides-no b h s e = subst (λ (f : Outcome). Answers t assignment left right f No) (sym h) (subst (Tells t assignment left right) e s)
+  module _ (columns : List ℕ) (C : ColumnsOf t assignment columns) (h : decidingFault t assignment left right ≡ Done) (b : Bool) (e : b ≡ has columns left right) where
+    pub decides-yes : b ≡ true → Decides t assignment left right (decisionReply Yes)
+    decides-yes y = decides 1 h (C .sound left right (asked-left t assignment left right h) (asked-right t assignment left right h) (sym e ∙ y))
+
+    pub decides-no : b ≡ false → Decides t assignment left right (decisionReply No)
+    decides-no n = decides 0 h (λ s. false≢true (sym n ∙ e ∙ C .complete left right (asked-left t assignment left right h) (asked-right t assignment left right h) s))
 
 -- ---- writing the table
-module _ (t : Tables) (assignment before after : List ℕ) where
-  pub wrote-refused : (r : Refusal) → Refused r ≡ writingFault t assignment (length before) → after ≡ before → Wrote t assignment before after (Refused r)
-  wrote-refused r e k = record { answered = e; left = k }
+module _ (t : Tables) (assignment before : List ℕ) where
+  pub wrote-refused : (r : Refusal) → Refused r ≡ writingFault t assignment (length before) → Wrote t assignment before before (replyOf (Refused r))
+  wrote-refused r e = record { replied = ap replyOf e; left = subst (Left t assignment before before) e refl }
 
-  pub wrote-done : Done ≡ writingFault t assignment (length before) → TableOf t assignment before after → Wrote t assignment before after Done
-  wrote-done e k = record { answered = e; left = k }
+  pub wrote-done :
+      (after : List ℕ) → Done ≡ writingFault t assignment (length before) → TableOf t assignment before after → Wrote t assignment before after (replyOf Done)
+  wrote-done after e k = record { replied = ap replyOf e; left = subst (Left t assignment before after) e k }
 
-pub table-written :
-    (t : Tables) (assignment columns before after : List ℕ) → tableFault t ≡ Done → ColumnsOf t assignment columns
-    → Written columns (countOf (t .concepts)) before after → TableOf t assignment before after
-table-written t assignment columns before after h c w = table-of t assignment columns before after (wellFormed t h .few) c w
+  pub table-written :
+      (columns after : List ℕ) → tableFault t ≡ Done → ColumnsOf t assignment columns
+      → Written columns (countOf (t .concepts)) before after → TableOf t assignment before after
+  table-written columns after h c w = table-of t assignment columns before after (wellFormed t h .few) c w
+
+  pub table-refused : (r : Refusal) → Refused r ≡ tableFault t → Wrote t assignment before before (replyOf (Refused r))
+  unfolding writingFault
+  table-refused r e = wrote-refused r (stops (Refused r) _ _ r e refl)
+
+module _ (cs is : List ℕ) (v : ℕ) (ids assignment before : List ℕ) (x : Outcome) (ex : x ≡ assignmentFaultAt (length ids) v assignment) where
+  pub put-choices : (r : Refusal) → x ≡ Refused r → ForAccepted cs is v ids (λ t. Wrote t assignment before before (replyOf (Refused r)))
+  unfolding writingFault
+  put-choices r h qs a =
+      wrote-refused (tables cs is qs v) assignment before r
+      (goes-on Done _ _ _ (sym (a .passed)) refl (stops x _ _ r (choices-fault cs is qs v assignment ids a x ex) h))
+
+  module _ (hx : x ≡ Done) (y : Outcome) (ey : y ≡ bufferFault (countOf cs * 24) (length before)) where
+    pub put-room : (r : Refusal) → y ≡ Refused r → ForAccepted cs is v ids (λ t. Wrote t assignment before before (replyOf (Refused r)))
+    unfolding writingFault rowStart
+    put-room r h qs a =
+        wrote-refused (tables cs is qs v) assignment before r
+        (goes-on Done _ _ _ (sym (a .passed)) refl (goes-on x _ _ _ (choices-fault cs is qs v assignment ids a x ex) hx (refuses y _ r ey h)))
+
+    pub put-done :
+        (columns after : List ℕ) → y ≡ Done → Closed cs is (chooseFrom ids assignment) (replicate 576 0) columns → Written columns (countOf cs) before after
+        → ForAccepted cs is v ids (λ t. Wrote t assignment before after (replyOf Done))
+    unfolding writingFault rowStart
+    put-done columns after hy c w qs a =
+        wrote-done (tables cs is qs v) assignment before after
+        (goes-on Done _ _ _ (sym (a .passed)) refl (both-done x _ y _ (choices-fault cs is qs v assignment ids a x ex) hx ey hy))
+        (table-written (tables cs is qs v) assignment before columns after (a .passed) (accepted-columns cs is qs v assignment ids a _ columns no-columns c) w)
+
+-- ---- deciding
+module _ (t : Tables) (assignment : List ℕ) (left right : ℕ) where
+  pub pair-refused : (r : Refusal) → Refused r ≡ pairFault t left right → Decides t assignment left right (replyRefused r)
+  unfolding decidingFault
+  pair-refused r e = decides-refused t assignment left right r (stops (Refused r) _ _ r e refl)
+
+module _ (cs is : List ℕ) (v : ℕ) (ids assignment : List ℕ) (left right : ℕ) (l : left < countOf cs) (k : right < countOf cs)
+    (x : Outcome) (ex : x ≡ assignmentFaultAt (length ids) v assignment) where
+  pair-passes : (qs : List ℕ) → tableFault (tables cs is qs v) ≡ Done → pairFault (tables cs is qs v) left right ≡ Done
+  unfolding tableFault pairFault aloneFault noConcept
+  pair-passes qs h =
+      sym (goes-on _ _ _ Done refl (passed-first _ _ h)
+      (goes-on _ _ _ Done (done-if _ _ (or-skip _ _ (ap not (lt-ltb _ _ l)) ∙ ap not (lt-ltb _ _ k))) refl (sym (passed-second _ _ h))))
+
+  pub known-refused : (r : Refusal) → x ≡ Refused r → ForAccepted cs is v ids (λ t. Decides t assignment left right (replyRefused r))
+  unfolding decidingFault
+  known-refused r h qs a =
+      decides-refused (tables cs is qs v) assignment left right r
+      (goes-on Done _ _ _ (sym (pair-passes qs (a .passed))) refl (refuses x _ r (choices-fault cs is qs v assignment ids a x ex) h))
+
+  module _ (hx : x ≡ Done) (columns : List ℕ) (c : Closed cs is (chooseFrom ids assignment) (replicate 576 0) columns) (b : Bool) (e : b ≡ has columns left right) where
+    known : (qs : List ℕ) (a : Accepted (tables cs is qs v) ids) → decidingFault (tables cs is qs v) assignment left right ≡ Done
+    unfolding decidingFault
+    known qs a = sym (both-done Done _ x _ (sym (pair-passes qs (a .passed))) refl (choices-fault cs is qs v assignment ids a x ex) hx)
+
+    pub known-yes : b ≡ true → ForAccepted cs is v ids (λ t. Decides t assignment left right (decisionReply Yes))
+    known-yes y qs a = decides-yes (tables cs is qs v) assignment left right columns (accepted-columns cs is qs v assignment ids a _ columns no-columns c) (known qs a) b e y
+
+    pub known-no : b ≡ false → ForAccepted cs is v ids (λ t. Decides t assignment left right (decisionReply No))
+    known-no n qs a = decides-no (tables cs is qs v) assignment left right columns (accepted-columns cs is qs v assignment ids a _ columns no-columns c) (known qs a) b e n

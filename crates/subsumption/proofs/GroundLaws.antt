@@ -19,16 +19,16 @@ use Rattle.subsumption.specs.Tables.{Tables, tables, countOf}
 use Rattle.subsumption.specs.Atoms.{atoms, bit}
 use Rattle.subsumption.specs.Check.{tableFault, assignmentFault}
 use Rattle.subsumption.specs.Subsumption.{Subsumed}
-use Rattle.subsumption.specs.Closure.{has, Ready, chooseFrom, Closed}
-use Rattle.subsumption.specs.Marks.{markAt, VariableMarks}
-use Rattle.subsumption.specs.Ground.{Grounded, ColumnsOf, Free, FreeWords, Kept, AllKept}
+use Rattle.subsumption.specs.Closure.{has, Ready, chooseFrom, Empty, Closed}
+use Rattle.subsumption.specs.Marks.{Layered, markAt, VariableMarks}
+use Rattle.subsumption.specs.Ground.{Prepared, ForAccepted, Grounded, ColumnsOf, Free, FreeWords, Kept, AllKept}
 use Rattle.subsumption.proofs.Bools.{both-true}
 use Rattle.subsumption.proofs.Bits.{bit-and, bit-or-cases, bit-pow-other, bit-of-zero}
 use Rattle.subsumption.proofs.Refusals.{no-fault}
-use Rattle.subsumption.proofs.Accepted.{wellFormed, right-count}
+use Rattle.subsumption.proofs.Accepted.{wellFormed, right-count, table-concepts, concepts-layered}
 use Rattle.subsumption.proofs.Membership.{subsumed-ground}
 use Rattle.subsumption.proofs.Completeness.{closed-exactly}
-use Rattle.subsumption.proofs.Deciding.{ready}
+use Rattle.subsumption.proofs.Deciding.{ready, accepted-columns, no-columns}
 
 -- ---- the ids of a word that hold no variable
 pub free-none : (held : List Bool) (part : ℕ) → Free held part 0
@@ -148,6 +148,24 @@ grounded t choices before after held h C M K = record { long = K .long; sound = 
         (sym (M .holds i l) ∙ ap (markAt held) (sym d) ∙ u .id-free (i % 64) e)
         (sym (M .holds j k) ∙ ap (markAt held) (sym c) ∙ u .column-free (i % 64) e)
         (C .sound i j l k (u .was (i % 64) e))
+
+module _ (cs is : List ℕ) (v : ℕ) (ids : List ℕ) where
+  pub nothing-ready : Prepared cs is v ids → Ready cs is ids (take v zeros)
+  nothing-ready p =
+      subst (λ (z : List ℕ). Ready cs is z (take v zeros)) (sym (p .accepted .listed)) (ready _ (take v zeros) (p .accepted .passed) (nothing-chosen _ (p .accepted .passed)))
+
+  pub few-variables : Prepared cs is v ids → v ≤ 8
+  few-variables p = wellFormed _ (p .accepted .passed) .few-variables
+
+  pub layered : Prepared cs is v ids → Layered cs
+  layered p = concepts-layered _ (table-concepts _ (p .accepted .passed))
+
+  pub grounded-for :
+      (before columns after : List ℕ) (held : List Bool) → before ≡ replicate 576 0 → Closed cs is (chooseFrom ids (take v zeros)) before columns
+      → VariableMarks cs held → AllKept held columns after → ForAccepted cs is v ids (λ t. Grounded t after)
+  grounded-for before columns after held e c M K qs a =
+      grounded (tables cs is qs v) (take v zeros) columns after held (a .passed)
+      (accepted-columns cs is qs v (take v zeros) ids a before columns (subst Empty (sym e) no-columns) c) M K
 
 -- ---- a copy
 pub record CopiedTo (from to : List ℕ) (p : ℕ) : Type 0 where

@@ -6,6 +6,7 @@ pub mod Limits
 pub mod Shapes
 pub mod Forward
 pub mod Refusals
+pub mod Replies
 pub mod Depth
 pub mod Trees
 pub mod Inward

@@ -8,16 +8,17 @@ use Rattle.subsumption.specs.declared.listing.Listed.{Listed}
 use Rattle.subsumption.specs.declared.listing.Listed.the-variants.{Atoms, Rejected}
 use Rattle.subsumption.specs.Tables.{Tables}
 use Rattle.subsumption.specs.Atoms.{atoms}
-use Rattle.subsumption.specs.Refusal.{orElse}
+use Rattle.subsumption.specs.Refusal.{Reply, replyDone, replyRefused, orElse}
 use Rattle.subsumption.specs.Check.{tableFault, bufferFault}
 
 -- The buffer wants 64 numbers, however few are written.
 unfoldable pub listingFault : Tables → ℕ → Outcome
 listingFault t size = orElse (tableFault t) (bufferFault 64 size)
 
-unfoldable pub listed : Outcome → Tables → Listed
-listed Done t = Atoms (length (atoms t))
-listed (Refused r) t = Rejected r
+-- The value is how many there are.
+abbrev pub listedReply : Listed → Reply
+listedReply (Atoms n) = replyDone n
+listedReply (Rejected r) = replyRefused r
 
 -- The atoms' ids stand in front; past them, and after a refusal, the buffer keeps its values.
 unfoldable pub listedIn : Outcome → Tables → List ℕ → List ℕ

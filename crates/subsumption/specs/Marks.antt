@@ -5,8 +5,11 @@ use mathlib.Core.List.{List, _++_}
 use mathlib.Core.Bool.{Bool, true, false, not}
 use lib.Dec.{eqb}
 use lib.ListN.{length, getD, drop}
-use Rattle.subsumption.specs.Tables.{or, both, anyBelow, Node, topAt, nameAt, existsAt, andAt, varAt, node, countOf, pairsOf, leftOf, rightOf, tree, hasVariable}
+use Rattle.subsumption.specs.Tables.{Tables, or, both, anyBelow, Node, topAt, nameAt, existsAt, andAt, varAt, node, countOf, pairsOf, leftOf, rightOf, tree, hasVariable}
 use Rattle.subsumption.specs.Atoms.{occurs, inside, isAtomic, inInclusion, inQuestion, keep}
+use Rattle.subsumption.specs.declared.refusal.Outcome.{Outcome}
+use Rattle.subsumption.specs.declared.refusal.Outcome.the-variants.{Done}
+use Rattle.subsumption.specs.Check.{useFault}
 use Rattle.subsumption.specs.Closure.{Rising}
 
 abbrev pub markAt : List Bool → ℕ → Bool
@@ -70,6 +73,11 @@ pub record AtomMarks (concepts inclusions questions : List ℕ) (marks : List Bo
   pub holds :
       (p : ℕ) → p < countOf concepts
       → markAt marks p ≡ both (isAtomic (node concepts p)) (or (inInclusion concepts inclusions p) (inQuestion concepts questions p))
+
+-- checks 5 to 7, and the marks where they pass
+pub record Used (t : Tables) (marks : List Bool) (answer : Outcome) : Type 0 where
+  pub answered : answer ≡ useFault t
+  pub marked : answer ≡ Done → AtomMarks (t .concepts) (t .inclusions) (t .questions) marks
 
 -- the marked ids below count, rising
 abbrev pub markedIds : List Bool → ℕ → List ℕ

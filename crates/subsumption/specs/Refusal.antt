@@ -1,5 +1,6 @@
 -- The refusal table (01): each case's number and place, and how checks are put in order.
 use Prim.Native.Nat.{ℕ, zero, suc}
+use mathlib.Core.Path.{_≡_}
 use mathlib.Core.Bool.{Bool, true, false}
 use Rattle.subsumption.specs.declared.refusal.Refusal.{Refusal}
 use Rattle.subsumption.specs.declared.refusal.Refusal.the-variants.{Limit, Malformed, ForwardId, NoConcept, VariableInInclusion, VariablesOnBothSides, TooManyAtoms, BufferTooShort, BadAssignment, NoAssignment, NotSubsumed, BadDerivation, BadText}
@@ -21,6 +22,33 @@ codeOf NoAssignment = record { number = 10; place = 0 }
 codeOf NotSubsumed = record { number = 11; place = 0 }
 codeOf (BadDerivation place) = record { number = 12; place = place }
 codeOf (BadText place) = record { number = 13; place = place }
+
+-- What an answer tells in 01's numbers: number 0 (done) and a value, or a refusal's number and place. Each kind of answer has one
+-- definition that turns its cases into a reply, and the promises speak of replies.
+pub record Reply : Type 0 where
+  pub number : ℕ
+  pub place : ℕ
+  pub value : ℕ
+
+abbrev pub replyDone : ℕ → Reply
+replyDone value = record { number = 0; place = 0; value = value }
+
+abbrev pub replyRefused : Refusal → Reply
+replyRefused r = record { number = codeOf r .number; place = codeOf r .place; value = 0 }
+
+-- The reply of an operation with these checks and this value.
+abbrev pub replyWith : Outcome → ℕ → Reply
+replyWith Done value = replyDone value
+replyWith (Refused r) value = replyRefused r
+
+-- An outcome has no value.
+abbrev pub replyOf : Outcome → Reply
+replyOf outcome = replyWith outcome 0
+
+-- The reply of an operation with these checks, and a value that is right.
+abbrev pub Replies : Outcome → (ℕ → Type 0) → Reply → Type 0
+Replies Done Right reply = (reply ≡ replyDone (reply .value)) × Right (reply .value)
+Replies (Refused r) Right reply = reply ≡ replyRefused r
 
 -- Checks run in order: the first that refuses decides.
 unfoldable pub orElse : Outcome → Outcome → Outcome

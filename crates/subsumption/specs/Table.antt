@@ -9,7 +9,7 @@ use Rattle.subsumption.specs.declared.refusal.Outcome.the-variants.{Done
 use Rattle.subsumption.specs.Tables.{Tables, countOf}
 use Rattle.subsumption.specs.Atoms.{bit}
 use Rattle.subsumption.specs.Subsumption.{Subsumed}
-use Rattle.subsumption.specs.Refusal.{orElse}
+use Rattle.subsumption.specs.Refusal.{Reply, replyOf, orElse}
 use Rattle.subsumption.specs.Check.{tableFault, assignmentFault, bufferFault}
 
 -- Where row i starts.
@@ -36,6 +36,6 @@ abbrev pub Left : Tables → List ℕ → List ℕ → List ℕ → Outcome → 
 Left t assignment before after Done = TableOf t assignment before after
 Left t assignment before after (Refused r) = after ≡ before
 
-pub record Wrote (t : Tables) (assignment : List ℕ) (before after : List ℕ) (answer : Outcome) : Type 0 where
-  pub answered : answer ≡ writingFault t assignment (length before)
-  pub left : Left t assignment before after answer
+pub record Wrote (t : Tables) (assignment : List ℕ) (before after : List ℕ) (reply : Reply) : Type 0 where
+  pub replied : reply ≡ replyOf (writingFault t assignment (length before))
+  pub left : Left t assignment before after (writingFault t assignment (length before))

@@ -12,11 +12,11 @@ ghost use mathlib.Core.Path.{_≡_};
 ghost use mathlib.Core.Bool.{not, true, false};
 ghost use Prim.Native.Nat.{_+_, _%_, _/_, _<_, _≤_, _^_};
 ghost use lib.Dec.{eqb, ltb};
-ghost use lib.ListN.{length, getD};
+ghost use lib.ListN.{length, getD, replicate};
 ghost use Rattle.subsumption.specs.Tables.{tables, or, decode, node, countOf};
-ghost use Rattle.subsumption.specs.Refusal.{orElse, refuseIf, firstAt};
-ghost use Rattle.subsumption.specs.Check.{unfit, limitFault, malformedRow, malformedFault, forward, forwardFault, noConcept, pairsFault, aloneFault, bufferFault, conceptFault, idFault, inclusionFault, sidesFault, useFault, tableFault, pairFault, assignmentFaultAt};
-ghost use Rattle.subsumption.specs.Marks.{VariableMarks, Known};
+ghost use Rattle.subsumption.specs.Refusal.{replyOf, orElse, refuseIf, firstAt};
+ghost use Rattle.subsumption.specs.Check.{unfit, limitFault, malformedRow, malformedFault, forward, forwardFault, noConcept, pairsFault, aloneFault, bufferFault, conceptFault, idFault, inclusionFault, sidesFault, tableFault, assignmentFaultAt};
+ghost use Rattle.subsumption.specs.Marks.{VariableMarks, Known, Used};
 ghost use Rattle.subsumption.specs.declared.refusal.Outcome.the-variants.{Done};
 
 // A table's length is no multiple of its row's width, or has too many rows.
@@ -244,11 +244,18 @@ fn check_sides(concepts: &[u16], questions: &[u16], held: &[bool]) -> Outcome
     Outcome::Done
 }
 
-// Checks 5 to 7.
-pub fn check_use(concepts: &[u16], inclusions: &[u16], questions: &[u16], variables: u16) -> Outcome
+// Checks 5 to 7. The atoms are marked on the way, for whoever lists them.
+pub fn check_use(
+    concepts: &[u16],
+    inclusions: &[u16],
+    questions: &[u16],
+    variables: u16,
+    marks: &mut [bool],
+) -> Outcome
     requires { ⌜ conceptFault (tables (now concepts) (now inclusions) (now questions) variables) ≡ Done ⌝ }
     requires { ⌜ idFault (tables (now concepts) (now inclusions) (now questions) variables) ≡ Done ⌝ }
-    ensures { λ r. ⌜ r ≡ useFault (tables (now (concepts .entry)) (now (inclusions .entry)) (now (questions .entry)) variables) ⌝ }
+    requires { ⌜ now marks ≡ replicate 192 false ⌝ }
+    ensures { λ r. ⌜ Used (tables (now (concepts .entry)) (now (inclusions .entry)) (now (questions .entry)) variables) (now (marks .exit)) r ⌝ }
 {
     let mut held = [false; 192];
     mark_variables(concepts, &mut held);
@@ -260,22 +267,21 @@ pub fn check_use(concepts: &[u16], inclusions: &[u16], questions: &[u16], variab
     if let Outcome::Refused(r) = sides {
         return Outcome::Refused(r);
     }
-    let mut marks = [false; 192];
-    mark_atoms(concepts, inclusions, questions, &held, &mut marks);
-    if 64 < count_marks(&marks, concepts.len() / 3) {
+    mark_atoms(concepts, inclusions, questions, &held, marks);
+    if 64 < count_marks(marks, concepts.len() / 3) {
         return Outcome::Refused(Refusal::TooManyAtoms);
     }
     Outcome::Done
 }
 
-// The checks 1 to 7.
+// Checks the tables: 1 to 7.
 pub fn check_tables(
     concepts: &[u16],
     inclusions: &[u16],
     questions: &[u16],
     variables: u16,
 ) -> Outcome
-    ensures { λ r. ⌜ r ≡ tableFault (tables (now (concepts .entry)) (now (inclusions .entry)) (now (questions .entry)) variables) ⌝ }
+    ensures { λ r. ⌜ replyOf r ≡ replyOf (tableFault (tables (now (concepts .entry)) (now (inclusions .entry)) (now (questions .entry)) variables)) ⌝ }
 {
     let rows = check_concepts(concepts, inclusions, questions, variables);
     if let Outcome::Refused(r) = rows {
@@ -285,33 +291,8 @@ pub fn check_tables(
     if let Outcome::Refused(r) = ids {
         return Outcome::Refused(r);
     }
-    check_use(concepts, inclusions, questions, variables)
-}
-
-// The same with a pair given alone, judged within check 4 at place 0.
-pub fn check_pair(
-    concepts: &[u16],
-    inclusions: &[u16],
-    questions: &[u16],
-    variables: u16,
-    left: u16,
-    right: u16,
-) -> Outcome
-    ensures { λ r. ⌜ r ≡ pairFault (tables (now (concepts .entry)) (now (inclusions .entry)) (now (questions .entry)) variables) left right ⌝ }
-{
-    let rows = check_concepts(concepts, inclusions, questions, variables);
-    if let Outcome::Refused(r) = rows {
-        return Outcome::Refused(r);
-    }
-    let alone = check_alone(concepts, left, right);
-    if let Outcome::Refused(r) = alone {
-        return Outcome::Refused(r);
-    }
-    let ids = check_ids(concepts, inclusions, questions, variables);
-    if let Outcome::Refused(r) = ids {
-        return Outcome::Refused(r);
-    }
-    check_use(concepts, inclusions, questions, variables)
+    let mut marks = [false; 192];
+    check_use(concepts, inclusions, questions, variables, &mut marks)
 }
 
 // A choice has a bit past the atoms.

@@ -446,17 +446,6 @@ fn note_firsts(concepts: &[u16], firsts: &mut [u16])
     }
 }
 
-pub fn clear(columns: &mut [u64])
-    requires { ⌜ length (now columns) ≡ 576 ⌝ }
-    ensures { λ r. ⌜ Empty (now (columns .exit)) ⌝ }
-{
-    let mut p = 0;
-    while p < 576 {
-        columns[p] = 0;
-        p += 1;
-    }
-}
-
 // The first existential from the row e on, given those from the next row on; the number of rows if there is none.
 fn onward_from(concepts: &[u16], onward: &[u16], e: usize) -> u16
     requires { ⌜ countOf (now concepts) ≤ 192 ⌝ }

@@ -1,17 +1,16 @@
 // Deciding one pair.
-use crate::check::check_pair;
+use crate::check::check_assignment;
 use crate::closure::below;
+use crate::closure::close;
+use crate::listing::Listed;
+use crate::listing::list_asked;
 use crate::refusal::Outcome;
 use crate::refusal::Refusal;
-use crate::table::check_choices;
-use crate::table::close_tables;
 ghost use mathlib.Core.Path.{_≡_};
-ghost use mathlib.Core.Bool.{true};
 ghost use Prim.Native.Nat.{_<_};
-ghost use Rattle.subsumption.specs.declared.refusal.Outcome.the-variants.{Done};
 ghost use Rattle.subsumption.specs.Tables.{tables, countOf};
-ghost use Rattle.subsumption.specs.Check.{tableFault, assignmentFault};
-ghost use Rattle.subsumption.specs.Decide.{decidingFault, Decides, Tells};
+ghost use Rattle.subsumption.specs.Ground.{ForAccepted, Prepared};
+ghost use Rattle.subsumption.specs.Decide.{decisionReply, Decides};
 
 pub enum Decision {
     Yes,
@@ -19,47 +18,30 @@ pub enum Decision {
     Rejected(Refusal),
 }
 
-// The checks of an asked pair and an assignment: 1 to 7, then 9.
-pub fn check_asked(
+// The rest of the checks, given the atoms of accepted tables, and then the answer.
+fn decide_known(
     concepts: &[u16],
     inclusions: &[u16],
-    questions: &[u16],
+    atoms: &[u16],
     variables: u16,
     assignment: &[u64],
     left: u16,
     right: u16,
-) -> Outcome
-    ensures { λ r. ⌜ r ≡ decidingFault (tables (now (concepts .entry)) (now (inclusions .entry)) (now (questions .entry)) variables) (now (assignment .entry)) left right ⌝ }
+) -> Decision
+    requires { ⌜ Prepared (now concepts) (now inclusions) variables (now atoms) ⌝ }
+    requires { ⌜ (left < countOf (now concepts)) × (right < countOf (now concepts)) ⌝ }
+    ensures { λ r. ⌜ ForAccepted (now (concepts .entry)) (now (inclusions .entry)) variables (now (atoms .entry)) (λ t. Decides t (now (assignment .entry)) left right (decisionReply r)) ⌝ }
 {
-    let pair = check_pair(concepts, inclusions, questions, variables, left, right);
-    if let Outcome::Refused(r) = pair {
-        return Outcome::Refused(r);
+    let choices = check_assignment(assignment, variables, atoms.len());
+    if let Outcome::Refused(r) = choices {
+        return Decision::Rejected(r);
     }
-    check_choices(concepts, inclusions, questions, variables, assignment)
-}
-
-fn is_subsumed(
-    concepts: &[u16],
-    inclusions: &[u16],
-    questions: &[u16],
-    variables: u16,
-    assignment: &[u64],
-    left: u16,
-    right: u16,
-) -> bool
-    requires { ⌜ decidingFault (tables (now concepts) (now inclusions) (now questions) variables) (now assignment) left right ≡ Done ⌝ }
-    ensures { λ r. ⌜ Tells (tables (now (concepts .entry)) (now (inclusions .entry)) (now (questions .entry)) variables) (now (assignment .entry)) left right r ⌝ }
-{
     let mut columns = [0u64; 576];
-    close_tables(
-        concepts,
-        inclusions,
-        questions,
-        variables,
-        assignment,
-        &mut columns,
-    );
-    below(&columns, left as usize, right as usize)
+    close(concepts, inclusions, atoms, assignment, &mut columns);
+    if below(&columns, left as usize, right as usize) {
+        return Decision::Yes;
+    }
+    Decision::No
 }
 
 // Decides one pair under an assignment.
@@ -72,30 +54,28 @@ pub fn decide_pair(
     left: u16,
     right: u16,
 ) -> Decision
-    ensures { λ r. ⌜ Decides (tables (now (concepts .entry)) (now (inclusions .entry)) (now (questions .entry)) variables) (now (assignment .entry)) left right r ⌝ }
+    ensures { λ r. ⌜ Decides (tables (now (concepts .entry)) (now (inclusions .entry)) (now (questions .entry)) variables) (now (assignment .entry)) left right (decisionReply r) ⌝ }
 {
-    let asked = check_asked(
+    let mut ids = [0u16; 64];
+    let listed = list_asked(
         concepts,
         inclusions,
         questions,
         variables,
-        assignment,
         left,
         right,
+        &mut ids,
     );
-    if let Outcome::Refused(r) = asked {
-        return Decision::Rejected(r);
+    match listed {
+        Listed::Rejected(r) => Decision::Rejected(r),
+        Listed::Atoms(count) => decide_known(
+            concepts,
+            inclusions,
+            &ids[..count],
+            variables,
+            assignment,
+            left,
+            right,
+        ),
     }
-    if is_subsumed(
-        concepts,
-        inclusions,
-        questions,
-        variables,
-        assignment,
-        left,
-        right,
-    ) {
-        return Decision::Yes;
-    }
-    Decision::No
 }

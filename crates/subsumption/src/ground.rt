@@ -1,15 +1,14 @@
 // Columns for the tests of the crate above: what holds under every assignment, and the columns under one, closed from there.
 use crate::atoms::mark_variables;
 use crate::closure::close;
-use crate::table::close_tables;
 ghost use mathlib.Core.Path.{_≡_};
 ghost use Prim.Native.Nat.{_<_};
-ghost use lib.ListN.{length};
+ghost use lib.ListN.{length, replicate};
 ghost use Rattle.subsumption.specs.declared.refusal.Outcome.the-variants.{Done};
 ghost use Rattle.subsumption.specs.Tables.{tables};
 ghost use Rattle.subsumption.specs.Atoms.{atoms};
 ghost use Rattle.subsumption.specs.Check.{tableFault, assignmentFault};
-ghost use Rattle.subsumption.specs.Ground.{Grounded, ColumnsOf, Free, FreeWords, Kept, AllKept};
+ghost use Rattle.subsumption.specs.Ground.{ForAccepted, Prepared, Grounded, ColumnsOf, Free, FreeWords, Kept, AllKept};
 
 // The ids of the word `part` of a column that hold no variable.
 fn free_word(held: &[bool], part: usize) -> u64
@@ -71,28 +70,21 @@ fn keep_free(held: &[bool], columns: &mut [u64])
     keep_words(held, &free, columns);
 }
 
-// The marks between ids that hold no variable do not depend on the assignment, so any assignment finds them.
+// The marks between ids that hold no variable do not depend on the assignment, so any assignment finds them. The ids are the atoms.
 pub fn close_ground(
     concepts: &[u16],
     inclusions: &[u16],
-    questions: &[u16],
+    ids: &[u16],
     variables: u16,
     columns: &mut [u64],
 )
-    requires { ⌜ tableFault (tables (now concepts) (now inclusions) (now questions) variables) ≡ Done ⌝ }
-    requires { ⌜ length (now columns) ≡ 576 ⌝ }
-    ensures { λ _. ⌜ Grounded (tables (now (concepts .entry)) (now (inclusions .entry)) (now (questions .entry)) variables) (now (columns .exit)) ⌝ }
+    requires { ⌜ Prepared (now concepts) (now inclusions) variables (now ids) ⌝ }
+    requires { ⌜ now columns ≡ replicate 576 0 ⌝ }
+    ensures { λ _. ⌜ ForAccepted (now (concepts .entry)) (now (inclusions .entry)) variables (now (ids .entry)) (λ t. Grounded t (now (columns .exit))) ⌝ }
 {
     let nothing = [0u64; 8];
     let count = variables as usize;
-    close_tables(
-        concepts,
-        inclusions,
-        questions,
-        variables,
-        &nothing[..count],
-        columns,
-    );
+    close(concepts, inclusions, ids, &nothing[..count], columns);
     let mut held = [false; 192];
     mark_variables(concepts, &mut held);
     keep_free(&held, columns);

@@ -1,44 +1,48 @@
-// Listing the atoms.
+// Listing the atoms. The list is what every other operation starts from, so that atoms are marked once an operation.
 use crate::atoms::list_marks;
-use crate::atoms::mark_atoms;
-use crate::atoms::mark_variables;
-use crate::check::check_buffer;
-use crate::check::check_tables;
+use crate::check::check_alone;
+use crate::check::check_concepts;
+use crate::check::check_ids;
+use crate::check::check_use;
 use crate::refusal::Outcome;
 use crate::refusal::Refusal;
 ghost use mathlib.Core.Path.{_≡_};
-ghost use Prim.Native.Nat.{_≤_};
 ghost use lib.ListN.{length};
 ghost use Rattle.subsumption.specs.declared.refusal.Outcome.the-variants.{Done};
 ghost use Rattle.subsumption.specs.Tables.{tables};
 ghost use Rattle.subsumption.specs.Atoms.{atoms};
-ghost use Rattle.subsumption.specs.Check.{tableFault};
-ghost use Rattle.subsumption.specs.Listing.{listingFault, listed, listedIn};
-ghost use Rattle.subsumption.specs.Marks.{inFront};
+ghost use Rattle.subsumption.specs.Refusal.{replyWith};
+ghost use Rattle.subsumption.specs.Check.{conceptFault, idFault};
+ghost use Rattle.subsumption.specs.Listing.{listingFault, listedReply, listedIn};
+ghost use Rattle.subsumption.specs.Ground.{usedFault, askedFault};
 
 pub enum Listed {
     Atoms(usize),
     Rejected(Refusal),
 }
 
-// The atoms of accepted tables, in front of the buffer; answers their number.
-pub fn put_atoms(
+// Checks 5 to 8 of tables that passed the others, and the atoms' ids.
+fn list_used(
     concepts: &[u16],
     inclusions: &[u16],
     questions: &[u16],
     variables: u16,
     out: &mut [u16],
-) -> usize
-    requires { ⌜ tableFault (tables (now concepts) (now inclusions) (now questions) variables) ≡ Done ⌝ }
-    requires { ⌜ 64 ≤ length (now out) ⌝ }
-    ensures { λ r. ⌜ r ≡ length (atoms (tables (now (concepts .entry)) (now (inclusions .entry)) (now (questions .entry)) variables)) ⌝ }
-    ensures { λ r. ⌜ now (out .exit) ≡ inFront (atoms (tables (now (concepts .entry)) (now (inclusions .entry)) (now (questions .entry)) variables)) (now (out .entry)) ⌝ }
+) -> Listed
+    requires { ⌜ conceptFault (tables (now concepts) (now inclusions) (now questions) variables) ≡ Done ⌝ }
+    requires { ⌜ idFault (tables (now concepts) (now inclusions) (now questions) variables) ≡ Done ⌝ }
+    ensures { λ r. ⌜ listedReply r ≡ replyWith (usedFault (tables (now (concepts .entry)) (now (inclusions .entry)) (now (questions .entry)) variables) (length (now (out .entry)))) (length (atoms (tables (now (concepts .entry)) (now (inclusions .entry)) (now (questions .entry)) variables))) ⌝ }
+    ensures { λ r. ⌜ now (out .exit) ≡ listedIn (usedFault (tables (now (concepts .entry)) (now (inclusions .entry)) (now (questions .entry)) variables) (length (now (out .entry)))) (tables (now (concepts .entry)) (now (inclusions .entry)) (now (questions .entry)) variables) (now (out .entry)) ⌝ }
 {
-    let mut held = [false; 192];
-    mark_variables(concepts, &mut held);
     let mut marks = [false; 192];
-    mark_atoms(concepts, inclusions, questions, &held, &mut marks);
-    list_marks(&marks, concepts.len() / 3, out)
+    let used = check_use(concepts, inclusions, questions, variables, &mut marks);
+    if let Outcome::Refused(r) = used {
+        return Listed::Rejected(r);
+    }
+    if out.len() < 64 {
+        return Listed::Rejected(Refusal::BufferTooShort(64));
+    }
+    Listed::Atoms(list_marks(&marks, concepts.len() / 3, out))
 }
 
 // Lists the atoms' ids, rising, and gives their number.
@@ -49,16 +53,44 @@ pub fn list_atoms(
     variables: u16,
     out: &mut [u16],
 ) -> Listed
-    ensures { λ r. ⌜ r ≡ listed (listingFault (tables (now (concepts .entry)) (now (inclusions .entry)) (now (questions .entry)) variables) (length (now (out .entry)))) (tables (now (concepts .entry)) (now (inclusions .entry)) (now (questions .entry)) variables) ⌝ }
+    ensures { λ r. ⌜ listedReply r ≡ replyWith (listingFault (tables (now (concepts .entry)) (now (inclusions .entry)) (now (questions .entry)) variables) (length (now (out .entry)))) (length (atoms (tables (now (concepts .entry)) (now (inclusions .entry)) (now (questions .entry)) variables))) ⌝ }
     ensures { λ r. ⌜ now (out .exit) ≡ listedIn (listingFault (tables (now (concepts .entry)) (now (inclusions .entry)) (now (questions .entry)) variables) (length (now (out .entry)))) (tables (now (concepts .entry)) (now (inclusions .entry)) (now (questions .entry)) variables) (now (out .entry)) ⌝ }
 {
-    let checked = check_tables(concepts, inclusions, questions, variables);
-    if let Outcome::Refused(r) = checked {
+    let rows = check_concepts(concepts, inclusions, questions, variables);
+    if let Outcome::Refused(r) = rows {
         return Listed::Rejected(r);
     }
-    let room = check_buffer(64, out.len());
-    if let Outcome::Refused(r) = room {
+    let ids = check_ids(concepts, inclusions, questions, variables);
+    if let Outcome::Refused(r) = ids {
         return Listed::Rejected(r);
     }
-    Listed::Atoms(put_atoms(concepts, inclusions, questions, variables, out))
+    list_used(concepts, inclusions, questions, variables, out)
+}
+
+// The same with a pair given alone, which check 4 judges at place 0.
+pub fn list_asked(
+    concepts: &[u16],
+    inclusions: &[u16],
+    questions: &[u16],
+    variables: u16,
+    left: u16,
+    right: u16,
+    out: &mut [u16],
+) -> Listed
+    ensures { λ r. ⌜ listedReply r ≡ replyWith (askedFault (tables (now (concepts .entry)) (now (inclusions .entry)) (now (questions .entry)) variables) left right (length (now (out .entry)))) (length (atoms (tables (now (concepts .entry)) (now (inclusions .entry)) (now (questions .entry)) variables))) ⌝ }
+    ensures { λ r. ⌜ now (out .exit) ≡ listedIn (askedFault (tables (now (concepts .entry)) (now (inclusions .entry)) (now (questions .entry)) variables) left right (length (now (out .entry)))) (tables (now (concepts .entry)) (now (inclusions .entry)) (now (questions .entry)) variables) (now (out .entry)) ⌝ }
+{
+    let rows = check_concepts(concepts, inclusions, questions, variables);
+    if let Outcome::Refused(r) = rows {
+        return Listed::Rejected(r);
+    }
+    let alone = check_alone(concepts, left, right);
+    if let Outcome::Refused(r) = alone {
+        return Listed::Rejected(r);
+    }
+    let ids = check_ids(concepts, inclusions, questions, variables);
+    if let Outcome::Refused(r) = ids {
+        return Listed::Rejected(r);
+    }
+    list_used(concepts, inclusions, questions, variables, out)
 }

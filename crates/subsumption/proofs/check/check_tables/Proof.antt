@@ -1,5 +1,8 @@
-use Rattle.subsumption.specs.Check.{tableFault}
+use Rattle.subsumption.proofs.Replies.{same-reply, same-refused}
+use mathlib.Core.Path.{refl, ap}
 use Rattle.subsumption.proofs.Refusals.{stops, goes-on, is-done}
+use Rattle.subsumption.specs.Refusal.{replyOf}
+use Rattle.subsumption.specs.Check.{tableFault}
 use borrow.Author.Needs.{needs}
 use Rattle.subsumption.proofs.check.check_tables.Statement.{statement}
 use Rattle.subsumption.proofs.check.check_tables.Tie as tie
@@ -9,46 +12,50 @@ use Rattle.subsumption.proofs.check.check_concepts.Reads as check-conce
 use Rattle.subsumption.proofs.check.check_ids.Reads as check-ids-reads
 use Rattle.subsumption.proofs.check.check_use.Reads as check-use-reads
 
--- src/check.rt:275:9
+-- src/check.rt:286:9
 check-concepts-requires : tie.Need-check-concepts-requires
 check-concepts-requires c κs = search needs
 
--- src/check.rt:276:29
+-- src/check.rt:287:29
 enum-known-rows : tie.Need-enum-known-rows
 enum-known-rows c = search needs
 
--- src/check.rt:277:9
+-- src/check.rt:288:9
 returns : tie.Need-returns
 unfolding tableFault
-returns c = search stops
+returns c = same-refused _ _ (stops _ _ _ _ (c .before .before .before .check-concepts .ensures) (c .before .rows .given .1))
 
 enum-told : tie.Need-enum-told
 enum-told c = search needs
 
--- src/check.rt:279:9
+-- src/check.rt:290:9
 check-ids-requires : tie.Need-check-ids-requires
-check-ids-requires c κs = search is-done
+check-ids-requires c κs = is-done _ _ (c .before .before .check-concepts .ensures) (c .enum-told .given .1)
 
--- src/check.rt:280:29
+-- src/check.rt:291:29
 enum-known-ids : tie.Need-enum-known-ids
 enum-known-ids c = search needs
 
--- src/check.rt:281:9
+-- src/check.rt:292:9
 returns-2 : tie.Need-returns-2
 unfolding tableFault
-returns-2 c = search (stops, goes-on)
+returns-2 c = same-refused _ _ (goes-on _ _ _ _ (c .before .before .before .before .before .before .check-concepts .ensures) (c .before .before .before .before .enum-told .given .1) (stops _ _ _ _ (c .before .before .before .check-ids .ensures) (c .before .ids .given .1)))
 
 enum-told-2 : tie.Need-enum-told-2
 enum-told-2 c = search needs
 
--- src/check.rt:283:5
-check-use-requires : tie.Need-check-use-requires
-check-use-requires c κs = (search is-done, is-done _ _ (c .before .before .check-ids .ensures) (c .enum-told2 .given .1))
+-- src/check.rt:295:59
+slice-aggregate-check-use : tie.Need-slice-aggregate-check-use
+slice-aggregate-check-use c = search needs
 
--- src/check.rt:272:1
+-- src/check.rt:295:5
+check-use-requires : tie.Need-check-use-requires
+check-use-requires c κs = (is-done _ _ (c .before .before .before .before .before .before .check-concepts .ensures) (c .before .before .before .before .enum-told .given .1), (is-done _ _ (c .before .before .before .check-ids .ensures) (c .before .enum-told2 .given .1), refl))
+
+-- src/check.rt:278:1
 returns-3 : tie.Need-returns-3
 unfolding tableFault
-returns-3 c = search goes-on
+returns-3 c = same-reply (c .before .check-use .result) _ (goes-on _ _ _ _ (c .before .before .before .before .before .before .before .before .check-concepts .ensures) (c .before .before .before .before .before .before .enum-told .given .1) (goes-on _ _ _ _ (c .before .before .before .before .before .check-ids .ensures) (c .before .before .before .enum-told2 .given .1) (c .before .check-use .ensures .answered)))
 
 pub check-tables-spec : {M : Type 1} → statement M
 check-tables-spec =
@@ -62,5 +69,6 @@ check-tables-spec =
     enum-known-ids
     returns-2
     enum-told-2
+    slice-aggregate-check-use
     check-use-requires
     returns-3)

@@ -1,48 +1,63 @@
-use Rattle.subsumption.proofs.Refusals.{refuses, is-done}
-use Rattle.subsumption.proofs.Deciding.{decides-refused, decides-yes, decides-no}
+use lib.ListN.{replicate}
+use Rattle.subsumption.proofs.Deciding.{pair-left, pair-right, pair-refused}
+use Rattle.subsumption.proofs.ListingLaws.{asked-rejected, asked-passed, asked-listed, asked-few, prepared}
+use lib.Seq.{length-take-le}
+use mathlib.Core.Path.{refl, sym}
+use native.Mathlib.Omega.{arith}
 use borrow.Author.Needs.{needs}
 use Rattle.subsumption.proofs.decide.decide_pair.Statement.{statement}
 use Rattle.subsumption.proofs.decide.decide_pair.Tie as tie
 use Rattle.subsumption.proofs.decide.decide_pair.Reads as reads
 use Rattle.subsumption.proofs.decide.decide_pair.Lts as lts
-use Rattle.subsumption.proofs.decide.check_asked.Reads as check-asked-reads
-use Rattle.subsumption.proofs.decide.is_subsumed.Reads as is-subsumed-reads
+use Rattle.subsumption.proofs.decide.decide_known.Reads as decide-known-reads
+use Rattle.subsumption.proofs.listing.list_asked.Reads as list-asked-reads
 
--- src/decide.rt:47:9
-check-asked-requires : tie.Need-check-asked-requires
-check-asked-requires c κs = search needs
+-- src/decide.rt:67:9
+slice-aggregate-list-asked : tie.Need-slice-aggregate-list-asked
+slice-aggregate-list-asked c = search needs
 
--- src/decide.rt:48:29
-enum-known-asked : tie.Need-enum-known-asked
-enum-known-asked c = search needs
+-- src/decide.rt:60:9
+list-asked-requires : tie.Need-list-asked-requires
+list-asked-requires c κs = search needs
 
--- src/decide.rt:49:9
+-- src/decide.rt:70:26
+enum-known-listed : tie.Need-enum-known-listed
+enum-known-listed c = search needs
+
+-- src/decide.rt:71:23
+enum-known-listed-2 : tie.Need-enum-known-listed-2
+enum-known-listed-2 c = search needs
+
+-- src/decide.rt:74:13
+array-share-prefix-ids : tie.Need-array-share-prefix-ids
+array-share-prefix-ids c = omega (arith, asked-few _ _ _ (replicate 64 0) _ (c .before .before .before .before .list-asked .result) refl (c .before .before .before .before .list-asked .ensures .0) (c .before .before .before .before .list-asked .ensures .1) _ (c .before .listed2 .given .1), c .before .before .before .before .list-asked .kept .1 .1 .1 .1 .1 .1 .0)
+
+-- src/decide.rt:74:13
+slice-aggregate-decide-known : tie.Need-slice-aggregate-decide-known
+slice-aggregate-decide-known c = sym (length-take-le _ _ (omega (arith, asked-few _ _ _ (replicate 64 0) _ (c .before .before .before .before .before .list-asked .result) refl (c .before .before .before .before .before .list-asked .ensures .0) (c .before .before .before .before .before .list-asked .ensures .1) _ (c .before .before .listed2 .given .1), c .before .before .before .before .before .list-asked .kept .1 .1 .1 .1 .1 .1 .0)))
+
+-- src/decide.rt:71:33
+decide-known-requires : tie.Need-decide-known-requires
+decide-known-requires c κs = let p = asked-passed _ _ _ (replicate 64 0) _ (c .before .before .before .before .before .list-asked .result) refl (c .before .before .before .before .before .list-asked .ensures .0) (c .before .before .before .before .before .list-asked .ensures .1) _ (c .before .before .listed2 .given .1) in (prepared _ _ _ _ _ (asked-listed _ _ _ (replicate 64 0) _ (c .before .before .before .before .before .list-asked .result) refl (c .before .before .before .before .before .list-asked .ensures .0) (c .before .before .before .before .before .list-asked .ensures .1) _ (c .before .before .listed2 .given .1)), (pair-left _ _ _ p, pair-right _ _ _ p))
+
+-- src/decide.rt:48:1
 returns : tie.Need-returns
-returns c = decides-refused _ _ _ _ _ (search refuses)
+returns c = pair-refused _ _ _ _ _ (asked-rejected _ _ _ (replicate 64 0) _ (c .before .before .before .before .list-asked .result) refl (c .before .before .before .before .list-asked .ensures .0) (c .before .before .before .before .list-asked .ensures .1) _ (c .before .listed .given .1))
 
-enum-told : tie.Need-enum-told
-enum-told c = search needs
-
--- src/decide.rt:51:8
-is-subsumed-requires : tie.Need-is-subsumed-requires
-is-subsumed-requires c κs = search is-done
-
--- src/decide.rt:52:9
+-- src/decide.rt:48:1
 returns-2 : tie.Need-returns-2
-returns-2 c = decides-yes _ _ _ _ _ (search is-done) (c .before .is-subsumed .ensures) (c .if1 .taken)
-
--- src/decide.rt:44:1
-returns-3 : tie.Need-returns-3
-returns-3 c = decides-no _ _ _ _ _ (search is-done) (c .before .is-subsumed .ensures) (c .if1 .left)
+returns-2 c = c .decide-known .ensures _ (asked-listed _ _ _ (replicate 64 0) _ (c .before .before .before .before .before .before .list-asked .result) refl (c .before .before .before .before .before .before .list-asked .ensures .0) (c .before .before .before .before .before .before .list-asked .ensures .1) _ (c .before .before .before .listed2 .given .1))
 
 pub decide-pair-spec : {M : Type 1} → statement M
 decide-pair-spec =
     tie.close
     (tie.spec
-    check-asked-requires
-    enum-known-asked
+    slice-aggregate-list-asked
+    list-asked-requires
+    enum-known-listed
+    enum-known-listed-2
+    array-share-prefix-ids
+    slice-aggregate-decide-known
+    decide-known-requires
     returns
-    enum-told
-    is-subsumed-requires
-    returns-2
-    returns-3)
+    returns-2)

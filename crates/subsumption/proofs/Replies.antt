@@ -1,0 +1,90 @@
+-- Replies tell their cases apart: a refusal's number is not 0, and number and place give the refusal back.
+use Prim.Native.Nat.{ℕ, zero, suc}
+use mathlib.Core.Path.{_≡_, refl, sym, ap, _∙_}
+use native.Mathlib.Omega.{arith}
+use Rattle.subsumption.specs.declared.refusal.Refusal.{Refusal}
+use Rattle.subsumption.specs.declared.refusal.Refusal.the-variants.{Limit, Malformed, ForwardId, NoConcept, VariableInInclusion, VariablesOnBothSides, TooManyAtoms, BufferTooShort, BadAssignment, NoAssignment, NotSubsumed, BadDerivation, BadText}
+use Rattle.subsumption.specs.declared.refusal.Outcome.{Outcome}
+use Rattle.subsumption.specs.declared.refusal.Outcome.the-variants.{Done, Refused}
+use Rattle.subsumption.specs.Refusal.{codeOf, Reply, replyDone, replyRefused, replyWith, replyOf}
+
+-- the refusal of a number and a place
+refusalAt : ℕ → ℕ → Refusal
+refusalAt zero place = TooManyAtoms
+refusalAt (suc zero) place = Limit place
+refusalAt (suc (suc zero)) place = Malformed place
+refusalAt (suc (suc (suc zero))) place = ForwardId place
+refusalAt (suc (suc (suc (suc zero)))) place = NoConcept place
+refusalAt (suc (suc (suc (suc (suc zero))))) place = VariableInInclusion place
+refusalAt (suc (suc (suc (suc (suc (suc zero)))))) place = VariablesOnBothSides place
+refusalAt (suc (suc (suc (suc (suc (suc (suc zero))))))) place = TooManyAtoms
+refusalAt (suc (suc (suc (suc (suc (suc (suc (suc zero)))))))) place = BufferTooShort place
+refusalAt (suc (suc (suc (suc (suc (suc (suc (suc (suc zero))))))))) place = BadAssignment place
+refusalAt (suc (suc (suc (suc (suc (suc (suc (suc (suc (suc zero)))))))))) place = NoAssignment
+refusalAt (suc (suc (suc (suc (suc (suc (suc (suc (suc (suc (suc zero))))))))))) place = NotSubsumed
+refusalAt (suc (suc (suc (suc (suc (suc (suc (suc (suc (suc (suc (suc zero)))))))))))) place = BadDerivation place
+refusalAt (suc (suc (suc (suc (suc (suc (suc (suc (suc (suc (suc (suc (suc zero))))))))))))) place = BadText place
+refusalAt (suc (suc (suc (suc (suc (suc (suc (suc (suc (suc (suc (suc (suc (suc number)))))))))))))) place = TooManyAtoms
+
+refusal-back : (r : Refusal) → refusalAt (codeOf r .number) (codeOf r .place) ≡ r
+unfolding refusalAt
+refusal-back (Limit place) = refl
+refusal-back (Malformed place) = refl
+refusal-back (ForwardId place) = refl
+refusal-back (NoConcept place) = refl
+refusal-back (VariableInInclusion place) = refl
+refusal-back (VariablesOnBothSides place) = refl
+refusal-back TooManyAtoms = refl
+refusal-back (BufferTooShort place) = refl
+refusal-back (BadAssignment place) = refl
+refusal-back NoAssignment = refl
+refusal-back NotSubsumed = refl
+refusal-back (BadDerivation place) = refl
+refusal-back (BadText place) = refl
+
+pub same-refusal : (q r : Refusal) → replyRefused q ≡ replyRefused r → q ≡ r
+same-refusal q r e = sym (refusal-back q) ∙ ap (λ (z : Reply). refusalAt (z .number) (z .place)) e ∙ refusal-back r
+
+-- a refusal's number with 0 told apart from the others
+isRefused : (r : Refusal) → codeOf r .number ≡ 0 → ⊥
+isRefused (Limit place) e = omega arith
+isRefused (Malformed place) e = omega arith
+isRefused (ForwardId place) e = omega arith
+isRefused (NoConcept place) e = omega arith
+isRefused (VariableInInclusion place) e = omega arith
+isRefused (VariablesOnBothSides place) e = omega arith
+isRefused TooManyAtoms e = omega arith
+isRefused (BufferTooShort place) e = omega arith
+isRefused (BadAssignment place) e = omega arith
+isRefused NoAssignment e = omega arith
+isRefused NotSubsumed e = omega arith
+isRefused (BadDerivation place) e = omega arith
+isRefused (BadText place) e = omega arith
+
+pub not-done : (r : Refusal) (n : ℕ) {A : Type 0} → replyRefused r ≡ replyDone n → A
+not-done r n e = absurd (isRefused r (ap (λ (z : Reply). z .number) e))
+
+pub same-value : (m n : ℕ) → replyDone m ≡ replyDone n → m ≡ n
+same-value m n e = ap (λ (z : Reply). z .value) e
+
+-- what a reply by these checks was
+module _ (fault : Outcome) (n : ℕ) where
+  pub by-refusal : (r : Refusal) → replyRefused r ≡ replyWith fault n → Refused r ≡ fault
+  by-refusal r e = go fault e
+    where
+      go : (f : Outcome) → replyRefused r ≡ replyWith f n → Refused r ≡ f
+      go Done e = not-done r n e
+      go (Refused q) e = ap Refused (same-refusal r q e)
+
+  pub by-value : (m : ℕ) → replyDone m ≡ replyWith fault n → (fault ≡ Done) × (m ≡ n)
+  by-value m e = go fault e
+    where
+      go : (f : Outcome) → replyDone m ≡ replyWith f n → (f ≡ Done) × (m ≡ n)
+      go Done e = (refl, same-value m n e)
+      go (Refused q) e = not-done q m (sym e)
+
+pub same-reply : (x y : Outcome) → x ≡ y → replyOf x ≡ replyOf y
+same-reply x y e = ap replyOf e
+
+pub same-refused : (r : Refusal) (f : Outcome) → Refused r ≡ f → replyRefused r ≡ replyOf f
+same-refused r f e = ap replyOf e

@@ -1,0 +1,12 @@
+// What the crates above share with this one. These are no operations: all but `list_asked` have a `requires`, which asks what the tables'
+// checks have shown.
+pub use crate::atoms::mark_variables;
+pub use crate::check::check_assignment;
+pub use crate::closure::below;
+pub use crate::ground::close_ground;
+pub use crate::ground::close_over;
+pub use crate::listing::list_asked;
+pub use crate::tables::Pair;
+pub use crate::tables::Row;
+pub use crate::tables::pair_at;
+pub use crate::tables::row_at;
