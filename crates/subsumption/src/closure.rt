@@ -3,11 +3,11 @@
 ghost use mathlib.Core.Path.{_≡_};
 ghost use Prim.Native.Nat.{ℕ, _+_, _≤_, _<_};
 ghost use mathlib.Core.Bool.{true};
-ghost use mathlib.Core.List.{List·Memᴰ};
-ghost use Rattle.subsumption.specs.Tables.{countOf};
+ghost use mathlib.Core.List.{List, List·Memᴰ};
+ghost use Rattle.subsumption.specs.Tables.{nameAt, andAt, varAt, countOf};
 ghost use Rattle.subsumption.specs.Atoms.{pick};
 ghost use lib.ListN.{length};
-ghost use Rattle.subsumption.specs.Closure.{has, Absorbs, Takes, inThree, Known, Common, Ready, Nameable, Seen, Firsts, Settled, chooseFrom, Pass, AllSettled, AllIncluded, LinkedTo, AllLinked, AllTaken, Inner, OnwardFrom, OnwardTo, Onward, Links, NextLink, IsNamed, FirstNamed, Empty, Closed};
+ghost use Rattle.subsumption.specs.Closure.{has, Absorbs, Takes, inThree, Known, Common, Ready, Settleable, LowPairs, Nameable, Seen, Firsts, Settled, chooseFrom, Pass, SettlePass, RowPass, IncludePass, LinkPass, AllSettled, LinkedTo, AllLinked, AllTaken, Inner, OnwardFrom, OnwardTo, Onward, Links, NextLink, IsNamed, FirstNamed, Empty, Closed};
 
 const ALL: u64 = 18446744073709551615;
 
@@ -157,21 +157,56 @@ fn spread(atoms: &[u16], choice: u64, columns: &mut [u64], from: usize) -> bool
     changed
 }
 
+// The steps at a row of a name whose first row is `first`.
+fn settle_name(columns: &mut [u64], j: usize, first: usize) -> bool
+    requires { ⌜ length (now columns) ≡ 576 ⌝ }
+    requires { ⌜ (j < 192) × (first < 192) ⌝ }
+    ensures { λ r. ⌜ ((choose : ℕ → List ℕ) (n : ℕ) → RowPass choose first j (nameAt n) (now (columns .entry)) (now (columns .exit)) r) ⌝ }
+{
+    let a = flow(columns, j, first);
+    let b = flow(columns, first, j);
+    a | b
+}
+
+// The steps at the conjunction of x and y.
+fn settle_and(columns: &mut [u64], j: usize, x: usize, y: usize) -> bool
+    requires { ⌜ length (now columns) ≡ 576 ⌝ }
+    requires { ⌜ (j < 192) × (x < 192) × (y < 192) ⌝ }
+    ensures { λ r. ⌜ ((choose : ℕ → List ℕ) (first : ℕ) → RowPass choose first j (andAt x y) (now (columns .entry)) (now (columns .exit)) r) ⌝ }
+{
+    let a = flow(columns, j, x);
+    let b = flow(columns, j, y);
+    let c = meet(columns, x, y, j);
+    a | b | c
+}
+
+// The steps at a variable with that choice.
+fn settle_variable(atoms: &[u16], choice: u64, columns: &mut [u64], j: usize) -> bool
+    requires { ⌜ length (now columns) ≡ 576 ⌝ }
+    requires { ⌜ Known (now atoms) ⌝ }
+    requires { ⌜ j < 192 ⌝ }
+    ensures { λ r. ⌜ ((choose : ℕ → List ℕ) (first k : ℕ) → choose k ≡ pick (now (atoms .entry)) choice
+        → RowPass choose first j (varAt k) (now (columns .entry)) (now (columns .exit)) r) ⌝ }
+{
+    let a = spread(atoms, choice, columns, j);
+    let b = gather(atoms, choice, columns, j);
+    a | b
+}
+
 // The steps at the row j.
 fn settle(
     concepts: &[u16],
-    inclusions: &[u16],
     atoms: &[u16],
     assignment: &[u64],
     firsts: &[u16],
     columns: &mut [u64],
     j: usize,
 ) -> bool
-    requires { ⌜ Ready (now concepts) (now inclusions) (now atoms) (now assignment) ⌝ }
+    requires { ⌜ Settleable (now concepts) (now atoms) (now assignment) ⌝ }
     requires { ⌜ Firsts (now concepts) (now firsts) ⌝ }
     requires { ⌜ length (now columns) ≡ 576 ⌝ }
     requires { ⌜ j < countOf (now concepts) ⌝ }
-    ensures { λ r. ⌜ Pass (now (concepts .entry)) (now (inclusions .entry)) (chooseFrom (now (atoms .entry)) (now (assignment .entry)))
+    ensures { λ r. ⌜ SettlePass (now (concepts .entry)) (chooseFrom (now (atoms .entry)) (now (assignment .entry)))
         (Settled (now (concepts .entry)) (now (firsts .entry)) (chooseFrom (now (atoms .entry)) (now (assignment .entry))) j)
         (now (columns .entry)) (now (columns .exit)) r ⌝ }
 {
@@ -180,25 +215,20 @@ fn settle(
     let own = mark(columns, j);
     if kind == 1 {
         let first = firsts[j] as usize;
-        let a = flow(columns, j, first);
-        let b = flow(columns, first, j);
-        return own | a | b;
+        let a = settle_name(columns, j, first);
+        return own | a;
     }
     if kind == 2 {
         return own;
     }
     if kind == 3 {
         let y = concepts[j * 3 + 2] as usize;
-        let a = flow(columns, j, x);
-        let b = flow(columns, j, y);
-        let c = meet(columns, x, y, j);
-        return own | a | b | c;
+        let a = settle_and(columns, j, x, y);
+        return own | a;
     }
     if kind == 4 {
-        let choice = assignment[x];
-        let a = spread(atoms, choice, columns, j);
-        let b = gather(atoms, choice, columns, j);
-        return own | a | b;
+        let a = settle_variable(atoms, assignment[x], columns, j);
+        return own | a;
     }
     let a = fill(columns, j);
     own | a
@@ -207,16 +237,15 @@ fn settle(
 // The steps at every row.
 fn settle_all(
     concepts: &[u16],
-    inclusions: &[u16],
     atoms: &[u16],
     assignment: &[u64],
     firsts: &[u16],
     columns: &mut [u64],
 ) -> bool
-    requires { ⌜ Ready (now concepts) (now inclusions) (now atoms) (now assignment) ⌝ }
+    requires { ⌜ Settleable (now concepts) (now atoms) (now assignment) ⌝ }
     requires { ⌜ Firsts (now concepts) (now firsts) ⌝ }
     requires { ⌜ length (now columns) ≡ 576 ⌝ }
-    ensures { λ r. ⌜ Pass (now (concepts .entry)) (now (inclusions .entry)) (chooseFrom (now (atoms .entry)) (now (assignment .entry)))
+    ensures { λ r. ⌜ SettlePass (now (concepts .entry)) (chooseFrom (now (atoms .entry)) (now (assignment .entry)))
         (AllSettled (now (concepts .entry)) (now (firsts .entry)) (chooseFrom (now (atoms .entry)) (now (assignment .entry))))
         (now (columns .entry)) (now (columns .exit)) r ⌝ }
 {
@@ -224,7 +253,7 @@ fn settle_all(
     let mut changed = false;
     let mut j = 0;
     while j < count {
-        let new = settle(concepts, inclusions, atoms, assignment, firsts, columns, j);
+        let new = settle(concepts, atoms, assignment, firsts, columns, j);
         changed = changed | new;
         j += 1;
     }
@@ -232,18 +261,10 @@ fn settle_all(
 }
 
 // The inclusions: what is below a left side is below the right side.
-fn include_all(
-    concepts: &[u16],
-    inclusions: &[u16],
-    atoms: &[u16],
-    assignment: &[u64],
-    columns: &mut [u64],
-) -> bool
-    requires { ⌜ Ready (now concepts) (now inclusions) (now atoms) (now assignment) ⌝ }
+fn include_all(inclusions: &[u16], columns: &mut [u64]) -> bool
+    requires { ⌜ LowPairs (now inclusions) ⌝ }
     requires { ⌜ length (now columns) ≡ 576 ⌝ }
-    ensures { λ r. ⌜ Pass (now (concepts .entry)) (now (inclusions .entry)) (chooseFrom (now (atoms .entry)) (now (assignment .entry)))
-        (AllIncluded (now (concepts .entry)) (now (inclusions .entry)))
-        (now (columns .entry)) (now (columns .exit)) r ⌝ }
+    ensures { λ r. ⌜ IncludePass (now (inclusions .entry)) (now (columns .entry)) (now (columns .exit)) r ⌝ }
 {
     let count = inclusions.len() / 2;
     let mut changed = false;
@@ -302,21 +323,12 @@ fn next_link(
 }
 
 // An existential f: what is below an existential of f's role whose inner id is below f's inner id is below f.
-fn link_to(
-    concepts: &[u16],
-    inclusions: &[u16],
-    atoms: &[u16],
-    assignment: &[u64],
-    onward: &[u16],
-    columns: &mut [u64],
-    f: usize,
-) -> bool
-    requires { ⌜ Ready (now concepts) (now inclusions) (now atoms) (now assignment) ⌝ }
+fn link_to(concepts: &[u16], onward: &[u16], columns: &mut [u64], f: usize) -> bool
+    requires { ⌜ Inner (now concepts) ⌝ }
     requires { ⌜ length (now columns) ≡ 576 ⌝ }
     requires { ⌜ f < countOf (now concepts) ⌝ }
     requires { ⌜ Onward (now concepts) (now onward) ⌝ }
-    ensures { λ r. ⌜ Pass (now (concepts .entry)) (now (inclusions .entry)) (chooseFrom (now (atoms .entry)) (now (assignment .entry)))
-        (LinkedTo (now (concepts .entry)) f)
+    ensures { λ r. ⌜ LinkPass (now (concepts .entry)) (LinkedTo (now (concepts .entry)) f)
         (now (columns .entry)) (now (columns .exit)) r ⌝ }
 {
     if concepts[f * 3] != 2 {
@@ -335,26 +347,18 @@ fn link_to(
     changed
 }
 
-fn link_all(
-    concepts: &[u16],
-    inclusions: &[u16],
-    atoms: &[u16],
-    assignment: &[u64],
-    onward: &[u16],
-    columns: &mut [u64],
-) -> bool
-    requires { ⌜ Ready (now concepts) (now inclusions) (now atoms) (now assignment) ⌝ }
+fn link_all(concepts: &[u16], onward: &[u16], columns: &mut [u64]) -> bool
+    requires { ⌜ Inner (now concepts) ⌝ }
     requires { ⌜ length (now columns) ≡ 576 ⌝ }
     requires { ⌜ Onward (now concepts) (now onward) ⌝ }
-    ensures { λ r. ⌜ Pass (now (concepts .entry)) (now (inclusions .entry)) (chooseFrom (now (atoms .entry)) (now (assignment .entry)))
-        (AllLinked (now (concepts .entry)))
+    ensures { λ r. ⌜ LinkPass (now (concepts .entry)) (AllLinked (now (concepts .entry)))
         (now (columns .entry)) (now (columns .exit)) r ⌝ }
 {
     let count = concepts.len() / 3;
     let mut changed = false;
     let mut f = 0;
     while f < count {
-        let new = link_to(concepts, inclusions, atoms, assignment, onward, columns, f);
+        let new = link_to(concepts, onward, columns, f);
         changed = changed | new;
         f += 1;
     }
@@ -379,12 +383,12 @@ fn round(
         (AllTaken (now (concepts .entry)) (now (inclusions .entry)) (chooseFrom (now (atoms .entry)) (now (assignment .entry))) (now (firsts .entry)))
         (now (columns .entry)) (now (columns .exit)) r ⌝ }
 {
-    let a = settle_all(concepts, inclusions, atoms, assignment, firsts, columns);
-    let b = include_all(concepts, inclusions, atoms, assignment, columns);
+    let a = settle_all(concepts, atoms, assignment, firsts, columns);
+    let b = include_all(inclusions, columns);
     if a | b {
         return true;
     }
-    link_all(concepts, inclusions, atoms, assignment, onward, columns)
+    link_all(concepts, onward, columns)
 }
 
 fn is_named(concepts: &[u16], k: usize, name: u16) -> bool
