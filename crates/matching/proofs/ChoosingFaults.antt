@@ -1,12 +1,12 @@
 -- The checks of listing a variable's chosen ids, put together from the tables' own.
 use Prim.Native.Nat.{ℕ, zero, suc, _<_, _≤_, _^_}
 use mathlib.Core.Path.{_≡_, refl, sym, ap, _∙_, subst}
-use mathlib.Core.List.{List, []}
+use mathlib.Core.List.{List}
 use mathlib.Core.Bool.{Bool, true, false, not}
 use native.Mathlib.Omega.{arith}
 use lib.Dec.{ltb}
 use lib.ListN.{length, getD, take, drop, replicate, length-append}
-use lib.Seq.{take-append-seam}
+use lib.Seq.{take-append-seam, take-length}
 use lib.Count.{ones}
 use borrow.Author.Tests.{eqb-true, eq-eqb, ne-eqb, lt-ltb, le-ltb, ltb-true, not-false}
 use Rattle.subsumption.specs.declared.refusal.Refusal.{Refusal}
@@ -155,6 +155,12 @@ module _ (atomCount variables : ℕ) (assignment : List ℕ) where
     unfolding knownFault bufferFault
     known-done l e h = goes-on Done _ _ _ (variable-passes l) refl (goes-on Done _ _ _ (sym e) refl (done-le size 64 (BufferTooShort 64) h))
 
+pub choosing-done :
+    (t : Tables) (assignment : List ℕ) (k size : ℕ) → tableFault t ≡ Done → assignmentFault t assignment ≡ Done → k < t .variables → 64 ≤ size
+    → Done ≡ choosingFault t assignment k size
+unfolding assignmentFault
+choosing-done t assignment k size h e l s = known-done (length (atoms t)) (t .variables) assignment k size l e s ∙ choosing-known t assignment k size h
+
 -- ---- the answer
 module _ (ids before : List ℕ) where
   pub chosen-refused : (r : Refusal) (fault : Outcome) → Refused r ≡ fault → (Rejected r ≡ chosenOf fault ids) × (before ≡ chosenIn fault ids before)
@@ -244,25 +250,25 @@ module _ (t : Tables) (assignment before : List ℕ) (k : ℕ) where
       (f ∙ rw (e, u) refl, g ∙ rw (e, u) refl)
 
 -- ---- the list that is handed back
-pub record Handed (fault : Outcome) (ids after : List ℕ) (told : Told) : Type 0 where
-  pub back : take (told .count) after ≡ handedBack fault ids
+pub record Handed (fault : Outcome) (ids before after : List ℕ) (told : Told) : Type 0 where
+  pub back : take (told .count) after ≡ handedBack fault ids before
   pub long : told .count ≡ length (take (told .count) after)
   pub number : told .number ≡ numberOf fault
   pub place : told .place ≡ placeOf fault
 
 pub handed :
     (fault : Outcome) (ids before after : List ℕ) (answer : Chosen) (told : Told) → answer ≡ chosenOf fault ids → after ≡ chosenIn fault ids before
-    → told ≡ toldOf answer → Handed fault ids after told
+    → told ≡ toldOf answer (length before) → Handed fault ids before after told
 unfolding chosenOf chosenIn handedBack
 handed Done ids before after answer told e f g =
-    let h : told ≡ toldOf (Ids (length ids)) = g ∙ ap toldOf e in
+    let h : told ≡ toldOf (Ids (length ids)) (length before) = g ∙ ap (λ (z : Chosen). toldOf z (length before)) e in
     let n : told .count ≡ length ids = ap (λ (z : Told). z .count) h in
     let b : take (told .count) after ≡ ids = rw (n, f) (take-append-seam ids _) in
     record { back = b; long = n ∙ sym (ap length b); number = ap (λ (z : Told). z .number) h; place = ap (λ (z : Told). z .place) h }
 handed (Refused r) ids before after answer told e f g =
-    let h : told ≡ toldOf (Rejected r) = g ∙ ap toldOf e in
-    let n : told .count ≡ 0 = ap (λ (z : Told). z .count) h in
-    let b : take (told .count) after ≡ [] = rw n refl in
+    let h : told ≡ toldOf (Rejected r) (length before) = g ∙ ap (λ (z : Chosen). toldOf z (length before)) e in
+    let n : told .count ≡ length before = ap (λ (z : Told). z .count) h in
+    let b : take (told .count) after ≡ before = rw (n, f) (take-length before) in
     record { back = b; long = n ∙ sym (ap length b); number = ap (λ (z : Told). z .number) h; place = ap (λ (z : Told). z .place) h }
 
 -- The list is as long as the choice has ones.

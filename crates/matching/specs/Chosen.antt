@@ -1,6 +1,6 @@
 -- Listing one variable's chosen ids (01, "Operations"): what it answers, the list that it hands back, and what the buffer then holds.
 use Prim.Native.Nat.{ℕ}
-use mathlib.Core.List.{List, [], _++_}
+use mathlib.Core.List.{List, _++_}
 use mathlib.Core.Bool.{not}
 use lib.Dec.{ltb}
 use lib.ListN.{length, drop}
@@ -32,10 +32,10 @@ unfoldable pub chosenIn : Outcome → List ℕ → List ℕ → List ℕ
 chosenIn Done ids before = ids ++ drop (length ids) before
 chosenIn (Refused r) ids before = before
 
--- The list that is handed back: none after a refusal.
-unfoldable pub handedBack : Outcome → List ℕ → List ℕ
-handedBack Done ids = ids
-handedBack (Refused r) ids = []
+-- What is handed back: the list; after a refusal the whole buffer, with its values.
+unfoldable pub handedBack : Outcome → List ℕ → List ℕ → List ℕ
+handedBack Done ids before = ids
+handedBack (Refused r) ids before = before
 
 -- The paper's number and place beside the list: both 0 when there is no refusal.
 abbrev pub numberOf : Outcome → ℕ

@@ -27,7 +27,7 @@ abbrev pub earlierOf : Refusal → Bool → Refusal
 earlierOf r true = r
 earlierOf r false = limitOr (eqb (codeOf r .number) 1) r
 
--- What an answer tells beside the list.
-abbrev pub toldOf : Chosen → Told
-toldOf (Ids n) = record { number = 0; place = 0; count = n }
-toldOf (Rejected r) = record { number = codeOf r .number; place = codeOf r .place; count = 0 }
+-- What an answer tells beside the list, given the buffer's size.
+abbrev pub toldOf : Chosen → ℕ → Told
+toldOf (Ids n) size = record { number = 0; place = 0; count = n }
+toldOf (Rejected r) size = record { number = codeOf r .number; place = codeOf r .place; count = size }

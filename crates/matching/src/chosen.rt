@@ -110,9 +110,9 @@ pub fn put_chosen(
     }
 }
 
-// What an answer tells beside the list.
-fn tell(answer: Chosen) -> Told
-    ensures { λ r. ⌜ r ≡ toldOf answer ⌝ }
+// What an answer tells beside the list: after a refusal the whole buffer goes back.
+fn tell(answer: Chosen, size: usize) -> Told
+    ensures { λ r. ⌜ r ≡ toldOf answer size ⌝ }
 {
     match answer {
         Chosen::Ids(n) => Told {
@@ -125,28 +125,30 @@ fn tell(answer: Chosen) -> Told
             Told {
                 number: code.number,
                 place: code.place,
-                count: 0,
+                count: size,
             }
         }
     }
 }
 
-// Lists one variable's chosen ids, rising, and hands the list back as the written stretch of the buffer; the refusal stands beside it.
-pub fn list_chosen<'a, 'b>(
-    concepts: &'b [u16],
-    inclusions: &'b [u16],
-    questions: &'b [u16],
+// Lists one variable's chosen ids, rising, and hands the list back as the written stretch of the buffer. A refusal stands beside the whole
+// buffer, handed back as it was.
+pub fn list_chosen<'a>(
+    concepts: &[u16],
+    inclusions: &[u16],
+    questions: &[u16],
     variables: u16,
-    assignment: &'b [u64],
+    assignment: &[u64],
     variable: u16,
     out: &'a mut [u16],
-    number: &'b mut u16,
-    place: &'b mut u64,
+    number: &mut u16,
+    place: &mut u64,
 ) -> &'a mut [u16]
-    ensures { λ r. ⌜ now r ≡ handedBack (choosingFault (tables (now (concepts .entry)) (now (inclusions .entry)) (now (questions .entry)) variables) (now (assignment .entry)) variable (length (now (out .entry)))) (chosen (tables (now (concepts .entry)) (now (inclusions .entry)) (now (questions .entry)) variables) (now (assignment .entry)) variable) ⌝ }
+    ensures { λ r. ⌜ now r ≡ handedBack (choosingFault (tables (now (concepts .entry)) (now (inclusions .entry)) (now (questions .entry)) variables) (now (assignment .entry)) variable (length (now (out .entry)))) (chosen (tables (now (concepts .entry)) (now (inclusions .entry)) (now (questions .entry)) variables) (now (assignment .entry)) variable) (now (out .entry)) ⌝ }
     ensures { λ r. ⌜ now (number .exit) ≡ numberOf (choosingFault (tables (now (concepts .entry)) (now (inclusions .entry)) (now (questions .entry)) variables) (now (assignment .entry)) variable (length (now (out .entry)))) ⌝ }
     ensures { λ r. ⌜ now (place .exit) ≡ placeOf (choosingFault (tables (now (concepts .entry)) (now (inclusions .entry)) (now (questions .entry)) variables) (now (assignment .entry)) variable (length (now (out .entry)))) ⌝ }
 {
+    let size = out.len();
     let answer = put_chosen(
         concepts,
         inclusions,
@@ -156,7 +158,7 @@ pub fn list_chosen<'a, 'b>(
         variable,
         out,
     );
-    let told = tell(answer);
+    let told = tell(answer, size);
     *number = told.number;
     *place = told.place as u64;
     let count = told.count;
