@@ -14,12 +14,11 @@ use Rattle.subsumption.specs.declared.refusal.Outcome.{Outcome}
 use Rattle.subsumption.specs.declared.refusal.Outcome.the-variants.{Done, Refused}
 use Rattle.subsumption.specs.declared.refusal.Refusal.{Refusal}
 use Rattle.subsumption.specs.declared.refusal.Refusal.the-variants.{BufferTooShort}
-use Rattle.subsumption.specs.declared.listing.Listed.{Listed}
-use Rattle.subsumption.specs.declared.listing.Listed.the-variants.{Atoms, Rejected}
 use Rattle.subsumption.specs.Tables.{Tables, both}
 use Rattle.subsumption.specs.Atoms.{atoms, bit}
 use Rattle.subsumption.specs.Check.{tableFault, assignmentFault, bufferFault}
-use Rattle.subsumption.specs.Listing.{listingFault, listed}
+use Rattle.subsumption.specs.Refusal.{replyRefused}
+use Rattle.subsumption.specs.Ground.{Accepted}
 use Rattle.subsumption.proofs.WellFormed.{WellFormed}
 use Rattle.subsumption.proofs.Bools.{last-cases, both-true}
 use Rattle.subsumption.proofs.Bits.{bit-and, bit-pow, bit-of-zero}
@@ -27,9 +26,8 @@ use Rattle.subsumption.proofs.Refusals.{stops, goes-on, done-le, refused-lt}
 use Rattle.subsumption.proofs.Accepted.{wellFormed}
 use Rattle.matching.specs.Solving.{takes, Solves, First}
 use Rattle.matching.specs.Search.{Within, Between, IntervalOf, SolutionIn, NoSolution, FirstIn, Full, Found, FoundBy, Copied}
-use Rattle.matching.specs.declared.find.Match.{Match}
-use Rattle.matching.specs.declared.find.Match.the-variants.{Filled, Nothing, Rejected as No}
-use Rattle.matching.specs.Finding.{findingFault, Finds}
+use Rattle.matching.specs.declared.find.Match.the-variants.{Filled, Nothing}
+use Rattle.matching.specs.Finding.{findingFault, matchReply, FindsAfter, Finds}
 use Rattle.matching.proofs.Choices.{one-bit}
 use Rattle.matching.proofs.Conjoined.{some-solves}
 use Rattle.matching.proofs.Locality.{none-by-substitution}
@@ -91,18 +89,6 @@ copied-more choice before after k h s =
 pub copied-all : (count k : ℕ) (choice before after : List ℕ) → k ≤ count → count ≤ k → Copied k choice before after → Copied count choice before after
 copied-all count k choice before after h l s = let e : k ≡ count = omega arith in subst (λ (z : ℕ). Copied z choice before after) e s
 
--- ---- the number of atoms
-module _ (t : Tables) (h : tableFault t ≡ Done) (size : ℕ) (room : 64 ≤ size) (r : Listed) (e : r ≡ listed (listingFault t size) t) where
-  listed-atoms : r ≡ Atoms (length (atoms t))
-  unfolding listed listingFault bufferFault
-  listed-atoms = e ∙ ap (λ (z : Outcome). listed z t) (sym (goes-on _ _ _ Done refl h (done-le size 64 _ room)))
-
-  pub atoms-counted : (count : ℕ) → r ≡ Atoms count → count ≡ length (atoms t)
-  atoms-counted count f = let g = listed-atoms in cc
-
-  pub never-rejected : (x : Refusal) → r ≡ Rejected x → ⊥
-  never-rejected x f = let g = listed-atoms in let z : _≡_ {A = ℕ} 0 1 = cc in omega arith
-
 -- ---- the interval of all assignments
 pub all-zeros : (k : ℕ) → _≡_ {A = ℕ} (getD (0 ∷ 0 ∷ 0 ∷ 0 ∷ 0 ∷ 0 ∷ 0 ∷ 0 ∷ []) k 0) 0
 all-zeros zero = refl
@@ -116,8 +102,8 @@ all-zeros (suc (suc (suc (suc (suc (suc (suc zero))))))) = refl
 all-zeros (suc (suc (suc (suc (suc (suc (suc (suc k)))))))) = refl
 
 -- the number of atoms as it was counted
-pub full-atoms : (t : Tables) (count : ℕ) (high : List ℕ) → count ≡ length (atoms t) → Full (t .variables) count high → Full (t .variables) (length (atoms t)) high
-full-atoms t count high e f = subst (λ (z : ℕ). Full (t .variables) z high) e f
+pub full-atoms : (t : Tables) (ids high : List ℕ) → Accepted t ids → Full (t .variables) (length ids) high → Full (t .variables) (length (atoms t)) high
+full-atoms t ids high a f = subst (λ (z : List ℕ). Full (t .variables) (length z) high) (a .listed) f
 
 module _ (t : Tables) (h : tableFault t ≡ Done) (low high : List ℕ) (zeros : (k : ℕ) → getD low k 0 ≡ 0) (long : length low ≡ 8) (full : Full (t .variables) (length (atoms t)) high) where
   none-low : (k q : ℕ) → takes low k q ≡ true → ⊥
@@ -171,53 +157,56 @@ every-atom t h high f =
     }
 
 -- ---- the answer
-module _ (t : Tables) (before after : List ℕ) where
-  pub finds-refused : (r : Refusal) → Refused r ≡ findingFault t (length before) → after ≡ before → Finds t before after (findingFault t (length before)) (No r)
-  finds-refused r e k = subst (λ (f : Outcome). Finds t before after f (No r)) e (refl, k)
+module _ (t : Tables) (before : List ℕ) where
+  finds-refused : (r : Refusal) → Refused r ≡ findingFault t (length before) → Finds t before before (replyRefused r)
+  finds-refused r e = subst (λ (f : Outcome). FindsAfter f t before before (replyRefused r)) e (refl, refl)
 
-  module _ (x : Outcome) (e : x ≡ tableFault t) (f : x ≡ Done) (room : t .variables ≤ length before) where
-    passed : Done ≡ findingFault t (length before)
-    unfolding findingFault bufferFault
-    passed = goes-on x _ _ Done e f (done-le (length before) (t .variables) _ room)
+  pub tables-refuse : (r : Refusal) → Refused r ≡ tableFault t → Finds t before before (replyRefused r)
+  unfolding findingFault
+  tables-refuse r e = finds-refused r (stops (Refused r) _ _ r e refl)
 
-    front-copied : (choice : List ℕ) → length choice ≡ 8 → t .variables ≤ 8 → Copied (t .variables) choice before after → take (t .variables) after ≡ take (t .variables) choice
-    front-copied choice l v c =
-        let a : t .variables ≤ length after = omega (arith, c .size) in
-        let d : t .variables ≤ length choice = omega arith in
-        let g : length (take (t .variables) after) ≡ t .variables = length-take-le (t .variables) after a in
-        ext-getD 0 _ _ (g ∙ sym (length-take-le (t .variables) choice d))
-        (λ k m.
-        let n : k < t .variables = omega arith in
-        getD-take _ after k 0 n ∙ c .front k n ∙ sym (getD-take _ choice k 0 n))
+  pub buffer-refuses : tableFault t ≡ Done → length before < t .variables → Finds t before before (replyRefused (BufferTooShort (t .variables)))
+  unfolding findingFault bufferFault
+  buffer-refuses h l = finds-refused _ (goes-on Done _ _ _ (sym h) refl (refused-lt (length before) (t .variables) _ l))
 
-    rest-kept : (choice : List ℕ) → Copied (t .variables) choice before after → drop (t .variables) after ≡ drop (t .variables) before
-    rest-kept choice c =
-        ext-getD 0 _ _ (length-drop _ after ∙ ap (λ (z : ℕ). z - t .variables) (c .size) ∙ sym (length-drop _ before))
-        (λ k m. getD-drop _ after k 0 ∙ c .rest (t .variables + k) (omega arith) ∙ sym (getD-drop _ before k 0))
+module _ (t : Tables) (before after : List ℕ) (ok : tableFault t ≡ Done) (room : t .variables ≤ length before) where
+  passed : Done ≡ findingFault t (length before)
+  unfolding findingFault bufferFault
+  passed = goes-on Done _ _ Done (sym ok) refl (done-le (length before) (t .variables) _ room)
 
-    pub finds-filled :
-        (b : Bool) (choice : List ℕ) → FoundBy t b choice → b ≡ true → Copied (t .variables) choice before after
-        → Finds t before after (findingFault t (length before)) Filled
-    finds-filled b choice g y c =
-        let found : Found t choice = subst (λ (z : Bool). FoundBy t z choice) y g in
-        subst (λ (z : Outcome). Finds t before after z Filled) passed
-        (record {
-          some = some-solves t (wellFormed t (sym e ∙ f)) _ (found .first .solves);
+  front-copied : (choice : List ℕ) → length choice ≡ 8 → t .variables ≤ 8 → Copied (t .variables) choice before after → take (t .variables) after ≡ take (t .variables) choice
+  front-copied choice l v c =
+      let a : t .variables ≤ length after = omega (arith, c .size) in
+      let d : t .variables ≤ length choice = omega arith in
+      let g : length (take (t .variables) after) ≡ t .variables = length-take-le (t .variables) after a in
+      ext-getD 0 _ _ (g ∙ sym (length-take-le (t .variables) choice d))
+      (λ k m.
+      let n : k < t .variables = omega arith in
+      getD-take _ after k 0 n ∙ c .front k n ∙ sym (getD-take _ choice k 0 n))
+
+  rest-kept : (choice : List ℕ) → Copied (t .variables) choice before after → drop (t .variables) after ≡ drop (t .variables) before
+  rest-kept choice c =
+      ext-getD 0 _ _ (length-drop _ after ∙ ap (λ (z : ℕ). z - t .variables) (c .size) ∙ sym (length-drop _ before))
+      (λ k m. getD-drop _ after k 0 ∙ c .rest (t .variables + k) (omega arith) ∙ sym (getD-drop _ before k 0))
+
+  pub finds-filled :
+      (b : Bool) (choice : List ℕ) → FoundBy t b choice → b ≡ true → Copied (t .variables) choice before after
+      → Finds t before after (matchReply Filled)
+  finds-filled b choice g y c =
+      let found : Found t choice = subst (λ (z : Bool). FoundBy t z choice) y g in
+      subst (λ (z : Outcome). FindsAfter z t before after (matchReply Filled)) passed
+      (inl (
+        refl,
+        record {
+          some = some-solves t (wellFormed t ok) _ (found .first .solves);
           size = c .size;
-          first = subst (First t) (sym (front-copied choice (found .long) (wellFormed t (sym e ∙ f) .few-variables) c)) (found .first);
+          first = subst (First t) (sym (front-copied choice (found .long) (wellFormed t ok .few-variables) c)) (found .first);
           rest = rest-kept choice c;
-        })
+        },
+      ))
 
-    pub finds-nothing :
-        (b : Bool) (choice : List ℕ) → FoundBy t b choice → b ≡ false → after ≡ before → Finds t before after (findingFault t (length before)) Nothing
-    finds-nothing b choice g y k =
-        subst (λ (z : Outcome). Finds t before after z Nothing) passed
-        (record { none = none-by-substitution t (sym e ∙ f) (subst (λ (z : Bool). FoundBy t z choice) y g); kept = k })
-
-pub finding-refused : (t : Tables) (size : ℕ) (x : Outcome) (r : Refusal) → x ≡ tableFault t → x ≡ Refused r → Refused r ≡ findingFault t size
-unfolding findingFault
-finding-refused t size x r e f = stops x _ _ r e f
-
-pub finding-short : (t : Tables) (size : ℕ) (x : Outcome) → x ≡ tableFault t → x ≡ Done → size < t .variables → Refused (BufferTooShort (t .variables)) ≡ findingFault t size
-unfolding findingFault bufferFault
-finding-short t size x e f l = goes-on x _ _ _ e f (refused-lt size (t .variables) _ l)
+  pub finds-nothing :
+      (b : Bool) (choice : List ℕ) → FoundBy t b choice → b ≡ false → after ≡ before → Finds t before after (matchReply Nothing)
+  finds-nothing b choice g y k =
+      subst (λ (z : Outcome). FindsAfter z t before after (matchReply Nothing)) passed
+      (inr (refl, record { none = none-by-substitution t ok (subst (λ (z : Bool). FoundBy t z choice) y g); kept = k }))

@@ -5,7 +5,7 @@ use mathlib.Core.List.{List}
 use mathlib.Core.Bool.{Bool, true, false, not}
 use native.Mathlib.Omega.{arith}
 use lib.Dec.{ltb}
-use lib.ListN.{length, getD, take, drop, replicate, length-append}
+use lib.ListN.{length, getD, take}
 use lib.Seq.{take-append-seam, take-length}
 use lib.Count.{ones}
 use borrow.Author.Tests.{eqb-true, eq-eqb, ne-eqb, lt-ltb, le-ltb, ltb-true, not-false}
@@ -14,20 +14,18 @@ use Rattle.subsumption.specs.declared.refusal.Refusal.the-variants.{Malformed, 
 use Rattle.subsumption.specs.declared.refusal.Outcome.{Outcome}
 use Rattle.subsumption.specs.declared.refusal.Outcome.the-variants.{Done, Refused}
 use Rattle.subsumption.specs.declared.refusal.Code.{Code}
-use Rattle.subsumption.specs.declared.listing.Listed.{Listed}
-use Rattle.subsumption.specs.declared.listing.Listed.the-variants.{Atoms, Rejected as NotListed}
 use Rattle.subsumption.specs.Tables.{Tables}
 use Rattle.subsumption.specs.Atoms.{atoms, pick, chosen}
-use Rattle.subsumption.specs.Refusal.{codeOf, orElse, refuseIf, firstAt}
+use Rattle.subsumption.specs.Refusal.{codeOf, replyDone, replyRefused, replyWith, replyOf, orElse, refuseIf, firstAt}
 use Rattle.subsumption.specs.Check.{limitFault, malformedFault, forwardFault, pairsFault, inclusionFault, sidesFault, atomsFault, conceptFault, idFault, useFault, tableFault, assignmentFaultAt, assignmentFault, bufferFault}
-use Rattle.subsumption.specs.Listing.{listingFault, listed, listedIn}
+use Rattle.subsumption.specs.Ground.{Accepted}
 use Rattle.subsumption.specs.Marks.{inFront}
 use Rattle.subsumption.proofs.Refusals.{stops, goes-on, refused-lt, done-le, passed-first, passed-second, passed-if, passed-at}
-use Rattle.subsumption.proofs.Accepted.{wellFormed}
+use Rattle.subsumption.proofs.Replies.{same-value, same-refusal, not-done}
 use Rattle.matching.specs.declared.chosen.Chosen.{Chosen}
 use Rattle.matching.specs.declared.chosen.Chosen.the-variants.{Ids, Rejected}
 use Rattle.matching.specs.declared.chosen.Told.{Told}
-use Rattle.matching.specs.Chosen.{variableFault, choosingFault, chosenOf, chosenIn, handedBack, numberOf, placeOf}
+use Rattle.matching.specs.Chosen.{variableFault, choosingFault, chosenReply, chosenIn, handedBack}
 use Rattle.matching.proofs.Choosing.{pick-length}
 use Rattle.matching.specs.Listing.{knownFault, earlierOf, toldOf}
 
@@ -163,15 +161,15 @@ choosing-done t assignment k size h e l s = known-done (length (atoms t)) (t .va
 
 -- ---- the answer
 module _ (ids before : List ℕ) where
-  pub chosen-refused : (r : Refusal) (fault : Outcome) → Refused r ≡ fault → (Rejected r ≡ chosenOf fault ids) × (before ≡ chosenIn fault ids before)
-  unfolding chosenOf chosenIn
-  chosen-refused r fault e = (rw (← e) refl, rw (← e) refl)
+  pub chosen-refused : (r : Refusal) (fault : Outcome) → Refused r ≡ fault → (replyRefused r ≡ replyWith fault (length ids)) × (before ≡ chosenIn fault ids before)
+  unfolding chosenIn
+  chosen-refused r fault e = (ap (λ (f : Outcome). replyWith f (length ids)) e, rw (← e) refl)
 
   pub chosen-done :
       (n : ℕ) (after : List ℕ) (fault : Outcome) → Done ≡ fault → n ≡ length ids → after ≡ inFront ids before
-      → (Ids n ≡ chosenOf fault ids) × (after ≡ chosenIn fault ids before)
-  unfolding chosenOf chosenIn
-  chosen-done n after fault e p q = (rw (← e) (ap Ids p), rw (← e) q)
+      → (replyDone n ≡ replyWith fault (length ids)) × (after ≡ chosenIn fault ids before)
+  unfolding chosenIn
+  chosen-done n after fault e p q = (ap replyDone p ∙ ap (λ (f : Outcome). replyWith f (length ids)) e, rw (← e) q)
 
 -- ---- which refusal comes first
 pub earlier-kept : (r : Refusal) (known : Bool) (code : Code) → known ≡ false → code ≡ codeOf r → code .number ≡ 1 → r ≡ earlierOf r known
@@ -180,93 +178,44 @@ earlier-kept r known code h e f = rw (h, eq-eqb (codeOf r .number) 1 (ap (λ (z 
 pub earlier-other : (r : Refusal) (known : Bool) (code : Code) → known ≡ false → code ≡ codeOf r → (code .number ≡ 1 → ⊥) → Malformed 0 ≡ earlierOf r known
 earlier-other r known code h e f = rw (h, ne-eqb (codeOf r .number) 1 (λ z. f (ap (λ (z : Code). z .number) e ∙ z))) refl
 
--- ---- what listing the atoms tells
-module _ (t : Tables) where
-  pub listed-none : (fault : Outcome) (r : Refusal) → NotListed r ≡ listed fault t → fault ≡ Refused r
-  unfolding listed
-  listed-none Done r e = cc e
-  listed-none (Refused q) r e = cc e
-
-  pub listed-some : (fault : Outcome) (n : ℕ) → Atoms n ≡ listed fault t → (fault ≡ Done) × (n ≡ length (atoms t))
-  unfolding listed
-  listed-some Done n e = (refl, cc e)
-  listed-some (Refused q) n e = (cc e, cc e)
-
-  pub listing-table : (o : Outcome) → listingFault t 64 ≡ o → tableFault t ≡ o
-  unfolding listingFault bufferFault refuseIf orElse
-  listing-table o e = go (tableFault t) refl
-    where
-      go : (p : Outcome) → tableFault t ≡ p → tableFault t ≡ o
-      go Done h = h ∙ (rw h at e)
-      go (Refused q) h = h ∙ (rw h at e)
-
-  -- the atoms stand in front
-  pub record Found (ids : List ℕ) (n : ℕ) : Type 0 where
-    pub accepted : tableFault t ≡ Done
-    pub fits : n ≤ length ids
-    pub front : take n ids ≡ atoms t
-    pub short : length (take n ids) ≤ 64
-
-  front : (after : List ℕ) (n : ℕ) → n ≡ length (atoms t) → after ≡ inFront (atoms t) (replicate 64 0) → take n after ≡ atoms t
-  front after n e f = ap (take n) f ∙ rw e (take-append-seam (atoms t) _)
-
-  pub found :
-      (after : List ℕ) (answer : Listed) (n : ℕ) → answer ≡ listed (listingFault t 64) t → after ≡ listedIn (listingFault t 64) t (replicate 64 0)
-      → answer ≡ Atoms n → Found after n
-  unfolding listedIn
-  found after answer n e f h =
-      let (d, m) = listed-some (listingFault t 64) n (sym h ∙ e) in
-      let s = listing-table Done d in
-      let u : n ≤ 64 = omega (arith, wellFormed t s .few-atoms) in
-      let g : after ≡ inFront (atoms t) (replicate 64 0) = f ∙ rw d refl in
-      record {
-        accepted = s;
-        fits = omega (arith, ap length g, length-append (atoms t) (drop (length (atoms t)) (replicate 64 0)));
-        front = front after n m g;
-        short = omega (arith, ap length (front after n m g));
-      }
-
-  pub not-found : (answer : Listed) (r : Refusal) → answer ≡ listed (listingFault t 64) t → answer ≡ NotListed r → tableFault t ≡ Refused r
-  not-found answer r e h = listing-table (Refused r) (listed-none (listingFault t 64) r (sym h ∙ e))
-
 module _ (t : Tables) (assignment before : List ℕ) (k : ℕ) where
   pub choosing-rejected :
-      (answer : Listed) (r q : Refusal) → answer ≡ listed (listingFault t 64) t → answer ≡ NotListed r → q ≡ earlierOf r (ltb k (t .variables))
-      → (Rejected q ≡ chosenOf (choosingFault t assignment k (length before)) (chosen t assignment k))
+      (r q : Refusal) → Refused r ≡ tableFault t → q ≡ earlierOf r (ltb k (t .variables))
+      → (replyRefused q ≡ replyWith (choosingFault t assignment k (length before)) (length (chosen t assignment k)))
       × (before ≡ chosenIn (choosingFault t assignment k (length before)) (chosen t assignment k) before)
-  choosing-rejected answer r q e f h =
-      chosen-refused (chosen t assignment k) before q _
-      (ap Refused h ∙ choosing-refused t assignment k (length before) r (not-found t answer r e f))
+  choosing-rejected r q e h =
+      chosen-refused (chosen t assignment k) before q _ (ap Refused h ∙ choosing-refused t assignment k (length before) r (sym e))
 
   pub choosing-found :
-      (ids after : List ℕ) (answer : Chosen) → tableFault t ≡ Done → ids ≡ atoms t
-      → answer ≡ chosenOf (knownFault (length ids) (t .variables) assignment k (length before)) (pick ids (getD assignment k 0))
+      (ids after : List ℕ) (answer : Chosen) → Accepted t ids
+      → chosenReply answer ≡ replyWith (knownFault (length ids) (t .variables) assignment k (length before)) (length (pick ids (getD assignment k 0)))
       → after ≡ chosenIn (knownFault (length ids) (t .variables) assignment k (length before)) (pick ids (getD assignment k 0)) before
-      → (answer ≡ chosenOf (choosingFault t assignment k (length before)) (chosen t assignment k))
+      → (chosenReply answer ≡ replyWith (choosingFault t assignment k (length before)) (length (chosen t assignment k)))
       × (after ≡ chosenIn (choosingFault t assignment k (length before)) (chosen t assignment k) before)
   unfolding chosen
-  choosing-found ids after answer ok e f g =
-      let u = choosing-known t assignment k (length before) ok in
-      (f ∙ rw (e, u) refl, g ∙ rw (e, u) refl)
+  choosing-found ids after answer a f g =
+      let u = choosing-known t assignment k (length before) (a .passed) in
+      (f ∙ rw (a .listed, u) refl, g ∙ rw (a .listed, u) refl)
 
 -- ---- the list that is handed back
 pub record Handed (fault : Outcome) (ids before after : List ℕ) (told : Told) : Type 0 where
   pub back : take (told .count) after ≡ handedBack fault ids before
   pub long : told .count ≡ length (take (told .count) after)
-  pub number : told .number ≡ numberOf fault
-  pub place : told .place ≡ placeOf fault
+  pub number : told .number ≡ replyOf fault .number
+  pub place : told .place ≡ replyOf fault .place
 
 pub handed :
-    (fault : Outcome) (ids before after : List ℕ) (answer : Chosen) (told : Told) → answer ≡ chosenOf fault ids → after ≡ chosenIn fault ids before
-    → told ≡ toldOf answer (length before) → Handed fault ids before after told
-unfolding chosenOf chosenIn handedBack
-handed Done ids before after answer told e f g =
-    let h : told ≡ toldOf (Ids (length ids)) (length before) = g ∙ ap (λ (z : Chosen). toldOf z (length before)) e in
-    let n : told .count ≡ length ids = ap (λ (z : Told). z .count) h in
+    (fault : Outcome) (ids before after : List ℕ) (answer : Chosen) (told : Told) → chosenReply answer ≡ replyWith fault (length ids)
+    → after ≡ chosenIn fault ids before → told ≡ toldOf answer (length before) → Handed fault ids before after told
+unfolding chosenIn handedBack
+handed Done ids before after (Ids m) told e f g =
+    let n : told .count ≡ length ids = ap (λ (z : Told). z .count) g ∙ same-value _ _ e in
     let b : take (told .count) after ≡ ids = rw (n, f) (take-append-seam ids _) in
-    record { back = b; long = n ∙ sym (ap length b); number = ap (λ (z : Told). z .number) h; place = ap (λ (z : Told). z .place) h }
-handed (Refused r) ids before after answer told e f g =
-    let h : told ≡ toldOf (Rejected r) (length before) = g ∙ ap (λ (z : Chosen). toldOf z (length before)) e in
+    record { back = b; long = n ∙ sym (ap length b); number = ap (λ (z : Told). z .number) g; place = ap (λ (z : Told). z .place) g }
+handed Done ids before after (Rejected q) told e f g = not-done q _ e
+handed (Refused r) ids before after (Ids m) told e f g = not-done r m (sym e)
+handed (Refused r) ids before after (Rejected q) told e f g =
+    let h : told ≡ toldOf (Rejected r) (length before) = g ∙ ap (λ (z : Refusal). toldOf (Rejected z) (length before)) (same-refusal q r e) in
     let n : told .count ≡ length before = ap (λ (z : Told). z .count) h in
     let b : take (told .count) after ≡ before = rw (n, f) (take-length before) in
     record { back = b; long = n ∙ sym (ap length b); number = ap (λ (z : Told). z .number) h; place = ap (λ (z : Told). z .place) h }

@@ -14,46 +14,21 @@ use Rattle.subsumption.specs.declared.refusal.Refusal.{Refusal}
 use Rattle.subsumption.specs.declared.refusal.Refusal.the-variants.{BadDerivation}
 use Rattle.subsumption.specs.declared.refusal.Outcome.{Outcome}
 use Rattle.subsumption.specs.declared.refusal.Outcome.the-variants.{Done, Refused}
-use Rattle.subsumption.specs.declared.listing.Listed.{Listed}
-use Rattle.subsumption.specs.declared.listing.Listed.the-variants.{Atoms, Rejected}
 use Rattle.subsumption.specs.Tables.{Tables, or, both, anyBelow, countOf}
 use Rattle.subsumption.specs.Atoms.{atoms}
 use Rattle.subsumption.specs.Closure.{Ready}
 use Rattle.subsumption.specs.Refusal.{refuseIf}
-use Rattle.subsumption.specs.Check.{tableFault, assignmentFault, bufferFault}
-use Rattle.subsumption.specs.Listing.{listingFault, listed, listedIn}
+use Rattle.subsumption.specs.Check.{pairFault}
+use Rattle.subsumption.specs.Ground.{Accepted}
 use Rattle.subsumption.specs.Rules.{byRule, follows}
 use Rattle.subsumption.specs.Decide.{decidingFault}
 use Rattle.subsumption.proofs.Bools.{both-intro, both-none, both-skip, or-first, or-second, or-skip, or-false, eq-or-ne}
-use Rattle.subsumption.proofs.Refusals.{both-done, done-le, stops, goes-on, refused-if, done-if, passed-if}
+use Rattle.subsumption.proofs.Refusals.{stops, goes-on, refused-if, done-if, passed-if}
 use Rattle.subsumption.proofs.Scans.{Scan, scan-none, scan-more, scan-found, scan-done}
-use Rattle.subsumption.proofs.Accepted.{wellFormed}
-use Rattle.subsumption.proofs.Deciding.{ready}
 use Rattle.matching.specs.Derivation.{linesOf, ruleAt, leftAt, rightAt, extraAt, pairAt, provedBy, lineFollows, noLines, ruleFault, lastFault, derivationFault, checkingFault}
-use Rattle.matching.specs.LineMarks.{Square, seen, Of, ByRule, Fetched, MarksOf, LineTest, RulesTest}
+use Rattle.matching.specs.LineMarks.{Square, seen, Of, ByRule, MarksOf, LineTest, RulesTest}
 use Rattle.matching.proofs.Cells.{seen-set-same, seen-set-row, seen-set-column, square-set, cell-below, square-small}
 use Rattle.matching.proofs.RuleMonotone.{of-reads, follows-same}
-
--- ---- the atoms
-listing-done : (t : Tables) (size : ℕ) → tableFault t ≡ Done → 64 ≤ size → listingFault t size ≡ Done
-unfolding listingFault bufferFault
-listing-done t size h l = sym (both-done _ _ _ _ refl h refl (sym (done-le size 64 _ l)))
-
-module _ (t : Tables) (before after : List ℕ) (answer : Listed) (h : tableFault t ≡ Done) (l : 64 ≤ length before)
-    (e : answer ≡ listed (listingFault t (length before)) t) (f : after ≡ listedIn (listingFault t (length before)) t before) where
-  listed-is : answer ≡ Atoms (length (atoms t))
-  unfolding listed
-  listed-is = e ∙ rw (listing-done t (length before) h l)
-
-  pub fetched : (n : ℕ) → answer ≡ Atoms n → Fetched t after n
-  unfolding listedIn
-  fetched n g =
-      let q : n ≡ length (atoms t) = cc (g, listed-is) in
-      let a : after ≡ atoms t ++ drop (length (atoms t)) before = f ∙ rw (listing-done t (length before) h l) in
-      record { count = q; list = rw (q, a) (take-append-seam (atoms t) _) }
-
-  pub fetched-not : (r : Refusal) → answer ≡ Rejected r → Fetched t after 0
-  fetched-not r g = absurd (let z : _≡_ {A = ℕ} 0 1 = cc (g, listed-is) in omega arith)
 
 -- ---- one line
 pair-same : (lines : List ℕ) (i j k : ℕ) → i ≡ leftAt lines k → j ≡ rightAt lines k → pairAt lines i j k ≡ true
@@ -177,16 +152,9 @@ module _ (concepts inclusions ids assignment lines : List ℕ) where
   unfolding ruleFault
   rules-kept k p h = record { tells = λ t of. scan-done _ _ _ k (p .scan t of) h }
 
-pub fetched-of : (t : Tables) (out : List ℕ) (n : ℕ) → Fetched t out n → Of t (t .concepts) (t .inclusions) (take n out)
-fetched-of t out n f = record { concepts-are = refl; inclusions-are = refl; atoms-are = sym (f .list) }
-
-pub fetched-ready :
-    (t : Tables) (assignment out : List ℕ) (n : ℕ) → tableFault t ≡ Done → assignmentFault t assignment ≡ Done → Fetched t out n
-    → Ready (t .concepts) (t .inclusions) (take n out) assignment
-fetched-ready t assignment out n h k f = subst (λ (z : List ℕ). Ready (t .concepts) (t .inclusions) z assignment) (sym (f .list)) (ready t assignment h k)
-
-pub fetched-room : (t : Tables) (out : List ℕ) (n : ℕ) → tableFault t ≡ Done → Fetched t out n → n ≤ 64
-fetched-room t out n h f = omega (arith, f .count, wellFormed t h .few-atoms)
+-- ---- the accepted tables behind them
+pub accepted-of : (t : Tables) (ids : List ℕ) → Accepted t ids → Of t (t .concepts) (t .inclusions) ids
+accepted-of t ids a = record { concepts-are = refl; inclusions-are = refl; atoms-are = sym (a .listed) }
 
 -- ---- the list as a whole
 pub shape-empty : (lines : List ℕ) → length lines ≡ 0 → Refused (BadDerivation 0) ≡ refuseIf (noLines lines) (BadDerivation 0)
@@ -222,6 +190,12 @@ module _ (left right : ℕ) (lines : List ℕ) where
   last-both e f = done-if _ _ (ap not (pair-same lines left right (linesOf lines - 1) (sym e) (sym f)))
 
 -- the whole check, in its order
+pub pair-stops :
+    (t : Tables) (assignment : List ℕ) (left right : ℕ) (lines : List ℕ) (r : Refusal) → Refused r ≡ pairFault t left right
+    → Refused r ≡ checkingFault t assignment left right lines
+unfolding checkingFault decidingFault
+pair-stops t assignment left right lines r e = stops (Refused r) _ _ r (stops (Refused r) _ _ r e refl) refl
+
 module _ (t : Tables) (assignment : List ℕ) (left right : ℕ) (lines : List ℕ) (w x y z : Outcome) (a : w ≡ decidingFault t assignment left right) where
   pub asked-stops : (r : Refusal) → w ≡ Refused r → Refused r ≡ checkingFault t assignment left right lines
   unfolding checkingFault

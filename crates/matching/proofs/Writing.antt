@@ -3,6 +3,7 @@ use Prim.Native.Nat.{ℕ, _-_, _*_, _<_, _≤_}
 use mathlib.Core.Path.{_≡_, refl, sym, _∙_, subst}
 use mathlib.Core.List.{List}
 use mathlib.Core.Bool.{Bool, true}
+use mathlib.Core.Logic.{inl, inr}
 use native.Mathlib.Omega.{arith}
 use lib.ListN.{length, take, replicate, length-replicate}
 use lib.Seq.{length-take-le}
@@ -12,20 +13,22 @@ use Rattle.subsumption.specs.declared.refusal.Outcome.{Outcome}
 use Rattle.subsumption.specs.declared.refusal.Outcome.the-variants.{Done, Refused}
 use Rattle.subsumption.specs.declared.decide.Decision.{Decision}
 use Rattle.subsumption.specs.declared.decide.Decision.the-variants.{Yes, No, Rejected as Undecided}
-use Rattle.subsumption.specs.Tables.{Tables, countOf}
+use Rattle.subsumption.specs.Tables.{Tables, tables, countOf}
 use Rattle.subsumption.specs.Subsumption.{Subsumed}
-use Rattle.subsumption.specs.Check.{bufferFault}
-use Rattle.subsumption.specs.Decide.{decidingFault, Decides, Answers}
+use Rattle.subsumption.specs.Refusal.{Reply, replyDone, replyRefused, Replies}
+use Rattle.subsumption.specs.Check.{bufferFault, pairFault, assignmentFaultAt}
+use Rattle.subsumption.specs.Decide.{decidingFault, decisionReply, Tells, Decides}
+use Rattle.subsumption.specs.Ground.{Accepted, Prepared, ForAccepted}
 use Rattle.subsumption.proofs.Refusals.{stops, goes-on, refused-lt, done-le}
 use Rattle.subsumption.proofs.Accepted.{wellFormed}
-use Rattle.subsumption.proofs.Deciding.{asked-tables, asked-assignment, asked-left, asked-right}
-use Rattle.matching.specs.declared.writer.Derived.the-variants.{Lines, Rejected}
-use Rattle.matching.specs.Deriving.{roomFor, derivingFault, DerivationOf, Derives}
-use Rattle.matching.specs.LineMarks.{seen, Fetched}
+use Rattle.subsumption.proofs.Replies.{not-done}
+use Rattle.subsumption.proofs.Deciding.{prepared-ready, known-fault}
+use Rattle.matching.specs.Deriving.{roomFor, derivingFault, DerivationOf, DerivesAfter, Derives}
+use Rattle.matching.specs.LineMarks.{seen}
 use Rattle.matching.specs.LineSearch.{Grounds}
 use Rattle.matching.specs.Noting.{Asked, NotedTo, Enough, Copied, WrittenFor}
 use Rattle.matching.proofs.Cells.{square-small}
-use Rattle.matching.proofs.LineChecks.{fetched-of, fetched-ready}
+use Rattle.matching.proofs.LineChecks.{accepted-of}
 use Rattle.matching.proofs.Copies.{derivation-written}
 
 pub noted-few : (concepts inclusions ids assignment : List ℕ) (left right : ℕ) (marks : List Bool) (notes : List ℕ) (n : ℕ) → NotedTo concepts inclusions ids assignment left right marks notes n → n ≤ countOf concepts * countOf concepts
@@ -45,22 +48,20 @@ lines-written concepts inclusions ids assignment left right marks needed notes b
     }
 
 -- ---- what is lent to the lines' writer
-module _ (t : Tables) (assignment : List ℕ) (left right : ℕ) (out : List ℕ) (n : ℕ) (h : decidingFault t assignment left right ≡ Done) (f : Fetched t out n) where
-  pub asked-grounds : Grounds (t .concepts) (t .inclusions) (take n out) assignment
-  asked-grounds =
-      record {
-        ready = fetched-ready t assignment out n (asked-tables t assignment left right h) (asked-assignment t assignment left right h) f;
-        few-pairs = omega (arith, wellFormed t (asked-tables t assignment left right h) .few-inclusions);
-      }
+module _ (cs is : List ℕ) (v : ℕ) (ids assignment : List ℕ) (p : Prepared cs is v ids) (x : Outcome) (e : x ≡ assignmentFaultAt (length ids) v assignment) (h : x ≡ Done) where
+  pub known-grounds : Grounds cs is ids assignment
+  known-grounds =
+      record { ready = prepared-ready cs is v ids p assignment x e h; few-pairs = omega (arith, wellFormed _ (p .accepted .passed) .few-inclusions) }
 
-  pub asked-subsumed : Subsumed t assignment left right → Asked (t .concepts) (t .inclusions) (take n out) assignment left right
-  asked-subsumed s =
+  pub known-asked :
+      (left right : ℕ) → left < countOf cs → right < countOf cs → Subsumed (tables cs is (p .questions) v) assignment left right → Asked cs is ids assignment left right
+  known-asked left right l k s =
       record {
-        t = t;
-        of = fetched-of t out n f;
-        accepted = asked-tables t assignment left right h;
-        left-known = asked-left t assignment left right h;
-        right-known = asked-right t assignment left right h;
+        t = tables cs is (p .questions) v;
+        of = accepted-of _ ids (p .accepted);
+        accepted = p .accepted .passed;
+        left-known = l;
+        right-known = k;
         subsumed = s;
       }
 
@@ -68,42 +69,71 @@ pub notes-long : (count : ℕ) → count ≤ 192 → length {A = ℕ} (take (cou
 notes-long count h = length-take-le _ _ (rw length-replicate (omega (arith, square-small count h)))
 
 -- ---- the answers
-module _ (t : Tables) (assignment : List ℕ) (left right : ℕ) (before after : List ℕ) where
-  derives-refused : (r : Refusal) → Refused r ≡ derivingFault t assignment left right (length before) → after ≡ before
-      → Derives t assignment left right before after (derivingFault t assignment left right (length before)) (Rejected r)
-  derives-refused r e k = subst (λ (z : Outcome). Derives t assignment left right before after z (Rejected r)) e (refl, k)
+module _ (t : Tables) (assignment : List ℕ) (left right : ℕ) (before : List ℕ) where
+  derives-refused : (r : Refusal) → Refused r ≡ derivingFault t assignment left right (length before) → Derives t assignment left right before before (replyRefused r)
+  derives-refused r e = subst (λ (z : Outcome). DerivesAfter z t assignment left right before before (replyRefused r)) e (refl, refl)
+
+  pub derive-refused : (r : Refusal) → Refused r ≡ pairFault t left right → Derives t assignment left right before before (replyRefused r)
+  unfolding derivingFault decidingFault
+  derive-refused r e = derives-refused r (stops (Refused r) _ _ r (stops (Refused r) _ _ r e refl) refl)
 
   module _ (w : Outcome) (a : w ≡ decidingFault t assignment left right) where
-    pub derive-stops : (r : Refusal) → w ≡ Refused r → after ≡ before → Derives t assignment left right before after (derivingFault t assignment left right (length before)) (Rejected r)
+    derive-stops : (r : Refusal) → w ≡ Refused r → Derives t assignment left right before before (replyRefused r)
     unfolding derivingFault
-    derive-stops r e k = derives-refused r (stops _ _ _ r a e) k
+    derive-stops r e = derives-refused r (stops _ _ _ r a e)
 
     module _ (f : w ≡ Done) where
-      pub derive-short :
-          length before < roomFor t → after ≡ before
-          → Derives t assignment left right before after (derivingFault t assignment left right (length before)) (Rejected (BufferTooShort (roomFor t)))
+      derive-short : length before < roomFor t → Derives t assignment left right before before (replyRefused (BufferTooShort (roomFor t)))
       unfolding derivingFault bufferFault
-      derive-short h k = derives-refused _ (goes-on _ _ _ _ a f (refused-lt _ _ _ h)) k
+      derive-short h = derives-refused _ (goes-on _ _ _ _ a f (refused-lt _ _ _ h))
 
-      module _ (h : roomFor t ≤ length before) (x : Decision) (d : Decides t assignment left right x) where
+      module _ (h : roomFor t ≤ length before) where
         passes : Done ≡ derivingFault t assignment left right (length before)
         unfolding derivingFault bufferFault
         passes = goes-on _ _ _ _ a f (done-le _ _ _ h)
 
-        decided : Answers t assignment left right Done x
-        decided = subst (λ (z : Outcome). Answers t assignment left right z x) (sym a ∙ f) d
+        derive-lines :
+            (after : List ℕ) (n : ℕ) → Subsumed t assignment left right → DerivationOf t assignment left right before after n
+            → Derives t assignment left right before after (replyDone n)
+        derive-lines after n s g = subst (λ (z : Outcome). DerivesAfter z t assignment left right before after (replyDone n)) passes (inl (refl, s, g))
 
-        pub derive-subsumed : x ≡ Yes → Subsumed t assignment left right
-        derive-subsumed e = subst (Answers t assignment left right Done) e decided
+        derive-not : (Subsumed t assignment left right → ⊥) → Derives t assignment left right before before (replyRefused NotSubsumed)
+        derive-not s = subst (λ (z : Outcome). DerivesAfter z t assignment left right before before (replyRefused NotSubsumed)) passes (inr (refl, s, refl))
 
-        pub derive-lines :
-            (n : ℕ) → x ≡ Yes → DerivationOf t assignment left right before after n
-            → Derives t assignment left right before after (derivingFault t assignment left right (length before)) (Lines n)
-        derive-lines n e g = subst (λ (z : Outcome). Derives t assignment left right before after z (Lines n)) passes (derive-subsumed e, g)
+      -- what the decision says
+      decided : (reply : Reply) → Decides t assignment left right reply → Replies Done (Tells t assignment left right) reply
+      decided reply d = subst (λ (z : Outcome). Replies z (Tells t assignment left right) reply) (sym a ∙ f) d
 
-        pub derive-not : x ≡ No → after ≡ before → Derives t assignment left right before after (derivingFault t assignment left right (length before)) (Rejected NotSubsumed)
-        derive-not e k =
-            subst (λ (z : Outcome). Derives t assignment left right before after z (Rejected NotSubsumed)) passes (subst (Answers t assignment left right Done) e decided, refl, k)
+-- the same for tables accepted with any questions
+module _ (cs is : List ℕ) (v : ℕ) (ids assignment : List ℕ) (left right : ℕ) (l : left < countOf cs) (k : right < countOf cs) (before : List ℕ)
+    (x : Outcome) (e : x ≡ assignmentFaultAt (length ids) v assignment) where
+  fault-is : (qs : List ℕ) (a : Accepted (tables cs is qs v) ids) → x ≡ decidingFault (tables cs is qs v) assignment left right
+  fault-is qs a = known-fault cs is v ids assignment left right l k x e qs a
 
-        pub derive-never : (r : Refusal) → x ≡ Undecided r → Derives t assignment left right before after (derivingFault t assignment left right (length before)) (Rejected r)
-        derive-never r e = absurd (subst (Answers t assignment left right Done) e decided)
+  pub known-stops : (r : Refusal) → x ≡ Refused r → ForAccepted cs is v ids (λ t. Derives t assignment left right before before (replyRefused r))
+  known-stops r h qs a = derive-stops _ assignment left right before x (fault-is qs a) r h
+
+  module _ (h : x ≡ Done) where
+    pub known-short :
+        length before < countOf cs * countOf cs * 4
+        → ForAccepted cs is v ids (λ t. Derives t assignment left right before before (replyRefused (BufferTooShort (countOf cs * countOf cs * 4))))
+    known-short s qs a = derive-short _ assignment left right before x (fault-is qs a) h s
+
+    module _ (room : countOf cs * countOf cs * 4 ≤ length before) (d : Decision) (dec : ForAccepted cs is v ids (λ t. Decides t assignment left right (decisionReply d))) where
+      said : (qs : List ℕ) (a : Accepted (tables cs is qs v) ids) (y : Decision) → d ≡ y → Replies Done (Tells (tables cs is qs v) assignment left right) (decisionReply y)
+      said qs a y s = subst (λ (z : Decision). Replies Done (Tells (tables cs is qs v) assignment left right) (decisionReply z)) s (decided _ assignment left right before x (fault-is qs a) h _ (dec qs a))
+
+      pub known-subsumed : d ≡ Yes → ForAccepted cs is v ids (λ t. Subsumed t assignment left right)
+      known-subsumed s qs a = said qs a Yes s .1
+
+      pub known-lines :
+          (after : List ℕ) (n : ℕ) → d ≡ Yes → WrittenFor cs is ids assignment left right before after n
+          → ForAccepted cs is v ids (λ t. Derives t assignment left right before after (replyDone n))
+      known-lines after n s w qs a =
+          derive-lines _ assignment left right before x (fault-is qs a) h room after n (known-subsumed s qs a) (w .each _ (accepted-of _ ids a))
+
+      pub known-not : d ≡ No → ForAccepted cs is v ids (λ t. Derives t assignment left right before before (replyRefused NotSubsumed))
+      known-not s qs a = derive-not _ assignment left right before x (fault-is qs a) h room (said qs a No s .1)
+
+      pub known-never : (r : Refusal) → d ≡ Undecided r → ForAccepted cs is v ids (λ t. Derives t assignment left right before before (replyRefused r))
+      known-never r s qs a = not-done r _ (said qs a (Undecided r) s .0)

@@ -8,7 +8,7 @@ use Rattle.subsumption.specs.declared.refusal.Refusal.the-variants.{Malformed}
 use Rattle.subsumption.specs.declared.refusal.Outcome.{Outcome}
 use Rattle.subsumption.specs.declared.refusal.Outcome.the-variants.{Done, Refused}
 use Rattle.subsumption.specs.Tables.{Tables}
-use Rattle.subsumption.specs.Refusal.{codeOf, orElse, refuseIf}
+use Rattle.subsumption.specs.Refusal.{Reply, replyDone, replyRefused, orElse, refuseIf}
 use Rattle.subsumption.specs.Check.{limitFault, tableFault, assignmentFault, bufferFault}
 use Rattle.matching.specs.declared.chosen.Chosen.{Chosen}
 use Rattle.matching.specs.declared.chosen.Chosen.the-variants.{Ids, Rejected}
@@ -23,9 +23,10 @@ choosingFault t assignment k size =
     orElse (limitFault t)
     (orElse (variableFault (t .variables) k) (orElse (tableFault t) (orElse (assignmentFault t assignment) (bufferFault 64 size))))
 
-unfoldable pub chosenOf : Outcome → List ℕ → Chosen
-chosenOf Done ids = Ids (length ids)
-chosenOf (Refused r) ids = Rejected r
+-- The value is how many ids there are.
+abbrev pub chosenReply : Chosen → Reply
+chosenReply (Ids n) = replyDone n
+chosenReply (Rejected r) = replyRefused r
 
 -- The ids stand in front; past them, and after a refusal, the buffer keeps its values.
 unfoldable pub chosenIn : Outcome → List ℕ → List ℕ → List ℕ
@@ -36,12 +37,3 @@ chosenIn (Refused r) ids before = before
 unfoldable pub handedBack : Outcome → List ℕ → List ℕ → List ℕ
 handedBack Done ids before = ids
 handedBack (Refused r) ids before = before
-
--- The paper's number and place beside the list: both 0 when there is no refusal.
-abbrev pub numberOf : Outcome → ℕ
-numberOf Done = 0
-numberOf (Refused r) = codeOf r .number
-
-abbrev pub placeOf : Outcome → ℕ
-placeOf Done = 0
-placeOf (Refused r) = codeOf r .place

@@ -2,6 +2,7 @@
 use Prim.Native.Nat.{ℕ, _*_, _<_, _≤_}
 use mathlib.Core.Path.{_≡_}
 use mathlib.Core.List.{List}
+use mathlib.Core.Logic.{_⊎_}
 use lib.ListN.{length, take, drop}
 use Rattle.subsumption.specs.declared.refusal.Refusal.the-variants.{NotSubsumed}
 use Rattle.subsumption.specs.declared.refusal.Outcome.{Outcome}
@@ -10,7 +11,7 @@ use Rattle.matching.specs.declared.writer.Derived.{Derived}
 use Rattle.matching.specs.declared.writer.Derived.the-variants.{Lines, Rejected}
 use Rattle.subsumption.specs.Tables.{Tables, countOf}
 use Rattle.subsumption.specs.Subsumption.{Subsumed}
-use Rattle.subsumption.specs.Refusal.{orElse}
+use Rattle.subsumption.specs.Refusal.{Reply, replyDone, replyRefused, orElse}
 use Rattle.subsumption.specs.Check.{bufferFault}
 use Rattle.subsumption.specs.Decide.{decidingFault}
 use Rattle.matching.specs.Derivation.{leftAt, rightAt, derivationFault}
@@ -31,8 +32,18 @@ pub record DerivationOf (t : Tables) (assignment : List ℕ) (left right : ℕ) 
   pub once : (k m : ℕ) → k < m → m < n → leftAt after k ≡ leftAt after m → rightAt after k ≡ rightAt after m → ⊥
   pub rest : drop (n * 4) after ≡ drop (n * 4) before
 
--- Lines exactly when the pair is subsumed, else refusal 11; a refusal leaves the buffer as it was.
-abbrev pub Derives : Tables → List ℕ → ℕ → ℕ → List ℕ → List ℕ → Outcome → Derived → Type 0
-Derives t assignment left right before after Done (Lines n) = Subsumed t assignment left right × DerivationOf t assignment left right before after n
-Derives t assignment left right before after Done (Rejected r) = (Subsumed t assignment left right → ⊥) × (r ≡ NotSubsumed) × (after ≡ before)
-Derives t assignment left right before after (Refused r) answer = (answer ≡ Rejected r) × (after ≡ before)
+-- The value is how many lines there are.
+abbrev pub derivedReply : Derived → Reply
+derivedReply (Lines n) = replyDone n
+derivedReply (Rejected r) = replyRefused r
+
+-- Where nothing else is refused, lines exactly when the pair is subsumed, else refusal 11. A refusal leaves the buffer as it was.
+abbrev pub DerivesAfter : Outcome → Tables → List ℕ → ℕ → ℕ → List ℕ → List ℕ → Reply → Type 0
+DerivesAfter Done t assignment left right before after reply =
+    ((reply ≡ replyDone (reply .value)) × Subsumed t assignment left right × DerivationOf t assignment left right before after (reply .value))
+    ⊎ ((reply ≡ replyRefused NotSubsumed) × (Subsumed t assignment left right → ⊥) × (after ≡ before))
+DerivesAfter (Refused r) t assignment left right before after reply = (reply ≡ replyRefused r) × (after ≡ before)
+
+abbrev pub Derives : Tables → List ℕ → ℕ → ℕ → List ℕ → List ℕ → Reply → Type 0
+Derives t assignment left right before after reply =
+    DerivesAfter (derivingFault t assignment left right (length before)) t assignment left right before after reply

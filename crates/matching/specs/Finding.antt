@@ -2,6 +2,7 @@
 use Prim.Native.Nat.{ℕ}
 use mathlib.Core.Path.{_≡_}
 use mathlib.Core.List.{List}
+use mathlib.Core.Logic.{_⊎_}
 use lib.ListN.{length, take, drop}
 use Rattle.subsumption.specs.declared.refusal.Refusal.the-variants.{NoAssignment}
 use Rattle.subsumption.specs.declared.refusal.Outcome.{Outcome}
@@ -9,7 +10,7 @@ use Rattle.subsumption.specs.declared.refusal.Outcome.the-variants.{Done, Refus
 use Rattle.matching.specs.declared.find.Match.{Match}
 use Rattle.matching.specs.declared.find.Match.the-variants.{Filled, Nothing, Rejected}
 use Rattle.subsumption.specs.Tables.{Tables}
-use Rattle.subsumption.specs.Refusal.{orElse}
+use Rattle.subsumption.specs.Refusal.{Reply, replyDone, replyRefused, orElse}
 use Rattle.subsumption.specs.Check.{tableFault, bufferFault}
 use Rattle.matching.specs.Solving.{Substitution, SolvesBy, First}
 
@@ -34,14 +35,16 @@ pub record NoneSolves (t : Tables) (before after : List ℕ) : Type 0 where
   pub none : (σ : Substitution t) → SolvesBy t σ → ⊥
   pub kept : after ≡ before
 
-abbrev pub Finds : Tables → List ℕ → List ℕ → Outcome → Match → Type 0
-Finds t before after Done Filled = FilledBy t before after
-Finds t before after Done Nothing = NoneSolves t before after
-Finds t before after Done (Rejected r) = ⊥
-Finds t before after (Refused r) answer = (answer ≡ Rejected r) × (after ≡ before)
+abbrev pub matchReply : Match → Reply
+matchReply Filled = replyDone 0
+matchReply Nothing = replyRefused NoAssignment
+matchReply (Rejected r) = replyRefused r
 
--- The paper's refusal for an answer that gives no assignment.
-abbrev pub refusalOf : Match → Outcome
-refusalOf Filled = Done
-refusalOf Nothing = Refused NoAssignment
-refusalOf (Rejected r) = Refused r
+-- Where nothing is refused, either the first assignment is written, or none exists and the reply is refusal 10.
+abbrev pub FindsAfter : Outcome → Tables → List ℕ → List ℕ → Reply → Type 0
+FindsAfter Done t before after reply =
+    ((reply ≡ replyDone 0) × FilledBy t before after) ⊎ ((reply ≡ replyRefused NoAssignment) × NoneSolves t before after)
+FindsAfter (Refused r) t before after reply = (reply ≡ replyRefused r) × (after ≡ before)
+
+abbrev pub Finds : Tables → List ℕ → List ℕ → Reply → Type 0
+Finds t before after reply = FindsAfter (findingFault t (length before)) t before after reply

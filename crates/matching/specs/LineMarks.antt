@@ -3,7 +3,7 @@ use Prim.Native.Nat.{ℕ, _+_, _*_, _<_, _≤_}
 use mathlib.Core.Path.{_≡_}
 use mathlib.Core.List.{List}
 use mathlib.Core.Bool.{Bool, true, false}
-use lib.ListN.{length, getD, take}
+use lib.ListN.{length, getD}
 use Rattle.subsumption.specs.declared.tables.Row.{Row}
 use Rattle.subsumption.specs.Tables.{Tables, Node, topAt, nameAt, existsAt, andAt, varAt, decode, countOf}
 use Rattle.subsumption.specs.Atoms.{atoms}
@@ -45,11 +45,6 @@ pub record Of (t : Tables) (concepts inclusions ids : List ℕ) : Type 0 where
 abbrev pub ByRule : List ℕ → List ℕ → List ℕ → List ℕ → List Bool → ℕ → ℕ → ℕ → ℕ → Bool → Type 0
 ByRule concepts inclusions ids assignment marks rule left right extra answer =
     (t : Tables) → Of t concepts inclusions ids → answer ≡ byRule t assignment (seen (countOf concepts) marks) rule left right extra
-
--- the atoms in front of a buffer
-pub record Fetched (t : Tables) (out : List ℕ) (n : ℕ) : Type 0 where
-  pub count : n ≡ length (atoms t)
-  pub list : take n out ≡ atoms t
 
 -- the marked pairs are those on the first n lines
 pub record MarksOf (count : ℕ) (marks : List Bool) (lines : List ℕ) (n : ℕ) : Type 0 where

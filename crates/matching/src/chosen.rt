@@ -1,6 +1,6 @@
 // Listing one variable's chosen ids.
 use subsumption::Listed;
-use subsumption::check_assignment;
+use subsumption::helpers::check_assignment;
 use subsumption::list_atoms;
 use subsumption::refusal::Outcome;
 use subsumption::refusal::Refusal;
@@ -12,9 +12,10 @@ ghost use lib.Dec.{ltb};
 ghost use lib.ListN.{length, getD};
 ghost use Rattle.subsumption.specs.Tables.{tables};
 ghost use Rattle.subsumption.specs.Atoms.{pick, chosen};
+ghost use Rattle.subsumption.specs.Refusal.{replyWith, replyOf};
 ghost use Rattle.subsumption.specs.Check.{assignmentFaultAt};
 ghost use Rattle.subsumption.specs.Marks.{inFront};
-ghost use Rattle.matching.specs.Chosen.{choosingFault, chosenOf, chosenIn, handedBack, numberOf, placeOf};
+ghost use Rattle.matching.specs.Chosen.{choosingFault, chosenReply, chosenIn, handedBack};
 ghost use Rattle.matching.specs.Listing.{knownFault, earlierOf, toldOf};
 
 pub enum Chosen {
@@ -58,7 +59,7 @@ fn put_known(
     out: &mut [u16],
 ) -> Chosen
     requires { ⌜ length (now ids) ≤ 64 ⌝ }
-    ensures { λ r. ⌜ r ≡ chosenOf (knownFault (length (now (ids .entry))) variables (now (assignment .entry)) variable (length (now (out .entry)))) (pick (now (ids .entry)) (getD (now (assignment .entry)) variable 0)) ⌝ }
+    ensures { λ r. ⌜ chosenReply r ≡ replyWith (knownFault (length (now (ids .entry))) variables (now (assignment .entry)) variable (length (now (out .entry)))) (length (pick (now (ids .entry)) (getD (now (assignment .entry)) variable 0))) ⌝ }
     ensures { λ r. ⌜ now (out .exit) ≡ chosenIn (knownFault (length (now (ids .entry))) variables (now (assignment .entry)) variable (length (now (out .entry)))) (pick (now (ids .entry)) (getD (now (assignment .entry)) variable 0)) (now (out .entry)) ⌝ }
 {
     if variables <= variable {
@@ -99,7 +100,7 @@ pub fn put_chosen(
     variable: u16,
     out: &mut [u16],
 ) -> Chosen
-    ensures { λ r. ⌜ r ≡ chosenOf (choosingFault (tables (now (concepts .entry)) (now (inclusions .entry)) (now (questions .entry)) variables) (now (assignment .entry)) variable (length (now (out .entry)))) (chosen (tables (now (concepts .entry)) (now (inclusions .entry)) (now (questions .entry)) variables) (now (assignment .entry)) variable) ⌝ }
+    ensures { λ r. ⌜ chosenReply r ≡ replyWith (choosingFault (tables (now (concepts .entry)) (now (inclusions .entry)) (now (questions .entry)) variables) (now (assignment .entry)) variable (length (now (out .entry)))) (length (chosen (tables (now (concepts .entry)) (now (inclusions .entry)) (now (questions .entry)) variables) (now (assignment .entry)) variable)) ⌝ }
     ensures { λ r. ⌜ now (out .exit) ≡ chosenIn (choosingFault (tables (now (concepts .entry)) (now (inclusions .entry)) (now (questions .entry)) variables) (now (assignment .entry)) variable (length (now (out .entry)))) (chosen (tables (now (concepts .entry)) (now (inclusions .entry)) (now (questions .entry)) variables) (now (assignment .entry)) variable) (now (out .entry)) ⌝ }
 {
     let mut ids = [0u16; 64];
@@ -145,8 +146,8 @@ pub fn list_chosen<'a>(
     place: &mut u64,
 ) -> &'a mut [u16]
     ensures { λ r. ⌜ now r ≡ handedBack (choosingFault (tables (now (concepts .entry)) (now (inclusions .entry)) (now (questions .entry)) variables) (now (assignment .entry)) variable (length (now (out .entry)))) (chosen (tables (now (concepts .entry)) (now (inclusions .entry)) (now (questions .entry)) variables) (now (assignment .entry)) variable) (now (out .entry)) ⌝ }
-    ensures { λ r. ⌜ now (number .exit) ≡ numberOf (choosingFault (tables (now (concepts .entry)) (now (inclusions .entry)) (now (questions .entry)) variables) (now (assignment .entry)) variable (length (now (out .entry)))) ⌝ }
-    ensures { λ r. ⌜ now (place .exit) ≡ placeOf (choosingFault (tables (now (concepts .entry)) (now (inclusions .entry)) (now (questions .entry)) variables) (now (assignment .entry)) variable (length (now (out .entry)))) ⌝ }
+    ensures { λ r. ⌜ now (number .exit) ≡ replyOf (choosingFault (tables (now (concepts .entry)) (now (inclusions .entry)) (now (questions .entry)) variables) (now (assignment .entry)) variable (length (now (out .entry)))) .number ⌝ }
+    ensures { λ r. ⌜ now (place .exit) ≡ replyOf (choosingFault (tables (now (concepts .entry)) (now (inclusions .entry)) (now (questions .entry)) variables) (now (assignment .entry)) variable (length (now (out .entry)))) .place ⌝ }
 {
     let size = out.len();
     let answer = put_chosen(

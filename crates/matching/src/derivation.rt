@@ -2,8 +2,8 @@
 use crate::rules::by_rule;
 use crate::rules::number_at;
 use subsumption::Listed;
-use subsumption::check_asked;
-use subsumption::list_atoms;
+use subsumption::helpers::check_assignment;
+use subsumption::helpers::list_asked;
 use subsumption::refusal::Outcome;
 use subsumption::refusal::Refusal;
 ghost use mathlib.Core.Path.{_≡_};
@@ -13,30 +13,11 @@ ghost use lib.ListN.{length, set};
 ghost use Rattle.subsumption.specs.declared.refusal.Refusal.the-variants.{BadDerivation};
 ghost use Rattle.subsumption.specs.declared.refusal.Outcome.the-variants.{Done};
 ghost use Rattle.subsumption.specs.Tables.{tables, countOf};
-ghost use Rattle.subsumption.specs.Refusal.{refuseIf};
-ghost use Rattle.subsumption.specs.Check.{tableFault, assignmentFault};
+ghost use Rattle.subsumption.specs.Refusal.{replyOf, refuseIf};
 ghost use Rattle.subsumption.specs.Closure.{Ready};
-ghost use Rattle.matching.specs.Derivation.{linesOf, noLines, ruleFault, lastFault, checkingFault};
-ghost use Rattle.matching.specs.LineMarks.{Square, Fetched, MarksOf, LineTest, RulesTest};
-
-// The atoms of accepted tables, in front of the buffer; answers their number.
-pub fn fetch_atoms(
-    concepts: &[u16],
-    inclusions: &[u16],
-    questions: &[u16],
-    variables: u16,
-    out: &mut [u16],
-) -> usize
-    requires { ⌜ tableFault (tables (now concepts) (now inclusions) (now questions) variables) ≡ Done ⌝ }
-    requires { ⌜ 64 ≤ length (now out) ⌝ }
-    ensures { λ r. ⌜ Fetched (tables (now (concepts .entry)) (now (inclusions .entry)) (now (questions .entry)) variables) (now (out .exit)) r ⌝ }
-{
-    let listed = list_atoms(concepts, inclusions, questions, variables, out);
-    if let Listed::Atoms(n) = listed {
-        return n;
-    }
-    0
-}
+ghost use Rattle.subsumption.specs.Ground.{Prepared, ForAccepted};
+ghost use Rattle.matching.specs.Derivation.{linesOf, noLines, lastFault, checkingFault};
+ghost use Rattle.matching.specs.LineMarks.{Square, MarksOf, LineTest, RulesTest};
 
 pub fn mark_pair(marks: &mut [bool], count: usize, i: usize, j: usize)
     requires { ⌜ Square count (now marks) ⌝ }
@@ -113,28 +94,24 @@ fn check_lines(
     Outcome::Done
 }
 
-// The rules of all lines, under accepted tables and an accepted assignment.
+// The rules of all lines.
 fn check_rules(
     concepts: &[u16],
     inclusions: &[u16],
-    questions: &[u16],
-    variables: u16,
+    atoms: &[u16],
     assignment: &[u64],
     lines: &[u16],
 ) -> Outcome
-    requires { ⌜ tableFault (tables (now concepts) (now inclusions) (now questions) variables) ≡ Done ⌝ }
-    requires { ⌜ assignmentFault (tables (now concepts) (now inclusions) (now questions) variables) (now assignment) ≡ Done ⌝ }
-    ensures { λ r. ⌜ r ≡ ruleFault (tables (now (concepts .entry)) (now (inclusions .entry)) (now (questions .entry)) variables) (now (assignment .entry)) (now (lines .entry)) ⌝ }
+    requires { ⌜ Ready (now concepts) (now inclusions) (now atoms) (now assignment) ⌝ }
+    ensures { λ r. ⌜ RulesTest (now (concepts .entry)) (now (inclusions .entry)) (now (atoms .entry)) (now (assignment .entry)) (now (lines .entry)) r ⌝ }
 {
-    let mut ids = [0u16; 64];
-    let n = fetch_atoms(concepts, inclusions, questions, variables, &mut ids);
     let mut marks = [false; 36864];
     let count = concepts.len() / 3;
     let size = count * count;
     check_lines(
         concepts,
         inclusions,
-        &ids[..n],
+        atoms,
         assignment,
         lines,
         &mut marks[..size],
@@ -170,6 +147,36 @@ fn check_last(left: u16, right: u16, lines: &[u16]) -> Outcome
     Outcome::Done
 }
 
+// The rest of the checks, given the atoms of accepted tables and an asked pair.
+fn check_known(
+    concepts: &[u16],
+    inclusions: &[u16],
+    atoms: &[u16],
+    variables: u16,
+    assignment: &[u64],
+    left: u16,
+    right: u16,
+    lines: &[u16],
+) -> Outcome
+    requires { ⌜ Prepared (now concepts) (now inclusions) variables (now atoms) ⌝ }
+    requires { ⌜ (left < countOf (now concepts)) × (right < countOf (now concepts)) ⌝ }
+    ensures { λ r. ⌜ ForAccepted (now (concepts .entry)) (now (inclusions .entry)) variables (now (atoms .entry)) (λ t. r ≡ checkingFault t (now (assignment .entry)) left right (now (lines .entry))) ⌝ }
+{
+    let choices = check_assignment(assignment, variables, atoms.len());
+    if let Outcome::Refused(r) = choices {
+        return Outcome::Refused(r);
+    }
+    let shape = check_shape(lines);
+    if let Outcome::Refused(r) = shape {
+        return Outcome::Refused(r);
+    }
+    let rules = check_rules(concepts, inclusions, atoms, assignment, lines);
+    if let Outcome::Refused(r) = rules {
+        return Outcome::Refused(r);
+    }
+    check_last(left, right, lines)
+}
+
 // Checks a derivation of one pair under an assignment.
 pub fn check_derivation(
     concepts: &[u16],
@@ -181,34 +188,29 @@ pub fn check_derivation(
     right: u16,
     lines: &[u16],
 ) -> Outcome
-    ensures { λ r. ⌜ r ≡ checkingFault (tables (now (concepts .entry)) (now (inclusions .entry)) (now (questions .entry)) variables) (now (assignment .entry)) left right (now (lines .entry)) ⌝ }
+    ensures { λ r. ⌜ replyOf r ≡ replyOf (checkingFault (tables (now (concepts .entry)) (now (inclusions .entry)) (now (questions .entry)) variables) (now (assignment .entry)) left right (now (lines .entry))) ⌝ }
 {
-    let asked = check_asked(
+    let mut ids = [0u16; 64];
+    let listed = list_asked(
         concepts,
         inclusions,
         questions,
         variables,
-        assignment,
         left,
         right,
+        &mut ids,
     );
-    if let Outcome::Refused(r) = asked {
-        return Outcome::Refused(r);
+    match listed {
+        Listed::Rejected(r) => Outcome::Refused(r),
+        Listed::Atoms(count) => check_known(
+            concepts,
+            inclusions,
+            &ids[..count],
+            variables,
+            assignment,
+            left,
+            right,
+            lines,
+        ),
     }
-    let shape = check_shape(lines);
-    if let Outcome::Refused(r) = shape {
-        return Outcome::Refused(r);
-    }
-    let rules = check_rules(
-        concepts,
-        inclusions,
-        questions,
-        variables,
-        assignment,
-        lines,
-    );
-    if let Outcome::Refused(r) = rules {
-        return Outcome::Refused(r);
-    }
-    check_last(left, right, lines)
 }

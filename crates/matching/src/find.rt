@@ -1,20 +1,19 @@
 // Finding the first assignment that makes every question hold.
-use crate::derivation::fetch_atoms;
 use crate::interval::Interval;
 use crate::interval::ones;
 use crate::order::first_solution;
 use crate::solve::some_solution;
-use subsumption::close_ground;
-use subsumption::refusal::Outcome;
+use subsumption::Listed;
+use subsumption::helpers::close_ground;
+use subsumption::list_atoms;
 use subsumption::refusal::Refusal;
 ghost use mathlib.Core.Path.{_≡_};
 ghost use Prim.Native.Nat.{_≤_};
 ghost use lib.ListN.{length};
-ghost use Rattle.subsumption.specs.declared.refusal.Outcome.the-variants.{Done};
 ghost use Rattle.subsumption.specs.Tables.{tables};
-ghost use Rattle.subsumption.specs.Check.{tableFault};
+ghost use Rattle.subsumption.specs.Ground.{Accepted};
 ghost use Rattle.matching.specs.Search.{Full, FoundBy, Copied};
-ghost use Rattle.matching.specs.Finding.{findingFault, Finds};
+ghost use Rattle.matching.specs.Finding.{matchReply, Finds};
 
 pub enum Match {
     Filled,
@@ -44,25 +43,29 @@ pub struct Solution {
     pub choice: [u64; 8],
 }
 
-// The first solution of accepted tables, if there is one.
-fn find_first(concepts: &[u16], inclusions: &[u16], questions: &[u16], variables: u16) -> Solution
-    requires { ⌜ tableFault (tables (now concepts) (now inclusions) (now questions) variables) ≡ Done ⌝ }
+// The first solution of accepted tables, if there is one. The ids are the atoms.
+fn find_first(
+    concepts: &[u16],
+    inclusions: &[u16],
+    questions: &[u16],
+    variables: u16,
+    ids: &[u16],
+) -> Solution
+    requires { ⌜ Accepted (tables (now concepts) (now inclusions) (now questions) variables) (now ids) ⌝ }
     ensures { λ r. ⌜ FoundBy (tables (now (concepts .entry)) (now (inclusions .entry)) (now (questions .entry)) variables) (r .found) (r .choice) ⌝ }
 {
-    let mut ids = [0u16; 64];
-    let count = fetch_atoms(concepts, inclusions, questions, variables, &mut ids);
     let mut ground = [0u64; 576];
-    close_ground(concepts, inclusions, questions, variables, &mut ground);
+    close_ground(concepts, inclusions, ids, variables, &mut ground);
     let mut store = [0u64; 16385];
     let low = [0u64; 8];
-    let full = all_atoms(variables as usize, count);
+    let full = all_atoms(variables as usize, ids.len());
     let start = Interval { low, high: full };
     let some = some_solution(
         concepts,
         inclusions,
         questions,
         variables,
-        &ids[..count],
+        ids,
         &ground,
         full,
         &mut store,
@@ -75,7 +78,7 @@ fn find_first(concepts: &[u16], inclusions: &[u16], questions: &[u16], variables
             inclusions,
             questions,
             variables,
-            &ids[..count],
+            ids,
             &ground,
             &mut store,
             start,
@@ -104,6 +107,31 @@ fn write_choice(choice: [u64; 8], count: usize, out: &mut [u64])
     }
 }
 
+// The rest of the checks, given the atoms of accepted tables, and then the search.
+fn find_known(
+    concepts: &[u16],
+    inclusions: &[u16],
+    questions: &[u16],
+    variables: u16,
+    ids: &[u16],
+    out: &mut [u64],
+) -> Match
+    requires { ⌜ Accepted (tables (now concepts) (now inclusions) (now questions) variables) (now ids) ⌝ }
+    ensures { λ r. ⌜ Finds (tables (now (concepts .entry)) (now (inclusions .entry)) (now (questions .entry)) variables) (now (out .entry)) (now (out .exit)) (matchReply r) ⌝ }
+{
+    let wanted = variables as usize;
+    if out.len() < wanted {
+        return Match::Rejected(Refusal::BufferTooShort(wanted));
+    }
+    let first = find_first(concepts, inclusions, questions, variables, ids);
+    if first.found {
+        let choice = first.choice;
+        write_choice(choice, wanted, out);
+        return Match::Filled;
+    }
+    Match::Nothing
+}
+
 // Finds the first assignment that makes every question hold, or says that no substitution does. It writes one number a variable.
 pub fn find_assignment(
     concepts: &[u16],
@@ -112,21 +140,19 @@ pub fn find_assignment(
     variables: u16,
     out: &mut [u64],
 ) -> Match
-    ensures { λ r. ⌜ Finds (tables (now (concepts .entry)) (now (inclusions .entry)) (now (questions .entry)) variables) (now (out .entry)) (now (out .exit)) (findingFault (tables (now (concepts .entry)) (now (inclusions .entry)) (now (questions .entry)) variables) (length (now (out .entry)))) r ⌝ }
+    ensures { λ r. ⌜ Finds (tables (now (concepts .entry)) (now (inclusions .entry)) (now (questions .entry)) variables) (now (out .entry)) (now (out .exit)) (matchReply r) ⌝ }
 {
-    let checked = subsumption::check_tables(concepts, inclusions, questions, variables);
-    if let Outcome::Refused(r) = checked {
-        return Match::Rejected(r);
+    let mut ids = [0u16; 64];
+    let listed = list_atoms(concepts, inclusions, questions, variables, &mut ids);
+    match listed {
+        Listed::Rejected(r) => Match::Rejected(r),
+        Listed::Atoms(count) => find_known(
+            concepts,
+            inclusions,
+            questions,
+            variables,
+            &ids[..count],
+            out,
+        ),
     }
-    let wanted = variables as usize;
-    if out.len() < wanted {
-        return Match::Rejected(Refusal::BufferTooShort(wanted));
-    }
-    let first = find_first(concepts, inclusions, questions, variables);
-    if first.found {
-        let choice = first.choice;
-        write_choice(choice, wanted, out);
-        return Match::Filled;
-    }
-    Match::Nothing
 }

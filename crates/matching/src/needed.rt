@@ -2,9 +2,9 @@
 use crate::derivation::mark_pair;
 use crate::rules::has_mark;
 use crate::rules::number_at;
-use subsumption::tables::Row;
-use subsumption::tables::pair_at;
-use subsumption::tables::row_at;
+use subsumption::helpers::Row;
+use subsumption::helpers::pair_at;
+use subsumption::helpers::row_at;
 ghost use mathlib.Core.Path.{_≡_};
 ghost use mathlib.Core.Bool.{true};
 ghost use Prim.Native.Nat.{ℕ, _*_, _<_, _≤_};

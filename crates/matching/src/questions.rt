@@ -1,9 +1,9 @@
 // Whether the questions of one kind hold under an assignment: one closing, from what holds under every assignment, and a
 // look at the questions.
-use subsumption::below;
-use subsumption::close_over;
-use subsumption::mark_variables;
-use subsumption::tables::pair_at;
+use subsumption::helpers::below;
+use subsumption::helpers::close_over;
+use subsumption::helpers::mark_variables;
+use subsumption::helpers::pair_at;
 ghost use mathlib.Core.Path.{_≡_};
 ghost use mathlib.Core.Bool.{true, false};
 ghost use Prim.Native.Nat.{ℕ, _<_};

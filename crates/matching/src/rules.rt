@@ -1,7 +1,7 @@
 // The eight rules of a derivation line, tested against marked pairs. Private to the crate.
-use subsumption::tables::Row;
-use subsumption::tables::pair_at;
-use subsumption::tables::row_at;
+use subsumption::helpers::Row;
+use subsumption::helpers::pair_at;
+use subsumption::helpers::row_at;
 ghost use mathlib.Core.Path.{_≡_};
 ghost use Prim.Native.Nat.{ℕ, _<_, _≤_};
 ghost use lib.Dec.{eqb, ltb};

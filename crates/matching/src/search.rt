@@ -1,7 +1,7 @@
 // The search for a pair that follows from marked pairs, with its rule and extra. Private to the crate.
 use crate::rules::by_rule;
 use crate::rules::has_mark;
-use subsumption::tables::row_at;
+use subsumption::helpers::row_at;
 ghost use Prim.Native.Nat.{_<_, _≤_};
 ghost use Rattle.subsumption.specs.Tables.{countOf, pairsOf};
 ghost use Rattle.matching.specs.LineMarks.{Square};

@@ -1,25 +1,24 @@
 // Writing a derivation: lines are noted until the asked pair is found; of them, those that it needs are written.
-use crate::derivation::fetch_atoms;
 use crate::derivation::mark_pair;
 use crate::needed::need_lines;
 use crate::rules::has_mark;
 use crate::search::Next;
 use crate::search::next_line;
 use subsumption::Decision;
-use subsumption::check_asked;
-use subsumption::decide_pair;
+use subsumption::Listed;
+use subsumption::helpers::check_assignment;
+use subsumption::helpers::decide_known;
+use subsumption::helpers::list_asked;
 use subsumption::refusal::Outcome;
 use subsumption::refusal::Refusal;
 ghost use mathlib.Core.Path.{_≡_};
 ghost use Prim.Native.Nat.{ℕ, _+_, _*_, _<_, _≤_};
 ghost use lib.Dec.{eqb};
 ghost use lib.ListN.{length};
-ghost use Rattle.subsumption.specs.declared.refusal.Outcome.the-variants.{Done};
 ghost use Rattle.subsumption.specs.Tables.{tables, both, countOf};
-ghost use Rattle.subsumption.specs.Subsumption.{Subsumed};
-ghost use Rattle.subsumption.specs.Decide.{decidingFault};
+ghost use Rattle.subsumption.specs.Ground.{Prepared, ForAccepted};
 ghost use Rattle.matching.specs.Derivation.{leftAt, rightAt};
-ghost use Rattle.matching.specs.Deriving.{roomFor, derivingFault, DerivationOf, Derives};
+ghost use Rattle.matching.specs.Deriving.{derivedReply, Derives};
 ghost use Rattle.matching.specs.LineMarks.{Square};
 ghost use Rattle.matching.specs.LineSearch.{Grounds};
 ghost use Rattle.matching.specs.Noting.{inFront, LineWritten, Blank, Asked, NotedTo, Copied, WrittenFor};
@@ -169,24 +168,21 @@ fn write_lines(
     write_needed(notes, n, needed, count, out)
 }
 
-// The derivation of a pair that is subsumed, under accepted tables and an accepted assignment, in a buffer that is long enough.
+// The derivation of a pair that is subsumed, in a buffer that is long enough.
 fn put_lines(
     concepts: &[u16],
     inclusions: &[u16],
-    questions: &[u16],
-    variables: u16,
+    atoms: &[u16],
     assignment: &[u64],
     left: u16,
     right: u16,
     out: &mut [u16],
 ) -> usize
-    requires { ⌜ decidingFault (tables (now concepts) (now inclusions) (now questions) variables) (now assignment) left right ≡ Done ⌝ }
-    requires { ⌜ Subsumed (tables (now concepts) (now inclusions) (now questions) variables) (now assignment) left right ⌝ }
-    requires { ⌜ roomFor (tables (now concepts) (now inclusions) (now questions) variables) ≤ length (now out) ⌝ }
-    ensures { λ r. ⌜ DerivationOf (tables (now (concepts .entry)) (now (inclusions .entry)) (now (questions .entry)) variables) (now (assignment .entry)) left right (now (out .entry)) (now (out .exit)) r ⌝ }
+    requires { ⌜ Grounds (now concepts) (now inclusions) (now atoms) (now assignment) ⌝ }
+    requires { ⌜ Asked (now concepts) (now inclusions) (now atoms) (now assignment) left right ⌝ }
+    requires { ⌜ countOf (now concepts) * countOf (now concepts) * 4 ≤ length (now out) ⌝ }
+    ensures { λ r. ⌜ WrittenFor (now (concepts .entry)) (now (inclusions .entry)) (now (atoms .entry)) (now (assignment .entry)) left right (now (out .entry)) (now (out .exit)) r ⌝ }
 {
-    let mut ids = [0u16; 64];
-    let n = fetch_atoms(concepts, inclusions, questions, variables, &mut ids);
     let mut marks = [false; 36864];
     let mut needed = [false; 36864];
     let mut notes = [0u16; 147456];
@@ -196,7 +192,7 @@ fn put_lines(
     write_lines(
         concepts,
         inclusions,
-        &ids[..n],
+        atoms,
         assignment,
         left as usize,
         right as usize,
@@ -205,6 +201,54 @@ fn put_lines(
         &mut notes[..room],
         out,
     )
+}
+
+// The rest of the checks, given the atoms of accepted tables and an asked pair, and then the lines.
+fn derive_known(
+    concepts: &[u16],
+    inclusions: &[u16],
+    atoms: &[u16],
+    variables: u16,
+    assignment: &[u64],
+    left: u16,
+    right: u16,
+    out: &mut [u16],
+) -> Derived
+    requires { ⌜ Prepared (now concepts) (now inclusions) variables (now atoms) ⌝ }
+    requires { ⌜ (left < countOf (now concepts)) × (right < countOf (now concepts)) ⌝ }
+    ensures { λ r. ⌜ ForAccepted (now (concepts .entry)) (now (inclusions .entry)) variables (now (atoms .entry)) (λ t. Derives t (now (assignment .entry)) left right (now (out .entry)) (now (out .exit)) (derivedReply r)) ⌝ }
+{
+    let choices = check_assignment(assignment, variables, atoms.len());
+    if let Outcome::Refused(r) = choices {
+        return Derived::Rejected(r);
+    }
+    let count = concepts.len() / 3;
+    let wanted = count * count * 4;
+    if out.len() < wanted {
+        return Derived::Rejected(Refusal::BufferTooShort(wanted));
+    }
+    let decision = decide_known(
+        concepts,
+        inclusions,
+        atoms,
+        variables,
+        assignment,
+        left,
+        right,
+    );
+    match decision {
+        Decision::Yes => Derived::Lines(put_lines(
+            concepts,
+            inclusions,
+            atoms,
+            assignment,
+            left,
+            right,
+            out,
+        )),
+        Decision::No => Derived::Rejected(Refusal::NotSubsumed),
+        Decision::Rejected(r) => Derived::Rejected(r),
+    }
 }
 
 // Writes the derivation of one pair under an assignment.
@@ -218,47 +262,29 @@ pub fn derive(
     right: u16,
     out: &mut [u16],
 ) -> Derived
-    ensures { λ r. ⌜ Derives (tables (now (concepts .entry)) (now (inclusions .entry)) (now (questions .entry)) variables) (now (assignment .entry)) left right (now (out .entry)) (now (out .exit))
-        (derivingFault (tables (now (concepts .entry)) (now (inclusions .entry)) (now (questions .entry)) variables) (now (assignment .entry)) left right (length (now (out .entry)))) r ⌝ }
+    ensures { λ r. ⌜ Derives (tables (now (concepts .entry)) (now (inclusions .entry)) (now (questions .entry)) variables) (now (assignment .entry)) left right (now (out .entry)) (now (out .exit)) (derivedReply r) ⌝ }
 {
-    let asked = check_asked(
+    let mut ids = [0u16; 64];
+    let listed = list_asked(
         concepts,
         inclusions,
         questions,
         variables,
-        assignment,
         left,
         right,
+        &mut ids,
     );
-    if let Outcome::Refused(r) = asked {
-        return Derived::Rejected(r);
-    }
-    let count = concepts.len() / 3;
-    let wanted = count * count * 4;
-    if out.len() < wanted {
-        return Derived::Rejected(Refusal::BufferTooShort(wanted));
-    }
-    let decision = decide_pair(
-        concepts,
-        inclusions,
-        questions,
-        variables,
-        assignment,
-        left,
-        right,
-    );
-    match decision {
-        Decision::Yes => Derived::Lines(put_lines(
+    match listed {
+        Listed::Rejected(r) => Derived::Rejected(r),
+        Listed::Atoms(count) => derive_known(
             concepts,
             inclusions,
-            questions,
+            &ids[..count],
             variables,
             assignment,
             left,
             right,
             out,
-        )),
-        Decision::No => Derived::Rejected(Refusal::NotSubsumed),
-        Decision::Rejected(r) => Derived::Rejected(r),
+        ),
     }
 }

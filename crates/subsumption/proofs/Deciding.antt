@@ -194,16 +194,16 @@ module _ (cs is : List ℕ) (v : ℕ) (ids assignment : List ℕ) (left right : 
       sym (goes-on _ _ _ Done refl (passed-first _ _ h)
       (goes-on _ _ _ Done (done-if _ _ (or-skip _ _ (ap not (lt-ltb _ _ l)) ∙ ap not (lt-ltb _ _ k))) refl (sym (passed-second _ _ h))))
 
-  pub known-refused : (r : Refusal) → x ≡ Refused r → ForAccepted cs is v ids (λ t. Decides t assignment left right (replyRefused r))
+  pub known-fault : (qs : List ℕ) → Accepted (tables cs is qs v) ids → x ≡ decidingFault (tables cs is qs v) assignment left right
   unfolding decidingFault
-  known-refused r h qs a =
-      decides-refused (tables cs is qs v) assignment left right r
-      (goes-on Done _ _ _ (sym (pair-passes qs (a .passed))) refl (refuses x _ r (choices-fault cs is qs v assignment ids a x ex) h))
+  known-fault qs a = goes-on Done _ _ _ (sym (pair-passes qs (a .passed))) refl (choices-fault cs is qs v assignment ids a x ex)
+
+  pub known-refused : (r : Refusal) → x ≡ Refused r → ForAccepted cs is v ids (λ t. Decides t assignment left right (replyRefused r))
+  known-refused r h qs a = decides-refused (tables cs is qs v) assignment left right r (refuses x _ r (known-fault qs a) h)
 
   module _ (hx : x ≡ Done) (columns : List ℕ) (c : Closed cs is (chooseFrom ids assignment) (replicate 576 0) columns) (b : Bool) (e : b ≡ has columns left right) where
     known : (qs : List ℕ) (a : Accepted (tables cs is qs v) ids) → decidingFault (tables cs is qs v) assignment left right ≡ Done
-    unfolding decidingFault
-    known qs a = sym (both-done Done _ x _ (sym (pair-passes qs (a .passed))) refl (choices-fault cs is qs v assignment ids a x ex) hx)
+    known qs a = sym (known-fault qs a) ∙ hx
 
     pub known-yes : b ≡ true → ForAccepted cs is v ids (λ t. Decides t assignment left right (decisionReply Yes))
     known-yes y qs a = decides-yes (tables cs is qs v) assignment left right columns (accepted-columns cs is qs v assignment ids a _ columns no-columns c) (known qs a) b e y

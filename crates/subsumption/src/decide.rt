@@ -19,7 +19,7 @@ pub enum Decision {
 }
 
 // The rest of the checks, given the atoms of accepted tables, and then the answer.
-fn decide_known(
+pub fn decide_known(
     concepts: &[u16],
     inclusions: &[u16],
     atoms: &[u16],

@@ -3,6 +3,7 @@
 pub use crate::atoms::mark_variables;
 pub use crate::check::check_assignment;
 pub use crate::closure::below;
+pub use crate::decide::decide_known;
 pub use crate::ground::close_ground;
 pub use crate::ground::close_over;
 pub use crate::listing::list_asked;

@@ -22,9 +22,7 @@ enum-known-choices c = omega arith
 
 -- src/chosen.rt:98:9
 returns-2 : tie.Need-returns-2
-returns-2 c =
-    let l : c .before .before .before .before .before .before .before .before .args .variable < c .before .before .before .before .before .before .before .before .args .variables = omega arith in
-    chosen-refused _ _ _ _ (search known-choices)
+returns-2 c = chosen-refused _ _ _ _ (known-choices _ _ _ _ _ _ _ (omega arith) (c .before .before .before .check-assignment .ensures) (c .before .choices .given .1))
 
 enum-told : tie.Need-enum-told
 enum-told c = omega arith

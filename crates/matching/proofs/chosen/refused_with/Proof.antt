@@ -4,7 +4,6 @@ use Rattle.matching.proofs.chosen.refused_with.Statement.{statement}
 use Rattle.matching.proofs.chosen.refused_with.Tie as tie
 use Rattle.matching.proofs.chosen.refused_with.Reads as reads
 use Rattle.matching.proofs.chosen.refused_with.Lts as lts
-use Rattle.subsumption.proofs.refusal.code_of.Reads as code-of-reads
 
 -- src/chosen.rt:112:9
 returns : tie.Need-returns

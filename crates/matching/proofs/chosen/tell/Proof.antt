@@ -3,7 +3,6 @@ use Rattle.matching.proofs.chosen.tell.Statement.{statement}
 use Rattle.matching.proofs.chosen.tell.Tie as tie
 use Rattle.matching.proofs.chosen.tell.Reads as reads
 use Rattle.matching.proofs.chosen.tell.Lts as lts
-use Rattle.subsumption.proofs.refusal.code_of.Reads as code-of-reads
 
 -- src/chosen.rt:146:21
 enum-known-answer : tie.Need-enum-known-answer

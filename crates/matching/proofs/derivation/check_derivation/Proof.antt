@@ -1,67 +1,64 @@
+use Rattle.matching.proofs.LineChecks.{pair-stops}
+use Rattle.subsumption.proofs.Deciding.{pair-left, pair-right}
+use Rattle.subsumption.proofs.Replies.{same-reply, same-refused}
+use Rattle.subsumption.proofs.ListingLaws.{asked-rejected, asked-passed, asked-listed, asked-few, prepared}
+use lib.Seq.{length-take-le}
+use lib.ListN.{replicate}
+use mathlib.Core.Path.{refl, sym}
 use native.Mathlib.Omega.{arith}
-use Rattle.matching.proofs.LineChecks.{asked-stops, shape-stops, rules-stops, last-decides}
-use Rattle.subsumption.proofs.Deciding.{asked-tables, asked-assignment}
-use Rattle.subsumption.proofs.Refusals.{is-done}
+use borrow.Author.Needs.{needs}
 use Rattle.matching.proofs.derivation.check_derivation.Statement.{statement}
 use Rattle.matching.proofs.derivation.check_derivation.Tie as tie
+use Rattle.matching.proofs.derivation.check_derivation.Reads as reads
+use Rattle.matching.proofs.derivation.check_derivation.Lts as lts
+use Rattle.matching.proofs.derivation.check_known.Reads as check-known-reads
 
-check-asked-requires : tie.Need-check-asked-requires
-check-asked-requires c κs = omega arith
+-- src/derivation.rt:201:9
+slice-aggregate-list-asked : tie.Need-slice-aggregate-list-asked
+slice-aggregate-list-asked c = search needs
 
-enum-known-asked : tie.Need-enum-known-asked
-enum-known-asked c = omega arith
+-- src/derivation.rt:194:9
+list-asked-requires : tie.Need-list-asked-requires
+list-asked-requires c κs = search needs
 
+-- src/derivation.rt:204:26
+enum-known-listed : tie.Need-enum-known-listed
+enum-known-listed c = search needs
+
+-- src/derivation.rt:205:23
+enum-known-listed-2 : tie.Need-enum-known-listed-2
+enum-known-listed-2 c = search needs
+
+-- src/derivation.rt:208:13
+array-share-prefix-ids : tie.Need-array-share-prefix-ids
+array-share-prefix-ids c = omega (arith, asked-few _ _ _ (replicate 64 0) _ (c .before .before .before .before .list-asked .result) refl (c .before .before .before .before .list-asked .ensures .0) (c .before .before .before .before .list-asked .ensures .1) _ (c .before .listed2 .given .1), c .before .before .before .before .list-asked .kept .1 .1 .1 .1 .1 .1 .0)
+
+-- src/derivation.rt:208:13
+slice-aggregate-check-known : tie.Need-slice-aggregate-check-known
+slice-aggregate-check-known c = sym (length-take-le _ _ (omega (arith, asked-few _ _ _ (replicate 64 0) _ (c .before .before .before .before .before .list-asked .result) refl (c .before .before .before .before .before .list-asked .ensures .0) (c .before .before .before .before .before .list-asked .ensures .1) _ (c .before .before .listed2 .given .1), c .before .before .before .before .before .list-asked .kept .1 .1 .1 .1 .1 .1 .0)))
+
+-- src/derivation.rt:205:33
+check-known-requires : tie.Need-check-known-requires
+check-known-requires c κs = let p = asked-passed _ _ _ (replicate 64 0) _ (c .before .before .before .before .before .list-asked .result) refl (c .before .before .before .before .before .list-asked .ensures .0) (c .before .before .before .before .before .list-asked .ensures .1) _ (c .before .before .listed2 .given .1) in (prepared _ _ _ _ _ (asked-listed _ _ _ (replicate 64 0) _ (c .before .before .before .before .before .list-asked .result) refl (c .before .before .before .before .before .list-asked .ensures .0) (c .before .before .before .before .before .list-asked .ensures .1) _ (c .before .before .listed2 .given .1)), (pair-left _ _ _ p, pair-right _ _ _ p))
+
+-- src/derivation.rt:181:1
 returns : tie.Need-returns
-returns c = search asked-stops
+returns c = same-refused _ _ (pair-stops _ _ _ _ _ _ (asked-rejected _ _ _ (replicate 64 0) _ (c .before .before .before .before .list-asked .result) refl (c .before .before .before .before .list-asked .ensures .0) (c .before .before .before .before .list-asked .ensures .1) _ (c .before .listed .given .1)))
 
-enum-told : tie.Need-enum-told
-enum-told c = omega arith
-
-check-shape-requires : tie.Need-check-shape-requires
-check-shape-requires c κs = omega arith
-
-enum-known-shape : tie.Need-enum-known-shape
-enum-known-shape c = omega arith
-
+-- src/derivation.rt:181:1
 returns-2 : tie.Need-returns-2
-returns-2 c = search shape-stops
-
-enum-told-2 : tie.Need-enum-told-2
-enum-told-2 c = omega arith
-
-check-rules-requires : tie.Need-check-rules-requires
-check-rules-requires c κs = (asked-tables _ _ _ _ (is-done _ _ (c .before .before .before .before .before .check-asked .ensures) (c .before .before .before .enum-told .given .1)), asked-assignment _ _ _ _ (is-done _ _ (c .before .before .before .before .before .check-asked .ensures) (c .before .before .before .enum-told .given .1)))
-
-enum-known-rules : tie.Need-enum-known-rules
-enum-known-rules c = omega arith
-
-returns-3 : tie.Need-returns-3
-returns-3 c = search rules-stops
-
-enum-told-3 : tie.Need-enum-told-3
-enum-told-3 c = omega arith
-
-check-last-requires : tie.Need-check-last-requires
-check-last-requires c κs = is-done _ _ (c .before .before .before .before .before .check-shape .ensures) (c .before .before .before .enum-told2 .given .1)
-
-returns-4 : tie.Need-returns-4
-returns-4 c = search last-decides
+returns-2 c = same-reply (c .check-known .result) _ (c .check-known .ensures _ (asked-listed _ _ _ (replicate 64 0) _ (c .before .before .before .before .before .before .list-asked .result) refl (c .before .before .before .before .before .before .list-asked .ensures .0) (c .before .before .before .before .before .before .list-asked .ensures .1) _ (c .before .before .before .listed2 .given .1)))
 
 pub check-derivation-spec : {M : Type 1} → statement M
 check-derivation-spec =
     tie.close
     (tie.spec
-    check-asked-requires
-    enum-known-asked
+    slice-aggregate-list-asked
+    list-asked-requires
+    enum-known-listed
+    enum-known-listed-2
+    array-share-prefix-ids
+    slice-aggregate-check-known
+    check-known-requires
     returns
-    enum-told
-    check-shape-requires
-    enum-known-shape
-    returns-2
-    enum-told-2
-    check-rules-requires
-    enum-known-rules
-    returns-3
-    enum-told-3
-    check-last-requires
-    returns-4)
+    returns-2)

@@ -1,51 +1,40 @@
-use native.Mathlib.Omega.{arith}
-use Rattle.subsumption.proofs.Accepted.{wellFormed}
-use mathlib.Core.Path.{sym}
-use lib.Seq.{length-take-le}
-use Rattle.subsumption.specs.Tables.{tables}
+use Rattle.matching.proofs.LineChecks.{marks-none, empty-square, empty-seen}
 use Rattle.matching.proofs.Cells.{square-small}
-use Rattle.matching.proofs.LineChecks.{fetched-of, fetched-ready, fetched-room, marks-none, empty-square, empty-seen}
+use mathlib.Core.Path.{sym}
+use native.Mathlib.Omega.{arith}
 use borrow.Author.Needs.{needs}
 use Rattle.matching.proofs.derivation.check_rules.Statement.{statement}
 use Rattle.matching.proofs.derivation.check_rules.Tie as tie
+use Rattle.matching.proofs.derivation.check_rules.Reads as reads
+use Rattle.matching.proofs.derivation.check_rules.Lts as lts
+use Rattle.matching.proofs.derivation.check_lines.Reads as check-lines-reads
 
-slice-aggregate-fetch-atoms : tie.Need-slice-aggregate-fetch-atoms
-slice-aggregate-fetch-atoms c = search needs
-
-fetch-atoms-requires : tie.Need-fetch-atoms-requires
-fetch-atoms-requires c κs = search needs
-
+-- src/derivation.rt:110:16
 mul-size : tie.Need-mul-size
-mul-size c = omega (arith, square-small _ (wellFormed _ (c .before .before .before .before .before .before .before .before .pre .0) .few))
+mul-size c = omega (arith, square-small _ (c .before .before .before .before .before .pre .few))
 
-array-share-prefix-ids : tie.Need-array-share-prefix-ids
-array-share-prefix-ids c = omega (arith, fetched-room _ _ _ (c .before .before .before .before .before .before .before .before .pre .0) (c .before .fetch-atoms .ensures))
-
-slice-aggregate-check-lines : tie.Need-slice-aggregate-check-lines
-slice-aggregate-check-lines c = sym (length-take-le _ _ (omega (arith, fetched-room _ _ _ (c .before .before .before .before .before .before .before .before .before .pre .0) (c .before .before .fetch-atoms .ensures), c .before .before .fetch-atoms .kept .1 .1 .1 .1 .0)))
-
+-- src/derivation.rt:117:9
 array-borrow-prefix-marks : tie.Need-array-borrow-prefix-marks
-array-borrow-prefix-marks c = omega (arith, square-small _ (wellFormed _ (c .before .before .before .before .before .before .before .before .before .pre .0) .few))
+array-borrow-prefix-marks c = omega (arith, square-small _ (c .before .before .before .before .before .pre .few))
 
-slice-aggregate-check-lines-2 : tie.Need-slice-aggregate-check-lines-2
-slice-aggregate-check-lines-2 c = sym (empty-square _ (wellFormed _ (c .before .before .before .before .before .before .before .before .before .before .pre .0) .few) .long)
+-- src/derivation.rt:117:9
+slice-aggregate-check-lines : tie.Need-slice-aggregate-check-lines
+slice-aggregate-check-lines c = sym (empty-square _ (c .before .before .before .before .before .before .pre .few) .long)
 
+-- src/derivation.rt:111:5
 check-lines-requires : tie.Need-check-lines-requires
-check-lines-requires c κs = (fetched-ready _ _ _ _ (c .before .before .before .before .before .before .before .before .before .before .pre .0) (c .before .before .before .before .before .before .before .before .before .before .pre .1) (c .before .before .before .fetch-atoms .ensures), marks-none _ _ _ (empty-square _ (wellFormed _ (c .before .before .before .before .before .before .before .before .before .before .pre .0) .few)) (λ i j. empty-seen _ i j (wellFormed _ (c .before .before .before .before .before .before .before .before .before .before .pre .0) .few)))
+check-lines-requires c κs = (c .before .before .before .before .before .before .pre, marks-none _ _ _ (empty-square _ (c .before .before .before .before .before .before .pre .few)) (λ i j. empty-seen _ i j (c .before .before .before .before .before .before .pre .few)))
 
+-- src/derivation.rt:98:1
 returns : tie.Need-returns
-returns c = c .before .check-lines .ensures .tells (tables (c .before .before .before .before .before .before .before .before .before .before .before .before .args .concepts .now) (c .before .before .before .before .before .before .before .before .before .before .before .before .args .inclusions .now) (c .before .before .before .before .before .before .before .before .before .before .before .before .args .questions .now) (c .before .before .before .before .before .before .before .before .before .before .before .before .args .variables)) (fetched-of _ _ _ (c .before .before .before .before .before .fetch-atoms .ensures))
+returns c = search needs
 
 pub check-rules-spec : {M : Type 1} → statement M
 check-rules-spec =
     tie.close
     (tie.spec
-    slice-aggregate-fetch-atoms
-    fetch-atoms-requires
     mul-size
-    array-share-prefix-ids
-    slice-aggregate-check-lines
     array-borrow-prefix-marks
-    slice-aggregate-check-lines-2
+    slice-aggregate-check-lines
     check-lines-requires
     returns)

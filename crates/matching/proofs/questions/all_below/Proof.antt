@@ -8,8 +8,6 @@ use Rattle.matching.proofs.questions.all_below.Statement.{statement}
 use Rattle.matching.proofs.questions.all_below.Tie as tie
 use Rattle.matching.proofs.questions.all_below.Reads as reads
 use Rattle.matching.proofs.questions.all_below.Lts as lts
-use Rattle.subsumption.proofs.below.Reads as below-reads
-use Rattle.subsumption.proofs.tables.pair_at.Reads as pair-at-reads
 
 abbrev Inv-loop : tie.InvT-loop
 Inv-loop columns held questions right rows m₀ m = SeenTo columns held questions right m

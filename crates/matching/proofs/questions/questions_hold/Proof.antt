@@ -6,8 +6,6 @@ use Rattle.matching.proofs.questions.questions_hold.Tie as tie
 use Rattle.matching.proofs.questions.questions_hold.Reads as reads
 use Rattle.matching.proofs.questions.questions_hold.Lts as lts
 use Rattle.matching.proofs.questions.all_below.Reads as all-below-reads
-use Rattle.subsumption.proofs.mark_variables.Reads as mark-variables-reads
-use Rattle.subsumption.proofs.close_over.Reads as close-over-reads
 
 -- src/questions.rt:66:9
 slice-aggregate-close-over : tie.Need-slice-aggregate-close-over

@@ -1,77 +1,68 @@
+use Rattle.matching.proofs.Writing.{derive-refused}
+use Rattle.subsumption.proofs.Deciding.{pair-left, pair-right}
+use Rattle.subsumption.proofs.ListingLaws.{asked-rejected, asked-passed, asked-listed, asked-few, prepared}
+use lib.Seq.{length-take-le}
+use lib.ListN.{replicate}
+use mathlib.Core.Path.{refl, sym}
 use native.Mathlib.Omega.{arith}
-use Rattle.matching.proofs.Writing.{derive-stops, derive-short, derive-subsumed, derive-lines, derive-not, derive-never}
-use mathlib.Core.Path.{refl}
-use Rattle.subsumption.proofs.Deciding.{asked-few}
-use Rattle.subsumption.proofs.Refusals.{is-done}
-use Rattle.matching.proofs.Cells.{square-small}
+use borrow.Author.Needs.{needs}
 use Rattle.matching.proofs.writer.derive.Statement.{statement}
 use Rattle.matching.proofs.writer.derive.Tie as tie
+use Rattle.matching.proofs.writer.derive.Reads as reads
+use Rattle.matching.proofs.writer.derive.Lts as lts
+use Rattle.matching.proofs.writer.derive_known.Reads as derive-known-reads
 
-check-asked-requires : tie.Need-check-asked-requires
-check-asked-requires c κs = omega arith
+-- src/writer.rt:275:9
+slice-aggregate-list-asked : tie.Need-slice-aggregate-list-asked
+slice-aggregate-list-asked c = search needs
 
-enum-known-asked : tie.Need-enum-known-asked
-enum-known-asked c = omega arith
+-- src/writer.rt:268:9
+list-asked-requires : tie.Need-list-asked-requires
+list-asked-requires c κs = search needs
 
+-- src/writer.rt:278:26
+enum-known-listed : tie.Need-enum-known-listed
+enum-known-listed c = search needs
+
+-- src/writer.rt:279:23
+enum-known-listed-2 : tie.Need-enum-known-listed-2
+enum-known-listed-2 c = search needs
+
+-- src/writer.rt:282:13
+array-share-prefix-ids : tie.Need-array-share-prefix-ids
+array-share-prefix-ids c = omega (arith, asked-few _ _ _ (replicate 64 0) _ (c .before .before .before .before .list-asked .result) refl (c .before .before .before .before .list-asked .ensures .0) (c .before .before .before .before .list-asked .ensures .1) _ (c .before .listed2 .given .1), c .before .before .before .before .list-asked .kept .1 .1 .1 .1 .1 .1 .0)
+
+-- src/writer.rt:282:13
+slice-aggregate-derive-known : tie.Need-slice-aggregate-derive-known
+slice-aggregate-derive-known c = sym (length-take-le _ _ (omega (arith, asked-few _ _ _ (replicate 64 0) _ (c .before .before .before .before .before .list-asked .result) refl (c .before .before .before .before .before .list-asked .ensures .0) (c .before .before .before .before .before .list-asked .ensures .1) _ (c .before .before .listed2 .given .1), c .before .before .before .before .before .list-asked .kept .1 .1 .1 .1 .1 .1 .0)))
+
+-- src/writer.rt:279:33
+derive-known-requires : tie.Need-derive-known-requires
+derive-known-requires c κs = let p = asked-passed _ _ _ (replicate 64 0) _ (c .before .before .before .before .before .before .list-asked .result) refl (c .before .before .before .before .before .before .list-asked .ensures .0) (c .before .before .before .before .before .before .list-asked .ensures .1) _ (c .before .before .before .listed2 .given .1) in (prepared _ _ _ _ _ (asked-listed _ _ _ (replicate 64 0) _ (c .before .before .before .before .before .before .list-asked .result) refl (c .before .before .before .before .before .before .list-asked .ensures .0) (c .before .before .before .before .before .before .list-asked .ensures .1) _ (c .before .before .before .listed2 .given .1)), (pair-left _ _ _ p, pair-right _ _ _ p))
+
+-- src/writer.rt:255:1
 returns : tie.Need-returns
-returns c = derive-stops _ _ _ _ (c .before .before .before .before .before .before .before .before .before .args .out .now) (c .before .before .before .before .before .before .before .before .before .args .out .now) _ (c .before .before .before .check-asked .ensures) _ (c .before .asked .given .1) refl
+returns c = derive-refused _ _ _ _ (c .before .before .before .before .before .before .before .before .before .before .before .args .out .now) _ (asked-rejected _ _ _ (replicate 64 0) _ (c .before .before .before .before .list-asked .result) refl (c .before .before .before .before .list-asked .ensures .0) (c .before .before .before .before .list-asked .ensures .1) _ (c .before .listed .given .1))
 
-enum-told : tie.Need-enum-told
-enum-told c = omega arith
-
-mul-wanted : tie.Need-mul-wanted
-mul-wanted c = omega (arith, square-small _ (asked-few _ _ _ _ (is-done _ _ (c .before .before .check-asked .ensures) (c .enum-told .given .1))))
-
-mul-wanted-2 : tie.Need-mul-wanted-2
-mul-wanted-2 c = omega (arith, square-small _ (asked-few _ _ _ _ (is-done _ _ (c .before .before .check-asked .ensures) (c .enum-told .given .1))))
-
-returns-2 : tie.Need-returns-2
-returns-2 c = derive-short _ _ _ _ (c .before .before .before .before .before .before .before .before .before .args .out .now) (c .before .before .before .before .before .before .before .before .before .args .out .now) _ (c .before .before .before .check-asked .ensures) (c .before .enum-told .given .1) (c .if1 .taken) refl
-
-decide-pair-requires : tie.Need-decide-pair-requires
-decide-pair-requires c κs = omega arith
-
-enum-told-2 : tie.Need-enum-told-2
-enum-told-2 c = omega arith
-
-put-lines-requires : tie.Need-put-lines-requires
-put-lines-requires c κs = (is-done _ _ (c .before .before .before .before .before .before .before .check-asked .ensures) (c .before .before .before .before .before .enum-told .given .1), (derive-subsumed _ _ _ _ (c .before .before .before .before .before .before .before .before .before .before .before .before .before .args .out .now) (c .before .before .before .before .before .before .before .before .before .before .before .before .before .args .out .now) _ (c .before .before .before .before .before .before .before .check-asked .ensures) (c .before .before .before .before .before .enum-told .given .1) (c .before .before .before .before .if1 .left) _ (c .before .before .before .decide-pair .ensures) (c .before .enum-told2 .given .1), c .before .before .before .before .if1 .left))
-
-enum-told-3 : tie.Need-enum-told-3
-enum-told-3 c = omega arith
-
-enum-known-decision : tie.Need-enum-known-decision
-enum-known-decision c = omega arith
-
+-- src/writer.rt:255:1
 same-length : tie.Need-same-length
-same-length c = omega arith
+same-length c = search needs
 
-returns-3 : tie.Need-returns-3
-returns-3 c = derive-lines _ _ _ _ _ _ _ (c .before .before .before .before .before .before .before .before .before .before .check-asked .ensures) (c .before .before .before .before .before .before .before .before .enum-told .given .1) (c .before .before .before .before .before .before .before .if1 .left) _ (c .before .before .before .before .before .before .decide-pair .ensures) _ (c .before .before .before .before .enum-told2 .given .1) (c .before .before .put-lines .ensures)
-
-returns-4 : tie.Need-returns-4
-returns-4 c = derive-not _ _ _ _ (c .before .before .before .before .before .before .before .before .before .before .before .before .args .out .now) (c .before .before .before .before .before .before .before .before .before .before .before .before .args .out .now) _ (c .before .before .before .before .before .before .check-asked .ensures) (c .before .before .before .before .enum-told .given .1) (c .before .before .before .if1 .left) _ (c .before .before .decide-pair .ensures) (c .enum-told3 .given .1) refl
-
-returns-5 : tie.Need-returns-5
-returns-5 c = derive-never _ _ _ _ (c .before .before .before .before .before .before .before .before .before .before .before .before .before .args .out .now) (c .before .before .before .before .before .before .before .before .before .before .before .before .before .args .out .now) _ (c .before .before .before .before .before .before .before .check-asked .ensures) (c .before .before .before .before .before .enum-told .given .1) (c .before .before .before .before .if1 .left) _ (c .before .before .before .decide-pair .ensures) _ (c .before .decision .given .1)
+-- src/writer.rt:255:1
+returns-2 : tie.Need-returns-2
+returns-2 c = c .before .before .derive-known .ensures _ (asked-listed _ _ _ (replicate 64 0) _ (c .before .before .before .before .before .before .before .before .before .list-asked .result) refl (c .before .before .before .before .before .before .before .before .before .list-asked .ensures .0) (c .before .before .before .before .before .before .before .before .before .list-asked .ensures .1) _ (c .before .before .before .before .before .before .listed2 .given .1))
 
 pub derive-spec : {M : Type 1} → statement M
 derive-spec =
     tie.close
     (tie.spec
-    check-asked-requires
-    enum-known-asked
+    slice-aggregate-list-asked
+    list-asked-requires
+    enum-known-listed
+    enum-known-listed-2
+    array-share-prefix-ids
+    slice-aggregate-derive-known
+    derive-known-requires
     returns
-    enum-told
-    mul-wanted
-    mul-wanted-2
-    returns-2
-    decide-pair-requires
-    enum-told-2
-    put-lines-requires
-    enum-told-3
-    enum-known-decision
     same-length
-    returns-3
-    returns-4
-    returns-5)
+    returns-2)
