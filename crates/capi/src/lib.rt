@@ -10,16 +10,17 @@ use subsumption::refusal::code_of;
 ghost use mathlib.Core.Path.{_≡_};
 ghost use lib.ListN.{length};
 ghost use Rattle.subsumption.specs.Tables.{tables};
-ghost use Rattle.subsumption.specs.Atoms.{atoms};
-ghost use Rattle.subsumption.specs.declared.refusal.Outcome.the-variants.{Done, Refused};
+ghost use Rattle.subsumption.specs.Atoms.{atoms, chosen};
+ghost use Rattle.subsumption.specs.Refusal.{replyDone, replyRefused, replyWith, replyOf};
 ghost use Rattle.subsumption.specs.Check.{tableFault};
 ghost use Rattle.subsumption.specs.Listing.{listingFault, listedIn};
-ghost use Rattle.subsumption.specs.Decide.{decidingFault};
-ghost use Rattle.subsumption.specs.Atoms.{chosen};
+ghost use Rattle.subsumption.specs.Table.{Wrote};
+ghost use Rattle.subsumption.specs.Decide.{Decides};
 ghost use Rattle.matching.specs.Derivation.{checkingFault};
-ghost use Rattle.matching.specs.Finding.{findingFault};
+ghost use Rattle.matching.specs.Finding.{Finds};
 ghost use Rattle.matching.specs.Chosen.{choosingFault, chosenIn};
-ghost use Rattle.capi.specs.Answer.{answerOf, WroteAs, TellsAs, FindsAs, DerivesAs};
+ghost use Rattle.matching.specs.Deriving.{Derives};
+ghost use Rattle.capi.specs.Answer.{replied};
 
 // number 0: done; else the refusal's number, with its place and value 0.
 #[repr(C)]
@@ -30,7 +31,7 @@ pub struct Answer {
 }
 
 fn done(value: u64) -> Answer
-    ensures { λ a. ⌜ a ≡ answerOf Done value ⌝ }
+    ensures { λ a. ⌜ replied a ≡ replyDone value ⌝ }
 {
     Answer {
         number: 0,
@@ -40,7 +41,7 @@ fn done(value: u64) -> Answer
 }
 
 fn refused(r: Refusal) -> Answer
-    ensures { λ a. ⌜ a ≡ answerOf (Refused r) 0 ⌝ }
+    ensures { λ a. ⌜ replied a ≡ replyRefused r ⌝ }
 {
     let code = code_of(r);
     let number = code.number;
@@ -60,7 +61,7 @@ pub extern "C" fn hc_check(
     questions: &[u16],
     variables: u16,
 ) -> Answer
-    ensures { λ a. ⌜ a ≡ answerOf (tableFault (tables (now (concepts .entry)) (now (inclusions .entry)) (now (questions .entry)) variables)) 0 ⌝ }
+    ensures { λ a. ⌜ replied a ≡ replyOf (tableFault (tables (now (concepts .entry)) (now (inclusions .entry)) (now (questions .entry)) variables)) ⌝ }
 {
     let answer = subsumption::check_tables(concepts, inclusions, questions, variables);
     match answer {
@@ -78,7 +79,7 @@ pub extern "C" fn hc_atoms(
     variables: u16,
     out: &mut [u16],
 ) -> Answer
-    ensures { λ a. ⌜ a ≡ answerOf (listingFault (tables (now (concepts .entry)) (now (inclusions .entry)) (now (questions .entry)) variables) (length (now (out .entry)))) (length (atoms (tables (now (concepts .entry)) (now (inclusions .entry)) (now (questions .entry)) variables))) ⌝ }
+    ensures { λ a. ⌜ replied a ≡ replyWith (listingFault (tables (now (concepts .entry)) (now (inclusions .entry)) (now (questions .entry)) variables) (length (now (out .entry)))) (length (atoms (tables (now (concepts .entry)) (now (inclusions .entry)) (now (questions .entry)) variables))) ⌝ }
     ensures { λ a. ⌜ now (out .exit) ≡ listedIn (listingFault (tables (now (concepts .entry)) (now (inclusions .entry)) (now (questions .entry)) variables) (length (now (out .entry)))) (tables (now (concepts .entry)) (now (inclusions .entry)) (now (questions .entry)) variables) (now (out .entry)) ⌝ }
 {
     let answer = subsumption::list_atoms(concepts, inclusions, questions, variables, out);
@@ -98,7 +99,7 @@ pub extern "C" fn hc_subsumption_table(
     assignment: &[u64],
     out: &mut [u8],
 ) -> Answer
-    ensures { λ a. ⌜ WroteAs (tables (now (concepts .entry)) (now (inclusions .entry)) (now (questions .entry)) variables) (now (assignment .entry)) (now (out .entry)) (now (out .exit)) a ⌝ }
+    ensures { λ a. ⌜ Wrote (tables (now (concepts .entry)) (now (inclusions .entry)) (now (questions .entry)) variables) (now (assignment .entry)) (now (out .entry)) (now (out .exit)) (replied a) ⌝ }
 {
     let answer = subsumption::write_table(
         concepts,
@@ -125,7 +126,7 @@ pub extern "C" fn hc_subsumed(
     left: u16,
     right: u16,
 ) -> Answer
-    ensures { λ a. ⌜ TellsAs (tables (now (concepts .entry)) (now (inclusions .entry)) (now (questions .entry)) variables) (now (assignment .entry)) left right (decidingFault (tables (now (concepts .entry)) (now (inclusions .entry)) (now (questions .entry)) variables) (now (assignment .entry)) left right) a ⌝ }
+    ensures { λ a. ⌜ Decides (tables (now (concepts .entry)) (now (inclusions .entry)) (now (questions .entry)) variables) (now (assignment .entry)) left right (replied a) ⌝ }
 {
     let answer = subsumption::decide_pair(
         concepts,
@@ -152,7 +153,7 @@ pub extern "C" fn hc_match(
     variables: u16,
     out: &mut [u64],
 ) -> Answer
-    ensures { λ a. ⌜ FindsAs (tables (now (concepts .entry)) (now (inclusions .entry)) (now (questions .entry)) variables) (now (out .entry)) (now (out .exit)) a ⌝ }
+    ensures { λ a. ⌜ Finds (tables (now (concepts .entry)) (now (inclusions .entry)) (now (questions .entry)) variables) (now (out .entry)) (now (out .exit)) (replied a) ⌝ }
 {
     let answer = matching::find_assignment(concepts, inclusions, questions, variables, out);
     match answer {
@@ -173,7 +174,7 @@ pub extern "C" fn hc_chosen(
     variable: u16,
     out: &mut [u16],
 ) -> Answer
-    ensures { λ a. ⌜ a ≡ answerOf (choosingFault (tables (now (concepts .entry)) (now (inclusions .entry)) (now (questions .entry)) variables) (now (assignment .entry)) variable (length (now (out .entry)))) (length (chosen (tables (now (concepts .entry)) (now (inclusions .entry)) (now (questions .entry)) variables) (now (assignment .entry)) variable)) ⌝ }
+    ensures { λ a. ⌜ replied a ≡ replyWith (choosingFault (tables (now (concepts .entry)) (now (inclusions .entry)) (now (questions .entry)) variables) (now (assignment .entry)) variable (length (now (out .entry)))) (length (chosen (tables (now (concepts .entry)) (now (inclusions .entry)) (now (questions .entry)) variables) (now (assignment .entry)) variable)) ⌝ }
     ensures { λ a. ⌜ now (out .exit) ≡ chosenIn (choosingFault (tables (now (concepts .entry)) (now (inclusions .entry)) (now (questions .entry)) variables) (now (assignment .entry)) variable (length (now (out .entry)))) (chosen (tables (now (concepts .entry)) (now (inclusions .entry)) (now (questions .entry)) variables) (now (assignment .entry)) variable) (now (out .entry)) ⌝ }
 {
     let answer = matching::put_chosen(
@@ -203,7 +204,7 @@ pub extern "C" fn hc_derive(
     right: u16,
     out: &mut [u16],
 ) -> Answer
-    ensures { λ a. ⌜ DerivesAs (tables (now (concepts .entry)) (now (inclusions .entry)) (now (questions .entry)) variables) (now (assignment .entry)) left right (now (out .entry)) (now (out .exit)) a ⌝ }
+    ensures { λ a. ⌜ Derives (tables (now (concepts .entry)) (now (inclusions .entry)) (now (questions .entry)) variables) (now (assignment .entry)) left right (now (out .entry)) (now (out .exit)) (replied a) ⌝ }
 {
     let answer = matching::derive(
         concepts,
@@ -233,7 +234,7 @@ pub extern "C" fn hc_check_derivation(
     right: u16,
     lines: &[u16],
 ) -> Answer
-    ensures { λ a. ⌜ a ≡ answerOf (checkingFault (tables (now (concepts .entry)) (now (inclusions .entry)) (now (questions .entry)) variables) (now (assignment .entry)) left right (now (lines .entry))) 0 ⌝ }
+    ensures { λ a. ⌜ replied a ≡ replyOf (checkingFault (tables (now (concepts .entry)) (now (inclusions .entry)) (now (questions .entry)) variables) (now (assignment .entry)) left right (now (lines .entry))) ⌝ }
 {
     let answer = matching::check_derivation(
         concepts,

@@ -1,4 +1,5 @@
-use Rattle.capi.proofs.Answers.{chosen-refused, chosen-done}
+use Rattle.capi.proofs.Answers.{same-answer}
+use Rattle.matching.specs.Chosen.{chosenReply}
 use borrow.Author.Needs.{needs}
 use Rattle.capi.proofs.hc_chosen.Statement.{statement}
 use Rattle.capi.proofs.hc_chosen.Tie as tie
@@ -8,41 +9,41 @@ use Rattle.capi.proofs.done.Reads as done-reads
 use Rattle.capi.proofs.refused.Reads as refused-reads
 use Rattle.matching.proofs.put_chosen.Reads as put-chosen-reads
 
--- src/lib.rt:171:9
+-- src/lib.rt:180:9
 put-chosen-requires : tie.Need-put-chosen-requires
 put-chosen-requires c κs = search needs
 
--- src/lib.rt:173:26
+-- src/lib.rt:190:26
 enum-known-answer : tie.Need-enum-known-answer
 enum-known-answer c = search needs
 
--- src/lib.rt:173:32
+-- src/lib.rt:190:32
 refused-requires : tie.Need-refused-requires
 refused-requires c κs = search needs
 
--- src/lib.rt:174:21
+-- src/lib.rt:191:21
 enum-known-answer-2 : tie.Need-enum-known-answer-2
 enum-known-answer-2 c = search needs
 
--- src/lib.rt:174:27
+-- src/lib.rt:191:27
 done-requires : tie.Need-done-requires
 done-requires c κs = search needs
 
--- src/lib.rt:158:1
+-- src/lib.rt:167:1
 same-length : tie.Need-same-length
 same-length c = search needs
 
--- src/lib.rt:158:1
+-- src/lib.rt:167:1
 returns : tie.Need-returns
-returns c = (search chosen-refused, c .before .before .before .before .before .before .put-chosen .ensures .1)
+returns c = (same-answer chosenReply _ (c .before .before .before .before .before .before .put-chosen .result) _ (c .refused .result) (c .before .before .before .before .before .before .put-chosen .ensures .0) (c .before .before .answer .given .1) (c .refused .ensures), c .before .before .before .before .before .before .put-chosen .ensures .1)
 
--- src/lib.rt:158:1
+-- src/lib.rt:167:1
 same-length-2 : tie.Need-same-length-2
 same-length-2 c = search needs
 
--- src/lib.rt:158:1
+-- src/lib.rt:167:1
 returns-2 : tie.Need-returns-2
-returns-2 c = (search chosen-done, c .before .before .before .before .before .before .put-chosen .ensures .1)
+returns-2 c = (same-answer chosenReply _ (c .before .before .before .before .before .before .put-chosen .result) _ (c .done .result) (c .before .before .before .before .before .before .put-chosen .ensures .0) (c .before .before .answer2 .given .1) (c .done .ensures), c .before .before .before .before .before .before .put-chosen .ensures .1)
 
 pub hc-chosen-spec : {M : Type 1} → statement M
 hc-chosen-spec =

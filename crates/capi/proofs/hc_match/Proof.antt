@@ -1,4 +1,6 @@
-use Rattle.capi.proofs.Answers.{finds-refused, finds-nothing, finds-filled}
+use mathlib.Core.List.{[]}
+use Rattle.subsumption.specs.Tables.{tables}
+use Rattle.capi.proofs.Answers.{finds-as}
 use borrow.Author.Needs.{needs}
 use Rattle.capi.proofs.hc_match.Statement.{statement}
 use Rattle.capi.proofs.hc_match.Tie as tie
@@ -8,57 +10,57 @@ use Rattle.capi.proofs.done.Reads as done-reads
 use Rattle.capi.proofs.refused.Reads as refused-reads
 use Rattle.matching.proofs.find_assignment.Reads as find-assignment-reads
 
--- src/lib.rt:149:9
+-- src/lib.rt:158:9
 find-assignment-requires : tie.Need-find-assignment-requires
 find-assignment-requires c κs = search needs
 
--- src/lib.rt:151:25
+-- src/lib.rt:160:25
 enum-known-answer : tie.Need-enum-known-answer
 enum-known-answer c = search needs
 
--- src/lib.rt:151:31
+-- src/lib.rt:160:31
 refused-requires : tie.Need-refused-requires
 refused-requires c κs = search needs
 
--- src/lib.rt:152:35
+-- src/lib.rt:161:35
 enum-told : tie.Need-enum-told
 enum-told c = search needs
 
--- src/lib.rt:152:27
+-- src/lib.rt:161:27
 refused-requires-2 : tie.Need-refused-requires-2
 refused-requires-2 c κs = search needs
 
--- src/lib.rt:153:26
+-- src/lib.rt:162:26
 enum-told-2 : tie.Need-enum-told-2
 enum-told-2 c = search needs
 
--- src/lib.rt:153:26
+-- src/lib.rt:162:26
 done-requires : tie.Need-done-requires
 done-requires c κs = search needs
 
--- src/lib.rt:145:1
+-- src/lib.rt:148:1
 same-length : tie.Need-same-length
 same-length c = search needs
 
--- src/lib.rt:145:1
+-- src/lib.rt:148:1
 returns : tie.Need-returns
-returns c = search finds-refused
+returns c = finds-as (tables (c .before .before .before .before .before .before .before .before .before .before .before .before .args .concepts .now) (c .before .before .before .before .before .before .before .before .before .before .before .before .args .inclusions .now) (c .before .before .before .before .before .before .before .before .before .before .before .before .args .questions .now) (c .before .before .before .before .before .before .before .before .before .before .before .before .args .variables)) [] (c .before .before .before .before .before .before .before .before .before .before .before .before .args .out .now) _ 0 0 (c .refused .result) (c .before .before .before .before .before .before .find-assignment .result) _ (c .before .before .before .before .before .before .find-assignment .ensures) (c .before .before .answer .given .1) (c .refused .ensures)
 
--- src/lib.rt:145:1
+-- src/lib.rt:148:1
 same-length-2 : tie.Need-same-length-2
 same-length-2 c = search needs
 
--- src/lib.rt:145:1
+-- src/lib.rt:148:1
 returns-2 : tie.Need-returns-2
-returns-2 c = search finds-nothing
+returns-2 c = finds-as (tables (c .before .before .before .before .before .before .before .before .before .before .before .args .concepts .now) (c .before .before .before .before .before .before .before .before .before .before .before .args .inclusions .now) (c .before .before .before .before .before .before .before .before .before .before .before .args .questions .now) (c .before .before .before .before .before .before .before .before .before .before .before .args .variables)) [] (c .before .before .before .before .before .before .before .before .before .before .before .args .out .now) _ 0 0 (c .refused2 .result) (c .before .before .before .before .before .find-assignment .result) _ (c .before .before .before .before .before .find-assignment .ensures) (c .before .enum-told .given .1) (c .refused2 .ensures)
 
--- src/lib.rt:145:1
+-- src/lib.rt:148:1
 same-length-3 : tie.Need-same-length-3
 same-length-3 c = search needs
 
--- src/lib.rt:145:1
+-- src/lib.rt:148:1
 returns-3 : tie.Need-returns-3
-returns-3 c = search finds-filled
+returns-3 c = finds-as (tables (c .before .before .before .before .before .before .before .before .before .before .before .args .concepts .now) (c .before .before .before .before .before .before .before .before .before .before .before .args .inclusions .now) (c .before .before .before .before .before .before .before .before .before .before .before .args .questions .now) (c .before .before .before .before .before .before .before .before .before .before .before .args .variables)) [] (c .before .before .before .before .before .before .before .before .before .before .before .args .out .now) _ 0 0 (c .done .result) (c .before .before .before .before .before .find-assignment .result) _ (c .before .before .before .before .before .find-assignment .ensures) (c .before .enum-told2 .given .1) (c .done .ensures)
 
 pub hc-match-spec : {M : Type 1} → statement M
 hc-match-spec =
