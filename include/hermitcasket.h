@@ -1,8 +1,29 @@
 /* Matching template cards against an ingredient catalogue: the C interface of libcapi.a.
  *
- * Every table is a pointer and a count of numbers (not of rows). A pointer may be anything that
- * is aligned and not null where its count is 0. Tables are only read. Any content is taken:
- * what is wrong with it is refused, and then every output buffer is as it was before.
+ * Every table and buffer is a pointer and a count of numbers (not of rows). Tables are only read.
+ * Any content is taken: what is wrong with it is refused, and then every output buffer is as it
+ * was before. Every call returns.
+ *
+ * What the caller sees to:
+ * - A pointer is valid for its count: aligned, and behind it lie as many numbers, which may be read,
+ *   in an output buffer written too. Where the count is 0 the pointer may be anything, NULL too:
+ *   nothing is read or written through it.
+ * - An output buffer overlaps nothing else that the call is lent. Tables, filling and lines may
+ *   overlap one another.
+ * - While a call runs, nothing else writes what it is lent, nor reads its output buffer.
+ * - The thread has as much stack left as the operation needs, in bytes at most:
+ *     hc_check              2048
+ *     hc_atoms              2048
+ *     hc_subsumption_table  16384
+ *     hc_subsumed           16384
+ *     hc_match              1048576   (the most measured is 213952)
+ *     hc_chosen             2048
+ *     hc_derive             524288
+ *     hc_check_derivation   65536
+ *
+ * Calls share no state, so any number of threads may call at once, and no call depends on one
+ * before it: the library has constants and no variables that outlive a call (no statics), uses no
+ * heap, and calls nothing of the C library but memcpy and memset.
  *
  * entries     three numbers each, (kind, a, b); an entry's id is its place from 0:
  *             (0, 0, 0) top; (1, name, 0); (2, role, id) "some"; (3, id, id) "and";

@@ -1,4 +1,5 @@
-/* 01's sample problem through the C header; tests/tests/header.rs compares what this prints. */
+/* 01's sample problem, and NULL where a count is 0, through the header, as C and as C++;
+ * tests/tests/header.rs compares what this prints. */
 #include <hermitcasket.h>
 #include <stdio.h>
 
@@ -9,11 +10,42 @@ static const uint64_t filling[] = {4};
 
 #define LEN(list) (sizeof(list) / sizeof((list)[0]))
 #define TABLES entries, LEN(entries), inclusions, LEN(inclusions), questions, LEN(questions), 1
+#define NOTHING NULL, 0, NULL, 0, NULL, 0, 0
 
 static void show(const char *name, hc_answer answer)
 {
     printf("%s %u %llu %llu\n", name, (unsigned)answer.number,
            (unsigned long long)answer.place, (unsigned long long)answer.value);
+}
+
+/* Every operation with NULL for each list, and for one list alone beside lists that are there. */
+static void nulls(void)
+{
+    uint16_t ids[64];
+    uint16_t lines[4];
+
+    show("no tables", hc_check(NOTHING));
+    show("no tables, no room", hc_atoms(NOTHING, NULL, 0));
+    show("no tables, no part", hc_atoms(NOTHING, ids, LEN(ids)));
+    show("no rows", hc_subsumption_table(NOTHING, NULL, 0, NULL, 0));
+    show("no entry", hc_subsumed(NOTHING, NULL, 0, 0, 0));
+    show("nothing to fill", hc_match(NOTHING, NULL, 0));
+    show("no blank", hc_chosen(NOTHING, NULL, 0, 0, NULL, 0));
+    show("nothing to derive", hc_derive(NOTHING, NULL, 0, 0, 0, NULL, 0));
+    show("nothing to check", hc_check_derivation(NOTHING, NULL, 0, 0, 0, NULL, 0));
+
+    show("no catalogue", hc_match(entries, LEN(entries), NULL, 0, questions, LEN(questions), 1, NULL, 0));
+    show("no questions", hc_check(entries, LEN(entries), inclusions, LEN(inclusions), NULL, 0, 1));
+    show("no entries", hc_check(NULL, 0, inclusions, LEN(inclusions), questions, LEN(questions), 1));
+    show("no filling", hc_subsumed(TABLES, NULL, 0, 5, 3));
+    show("filling of none", hc_subsumed(entries, 3, NULL, 0, NULL, 0, 0, NULL, 0, 0, 0));
+    show("derived", hc_derive(entries, 3, NULL, 0, NULL, 0, 0, NULL, 0, 0, 0, lines, LEN(lines)));
+    show("no room for parts", hc_atoms(TABLES, NULL, 0));
+    show("no room for rows", hc_subsumption_table(TABLES, filling, LEN(filling), NULL, 0));
+    show("no room to fill", hc_match(TABLES, NULL, 0));
+    show("no room for ids", hc_chosen(TABLES, filling, LEN(filling), 0, NULL, 0));
+    show("no room for lines", hc_derive(TABLES, filling, LEN(filling), 2, 3, NULL, 0));
+    show("no list of lines", hc_check_derivation(TABLES, filling, LEN(filling), 2, 3, NULL, 0));
 }
 
 int main(void)
@@ -48,5 +80,6 @@ int main(void)
                                         4 * (size_t)derived.value));
     show("not below", hc_derive(TABLES, filling, LEN(filling), 3, 2, lines, LEN(lines)));
     show("no lines", hc_check_derivation(TABLES, filling, LEN(filling), 2, 3, lines, 0));
+    nulls();
     return 0;
 }

@@ -1,6 +1,7 @@
 //! Hard problems for the matcher: families that punish a walk over subsets in order, and puzzles
 //! (clauses, colourings) dressed up as tables. Each says what is known of its answer.
 
+use crate::builder::Builder;
 use crate::generate;
 use crate::limits::*;
 use crate::random::Random;
@@ -23,81 +24,9 @@ pub struct Hard {
 }
 
 fn hard(label: String, builder: Builder, known: Known) -> Hard {
-    let tables =
-        Tables::new(&builder.rows, &builder.inclusions, &builder.questions, builder.variables);
+    let tables = builder.tables();
     assert_eq!(reference::check(&tables), Ok(()), "{} is refused:\n{}", label, tables);
     Hard { label, tables, known }
-}
-
-/// Tables in the making. An id's place decides where its atom stands in the order.
-#[derive(Default)]
-struct Builder {
-    rows: Vec<[u16; 3]>,
-    inclusions: Vec<[u16; 2]>,
-    questions: Vec<[u16; 2]>,
-    names: u16,
-    variables: u16,
-}
-
-impl Builder {
-    fn add(&mut self, row: [u16; 3]) -> u16 {
-        self.rows.push(row);
-        (self.rows.len() - 1) as u16
-    }
-
-    /// A name of its own.
-    fn name(&mut self) -> u16 {
-        self.names += 1;
-        self.add([1, self.names - 1, 0])
-    }
-
-    fn names(&mut self, count: usize) -> Vec<u16> {
-        (0..count).map(|_| self.name()).collect()
-    }
-
-    fn variable(&mut self) -> u16 {
-        self.variables += 1;
-        self.add([4, self.variables - 1, 0])
-    }
-
-    fn some(&mut self, role: u16, inner: u16) -> u16 {
-        self.add([2, role, inner])
-    }
-
-    fn and(&mut self, first: u16, second: u16) -> u16 {
-        self.add([3, first, second])
-    }
-
-    /// The conjunction of all, one by one.
-    fn all(&mut self, ids: &[u16]) -> u16 {
-        let mut ids = ids.iter().copied();
-        let first = ids.next().expect("a conjunction of something");
-        ids.fold(first, |sum, id| self.and(sum, id))
-    }
-
-    /// Makes atoms of ids and changes nothing else.
-    fn atoms(&mut self, ids: &[u16]) {
-        self.inclusions.extend(ids.iter().map(|&id| [id, id]));
-    }
-
-    fn ask(&mut self, left: u16, right: u16) {
-        self.questions.push([left, right]);
-    }
-
-    /// K atoms, and what is below each of them and below nothing else.
-    fn harmless(&mut self, k: usize) -> (Vec<u16>, u16) {
-        let names = self.names(k);
-        self.atoms(&names);
-        let below = self.all(&names);
-        (names, below)
-    }
-
-    /// "Some" of each, for a question whose right side is "some" of a pattern: the pattern must
-    /// hold one of them.
-    fn witnesses(&mut self, role: u16, ids: &[u16]) -> u16 {
-        let some: Vec<u16> = ids.iter().map(|&id| self.some(role, id)).collect();
-        self.all(&some)
-    }
 }
 
 /// K harmless atoms before the one that is needed and forbidden.

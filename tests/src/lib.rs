@@ -1,6 +1,7 @@
 //! The independent implementation that the proved library is held against, and what that takes:
 //! the C interface, random tables, guarded buffers.
 
+pub mod builder;
 pub mod capi;
 pub mod compare;
 pub mod damage;
@@ -11,8 +12,10 @@ pub mod hard;
 pub mod house_text;
 pub mod lend;
 pub mod limits;
+pub mod planted;
 pub mod random;
 pub mod reference;
 pub mod semantics;
 pub mod substitution;
 pub mod tables;
+pub mod tally;

@@ -1,4 +1,5 @@
-//! include/hermitcasket.h, compiled by a C compiler and linked with the archive.
+//! include/hermitcasket.h, compiled as C and as C++ and linked with the archive; and what it says
+//! of the archive.
 
 use std::path::{Path, PathBuf};
 use std::process::{Command, Output};
@@ -29,6 +30,27 @@ derive 0
 checked 0 0 0
 not below 11 0 0
 no lines 12 0 0
+no tables 0 0 0
+no tables, no room 8 64 0
+no tables, no part 0 0 0
+no rows 0 0 0
+no entry 4 0 0
+nothing to fill 0 0 0
+no blank 2 0 0
+nothing to derive 4 0 0
+nothing to check 4 0 0
+no catalogue 8 1 0
+no questions 0 0 0
+no entries 4 0 0
+no filling 9 1 0
+filling of none 0 0 1
+derived 0 0 1
+no room for parts 8 64 0
+no room for rows 8 144 0
+no room to fill 8 1 0
+no room for ids 8 64 0
+no room for lines 8 144 0
+no list of lines 12 0 0
 ";
 
 fn run(command: &mut Command) -> Output {
@@ -39,17 +61,61 @@ fn run(command: &mut Command) -> Output {
     output
 }
 
-#[test]
-fn a_c_program_gets_the_same_answers() {
+/// Compiles c/smoke.c with these words and runs it.
+fn smoke(label: &str, words: &[&str]) -> String {
     let package = Path::new(env!("CARGO_MANIFEST_DIR"));
-    let program = PathBuf::from(env!("CARGO_TARGET_TMPDIR")).join("smoke");
+    let program = PathBuf::from(env!("CARGO_TARGET_TMPDIR")).join(label);
     run(Command::new("cc")
-        .args(["-std=c99", "-Wall", "-Wextra", "-Wpedantic", "-Werror", "-I"])
+        .args(["-Wall", "-Wextra", "-Wpedantic", "-Werror", "-I"])
         .arg(package.join("../include"))
+        .args(words)
         .arg(package.join("c/smoke.c"))
+        .args(["-x", "none"])
         .arg(env!("HC_ARCHIVE"))
         .arg("-o")
         .arg(&program));
-    let output = run(&mut Command::new(&program));
-    assert_eq!(String::from_utf8_lossy(&output.stdout), EXPECTED);
+    String::from_utf8(run(&mut Command::new(&program)).stdout).expect("plain text")
+}
+
+#[test]
+fn a_c_program_gets_the_same_answers() {
+    assert_eq!(smoke("smoke_c", &["-std=c99"]), EXPECTED);
+}
+
+#[test]
+fn a_cpp_program_gets_the_same_answers() {
+    assert_eq!(smoke("smoke_cpp", &["-x", "c++", "-std=c++11"]), EXPECTED);
+}
+
+/// The header alone is enough, whatever is included before or after it, and once is as good as twice.
+#[test]
+fn the_header_stands_alone() {
+    let header = Path::new(env!("CARGO_MANIFEST_DIR")).join("../include/hermitcasket.h");
+    for words in [["-x", "c", "-std=c99"], ["-x", "c++", "-std=c++11"]] {
+        run(Command::new("cc")
+            .args(["-Wall", "-Wextra", "-Wpedantic", "-Werror", "-fsyntax-only", "-include"])
+            .arg(&header)
+            .args(words)
+            .arg(&header));
+    }
+}
+
+/// "Calls share no state": nothing in the archive can be written to but what a call is lent, and
+/// nothing is called that could keep anything.
+#[test]
+fn the_archive_has_no_variables() {
+    let output = run(Command::new("nm").arg(env!("HC_ARCHIVE")));
+    let said = String::from_utf8(output.stdout).expect("plain text");
+    let mut exported = Vec::new();
+    // lines of "address kind name", or "kind name" where the name is not defined
+    for line in said.lines() {
+        let words: Vec<&str> = line.split_whitespace().rev().take(2).collect();
+        match words[..] {
+            [name, "T"] if name.starts_with("hc_") => exported.push(name),
+            [name, "U"] => assert!(["memcpy", "memset"].contains(&name), "{}", line),
+            [_, "T" | "t" | "R" | "r"] | [_] | [] => {}
+            _ => panic!("{}", line),
+        }
+    }
+    assert_eq!(exported.len(), 8, "{:?}", exported);
 }

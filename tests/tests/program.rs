@@ -11,9 +11,11 @@ use hermitcasket_tests::generate;
 use hermitcasket_tests::hard;
 use hermitcasket_tests::house_text::{self, layout, output, refused};
 use hermitcasket_tests::limits::MAX_TEXT;
+use hermitcasket_tests::planted;
 use hermitcasket_tests::random::{cases, full_run, seed, Random, Size};
 use hermitcasket_tests::reference::Refusal;
 use hermitcasket_tests::tables::Tables;
+use hermitcasket_tests::tally::Tally;
 
 const SAMPLE: &str = "\
 blanks=1
@@ -416,24 +418,44 @@ fn layouts_read_back() {
 #[test]
 fn random_problems_agree() {
     let seed = seed("program, problems");
-    let (mut seen, mut run) = (std::collections::BTreeSet::new(), 0);
+    let mut seen = std::collections::BTreeSet::new();
+    let mut tally = Tally::new("program, problems");
     for (size, share) in [(Size::Small, 12), (Size::Medium, 10), (Size::Large, 10)] {
         for k in 0..cases(size) / share {
             let mut random = Random::for_case(seed, k);
-            let mut tables = generate::valid(&mut random, size);
+            let tables = generate::valid(&mut random, size);
+            let mut text = layout(&tables);
             if random.percent(50) {
-                damage::tables(&mut random, &mut tables);
+                let mut damaged = tables;
+                damage::tables(&mut random, &mut damaged);
+                // some damage has no lines: then the text stays as it was
+                tally.note("damage left out", layout(&damaged).is_none());
+                text = layout(&damaged).or(text);
             }
-            if let Some(text) = layout(&tables) {
-                let said = agree(&text);
-                seen.insert(said.lines().take(2).collect::<Vec<_>>().join(" "));
-                run += 1;
+            let said = agree(&text.expect("accepted tables have a layout"));
+            tally.case();
+            for kind in ["filled", "none", "refused"] {
+                tally.note(kind, said.starts_with(&format!("answer={}", kind)));
             }
+            seen.insert(said.lines().take(2).collect::<Vec<_>>().join(" "));
         }
     }
     let kinds = ["none", "filled", "=1", "=2", "=3", "=4", "=5", "=6", "=7"];
     let all_seen = kinds.iter().all(|kind| seen.iter().any(|said| said.contains(kind)));
-    assert!(all_seen || !full_run(), "{} problems: {:?}", run, seen);
+    assert!(all_seen || !full_run(), "{:?}", seen);
+    tally.finish(&[
+        ("damage left out", 0..=20),
+        ("filled", 20..=80),
+        ("none", 10..=80),
+        ("refused", 15..=80),
+    ]);
+}
+
+fn change_digit(random: &mut Random, text: &mut [u8]) {
+    let digits: Vec<usize> = (0..text.len()).filter(|&at| text[at].is_ascii_digit()).collect();
+    if !digits.is_empty() {
+        text[*random.pick(&digits)] = b'0' + random.below(10) as u8;
+    }
 }
 
 /// One to three bytes changed, put in or left out, or pieces of the text moved.
@@ -441,12 +463,14 @@ fn damage_text(random: &mut Random, text: &mut Vec<u8>) {
     const TELLING: &[u8] = b"\n\n\r ,=0019-\0\x80\xffabt";
     for _ in 0..random.between(1, 3) {
         let at = random.below(text.len().max(1));
-        match random.below(6) {
+        match random.below(9) {
             0 => text.insert(at, *random.pick(TELLING)),
             1 if !text.is_empty() => drop(text.remove(at)),
             2 if !text.is_empty() => text[at] = *random.pick(TELLING),
             3 if !text.is_empty() => text[at] = text[at].wrapping_add(random.between(1, 255) as u8),
             4 => text.truncate(at),
+            // a number changed mostly leaves a text that can be read
+            5..=7 => change_digit(random, text),
             _ => {
                 let until = at + random.below(text.len() - at + 1);
                 let piece = text[at..until].to_vec();
@@ -460,16 +484,19 @@ fn damage_text(random: &mut Random, text: &mut Vec<u8>) {
 #[test]
 fn random_damaged_texts_agree() {
     let seed = seed("program, texts");
-    let mut off = 0;
+    let mut tally = Tally::new("program, texts");
     for k in 0..cases(Size::Small) / 12 {
         let mut random = Random::for_case(seed, k);
         let size = if random.percent(90) { Size::Small } else { Size::Medium };
         let tables = generate::valid(&mut random, size);
         let mut text = layout(&tables).expect("accepted tables have a layout");
         damage_text(&mut random, &mut text);
-        off += usize::from(agree(&text).contains("number=13"));
+        let off = agree(&text).contains("number=13");
+        tally.case();
+        tally.note("off the layout", off);
+        tally.note("read", !off);
     }
-    assert!(off > 0 || !full_run());
+    tally.finish(&[("off the layout", 50..=95), ("read", 5..=50)]);
 }
 
 /// The hard families, as texts.
@@ -480,4 +507,23 @@ fn hard_families() {
             agree(&layout(&problem.tables).expect("a layout"));
         }
     }
+}
+
+/// Problems at the limits that need a search, as texts.
+#[test]
+fn searches_at_the_limits() {
+    let seed = seed("program, searches");
+    let mut tally = Tally::new("program, searches");
+    for shape in planted::FULL {
+        for k in 0..(cases(Size::Large) / 30).max(1) {
+            let mut random = Random::for_case(seed, k);
+            let tables = planted::problem(&mut random, shape);
+            let tables = planted::fill_up(&mut random, tables);
+            let said = agree(&layout(&tables).expect("a layout"));
+            tally.case();
+            tally.note("filled", said.starts_with("answer=filled"));
+            tally.note("none", said == "answer=none\n");
+        }
+    }
+    tally.finish(&[("filled", 20..=80), ("none", 20..=80)]);
 }

@@ -12,6 +12,8 @@ pub struct Clauses {
     clauses: Vec<Vec<Literal>>,
     /// For each proposition, the clauses that lose a literal when it becomes false, or true.
     losing: Vec<[Vec<usize>; 2]>,
+    /// How often a decision was taken back so far.
+    pub conflicts: usize,
 }
 
 /// Values given so far, in order, each with its level of decision and the clause that forced it.
@@ -27,7 +29,7 @@ struct Trail {
 impl Clauses {
     pub fn new(propositions: usize) -> Self {
         let losing = vec![[Vec::new(), Vec::new()]; propositions];
-        Clauses { propositions, clauses: Vec::new(), losing }
+        Clauses { propositions, clauses: Vec::new(), losing, conflicts: 0 }
     }
 
     pub fn add(&mut self, clause: Vec<Literal>) {
@@ -46,6 +48,7 @@ impl Clauses {
                 if trail.decisions == 0 {
                     return None;
                 }
+                self.conflicts += 1;
                 let (learnt, level) = self.learn(&trail, clause);
                 trail.back_to(level);
                 let (proposition, value) = learnt[0];

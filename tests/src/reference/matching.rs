@@ -41,15 +41,41 @@ pub fn brute_force(tables: &Tables) -> Option<Vec<u64>> {
 
 /// The first solution, by the search. The tables must be accepted.
 pub fn first_solution(tables: &Tables) -> Option<Vec<u64>> {
+    first_solution_with_effort(tables).0
+}
+
+/// How hard the search was.
+#[derive(Clone, Copy, Debug, Default, PartialEq, Eq)]
+pub struct Effort {
+    /// Assignments under which the questions were asked.
+    pub tried: usize,
+    /// Decisions that were taken back.
+    pub conflicts: usize,
+}
+
+/// The first solution and what it took.
+pub fn first_solution_with_effort(tables: &Tables) -> (Option<Vec<u64>>, Effort) {
     let below = relation(tables, &vec![0; usize::from(tables.variables)]);
-    search(&Patterns::new(tables, |i, j| below[i][j]), usize::from(tables.variables))
+    let patterns = Patterns::new(tables, |i, j| below[i][j]);
+    search_with_effort(&patterns, usize::from(tables.variables))
 }
 
 pub fn search(patterns: &Patterns, variables: usize) -> Option<Vec<u64>> {
+    search_with_effort(patterns, variables).0
+}
+
+fn search_with_effort(patterns: &Patterns, variables: usize) -> (Option<Vec<u64>>, Effort) {
     let atoms = patterns.atom_count();
     let mut clauses = Clauses::new(variables * atoms);
+    let mut tried = 0;
     loop {
-        let model = clauses.first_model()?;
+        let model = clauses.first_model();
+        let effort = Effort { tried, conflicts: clauses.conflicts };
+        let model = match model {
+            Some(model) => model,
+            None => return (None, effort),
+        };
+        tried += 1;
         let mut assignment = vec![0; variables];
         for pair in (0..model.len()).filter(|&pair| model[pair]) {
             assignment[pair / atoms] |= 1 << (pair % atoms);
@@ -57,7 +83,7 @@ pub fn search(patterns: &Patterns, variables: usize) -> Option<Vec<u64>> {
         let fails = |&question: &usize| !patterns.holds(question, &assignment);
         let failing: Vec<usize> = (0..patterns.question_count()).filter(fails).collect();
         if failing.is_empty() {
-            return Some(assignment);
+            return (Some(assignment), Effort { tried, ..effort });
         }
         for question in failing {
             let more = patterns.is_monotone(question);

@@ -1,0 +1,169 @@
+//! What README.md and examples/README.md show is run: the C lines, the derivation, the cards.
+
+use std::fs;
+use std::path::{Path, PathBuf};
+use std::process::{Command, Output};
+
+use hermitcasket_tests::capi::{self, Answer};
+use hermitcasket_tests::tables::Tables;
+
+fn root() -> PathBuf {
+    Path::new(env!("CARGO_MANIFEST_DIR")).join("..")
+}
+
+fn read(path: &str) -> String {
+    fs::read_to_string(root().join(path)).unwrap_or_else(|error| panic!("{}: {}", path, error))
+}
+
+fn run(command: &mut Command) -> Output {
+    let output = command.output();
+    let output = output.unwrap_or_else(|error| panic!("{:?}: {}", command, error));
+    let said = String::from_utf8_lossy(&output.stderr);
+    let wrote = String::from_utf8_lossy(&output.stdout);
+    assert!(output.status.success(), "{:?}: {}\n{}{}", command, output.status, wrote, said);
+    output
+}
+
+/// Heading and text of each section.
+fn sections(text: &str) -> Vec<(&str, &str)> {
+    text.split("\n## ").skip(1).filter_map(|section| section.split_once('\n')).collect()
+}
+
+fn section<'a>(text: &'a str, heading: &str) -> &'a str {
+    let found = sections(text).into_iter().find(|(of, _)| *of == heading);
+    found.unwrap_or_else(|| panic!("no section {}", heading)).1
+}
+
+/// The blocks of lines that are set off by four spaces, without these.
+fn blocks(section: &str) -> Vec<String> {
+    let mut blocks: Vec<String> = Vec::new();
+    let mut inside = false;
+    for line in section.lines() {
+        match line.strip_prefix("    ") {
+            Some(text) if inside => *blocks.last_mut().expect("a block") += &format!("{}\n", text),
+            Some(text) => blocks.push(format!("{}\n", text)),
+            None => {}
+        }
+        inside = line.starts_with("    ");
+    }
+    blocks
+}
+
+/// The condition of a line that is a comment: its words up to a colon.
+fn condition(line: &str) -> Option<&str> {
+    let comment = line.trim().strip_prefix("/*")?.strip_suffix("*/")?;
+    Some(comment.split(':').next().unwrap_or(comment).trim())
+}
+
+/// A program of the lines, each comment asked as a condition behind the line before it.
+fn program(lines: &str) -> String {
+    let (includes, body): (Vec<&str>, Vec<&str>) =
+        lines.lines().partition(|line| line.starts_with("#include"));
+    let asked = |line: &&str| match condition(line) {
+        Some(condition) => format!("if (!({0})) return puts(\"{0}\"), 1;\n", condition),
+        None => format!("{}\n", line),
+    };
+    let body: String = body.iter().map(asked).collect();
+    format!("{}\n#include <stdio.h>\nint main(void)\n{{\n{}}}\n", includes.join("\n"), body)
+}
+
+/// Each call of an operation is followed by a comment that says what is then so.
+#[test]
+fn the_c_lines_do_what_their_comments_say() {
+    let readme = read("README.md");
+    let is_c = |block: &String| block.contains(';');
+    let lines: String = blocks(section(&readme, "Linking it")).into_iter().filter(is_c).collect();
+    let calls = lines.matches(" = hc_").count();
+    let claims = lines.lines().filter_map(condition).count();
+    assert!(calls >= 4 && claims == calls, "{} calls, {} claims in\n{}", calls, claims, lines);
+
+    let folder = PathBuf::from(env!("CARGO_TARGET_TMPDIR"));
+    let (source, compiled) = (folder.join("readme.c"), folder.join("readme"));
+    fs::write(&source, program(&lines)).expect("a C file");
+    run(Command::new("cc")
+        .args(["-std=c99", "-Wall", "-Wextra", "-Wpedantic", "-Werror", "-I"])
+        .arg(root().join("include"))
+        .arg(&source)
+        .arg(env!("HC_ARCHIVE"))
+        .arg("-o")
+        .arg(&compiled));
+    run(&mut Command::new(&compiled));
+}
+
+/// The lines of the section on derivations, under the choice that it names.
+#[test]
+fn the_derivation_is_accepted() {
+    let readme = read("README.md");
+    let shown = blocks(section(&readme, "Derivations")).concat();
+    let first_four = |line: &str| {
+        let words = line.split_whitespace().take(4);
+        words.map(|word| word.parse().ok()).collect::<Option<Vec<u16>>>()
+    };
+    let lines: Vec<u16> = shown.lines().filter_map(first_four).flatten().collect();
+    assert_eq!(lines.len(), 12, "{}", shown);
+    let rows = [[1, 5, 0], [1, 7, 0], [2, 1, 0], [1, 9, 0], [4, 0, 0], [3, 1, 4]];
+    let tables = Tables::new(&rows, &[[2, 3]], &[[5, 3], [2, 4]], 1);
+    let answer = capi::check_derivation(tables.lend(), &[4], (5, 3), &lines);
+    assert_eq!(answer, Answer::done(0), "{}", shown);
+}
+
+/// What ./run prints for a card.
+fn answer(card: &str) -> String {
+    let missing = "target/bin/hermitcasket is missing: run rt check hermitcasket first";
+    assert!(root().join("target/bin/hermitcasket").is_file(), "{}", missing);
+    let line = format!("./run < examples/{}", card);
+    let output = run(Command::new("bash").args(["-c", &line]).current_dir(root()));
+    String::from_utf8(output.stdout).expect("plain text")
+}
+
+/// README's command prints what stands below it.
+#[test]
+fn the_command_prints_what_is_shown() {
+    let readme = read("README.md");
+    let shown = blocks(section(&readme, "Run"));
+    assert_eq!(shown.len(), 2, "{:?}", shown);
+    let card = shown[0].trim().strip_prefix("./run < examples/").expect("a command with a card");
+    assert_eq!(answer(card), shown[1]);
+}
+
+/// The cards of examples/, by name.
+fn cards() -> Vec<String> {
+    let files = fs::read_dir(root().join("examples")).expect("a folder of cards");
+    let name = |file: fs::DirEntry| file.file_name().into_string().expect("a plain name");
+    let mut names: Vec<String> = files.map(|file| name(file.expect("a file"))).collect();
+    names.retain(|name| name.ends_with(".txt"));
+    names.sort();
+    names
+}
+
+/// Each card has a section with its answer, and each answer has a card.
+#[test]
+fn each_card_prints_its_answer() {
+    let text = read("examples/README.md");
+    let mut seen = Vec::new();
+    for (heading, section) in sections(&text) {
+        let card = heading.split(':').next().unwrap_or(heading);
+        assert_eq!(blocks(section), [answer(card)], "{}", card);
+        legend(card, section);
+        seen.push(card.to_string());
+    }
+    seen.sort();
+    assert_eq!(seen, cards());
+    assert!(seen.len() >= 3, "{:?}", seen);
+}
+
+/// What a section says of a card's lines: they stand there, in the table at the id's place.
+fn legend(card: &str, section: &str) {
+    let text = read(&format!("examples/{}", card));
+    let lines: Vec<&str> = text.lines().collect();
+    for quoted in section.split('`').skip(1).step_by(2).filter(|quoted| quoted.contains('=')) {
+        assert!(lines.contains(&quoted), "{} has no line {}", card, quoted);
+    }
+    for row in section.lines() {
+        let cells: Vec<&str> = row.split('|').map(str::trim).collect();
+        if let Some(Ok(id)) = cells.get(1).map(|cell| cell.parse::<usize>()) {
+            // the entries stand behind two lines of counts
+            assert_eq!(cells[2].trim_matches('`'), lines[2 + id], "{}, id {}", card, id);
+        }
+    }
+}
