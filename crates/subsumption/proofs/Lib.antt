@@ -35,6 +35,7 @@ pub mod Picks
 pub mod Choices
 pub mod Passes
 pub mod Settling
+pub mod Including
 pub mod Linking
 pub mod Closing
 pub mod RowLaws

@@ -11,7 +11,7 @@ use lib.Dec.{eqb, ltb}
 use borrow.Author.Count.{below-more}
 use borrow.Author.Tests.{eqb-true, eqb-false, ltb-true, ltb-false}
 use Rattle.subsumption.specs.Tables.{Node, nameAt, existsAt, node, countOf}
-use Rattle.subsumption.specs.Closure.{has, Into, Rising, Ready, FirstNamed, Nameable, Seen, Firsts, Inner, OnwardFrom, OnwardTo, Linkable, Links, NextLink, LinkedTo, IsNamed, Flow, flow-linked, Pass, Takes, chooseFrom}
+use Rattle.subsumption.specs.Closure.{has, Into, Rising, Ready, FirstNamed, Nameable, Seen, Firsts, Inner, OnwardFrom, OnwardTo, Linkable, Links, NextLink, LinkedTo, IsNamed, Flow, flow-linked, LinkPass, Takes}
 use Rattle.subsumption.proofs.Bools.{le-or-lt}
 use Rattle.subsumption.proofs.Nodes.{name-node, exists-node, node-name, node-exists}
 use Rattle.subsumption.proofs.Columns.{not-both}
@@ -22,7 +22,7 @@ ready-nameable R = record { few = R .few; low = R .low-names }
 
 pub ready-inner : {concepts inclusions atoms assignment : List ℕ} → Ready concepts inclusions atoms assignment → Inner concepts
 ready-inner {concepts} R =
-    record { few = R .few; low = λ e r x h n. omega (arith, subst (λ (m : Node). Rising e m) n (R .rising e h), R .few) }
+    record { few = R .few; known = λ e r x h n. omega (arith, subst (λ (m : Node). Rising e m) n (R .rising e h)) }
 
 module _ (concepts columns : List ℕ) (role inner e : ℕ) where
   pub links-kind : (getD concepts (e * 3) 0 ≡ 2 → ⊥) → Links concepts columns role inner e false
@@ -52,7 +52,7 @@ module _ (concepts columns : List ℕ) (role inner e : ℕ) where
       }
 
   pub inner-low : Inner concepts → e < countOf concepts → getD concepts (e * 3) 0 ≡ 2 → getD concepts (e * 3 + 2) 0 < 192
-  inner-low I h kind = I .low e _ _ h (node-exists concepts e kind)
+  inner-low I h kind = omega (arith, I .known e _ _ h (node-exists concepts e kind), I .few)
 
 module _ (concepts columns : List ℕ) (role inner start : ℕ) where
   pub record NoLink (e : ℕ) : Type 0 where
@@ -146,61 +146,63 @@ pub onward-all : (concepts onward : List ℕ) (e : ℕ) → e ≤ 0 → OnwardTo
 onward-all concepts onward e h O = record { long = O .long; each = λ d a b. O .each d (omega arith) b }
 
 -- the loop over what links to f
-pub record Linked (concepts inclusions atoms assignment : List ℕ) (f : ℕ) (before after : List ℕ) (changed : Bool) (e : ℕ) : Type 0 where
+pub record Linked (concepts : List ℕ) (f : ℕ) (before after : List ℕ) (changed : Bool) (e : ℕ) : Type 0 where
   pub within : e ≤ countOf concepts
+  pub long : length after ≡ length before
   pub passed :
-      Pass concepts inclusions (chooseFrom atoms assignment)
+      LinkPass concepts
       (λ l. (d : ℕ) → d < e → Linkable concepts l (getD concepts (f * 3 + 1) 0) (getD concepts (f * 3 + 2) 0) d → Into (countOf concepts) l d f)
       before after changed
   pub next : e < countOf concepts → Linkable concepts after (getD concepts (f * 3 + 1) 0) (getD concepts (f * 3 + 2) 0) e
 
-module _ (concepts inclusions atoms assignment : List ℕ) (f : ℕ) where
-  pub not-linked :
-      (columns : List ℕ) → (getD concepts (f * 3) 0 ≡ 2 → ⊥)
-      → Pass concepts inclusions (chooseFrom atoms assignment) (LinkedTo concepts f) columns columns false
-  not-linked columns ne = pass-none (λ e r y h n l. absurd (ne (exists-node concepts f r y n .0)))
+module _ (concepts : List ℕ) (f : ℕ) where
+  pub not-linked : (columns : List ℕ) → (getD concepts (f * 3) 0 ≡ 2 → ⊥) → LinkPass concepts (LinkedTo concepts f) columns columns false
+  not-linked columns ne inclusions choose = pass-none (λ e r y h n l. absurd (ne (exists-node concepts f r y n .0)))
 
   pub linked-first :
       (columns : List ℕ) (e : ℕ) → NextLink concepts columns (getD concepts (f * 3 + 1) 0) (getD concepts (f * 3 + 2) 0) 0 e
-      → Linked concepts inclusions atoms assignment f columns columns false e
+      → Linked concepts f columns columns false e
   linked-first columns e N =
-      record { within = N .within; passed = pass-none (λ d h l. absurd (N .none d (omega arith) h l)); next = N .found }
+      record {
+        within = N .within;
+        long = refl;
+        passed = λ inclusions choose. pass-none (λ d h l. absurd (N .none d (omega arith) h l));
+        next = N .found;
+      }
 
   pub linked-done :
-      (before after : List ℕ) (changed : Bool) (e : ℕ) → Linked concepts inclusions atoms assignment f before after changed e → countOf concepts ≤ e
-      → Pass concepts inclusions (chooseFrom atoms assignment) (LinkedTo concepts f) before after changed
-  linked-done before after changed e L h =
-      pass-as (L .passed)
+      (before after : List ℕ) (changed : Bool) (e : ℕ) → Linked concepts f before after changed e → countOf concepts ≤ e
+      → LinkPass concepts (LinkedTo concepts f) before after changed
+  linked-done before after changed e L h inclusions choose =
+      pass-as (L .passed inclusions choose)
       (λ q d r y l n k.
       let m : (getD concepts (f * 3) 0 ≡ 2) × (getD concepts (f * 3 + 1) 0 ≡ r) × (getD concepts (f * 3 + 2) 0 ≡ y) = exists-node concepts f r y n in
       q d (omega arith)
       (subst (λ (x : ℕ). Linkable concepts before x (getD concepts (f * 3 + 2) 0) d) (sym (m .1))
       (subst (λ (x : ℕ). Linkable concepts before r x d) (sym (m .2)) k)))
 
-  module _ (R : Ready concepts inclusions atoms assignment) (inside : f < countOf concepts) (kind : getD concepts (f * 3) 0 ≡ 2)
-      (before mid after : List ℕ) (a b : Bool) (e g : ℕ) (L : Linked concepts inclusions atoms assignment f before mid a e)
+  module _ (I : Inner concepts) (inside : f < countOf concepts) (kind : getD concepts (f * 3) 0 ≡ 2)
+      (before mid after : List ℕ) (a b : Bool) (e g : ℕ) (L : Linked concepts f before mid a e)
       (h : e < countOf concepts) (T : Takes mid after (λ j. j ≡ f) (λ i. has mid i e ≡ true) b)
       (N : NextLink concepts after (getD concepts (f * 3 + 1) 0) (getD concepts (f * 3 + 2) 0) (e + 1) g) where
-    linked-step : Pass concepts inclusions (chooseFrom atoms assignment) (λ l. Into (countOf concepts) l e f) mid after b
-    linked-step =
-        step-pass (R .few) T
+    linked-step : LinkPass concepts (λ l. Into (countOf concepts) l e f) mid after b
+    linked-step inclusions choose =
+        step-pass (I .few) T
         (λ g′ s i j l _ p q.
         let k = L .next h in
         let n : node concepts f ≡ existsAt (getD concepts (f * 3 + 1) 0) (getD concepts (f * 3 + 2) 0) = node-exists concepts f kind in
-        subst (λ (x : ℕ). Flow concepts inclusions (chooseFrom atoms assignment) g′ i x) (sym p)
+        subst (λ (x : ℕ). Flow concepts inclusions choose g′ i x) (sym p)
         (flow-linked i e f (getD concepts (f * 3 + 1) 0) (k .from) (getD concepts (f * 3 + 2) 0) l h inside (k .row) n
-        (s (k .from) (getD concepts (f * 3 + 2) 0) (inner-known e (k .from) h (k .row)) (inner-known f (getD concepts (f * 3 + 2) 0) inside n) (k .below))
+        (s (k .from) (getD concepts (f * 3 + 2) 0) (I .known e _ _ h (k .row)) (I .known f _ _ inside n) (k .below))
         (s i e l h q)))
         (λ w i l u. w i f l refl u)
-      where
-        inner-known : (d x : ℕ) {r : ℕ} → d < countOf concepts → node concepts d ≡ existsAt r x → x < countOf concepts
-        inner-known d x l n = omega (arith, subst (λ (m : Node). Rising d m) n (R .rising d l))
 
-    pub linked-more : Linked concepts inclusions atoms assignment f before after (a || b) g
+    pub linked-more : Linked concepts f before after (a || b) g
     linked-more =
         record {
           within = N .within;
-          passed = pass-as (pass-seen {Q′ = λ l. (d : ℕ) → e + 1 ≤ d → d < g → Linkable concepts l (getD concepts (f * 3 + 1) 0) (getD concepts (f * 3 + 2) 0) d → ⊥} (pass-then (L .passed) linked-step) (N .none)) (λ q d l k. go q d l k (eqb d e) refl (ltb d e) refl);
+          long = T .long ∙ L .long;
+          passed = λ inclusions choose. pass-as (pass-seen {Q′ = λ l. (d : ℕ) → e + 1 ≤ d → d < g → Linkable concepts l (getD concepts (f * 3 + 1) 0) (getD concepts (f * 3 + 2) 0) d → ⊥} (pass-then (L .passed inclusions choose) (linked-step inclusions choose)) (N .none)) (λ q d l k. go q d l k (eqb d e) refl (ltb d e) refl);
           next = N .found;
         }
       where

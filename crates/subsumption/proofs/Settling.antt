@@ -7,15 +7,25 @@ use native.Mathlib.Omega.{arith}
 use lib.ListN.{length, getD}
 use Rattle.subsumption.specs.Tables.{Node, topAt, nameAt, andAt, varAt, node, countOf}
 use Rattle.subsumption.specs.Atoms.{pick}
-use Rattle.subsumption.specs.Closure.{has, Into, Rising, Ready, Firsts, Settled, SettledBy, Flow, flow-same, flow-top, flow-named, flow-first, flow-second, flow-meet, flow-chooses, flow-all-chosen, Pass, Takes, Known, chooseFrom}
+use Rattle.subsumption.specs.Closure.{has, Into, Rising, Ready, Settleable, Firsts, Settled, SettledBy, Flow, flow-same, flow-top, flow-named, flow-first, flow-second, flow-meet, flow-chooses, flow-all-chosen, Pass, SettlePass, Takes, Known, chooseFrom}
 use Rattle.subsumption.proofs.Nodes.{node-name, node-exists, node-and, node-var}
 use Rattle.subsumption.proofs.Picks.{ChosenBelow, at-picked}
 use Rattle.subsumption.proofs.Passes.{pass-as, pass-then, step-pass, flow-pass}
 
-pub ready-known : {concepts inclusions atoms assignment : List ℕ} → Ready concepts inclusions atoms assignment → Known atoms
-ready-known R = record { few = R .few-atoms; low = λ q h. omega (arith, R .atoms-known q h, R .few) }
+pub ready-settleable : {concepts inclusions atoms assignment : List ℕ} → Ready concepts inclusions atoms assignment → Settleable concepts atoms assignment
+ready-settleable R =
+    record {
+      few = R .few;
+      rising = R .rising;
+      numbered = R .numbered;
+      few-atoms = R .few-atoms;
+      atoms-known = R .atoms-known;
+    }
 
-module _ {concepts inclusions atoms assignment : List ℕ} (R : Ready concepts inclusions atoms assignment) (j : ℕ) (inside : j < countOf concepts) where
+pub settle-known : {concepts atoms assignment : List ℕ} → Settleable concepts atoms assignment → Known atoms
+settle-known S = record { few = S .few-atoms; low = λ q h. omega (arith, S .atoms-known q h, S .few) }
+
+module _ {concepts atoms assignment : List ℕ} (R : Settleable concepts atoms assignment) (j : ℕ) (inside : j < countOf concepts) where
   rising : {m : Node} → node concepts j ≡ m → Rising j m
   rising {m} e = subst (λ (x : Node). Rising j x) e (R .rising j inside)
 
@@ -28,10 +38,10 @@ module _ {concepts inclusions atoms assignment : List ℕ} (R : Ready concepts i
   pub var-low : getD concepts (j * 3) 0 ≡ 4 → getD concepts (j * 3 + 1) 0 < length assignment
   var-low e = R .numbered j _ (node-var concepts j e)
 
-module _ (concepts inclusions atoms assignment firsts : List ℕ) (R : Ready concepts inclusions atoms assignment) (F : Firsts concepts firsts)
+module _ (concepts atoms assignment firsts : List ℕ) (R : Settleable concepts atoms assignment) (F : Firsts concepts firsts)
     (j : ℕ) (inside : j < countOf concepts) where
   abbrev pub SettledPass : List ℕ → List ℕ → Bool → Type 0
-  SettledPass = Pass concepts inclusions (chooseFrom atoms assignment) (Settled concepts firsts (chooseFrom atoms assignment) j)
+  SettledPass = SettlePass concepts (chooseFrom atoms assignment) (Settled concepts firsts (chooseFrom atoms assignment) j)
 
   settled :
       {m : Node} {columns : List ℕ} → node concepts j ≡ m → has columns j j ≡ true
@@ -41,9 +51,9 @@ module _ (concepts inclusions atoms assignment firsts : List ℕ) (R : Ready con
       record { same = s; by = subst (λ (x : Node). SettledBy (countOf concepts) (chooseFrom atoms assignment) (getD firsts j 0) j columns x) (sym e) b }
 
   marked :
-      {before after : List ℕ} {changed : Bool} → Takes before after (λ x. x ≡ j) (λ i. i ≡ j) changed
+      {inclusions before after : List ℕ} {changed : Bool} → Takes before after (λ x. x ≡ j) (λ i. i ≡ j) changed
       → Pass concepts inclusions (chooseFrom atoms assignment) (λ l. has l j j ≡ true) before after changed
-  marked t =
+  marked {inclusions} t =
       step-pass (R .few) t
       (λ g s i k h l p q. subst (λ (x : ℕ). Flow concepts inclusions (chooseFrom atoms assignment) g x k) (sym q)
       (subst (λ (x : ℕ). Flow concepts inclusions (chooseFrom atoms assignment) g j x) (sym p) (flow-same j inside)))
@@ -51,12 +61,12 @@ module _ (concepts inclusions atoms assignment firsts : List ℕ) (R : Ready con
 
   pub settle-exists :
       (before after : List ℕ) (own : Bool) → getD concepts (j * 3) 0 ≡ 2 → Takes before after (λ x. x ≡ j) (λ i. i ≡ j) own → SettledPass before after own
-  settle-exists before after own e t = pass-as (marked t) (λ q. settled (node-exists concepts j e) q tt)
+  settle-exists before after own e t inclusions = pass-as (marked t) (λ q. settled (node-exists concepts j e) q tt)
 
   pub settle-top :
       (before one after : List ℕ) (own a : Bool) → node concepts j ≡ topAt → Takes before one (λ x. x ≡ j) (λ i. i ≡ j) own
       → Takes one after (λ x. x ≡ j) (λ i. Unit {0}) a → SettledPass before after (own || a)
-  settle-top before one after own a e t u = pass-as (pass-then (marked t) filled) (λ q. settled e (q .0) (q .1))
+  settle-top before one after own a e t u inclusions = pass-as (pass-then (marked t) filled) (λ q. settled e (q .0) (q .1))
     where
       filled : Pass concepts inclusions (chooseFrom atoms assignment) (λ l. (i : ℕ) → i < countOf concepts → has l i j ≡ true) one after a
       filled =
@@ -68,7 +78,7 @@ module _ (concepts inclusions atoms assignment firsts : List ℕ) (R : Ready con
       (before one two after : List ℕ) (own a b : Bool) → getD concepts (j * 3) 0 ≡ 1 → Takes before one (λ x. x ≡ j) (λ i. i ≡ j) own
       → Takes one two (λ x. x ≡ getD firsts j 0) (λ i. has one i j ≡ true) a
       → Takes two after (λ x. x ≡ j) (λ i. has two i (getD firsts j 0) ≡ true) b → SettledPass before after ((own || a) || b)
-  settle-name before one two after own a b kind t u v =
+  settle-name before one two after own a b kind t u v inclusions =
       pass-as (pass-then (pass-then (marked t) there) back) (λ q. settled e (q .0 .0) (q .0 .1, q .1))
     where
       e : node concepts j ≡ nameAt (getD concepts (j * 3 + 1) 0)
@@ -93,7 +103,7 @@ module _ (concepts inclusions atoms assignment firsts : List ℕ) (R : Ready con
       → Takes three after (λ x. x ≡ j)
       (λ i. (has three i (getD concepts (j * 3 + 1) 0) ≡ true) × (has three i (getD concepts (j * 3 + 2) 0) ≡ true)) c
       → SettledPass before after (((own || a) || b) || c)
-  settle-and before one two three after own a b c kind t u v w =
+  settle-and before one two three after own a b c kind t u v w inclusions =
       pass-as (pass-then (pass-then (pass-then (marked t) left) right) both)
       (λ q. settled e (q .0 .0 .0) (q .0 .0 .1, q .0 .1, q .1))
     where
@@ -134,7 +144,7 @@ module _ (concepts inclusions atoms assignment firsts : List ℕ) (R : Ready con
       → Takes two after (λ x. x ≡ j)
       (λ i. (p : ℕ) → List·Memᴰ p (pick atoms (getD assignment (getD concepts (j * 3 + 1) 0) 0)) → has two i p ≡ true) b
       → SettledPass before after ((own || a) || b)
-  settle-var before one two after own a b kind t u v =
+  settle-var before one two after own a b kind t u v inclusions =
       pass-as (pass-then (pass-then (marked t) down) up) (λ q. settled e (q .0 .0) (q .0 .1, q .1))
     where
       k : ℕ

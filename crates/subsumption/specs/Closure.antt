@@ -35,6 +35,24 @@ pub record Ready (concepts inclusions atoms assignment : List ℕ) : Type 0 wher
   pub few-atoms : length atoms ≤ 64
   pub atoms-known : (q : ℕ) → q < length atoms → getD atoms q 0 < countOf concepts
 
+-- what the steps at the rows ask
+pub record Settleable (concepts atoms assignment : List ℕ) : Type 0 where
+  pub few : countOf concepts ≤ 192
+  pub rising : (i : ℕ) → i < countOf concepts → Rising i (node concepts i)
+  pub numbered : (i k : ℕ) → node concepts i ≡ varAt k → k < length assignment
+  pub few-atoms : length atoms ≤ 64
+  pub atoms-known : (q : ℕ) → q < length atoms → getD atoms q 0 < countOf concepts
+
+-- what the steps at the inclusions ask of them
+pub record LowPairs (inclusions : List ℕ) : Type 0 where
+  pub left : (m : ℕ) → m < pairsOf inclusions → leftOf inclusions m < 192
+  pub right : (m : ℕ) → m < pairsOf inclusions → rightOf inclusions m < 192
+
+-- the left sides of the inclusions are rows
+pub record LeftKnown (concepts inclusions : List ℕ) : Type 0 where
+  pub few : countOf concepts ≤ 192
+  pub left : (m : ℕ) → m < pairsOf inclusions → leftOf inclusions m < countOf concepts
+
 -- the ids that the assignment chooses for a variable, of the atoms given
 abbrev pub chooseFrom : List ℕ → List ℕ → ℕ → List ℕ
 chooseFrom atoms assignment k = pick atoms (getD assignment k 0)
@@ -121,7 +139,7 @@ Onward concepts onward = OnwardTo concepts onward 0
 -- what looking for existentials asks of the rows
 pub record Inner (concepts : List ℕ) : Type 0 where
   pub few : countOf concepts ≤ 192
-  pub low : (e r x : ℕ) → e < countOf concepts → node concepts e ≡ existsAt r x → x < 192
+  pub known : (e r x : ℕ) → e < countOf concepts → node concepts e ≡ existsAt r x → x < countOf concepts
 
 pub record Links (concepts columns : List ℕ) (role inner e : ℕ) (answer : Bool) : Type 0 where
   pub found : answer ≡ true → Linkable concepts columns role inner e
@@ -206,6 +224,19 @@ module _ (concepts inclusions : List ℕ) (choose : ℕ → List ℕ) where
     pub settled : AllSettled concepts firsts choose columns
     pub included : AllIncluded concepts inclusions columns
     pub linked : AllLinked concepts columns
+
+-- The passes of the steps that do not read all tables: whatever the others are.
+abbrev pub SettlePass : List ℕ → (ℕ → List ℕ) → (List ℕ → Type 0) → List ℕ → List ℕ → Bool → Type 0
+SettlePass concepts choose Quiet before after changed = (inclusions : List ℕ) → Pass concepts inclusions choose Quiet before after changed
+
+abbrev pub LinkPass : List ℕ → (List ℕ → Type 0) → List ℕ → List ℕ → Bool → Type 0
+LinkPass concepts Quiet before after changed =
+    (inclusions : List ℕ) (choose : ℕ → List ℕ) → Pass concepts inclusions choose Quiet before after changed
+
+abbrev pub IncludePass : List ℕ → List ℕ → List ℕ → Bool → Type 0
+IncludePass inclusions before after changed =
+    (concepts : List ℕ) (choose : ℕ → List ℕ) → LeftKnown concepts inclusions
+    → Pass concepts inclusions choose (AllIncluded concepts inclusions) before after changed
 
 -- what one word does: it takes in the bits of `add`
 pub record Absorbs (before after : List ℕ) (at add : ℕ) (changed : Bool) : Type 0 where

@@ -7,7 +7,7 @@ ghost use mathlib.Core.List.{List·Memᴰ};
 ghost use Rattle.subsumption.specs.Tables.{countOf};
 ghost use Rattle.subsumption.specs.Atoms.{pick};
 ghost use lib.ListN.{length};
-ghost use Rattle.subsumption.specs.Closure.{has, Absorbs, Takes, inThree, Known, Common, Ready, Nameable, Seen, Firsts, Settled, chooseFrom, Pass, AllSettled, AllIncluded, LinkedTo, AllLinked, AllTaken, Inner, OnwardFrom, OnwardTo, Onward, Links, NextLink, IsNamed, FirstNamed, Empty, Closed};
+ghost use Rattle.subsumption.specs.Closure.{has, Absorbs, Takes, inThree, Known, Common, Ready, Settleable, LowPairs, Nameable, Seen, Firsts, Settled, chooseFrom, Pass, SettlePass, IncludePass, LinkPass, AllSettled, LinkedTo, AllLinked, AllTaken, Inner, OnwardFrom, OnwardTo, Onward, Links, NextLink, IsNamed, FirstNamed, Empty, Closed};
 
 const ALL: u64 = 18446744073709551615;
 
@@ -160,18 +160,17 @@ fn spread(atoms: &[u16], choice: u64, columns: &mut [u64], from: usize) -> bool
 // The steps at the row j.
 fn settle(
     concepts: &[u16],
-    inclusions: &[u16],
     atoms: &[u16],
     assignment: &[u64],
     firsts: &[u16],
     columns: &mut [u64],
     j: usize,
 ) -> bool
-    requires { ⌜ Ready (now concepts) (now inclusions) (now atoms) (now assignment) ⌝ }
+    requires { ⌜ Settleable (now concepts) (now atoms) (now assignment) ⌝ }
     requires { ⌜ Firsts (now concepts) (now firsts) ⌝ }
     requires { ⌜ length (now columns) ≡ 576 ⌝ }
     requires { ⌜ j < countOf (now concepts) ⌝ }
-    ensures { λ r. ⌜ Pass (now (concepts .entry)) (now (inclusions .entry)) (chooseFrom (now (atoms .entry)) (now (assignment .entry)))
+    ensures { λ r. ⌜ SettlePass (now (concepts .entry)) (chooseFrom (now (atoms .entry)) (now (assignment .entry)))
         (Settled (now (concepts .entry)) (now (firsts .entry)) (chooseFrom (now (atoms .entry)) (now (assignment .entry))) j)
         (now (columns .entry)) (now (columns .exit)) r ⌝ }
 {
@@ -207,16 +206,15 @@ fn settle(
 // The steps at every row.
 fn settle_all(
     concepts: &[u16],
-    inclusions: &[u16],
     atoms: &[u16],
     assignment: &[u64],
     firsts: &[u16],
     columns: &mut [u64],
 ) -> bool
-    requires { ⌜ Ready (now concepts) (now inclusions) (now atoms) (now assignment) ⌝ }
+    requires { ⌜ Settleable (now concepts) (now atoms) (now assignment) ⌝ }
     requires { ⌜ Firsts (now concepts) (now firsts) ⌝ }
     requires { ⌜ length (now columns) ≡ 576 ⌝ }
-    ensures { λ r. ⌜ Pass (now (concepts .entry)) (now (inclusions .entry)) (chooseFrom (now (atoms .entry)) (now (assignment .entry)))
+    ensures { λ r. ⌜ SettlePass (now (concepts .entry)) (chooseFrom (now (atoms .entry)) (now (assignment .entry)))
         (AllSettled (now (concepts .entry)) (now (firsts .entry)) (chooseFrom (now (atoms .entry)) (now (assignment .entry))))
         (now (columns .entry)) (now (columns .exit)) r ⌝ }
 {
@@ -224,7 +222,7 @@ fn settle_all(
     let mut changed = false;
     let mut j = 0;
     while j < count {
-        let new = settle(concepts, inclusions, atoms, assignment, firsts, columns, j);
+        let new = settle(concepts, atoms, assignment, firsts, columns, j);
         changed = changed | new;
         j += 1;
     }
@@ -232,18 +230,10 @@ fn settle_all(
 }
 
 // The inclusions: what is below a left side is below the right side.
-fn include_all(
-    concepts: &[u16],
-    inclusions: &[u16],
-    atoms: &[u16],
-    assignment: &[u64],
-    columns: &mut [u64],
-) -> bool
-    requires { ⌜ Ready (now concepts) (now inclusions) (now atoms) (now assignment) ⌝ }
+fn include_all(inclusions: &[u16], columns: &mut [u64]) -> bool
+    requires { ⌜ LowPairs (now inclusions) ⌝ }
     requires { ⌜ length (now columns) ≡ 576 ⌝ }
-    ensures { λ r. ⌜ Pass (now (concepts .entry)) (now (inclusions .entry)) (chooseFrom (now (atoms .entry)) (now (assignment .entry)))
-        (AllIncluded (now (concepts .entry)) (now (inclusions .entry)))
-        (now (columns .entry)) (now (columns .exit)) r ⌝ }
+    ensures { λ r. ⌜ IncludePass (now (inclusions .entry)) (now (columns .entry)) (now (columns .exit)) r ⌝ }
 {
     let count = inclusions.len() / 2;
     let mut changed = false;
@@ -302,21 +292,12 @@ fn next_link(
 }
 
 // An existential f: what is below an existential of f's role whose inner id is below f's inner id is below f.
-fn link_to(
-    concepts: &[u16],
-    inclusions: &[u16],
-    atoms: &[u16],
-    assignment: &[u64],
-    onward: &[u16],
-    columns: &mut [u64],
-    f: usize,
-) -> bool
-    requires { ⌜ Ready (now concepts) (now inclusions) (now atoms) (now assignment) ⌝ }
+fn link_to(concepts: &[u16], onward: &[u16], columns: &mut [u64], f: usize) -> bool
+    requires { ⌜ Inner (now concepts) ⌝ }
     requires { ⌜ length (now columns) ≡ 576 ⌝ }
     requires { ⌜ f < countOf (now concepts) ⌝ }
     requires { ⌜ Onward (now concepts) (now onward) ⌝ }
-    ensures { λ r. ⌜ Pass (now (concepts .entry)) (now (inclusions .entry)) (chooseFrom (now (atoms .entry)) (now (assignment .entry)))
-        (LinkedTo (now (concepts .entry)) f)
+    ensures { λ r. ⌜ LinkPass (now (concepts .entry)) (LinkedTo (now (concepts .entry)) f)
         (now (columns .entry)) (now (columns .exit)) r ⌝ }
 {
     if concepts[f * 3] != 2 {
@@ -335,26 +316,18 @@ fn link_to(
     changed
 }
 
-fn link_all(
-    concepts: &[u16],
-    inclusions: &[u16],
-    atoms: &[u16],
-    assignment: &[u64],
-    onward: &[u16],
-    columns: &mut [u64],
-) -> bool
-    requires { ⌜ Ready (now concepts) (now inclusions) (now atoms) (now assignment) ⌝ }
+fn link_all(concepts: &[u16], onward: &[u16], columns: &mut [u64]) -> bool
+    requires { ⌜ Inner (now concepts) ⌝ }
     requires { ⌜ length (now columns) ≡ 576 ⌝ }
     requires { ⌜ Onward (now concepts) (now onward) ⌝ }
-    ensures { λ r. ⌜ Pass (now (concepts .entry)) (now (inclusions .entry)) (chooseFrom (now (atoms .entry)) (now (assignment .entry)))
-        (AllLinked (now (concepts .entry)))
+    ensures { λ r. ⌜ LinkPass (now (concepts .entry)) (AllLinked (now (concepts .entry)))
         (now (columns .entry)) (now (columns .exit)) r ⌝ }
 {
     let count = concepts.len() / 3;
     let mut changed = false;
     let mut f = 0;
     while f < count {
-        let new = link_to(concepts, inclusions, atoms, assignment, onward, columns, f);
+        let new = link_to(concepts, onward, columns, f);
         changed = changed | new;
         f += 1;
     }
@@ -379,12 +352,12 @@ fn round(
         (AllTaken (now (concepts .entry)) (now (inclusions .entry)) (chooseFrom (now (atoms .entry)) (now (assignment .entry))) (now (firsts .entry)))
         (now (columns .entry)) (now (columns .exit)) r ⌝ }
 {
-    let a = settle_all(concepts, inclusions, atoms, assignment, firsts, columns);
-    let b = include_all(concepts, inclusions, atoms, assignment, columns);
+    let a = settle_all(concepts, atoms, assignment, firsts, columns);
+    let b = include_all(inclusions, columns);
     if a | b {
         return true;
     }
-    link_all(concepts, inclusions, atoms, assignment, onward, columns)
+    link_all(concepts, onward, columns)
 }
 
 fn is_named(concepts: &[u16], k: usize, name: u16) -> bool

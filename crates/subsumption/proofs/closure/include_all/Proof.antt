@@ -1,19 +1,17 @@
-use Prim.Native.Nat.{ℕ, _+_, _*_, _-_, _<_, _≤_}
+use Prim.Native.Nat.{_+_, _*_, _-_}
 use native.Mathlib.Omega.{arith}
-use Rattle.subsumption.specs.Tables.{countOf, leftOf, rightOf}
-use Rattle.subsumption.specs.Closure.{Pass, Into, chooseFrom, flow-included}
-use Rattle.subsumption.proofs.Passes.{loop-first, loop-more, loop-done, flow-pass}
+use Rattle.subsumption.proofs.Including.{Included, included-first, included-more, included-done}
 use Rattle.subsumption.proofs.closure.include_all.Statement.{statement}
 use Rattle.subsumption.proofs.closure.include_all.Tie as tie
 
 abbrev Inv-loop : tie.InvT-loop
-Inv-loop concepts inclusions atoms assignment columns₀ count changed₀ m₀ columns changed m = (m ≤ count) × Pass concepts inclusions (chooseFrom atoms assignment) (λ l. (k : ℕ) → k < m → Into (countOf concepts) l (leftOf inclusions k) (rightOf inclusions k)) columns₀ columns changed
+Inv-loop inclusions columns₀ count changed₀ m₀ columns changed m = Included inclusions columns₀ columns changed m
 
 abbrev μ-loop : tie.MeasureT-loop
-μ-loop concepts inclusions atoms assignment columns₀ count changed₀ m₀ columns changed m = count - m
+μ-loop inclusions columns₀ count changed₀ m₀ columns changed m = count - m
 
 loop-holds : tie.Need-loop-holds Inv-loop μ-loop
-loop-holds c = (omega arith, loop-first (λ k l. Into (countOf (c .before .before .before .before .before .args .concepts .now)) l (leftOf (c .before .before .before .before .before .args .inclusions .now) k) (rightOf (c .before .before .before .before .before .args .inclusions .now) k)) _)
+loop-holds c = included-first _ _
 
 mul-left : tie.Need-mul-left Inv-loop μ-loop
 mul-left c = omega arith
@@ -25,7 +23,7 @@ shared-slice-read-left : tie.Need-shared-slice-read-left Inv-loop μ-loop
 shared-slice-read-left c = omega arith
 
 cast-left : tie.Need-cast-left Inv-loop μ-loop
-cast-left c = omega (arith, c .shared-slice-known5 .given (c .before .before .loop .m * 2))
+cast-left c = omega (arith, c .shared-slice-known2 .given (c .before .before .loop .m * 2))
 
 mul-right : tie.Need-mul-right Inv-loop μ-loop
 mul-right c = omega arith
@@ -40,10 +38,10 @@ shared-slice-read-right : tie.Need-shared-slice-read-right Inv-loop μ-loop
 shared-slice-read-right c = omega arith
 
 cast-right : tie.Need-cast-right Inv-loop μ-loop
-cast-right c = omega (arith, c .shared-slice-known6 .given (c .before .before .before .loop .m * 2 + 1))
+cast-right c = omega (arith, c .shared-slice-known3 .given (c .before .before .before .loop .m * 2 + 1))
 
 flow-requires : tie.Need-flow-requires Inv-loop μ-loop
-flow-requires c κs = (omega arith, (omega (arith, c .before .before .before .before .before .before .before .before .before .before .pre .0 .left-known (c .before .before .before .before .loop .m) (omega arith), c .before .before .before .before .before .before .before .before .before .before .pre .0 .few), omega (arith, c .before .before .before .before .before .before .before .before .before .before .pre .0 .right-known (c .before .before .before .before .loop .m) (omega arith), c .before .before .before .before .before .before .before .before .before .before .pre .0 .few)))
+flow-requires c κs = (omega arith, (c .before .before .before .before .before .before .before .pre .0 .left (c .before .before .before .before .loop .m) (omega arith), c .before .before .before .before .before .before .before .pre .0 .right (c .before .before .before .before .loop .m) (omega arith)))
 
 add-m : tie.Need-add-m Inv-loop μ-loop
 add-m c = omega arith
@@ -52,13 +50,13 @@ loop-less : tie.Need-loop-less Inv-loop μ-loop
 loop-less c = omega arith
 
 loop-again : tie.Need-loop-again Inv-loop μ-loop
-loop-again c = (omega arith, loop-more (λ k l. Into (countOf (c .before .before .before .before .before .before .before .before .before .before .before .before .before .args .concepts .now)) l (leftOf (c .before .before .before .before .before .before .before .before .before .before .before .before .before .args .inclusions .now) k) (rightOf (c .before .before .before .before .before .before .before .before .before .before .before .before .before .args .inclusions .now) k)) _ (c .before .before .before .before .before .before .before .loop .inv .1) (flow-pass _ _ (c .before .before .before .before .before .before .before .before .before .before .before .before .before .pre .0 .few) (c .before .before .before .before .before .before .before .before .before .before .before .before .before .pre .0 .left-known (c .before .before .before .before .before .before .before .loop .m) (omega arith)) (λ g i h w. flow-included i (c .before .before .before .before .before .before .before .loop .m) h (omega arith) w) (c .before .before .flow .ensures)))
+loop-again c = included-more _ (c .before .before .before .before .before .before .before .loop .inv) (omega arith) (c .before .before .flow .ensures)
 
 same-length : tie.Need-same-length Inv-loop μ-loop
 same-length c = omega arith
 
 returns : tie.Need-returns Inv-loop μ-loop
-returns c = loop-done (λ k l. Into (countOf (c .before .before .before .before .before .before .before .args .concepts .now)) l (leftOf (c .before .before .before .before .before .before .before .args .inclusions .now) k) (rightOf (c .before .before .before .before .before .before .before .args .inclusions .now) k)) _ _ (omega arith) (c .before .loop .inv .1)
+returns c = included-done _ (c .before .loop .inv) (omega arith)
 
 pub include-all-spec : {M : Type 1} → statement M
 include-all-spec =

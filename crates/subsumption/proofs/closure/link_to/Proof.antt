@@ -1,14 +1,14 @@
 use Prim.Native.Nat.{_-_}
 use native.Mathlib.Omega.{arith}
-use Rattle.subsumption.proofs.Linking.{Linked, ready-inner, inner-low, not-linked, linked-first, linked-more, linked-done}
+use Rattle.subsumption.proofs.Linking.{Linked, inner-low, not-linked, linked-first, linked-more, linked-done}
 use Rattle.subsumption.proofs.closure.link_to.Statement.{statement}
 use Rattle.subsumption.proofs.closure.link_to.Tie as tie
 
 abbrev Inv-loop : tie.InvT-loop
-Inv-loop concepts inclusions atoms assignment onward columns₀ f role inner count changed₀ e₀ columns changed e = Linked concepts inclusions atoms assignment f columns₀ columns changed e
+Inv-loop concepts onward columns₀ f role inner count changed₀ e₀ columns changed e = Linked concepts f columns₀ columns changed e
 
 abbrev μ-loop : tie.MeasureT-loop
-μ-loop concepts inclusions atoms assignment onward columns₀ f role inner count changed₀ e₀ columns changed e = count - e
+μ-loop concepts onward columns₀ f role inner count changed₀ e₀ columns changed e = count - e
 
 mul-if1 : tie.Need-mul-if1 Inv-loop μ-loop
 mul-if1 c = omega arith
@@ -20,7 +20,7 @@ shared-slice-read-if1 : tie.Need-shared-slice-read-if1 Inv-loop μ-loop
 shared-slice-read-if1 c = omega arith
 
 returns : tie.Need-returns Inv-loop μ-loop
-returns c = not-linked (c .before .before .before .before .before .before .before .before .args .concepts .now) (c .before .before .before .before .before .before .before .before .args .inclusions .now) (c .before .before .before .before .before .before .before .before .args .atoms .now) (c .before .before .before .before .before .before .before .before .args .assignment .now) _ _ (c .if1 .taken)
+returns c = not-linked _ _ _ (c .if1 .taken)
 
 mul-role : tie.Need-mul-role Inv-loop μ-loop
 mul-role c = omega arith
@@ -47,34 +47,34 @@ shared-slice-read-inner : tie.Need-shared-slice-read-inner Inv-loop μ-loop
 shared-slice-read-inner c = omega arith
 
 cast-inner : tie.Need-cast-inner Inv-loop μ-loop
-cast-inner c = omega (arith, inner-low _ (c .before .before .before .before .before .before .before .before .before .before .args .columns .now) 0 0 _ (ready-inner (c .before .before .before .before .before .before .before .before .before .before .pre .0)) (c .before .before .before .before .before .before .before .before .before .before .pre .1 .1 .0) (c .before .before .if1 .left))
+cast-inner c = omega (arith, inner-low _ (c .before .before .before .before .before .before .before .args .columns .now) 0 0 _ (c .before .before .before .before .before .before .before .pre .0) (c .before .before .before .before .before .before .before .pre .1 .1 .0) (c .before .before .if1 .left))
 
 next-link-requires : tie.Need-next-link-requires Inv-loop μ-loop
-next-link-requires c κs = (ready-inner (c .before .before .before .before .before .before .before .before .before .before .before .pre .0), (c .before .before .before .before .before .before .before .before .before .before .before .pre .1 .0, ((inner-low _ (c .before .before .before .before .before .before .before .before .before .before .before .args .columns .now) 0 0 _ (ready-inner (c .before .before .before .before .before .before .before .before .before .before .before .pre .0)) (c .before .before .before .before .before .before .before .before .before .before .before .pre .1 .1 .0) (c .before .before .before .if1 .left), omega arith), c .before .before .before .before .before .before .before .before .before .before .before .pre .1 .1 .1)))
+next-link-requires c κs = (c .before .before .before .before .before .before .before .before .pre .0, (c .before .before .before .before .before .before .before .before .pre .1 .0, ((inner-low _ (c .before .before .before .before .before .before .before .before .args .columns .now) 0 0 _ (c .before .before .before .before .before .before .before .before .pre .0) (c .before .before .before .before .before .before .before .before .pre .1 .1 .0) (c .before .before .before .if1 .left), omega arith), c .before .before .before .before .before .before .before .before .pre .1 .1 .1)))
 
 loop-holds : tie.Need-loop-holds Inv-loop μ-loop
-loop-holds c = linked-first _ _ _ _ _ _ _ (c .next-link .ensures)
+loop-holds c = linked-first _ _ _ _ (c .next-link .ensures)
 
 flow-requires : tie.Need-flow-requires Inv-loop μ-loop
-flow-requires c κs = (omega (arith, c .before .before .loop .inv .passed .long, c .before .before .before .before .before .before .before .before .before .before .before .before .before .before .before .pre .1 .0), (omega (arith, c .before .before .before .before .before .before .before .before .before .before .before .before .before .before .before .pre .0 .few), omega (arith, c .before .before .before .before .before .before .before .before .before .before .before .before .before .before .before .pre .0 .few)))
+flow-requires c κs = (omega (arith, c .before .before .loop .inv .long, c .before .before .before .before .before .before .before .before .before .before .before .before .pre .1 .0), (omega (arith, c .before .before .before .before .before .before .before .before .before .before .before .before .pre .0 .few), omega (arith, c .before .before .before .before .before .before .before .before .before .before .before .before .pre .0 .few)))
 
 add-next-link : tie.Need-add-next-link Inv-loop μ-loop
 add-next-link c = omega arith
 
 next-link-requires-2 : tie.Need-next-link-requires-2 Inv-loop μ-loop
-next-link-requires-2 c κs = (ready-inner (c .before .before .before .before .before .before .before .before .before .before .before .before .before .before .before .before .before .before .before .pre .0), (omega (arith, c .before .before .before .before .before .before .loop .inv .passed .long, c .before .before .before .before .before .before .before .before .before .before .before .before .before .before .before .before .before .before .before .pre .1 .0), ((inner-low _ (c .before .before .before .before .before .before .before .before .before .before .before .before .before .before .before .before .before .before .before .args .columns .now) 0 0 _ (ready-inner (c .before .before .before .before .before .before .before .before .before .before .before .before .before .before .before .before .before .before .before .pre .0)) (c .before .before .before .before .before .before .before .before .before .before .before .before .before .before .before .before .before .before .before .pre .1 .1 .0) (c .before .before .before .before .before .before .before .before .before .before .before .if1 .left), omega arith), c .before .before .before .before .before .before .before .before .before .before .before .before .before .before .before .before .before .before .before .pre .1 .1 .1)))
+next-link-requires-2 c κs = (c .before .before .before .before .before .before .before .before .before .before .before .before .before .before .before .before .pre .0, (omega (arith, c .before .before .before .before .before .before .loop .inv .long, c .before .before .before .before .before .before .before .before .before .before .before .before .before .before .before .before .pre .1 .0), ((inner-low _ (c .before .before .before .before .before .before .before .before .before .before .before .before .before .before .before .before .args .columns .now) 0 0 _ (c .before .before .before .before .before .before .before .before .before .before .before .before .before .before .before .before .pre .0) (c .before .before .before .before .before .before .before .before .before .before .before .before .before .before .before .before .pre .1 .1 .0) (c .before .before .before .before .before .before .before .before .before .before .before .if1 .left), omega arith), c .before .before .before .before .before .before .before .before .before .before .before .before .before .before .before .before .pre .1 .1 .1)))
 
 loop-less : tie.Need-loop-less Inv-loop μ-loop
 loop-less c = omega (arith, c .next-link2 .ensures .from, c .next-link2 .ensures .within)
 
 loop-again : tie.Need-loop-again Inv-loop μ-loop
-loop-again c = linked-more _ _ _ _ _ (c .before .before .before .before .before .before .before .before .before .before .before .before .before .before .before .before .before .before .before .before .pre .0) (c .before .before .before .before .before .before .before .before .before .before .before .before .before .before .before .before .before .before .before .before .pre .1 .1 .0) (c .before .before .before .before .before .before .before .before .before .before .before .before .if1 .left) _ _ _ _ _ _ _ (c .before .before .before .before .before .before .before .loop .inv) (omega arith) (c .before .before .before .before .flow .ensures) (c .next-link2 .ensures)
+loop-again c = linked-more _ _ (c .before .before .before .before .before .before .before .before .before .before .before .before .before .before .before .before .before .pre .0) (c .before .before .before .before .before .before .before .before .before .before .before .before .before .before .before .before .before .pre .1 .1 .0) (c .before .before .before .before .before .before .before .before .before .before .before .before .if1 .left) _ _ _ _ _ _ _ (c .before .before .before .before .before .before .before .loop .inv) (omega arith) (c .before .before .before .before .flow .ensures) (c .next-link2 .ensures)
 
 same-length : tie.Need-same-length Inv-loop μ-loop
-same-length c = c .before .loop .inv .passed .long
+same-length c = c .before .loop .inv .long
 
 returns-2 : tie.Need-returns-2 Inv-loop μ-loop
-returns-2 c = linked-done _ _ _ _ _ _ _ _ _ (c .before .loop .inv) (omega arith)
+returns-2 c = linked-done _ _ _ _ _ _ (c .before .loop .inv) (omega arith)
 
 pub link-to-spec : {M : Type 1} → statement M
 link-to-spec =

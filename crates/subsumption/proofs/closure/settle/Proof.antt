@@ -1,7 +1,7 @@
 use native.Mathlib.Omega.{arith}
 use Prim.Native.Nat.{_+_, _*_}
 use Rattle.subsumption.proofs.Nodes.{node-other}
-use Rattle.subsumption.proofs.Settling.{ready-known, first-low, and-low, var-low, settle-exists, settle-top, settle-name, settle-and, settle-var}
+use Rattle.subsumption.proofs.Settling.{settle-known, first-low, and-low, var-low, settle-exists, settle-top, settle-name, settle-and, settle-var}
 use Rattle.subsumption.proofs.closure.settle.Statement.{statement}
 use Rattle.subsumption.proofs.closure.settle.Tie as tie
 
@@ -27,7 +27,7 @@ shared-slice-read-x : tie.Need-shared-slice-read-x
 shared-slice-read-x c = omega arith
 
 cast-x : tie.Need-cast-x
-cast-x c = omega (arith, c .shared-slice-known7 .given (c .before .before .before .before .before .before .before .before .args .j * 3 + 1))
+cast-x c = omega (arith, c .shared-slice-known6 .given (c .before .before .before .before .before .before .before .args .j * 3 + 1))
 
 mark-requires : tie.Need-mark-requires
 mark-requires c κs = omega arith
@@ -39,25 +39,25 @@ shared-slice-read-first : tie.Need-shared-slice-read-first
 shared-slice-read-first c = omega arith
 
 cast-first : tie.Need-cast-first
-cast-first c = omega (arith, c .shared-slice-known8 .given (c .before .before .before .before .before .before .before .before .before .before .before .before .before .before .args .j))
+cast-first c = omega (arith, c .shared-slice-known7 .given (c .before .before .before .before .before .before .before .before .before .before .before .before .before .args .j))
 
 flow-requires : tie.Need-flow-requires
-flow-requires c κs = (omega arith, (omega arith, first-low (c .before .before .before .before .before .before .before .before .before .before .before .before .before .before .before .pre .0) (c .before .before .before .before .before .before .before .before .before .before .before .before .before .before .before .args .j) (c .before .before .before .before .before .before .before .before .before .before .before .before .before .before .before .pre .1 .1 .1) (c .before .before .before .before .before .before .before .before .before .before .before .before .before .before .before .pre .1 .0)))
+flow-requires c κs = (omega arith, (omega arith, first-low (c .before .before .before .before .before .before .before .before .before .before .before .before .before .before .pre .0) (c .before .before .before .before .before .before .before .before .before .before .before .before .before .before .args .j) (c .before .before .before .before .before .before .before .before .before .before .before .before .before .before .pre .1 .1 .1) (c .before .before .before .before .before .before .before .before .before .before .before .before .before .before .pre .1 .0)))
 
 flow-requires-2 : tie.Need-flow-requires-2
-flow-requires-2 c κs = (omega arith, (first-low (c .before .before .before .before .before .before .before .before .before .before .before .before .before .before .before .before .before .before .before .pre .0) (c .before .before .before .before .before .before .before .before .before .before .before .before .before .before .before .before .before .before .before .args .j) (c .before .before .before .before .before .before .before .before .before .before .before .before .before .before .before .before .before .before .before .pre .1 .1 .1) (c .before .before .before .before .before .before .before .before .before .before .before .before .before .before .before .before .before .before .before .pre .1 .0), omega arith))
+flow-requires-2 c κs = (omega arith, (first-low (c .before .before .before .before .before .before .before .before .before .before .before .before .before .before .before .before .before .before .pre .0) (c .before .before .before .before .before .before .before .before .before .before .before .before .before .before .before .before .before .before .args .j) (c .before .before .before .before .before .before .before .before .before .before .before .before .before .before .before .before .before .before .pre .1 .1 .1) (c .before .before .before .before .before .before .before .before .before .before .before .before .before .before .before .before .before .before .pre .1 .0), omega arith))
 
 same-length : tie.Need-same-length
 same-length c = omega arith
 
 returns : tie.Need-returns
-returns c = settle-name _ _ _ _ _ (c .before .before .before .before .before .before .before .before .before .before .before .before .before .before .before .before .before .before .before .before .before .before .pre .0) (c .before .before .before .before .before .before .before .before .before .before .before .before .before .before .before .before .before .before .before .before .before .before .pre .1 .0) _ (c .before .before .before .before .before .before .before .before .before .before .before .before .before .before .before .before .before .before .before .before .before .before .pre .1 .1 .1) _ _ _ _ _ _ _ (c .before .before .before .before .before .before .before .before .before .if1 .taken) (c .before .before .before .before .before .before .before .before .before .before .before .before .mark .ensures) (c .before .before .before .before .before .before .flow .ensures) (c .before .before .flow2 .ensures)
+returns c = settle-name _ _ _ _ (c .before .before .before .before .before .before .before .before .before .before .before .before .before .before .before .before .before .before .before .before .before .pre .0) (c .before .before .before .before .before .before .before .before .before .before .before .before .before .before .before .before .before .before .before .before .before .pre .1 .0) _ (c .before .before .before .before .before .before .before .before .before .before .before .before .before .before .before .before .before .before .before .before .before .pre .1 .1 .1) _ _ _ _ _ _ _ (c .before .before .before .before .before .before .before .before .before .if1 .taken) (c .before .before .before .before .before .before .before .before .before .before .before .before .mark .ensures) (c .before .before .before .before .before .before .flow .ensures) (c .before .before .flow2 .ensures)
 
 same-length-2 : tie.Need-same-length-2
 same-length-2 c = omega arith
 
 returns-2 : tie.Need-returns-2
-returns-2 c = settle-exists _ _ _ _ _ (c .before .before .before .before .before .before .before .before .before .before .before .before .before .before .pre .0) (c .before .before .before .before .before .before .before .before .before .before .before .before .before .before .pre .1 .0) _ (c .before .before .before .before .before .before .before .before .before .before .before .before .before .before .pre .1 .1 .1) _ _ _ (c .if2 .taken) (c .before .before .before .before .mark .ensures)
+returns-2 c = settle-exists _ _ _ _ (c .before .before .before .before .before .before .before .before .before .before .before .before .before .pre .0) (c .before .before .before .before .before .before .before .before .before .before .before .before .before .pre .1 .0) _ (c .before .before .before .before .before .before .before .before .before .before .before .before .before .pre .1 .1 .1) _ _ _ (c .if2 .taken) (c .before .before .before .before .mark .ensures)
 
 mul-y : tie.Need-mul-y
 mul-y c = omega arith
@@ -72,40 +72,40 @@ shared-slice-read-y : tie.Need-shared-slice-read-y
 shared-slice-read-y c = omega arith
 
 cast-y : tie.Need-cast-y
-cast-y c = omega (arith, c .shared-slice-known9 .given (c .before .before .before .before .before .before .before .before .before .before .before .before .before .before .before .before .args .j * 3 + 2))
+cast-y c = omega (arith, c .shared-slice-known8 .given (c .before .before .before .before .before .before .before .before .before .before .before .before .before .before .before .args .j * 3 + 2))
 
 flow-requires-3 : tie.Need-flow-requires-3
-flow-requires-3 c κs = (omega arith, (omega arith, and-low (c .before .before .before .before .before .before .before .before .before .before .before .before .before .before .before .before .before .pre .0) (c .before .before .before .before .before .before .before .before .before .before .before .before .before .before .before .before .before .args .j) (c .before .before .before .before .before .before .before .before .before .before .before .before .before .before .before .before .before .pre .1 .1 .1) (c .before .before .if3 .taken) .0))
+flow-requires-3 c κs = (omega arith, (omega arith, and-low (c .before .before .before .before .before .before .before .before .before .before .before .before .before .before .before .before .pre .0) (c .before .before .before .before .before .before .before .before .before .before .before .before .before .before .before .before .args .j) (c .before .before .before .before .before .before .before .before .before .before .before .before .before .before .before .before .pre .1 .1 .1) (c .before .before .if3 .taken) .0))
 
 flow-requires-4 : tie.Need-flow-requires-4
-flow-requires-4 c κs = (omega arith, (omega arith, and-low (c .before .before .before .before .before .before .before .before .before .before .before .before .before .before .before .before .before .before .before .before .before .pre .0) (c .before .before .before .before .before .before .before .before .before .before .before .before .before .before .before .before .before .before .before .before .before .args .j) (c .before .before .before .before .before .before .before .before .before .before .before .before .before .before .before .before .before .before .before .before .before .pre .1 .1 .1) (c .before .before .before .before .before .before .if3 .taken) .1))
+flow-requires-4 c κs = (omega arith, (omega arith, and-low (c .before .before .before .before .before .before .before .before .before .before .before .before .before .before .before .before .before .before .before .before .pre .0) (c .before .before .before .before .before .before .before .before .before .before .before .before .before .before .before .before .before .before .before .before .args .j) (c .before .before .before .before .before .before .before .before .before .before .before .before .before .before .before .before .before .before .before .before .pre .1 .1 .1) (c .before .before .before .before .before .before .if3 .taken) .1))
 
 meet-requires : tie.Need-meet-requires
-meet-requires c κs = (omega arith, (and-low (c .before .before .before .before .before .before .before .before .before .before .before .before .before .before .before .before .before .before .before .before .before .before .before .before .before .pre .0) (c .before .before .before .before .before .before .before .before .before .before .before .before .before .before .before .before .before .before .before .before .before .before .before .before .before .args .j) (c .before .before .before .before .before .before .before .before .before .before .before .before .before .before .before .before .before .before .before .before .before .before .before .before .before .pre .1 .1 .1) (c .before .before .before .before .before .before .before .before .before .before .if3 .taken) .0, and-low (c .before .before .before .before .before .before .before .before .before .before .before .before .before .before .before .before .before .before .before .before .before .before .before .before .before .pre .0) (c .before .before .before .before .before .before .before .before .before .before .before .before .before .before .before .before .before .before .before .before .before .before .before .before .before .args .j) (c .before .before .before .before .before .before .before .before .before .before .before .before .before .before .before .before .before .before .before .before .before .before .before .before .before .pre .1 .1 .1) (c .before .before .before .before .before .before .before .before .before .before .if3 .taken) .1, omega arith))
+meet-requires c κs = (omega arith, (and-low (c .before .before .before .before .before .before .before .before .before .before .before .before .before .before .before .before .before .before .before .before .before .before .before .before .pre .0) (c .before .before .before .before .before .before .before .before .before .before .before .before .before .before .before .before .before .before .before .before .before .before .before .before .args .j) (c .before .before .before .before .before .before .before .before .before .before .before .before .before .before .before .before .before .before .before .before .before .before .before .before .pre .1 .1 .1) (c .before .before .before .before .before .before .before .before .before .before .if3 .taken) .0, and-low (c .before .before .before .before .before .before .before .before .before .before .before .before .before .before .before .before .before .before .before .before .before .before .before .before .pre .0) (c .before .before .before .before .before .before .before .before .before .before .before .before .before .before .before .before .before .before .before .before .before .before .before .before .args .j) (c .before .before .before .before .before .before .before .before .before .before .before .before .before .before .before .before .before .before .before .before .before .before .before .before .pre .1 .1 .1) (c .before .before .before .before .before .before .before .before .before .before .if3 .taken) .1, omega arith))
 
 same-length-3 : tie.Need-same-length-3
 same-length-3 c = omega arith
 
 returns-3 : tie.Need-returns-3
-returns-3 c = settle-and _ _ _ _ _ (c .before .before .before .before .before .before .before .before .before .before .before .before .before .before .before .before .before .before .before .before .before .before .before .before .before .before .before .before .pre .0) (c .before .before .before .before .before .before .before .before .before .before .before .before .before .before .before .before .before .before .before .before .before .before .before .before .before .before .before .before .pre .1 .0) _ (c .before .before .before .before .before .before .before .before .before .before .before .before .before .before .before .before .before .before .before .before .before .before .before .before .before .before .before .before .pre .1 .1 .1) _ _ _ _ _ _ _ _ _ (c .before .before .before .before .before .before .before .before .before .before .before .before .before .if3 .taken) (c .before .before .before .before .before .before .before .before .before .before .before .before .before .before .before .before .before .before .mark .ensures) (c .before .before .before .before .before .before .before .before .before .before .flow3 .ensures) (c .before .before .before .before .before .before .flow4 .ensures) (c .before .before .meet .ensures)
+returns-3 c = settle-and _ _ _ _ (c .before .before .before .before .before .before .before .before .before .before .before .before .before .before .before .before .before .before .before .before .before .before .before .before .before .before .before .pre .0) (c .before .before .before .before .before .before .before .before .before .before .before .before .before .before .before .before .before .before .before .before .before .before .before .before .before .before .before .pre .1 .0) _ (c .before .before .before .before .before .before .before .before .before .before .before .before .before .before .before .before .before .before .before .before .before .before .before .before .before .before .before .pre .1 .1 .1) _ _ _ _ _ _ _ _ _ (c .before .before .before .before .before .before .before .before .before .before .before .before .before .if3 .taken) (c .before .before .before .before .before .before .before .before .before .before .before .before .before .before .before .before .before .before .mark .ensures) (c .before .before .before .before .before .before .before .before .before .before .flow3 .ensures) (c .before .before .before .before .before .before .flow4 .ensures) (c .before .before .meet .ensures)
 
 mul-choice : tie.Need-mul-choice
-mul-choice c = omega (arith, var-low (c .before .before .before .before .before .before .before .before .before .before .before .before .before .before .before .before .pre .0) (c .before .before .before .before .before .before .before .before .before .before .before .before .before .before .before .before .args .j) (c .before .before .before .before .before .before .before .before .before .before .before .before .before .before .before .before .pre .1 .1 .1) (c .if4 .taken))
+mul-choice c = omega (arith, var-low (c .before .before .before .before .before .before .before .before .before .before .before .before .before .before .before .pre .0) (c .before .before .before .before .before .before .before .before .before .before .before .before .before .before .before .args .j) (c .before .before .before .before .before .before .before .before .before .before .before .before .before .before .before .pre .1 .1 .1) (c .if4 .taken))
 
 shared-slice-read-choice : tie.Need-shared-slice-read-choice
-shared-slice-read-choice c = var-low (c .before .before .before .before .before .before .before .before .before .before .before .before .before .before .before .before .before .pre .0) (c .before .before .before .before .before .before .before .before .before .before .before .before .before .before .before .before .before .args .j) (c .before .before .before .before .before .before .before .before .before .before .before .before .before .before .before .before .before .pre .1 .1 .1) (c .before .if4 .taken)
+shared-slice-read-choice c = var-low (c .before .before .before .before .before .before .before .before .before .before .before .before .before .before .before .before .pre .0) (c .before .before .before .before .before .before .before .before .before .before .before .before .before .before .before .before .args .j) (c .before .before .before .before .before .before .before .before .before .before .before .before .before .before .before .before .pre .1 .1 .1) (c .before .if4 .taken)
 
 spread-requires : tie.Need-spread-requires
-spread-requires c κs = (omega arith, (ready-known (c .before .before .before .before .before .before .before .before .before .before .before .before .before .before .before .before .before .before .pre .0), omega arith))
+spread-requires c κs = (omega arith, (settle-known (c .before .before .before .before .before .before .before .before .before .before .before .before .before .before .before .before .before .pre .0), omega arith))
 
 gather-requires : tie.Need-gather-requires
-gather-requires c κs = (omega arith, (ready-known (c .before .before .before .before .before .before .before .before .before .before .before .before .before .before .before .before .before .before .before .before .before .before .pre .0), omega arith))
+gather-requires c κs = (omega arith, (settle-known (c .before .before .before .before .before .before .before .before .before .before .before .before .before .before .before .before .before .before .before .before .before .pre .0), omega arith))
 
 same-length-4 : tie.Need-same-length-4
 same-length-4 c = omega arith
 
 returns-4 : tie.Need-returns-4
-returns-4 c = settle-var _ _ _ _ _ (c .before .before .before .before .before .before .before .before .before .before .before .before .before .before .before .before .before .before .before .before .before .before .before .before .before .pre .0) (c .before .before .before .before .before .before .before .before .before .before .before .before .before .before .before .before .before .before .before .before .before .before .before .before .before .pre .1 .0) _ (c .before .before .before .before .before .before .before .before .before .before .before .before .before .before .before .before .before .before .before .before .before .before .before .before .before .pre .1 .1 .1) _ _ _ _ _ _ _ (c .before .before .before .before .before .before .before .before .before .if4 .taken) (c .before .before .before .before .before .before .before .before .before .before .before .before .before .before .before .mark .ensures) (c .before .before .before .before .before .before .spread .ensures) (c .before .before .gather .ensures)
+returns-4 c = settle-var _ _ _ _ (c .before .before .before .before .before .before .before .before .before .before .before .before .before .before .before .before .before .before .before .before .before .before .before .before .pre .0) (c .before .before .before .before .before .before .before .before .before .before .before .before .before .before .before .before .before .before .before .before .before .before .before .before .pre .1 .0) _ (c .before .before .before .before .before .before .before .before .before .before .before .before .before .before .before .before .before .before .before .before .before .before .before .before .pre .1 .1 .1) _ _ _ _ _ _ _ (c .before .before .before .before .before .before .before .before .before .if4 .taken) (c .before .before .before .before .before .before .before .before .before .before .before .before .before .before .before .mark .ensures) (c .before .before .before .before .before .before .spread .ensures) (c .before .before .gather .ensures)
 
 fill-requires : tie.Need-fill-requires
 fill-requires c κs = omega arith
@@ -114,7 +114,7 @@ same-length-5 : tie.Need-same-length-5
 same-length-5 c = omega arith
 
 returns-5 : tie.Need-returns-5
-returns-5 c = settle-top _ _ _ _ _ (c .before .before .before .before .before .before .before .before .before .before .before .before .before .before .before .before .before .before .before .before .pre .0) (c .before .before .before .before .before .before .before .before .before .before .before .before .before .before .before .before .before .before .before .before .pre .1 .0) _ (c .before .before .before .before .before .before .before .before .before .before .before .before .before .before .before .before .before .before .before .before .pre .1 .1 .1) _ _ _ _ _ (node-other _ _ (c .before .before .before .before .before .before .before .if1 .left) (c .before .before .before .before .before .before .if2 .left) (c .before .before .before .before .before .if3 .left) (c .before .before .before .before .if4 .left)) (c .before .before .before .before .before .before .before .before .before .before .mark .ensures) (c .before .before .fill .ensures)
+returns-5 c = settle-top _ _ _ _ (c .before .before .before .before .before .before .before .before .before .before .before .before .before .before .before .before .before .before .before .pre .0) (c .before .before .before .before .before .before .before .before .before .before .before .before .before .before .before .before .before .before .before .pre .1 .0) _ (c .before .before .before .before .before .before .before .before .before .before .before .before .before .before .before .before .before .before .before .pre .1 .1 .1) _ _ _ _ _ (node-other _ _ (c .before .before .before .before .before .before .before .if1 .left) (c .before .before .before .before .before .before .if2 .left) (c .before .before .before .before .before .if3 .left) (c .before .before .before .before .if4 .left)) (c .before .before .before .before .before .before .before .before .before .before .mark .ensures) (c .before .before .fill .ensures)
 
 pub settle-spec : {M : Type 1} → statement M
 settle-spec =
