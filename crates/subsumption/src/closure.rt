@@ -174,8 +174,9 @@ fn settle(
         (Settled (now (concepts .entry)) (now (firsts .entry)) (chooseFrom (now (atoms .entry)) (now (assignment .entry))) j)
         (now (columns .entry)) (now (columns .exit)) r ⌝ }
 {
-    let kind = concepts[j * 3];
-    let x = concepts[j * 3 + 1] as usize;
+    let at = j * 3;
+    let kind = concepts[at];
+    let x = concepts[at + 1] as usize;
     let own = mark(columns, j);
     if kind == 1 {
         let first = firsts[j] as usize;
@@ -187,7 +188,7 @@ fn settle(
         return own;
     }
     if kind == 3 {
-        let y = concepts[j * 3 + 2] as usize;
+        let y = concepts[at + 2] as usize;
         let a = flow(columns, j, x);
         let b = flow(columns, j, y);
         let c = meet(columns, x, y, j);
@@ -255,13 +256,14 @@ fn links(concepts: &[u16], columns: &[u64], role: u16, inner: usize, e: usize) -
     requires { ⌜ (inner < 192) × (e < countOf (now concepts)) ⌝ }
     ensures { λ r. ⌜ Links (now (concepts .entry)) (now (columns .entry)) role inner e r ⌝ }
 {
-    if concepts[e * 3] != 2 {
+    let at = e * 3;
+    if concepts[at] != 2 {
         return false;
     }
-    if concepts[e * 3 + 1] != role {
+    if concepts[at + 1] != role {
         return false;
     }
-    let from = concepts[e * 3 + 2] as usize;
+    let from = concepts[at + 2] as usize;
     below(columns, from, inner)
 }
 
@@ -300,11 +302,12 @@ fn link_to(concepts: &[u16], onward: &[u16], columns: &mut [u64], f: usize) -> b
     ensures { λ r. ⌜ LinkPass (now (concepts .entry)) (LinkedTo (now (concepts .entry)) f)
         (now (columns .entry)) (now (columns .exit)) r ⌝ }
 {
-    if concepts[f * 3] != 2 {
+    let at = f * 3;
+    if concepts[at] != 2 {
         return false;
     }
-    let role = concepts[f * 3 + 1];
-    let inner = concepts[f * 3 + 2] as usize;
+    let role = concepts[at + 1];
+    let inner = concepts[at + 2] as usize;
     let count = concepts.len() / 3;
     let mut changed = false;
     let mut e = next_link(concepts, onward, columns, role, inner, 0);

@@ -5,23 +5,20 @@ use Rattle.subsumption.proofs.Settling.{settle-known, first-low, and-lo
 use Rattle.subsumption.proofs.closure.settle.Statement.{statement}
 use Rattle.subsumption.proofs.closure.settle.Tie as tie
 
+mul-at : tie.Need-mul-at
+mul-at c = omega arith
+
 mul-kind : tie.Need-mul-kind
 mul-kind c = omega arith
-
-mul-kind-2 : tie.Need-mul-kind-2
-mul-kind-2 c = omega arith
 
 shared-slice-read-kind : tie.Need-shared-slice-read-kind
 shared-slice-read-kind c = omega arith
 
-mul-x : tie.Need-mul-x
-mul-x c = omega arith
-
 add-x : tie.Need-add-x
 add-x c = omega arith
 
-mul-x-2 : tie.Need-mul-x-2
-mul-x-2 c = omega arith
+mul-x : tie.Need-mul-x
+mul-x c = omega arith
 
 shared-slice-read-x : tie.Need-shared-slice-read-x
 shared-slice-read-x c = omega arith
@@ -59,14 +56,11 @@ same-length-2 c = omega arith
 returns-2 : tie.Need-returns-2
 returns-2 c = settle-exists _ _ _ _ (c .before .before .before .before .before .before .before .before .before .before .before .before .before .pre .0) (c .before .before .before .before .before .before .before .before .before .before .before .before .before .pre .1 .0) _ (c .before .before .before .before .before .before .before .before .before .before .before .before .before .pre .1 .1 .1) _ _ _ (c .if2 .taken) (c .before .before .before .before .mark .ensures)
 
-mul-y : tie.Need-mul-y
-mul-y c = omega arith
-
 add-y : tie.Need-add-y
 add-y c = omega arith
 
-mul-y-2 : tie.Need-mul-y-2
-mul-y-2 c = omega arith
+mul-y : tie.Need-mul-y
+mul-y c = omega arith
 
 shared-slice-read-y : tie.Need-shared-slice-read-y
 shared-slice-read-y c = omega arith
@@ -120,12 +114,11 @@ pub settle-spec : {M : Type 1} → statement M
 settle-spec =
     tie.close
     (tie.spec
+    mul-at
     mul-kind
-    mul-kind-2
     shared-slice-read-kind
-    mul-x
     add-x
-    mul-x-2
+    mul-x
     shared-slice-read-x
     cast-x
     mark-requires
@@ -138,9 +131,8 @@ settle-spec =
     returns
     same-length-2
     returns-2
-    mul-y
     add-y
-    mul-y-2
+    mul-y
     shared-slice-read-y
     cast-y
     flow-requires-3
