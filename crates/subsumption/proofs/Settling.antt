@@ -6,8 +6,9 @@ use mathlib.Core.Bool.{Bool, true, _||_}
 use native.Mathlib.Omega.{arith}
 use lib.ListN.{length, getD}
 use Rattle.subsumption.specs.Tables.{Node, topAt, nameAt, andAt, varAt, node, countOf}
-use Rattle.subsumption.specs.Closure.{has, Into, Rising, Ready, Settleable, Firsts, Settled, SettledBy, Flow, flow-same, flow-top, flow-named, flow-first, flow-second, flow-meet, flow-chooses, flow-all-chosen, Pass, SettlePass, RowAt, RowPass, Takes, Known, chooseFrom}
-use Rattle.subsumption.proofs.Nodes.{node-exists, node-and, node-var}
+use Rattle.subsumption.specs.Atoms.{pick}
+use Rattle.subsumption.specs.Closure.{has, Into, Rising, Ready, Settleable, Firsts, Settled, SettledBy, Flow, flow-same, flow-top, flow-named, flow-first, flow-second, flow-meet, flow-chooses, flow-all-chosen, Pass, SettlePass, Takes, Known, chooseFrom}
+use Rattle.subsumption.proofs.Nodes.{node-name, node-exists, node-and, node-var}
 use Rattle.subsumption.proofs.Picks.{ChosenBelow, at-picked}
 use Rattle.subsumption.proofs.Passes.{pass-as, pass-then, step-pass, flow-pass}
 
@@ -24,104 +25,21 @@ ready-settleable R =
 pub settle-known : {concepts atoms assignment : List ℕ} → Settleable concepts atoms assignment → Known atoms
 settle-known S = record { few = S .few-atoms; low = λ q h. omega (arith, S .atoms-known q h, S .few) }
 
-module _ {concepts atoms assignment : List ℕ} (S : Settleable concepts atoms assignment) (j : ℕ) (inside : j < countOf concepts) where
+module _ {concepts atoms assignment : List ℕ} (R : Settleable concepts atoms assignment) (j : ℕ) (inside : j < countOf concepts) where
+  rising : {m : Node} → node concepts j ≡ m → Rising j m
+  rising {m} e = subst (λ (x : Node). Rising j x) e (R .rising j inside)
+
   pub first-low : {firsts : List ℕ} → Firsts concepts firsts → getD firsts j 0 < 192
-  first-low F = omega (arith, F .each j inside .low, S .few)
+  first-low F = omega (arith, F .each j inside .low, R .few)
 
   pub and-low : getD concepts (j * 3) 0 ≡ 3 → (getD concepts (j * 3 + 1) 0 < 192) × (getD concepts (j * 3 + 2) 0 < 192)
-  and-low e =
-      let r = subst (λ (x : Node). Rising j x) (node-and concepts j e) (S .rising j inside) in
-      (omega (arith, r .0, S .few), omega (arith, r .1, S .few))
+  and-low e = (omega (arith, rising (node-and concepts j e) .0, R .few), omega (arith, rising (node-and concepts j e) .1, R .few))
 
   pub var-low : getD concepts (j * 3) 0 ≡ 4 → getD concepts (j * 3 + 1) 0 < length assignment
-  var-low e = S .numbered j _ (node-var concepts j e)
+  var-low e = R .numbered j _ (node-var concepts j e)
 
--- the steps of each kind of row
-pub top-row :
-    {j : ℕ} {before after : List ℕ} {a : Bool} → Takes before after (λ x. x ≡ j) (λ i. Unit {0}) a
-    → (choose : ℕ → List ℕ) (first : ℕ) → RowPass choose first j topAt before after a
-top-row {j} t choose first concepts inclusions R =
-    step-pass (R .few) t
-    (λ g s i k h l p _. subst (λ (x : ℕ). Flow concepts inclusions choose g i x) (sym p) (flow-top i j h (R .inside) (R .row)))
-    (λ f i h. f i j h refl tt)
-
-pub name-row :
-    {first j : ℕ} {before mid after : List ℕ} {a b : Bool} → Takes before mid (λ x. x ≡ first) (λ i. has before i j ≡ true) a
-    → Takes mid after (λ x. x ≡ j) (λ i. has mid i first ≡ true) b
-    → (choose : ℕ → List ℕ) (n : ℕ) → RowPass choose first j (nameAt n) before after (a || b)
-name-row {first} {j} t u choose n concepts inclusions R =
-    let f = R .named .named n (R .row) in
-    let known : first < countOf concepts = omega (arith, R .named .low, R .inside) in
-    pass-then (flow-pass j first (R .few) (R .inside) (λ g i h w. flow-named i j first n h (R .inside) known (R .row) f w) t)
-    (flow-pass first j (R .few) known (λ g i h w. flow-named i first j n h known (R .inside) f (R .row) w) u)
-
-pub and-row :
-    {j x y : ℕ} {before one two after : List ℕ} {a b c : Bool} → Takes before one (λ z. z ≡ x) (λ i. has before i j ≡ true) a
-    → Takes one two (λ z. z ≡ y) (λ i. has one i j ≡ true) b
-    → Takes two after (λ z. z ≡ j) (λ i. (has two i x ≡ true) × (has two i y ≡ true)) c
-    → (choose : ℕ → List ℕ) (first : ℕ) → RowPass choose first j (andAt x y) before after ((a || b) || c)
-and-row {j} {x} {y} {before} {one} {two} {after} {a} {b} {c} t u v choose first concepts inclusions R =
-    pass-as
-    (pass-then
-    (pass-then (flow-pass j x (R .few) (R .inside) (λ g i h z. flow-first i j x y h (R .inside) (R .row) z) t)
-    (flow-pass j y (R .few) (R .inside) (λ g i h z. flow-second i j x y h (R .inside) (R .row) z) u))
-    both)
-    (λ q. (q .0 .0, q .0 .1, q .1))
-  where
-    both :
-        Pass concepts inclusions choose
-        (λ l. (i : ℕ) → i < countOf concepts → has l i x ≡ true → has l i y ≡ true → has l i j ≡ true) two after c
-    both =
-        step-pass (R .few) v
-        (λ g s i k h l p q.
-        subst (λ (z : ℕ). Flow concepts inclusions choose g i z) (sym p)
-        (flow-meet i j x y h (R .inside) (R .row)
-        (s i x h (omega (arith, R .rising .0, R .inside)) (q .0))
-        (s i y h (omega (arith, R .rising .1, R .inside)) (q .1))))
-        (λ f i h p q. f i j h refl (p, q))
-
-pub variable-row :
-    {j : ℕ} {ids before mid after : List ℕ} {a b : Bool} → Takes before mid (λ p. List·Memᴰ p ids) (λ i. has before i j ≡ true) a
-    → Takes mid after (λ x. x ≡ j) (λ i. (p : ℕ) → List·Memᴰ p ids → has mid i p ≡ true) b
-    → (choose : ℕ → List ℕ) (first k : ℕ) → choose k ≡ ids → RowPass choose first j (varAt k) before after (a || b)
-variable-row {j} {ids} {before} {mid} {after} {a} {b} t u choose first k e concepts inclusions R =
-    pass-then
-    (step-pass (R .few) (subst (λ (l : List ℕ). Takes before mid (λ p. List·Memᴰ p l) (λ i. has before i j ≡ true) a) (sym e) t)
-    (λ g s i p h l m q. flow-chooses i j k p h (R .inside) (R .row) m (s i j h (R .inside) q)) (λ f p m i h q. f i p h m q))
-    (step-pass (R .few)
-    (subst (λ (l : List ℕ). Takes mid after (λ x. x ≡ j) (λ i. (p : ℕ) → List·Memᴰ p l → has mid i p ≡ true) b) (sym e) u)
-    (λ g s i x h l p q.
-    subst (λ (z : ℕ). Flow concepts inclusions choose g i z) (sym p)
-    (flow-all-chosen i j k h (R .inside) (R .row) (λ z m. s i z h (R .chosen k z m) (q z m))))
-    (λ f i h q. f i j h refl q))
-
--- one row
-module _ {concepts atoms assignment firsts : List ℕ} (S : Settleable concepts atoms assignment) (F : Firsts concepts firsts)
-    {j : ℕ} (inside : j < countOf concepts) where
-  row-at : {m : Node} → node concepts j ≡ m → RowAt concepts (chooseFrom atoms assignment) (getD firsts j 0) j m
-  row-at {m} e =
-      record {
-        few = S .few;
-        inside = inside;
-        row = e;
-        rising = subst (λ (x : Node). Rising j x) e (S .rising j inside);
-        named = F .each j inside;
-        chosen =
-            λ k p m.
-            let c : ChosenBelow (length atoms) atoms (getD assignment k 0) p = at-picked atoms (getD assignment k 0) p m in
-            subst (λ (y : ℕ). y < countOf concepts) (c .found) (S .atoms-known (c .place) (c .before));
-      }
-
-  marked :
-      {inclusions before after : List ℕ} {changed : Bool} → Takes before after (λ x. x ≡ j) (λ i. i ≡ j) changed
-      → Pass concepts inclusions (chooseFrom atoms assignment) (λ l. has l j j ≡ true) before after changed
-  marked {inclusions} t =
-      step-pass (S .few) t
-      (λ g s i k h l p q.
-      subst (λ (x : ℕ). Flow concepts inclusions (chooseFrom atoms assignment) g x k) (sym q)
-      (subst (λ (x : ℕ). Flow concepts inclusions (chooseFrom atoms assignment) g j x) (sym p) (flow-same j inside)))
-      (λ f. f j j inside refl refl)
-
+module _ (concepts atoms assignment firsts : List ℕ) (R : Settleable concepts atoms assignment) (F : Firsts concepts firsts)
+    (j : ℕ) (inside : j < countOf concepts) where
   abbrev pub SettledPass : List ℕ → List ℕ → Bool → Type 0
   SettledPass = SettlePass concepts (chooseFrom atoms assignment) (Settled concepts firsts (chooseFrom atoms assignment) j)
 
@@ -132,12 +50,127 @@ module _ {concepts atoms assignment firsts : List ℕ} (S : Settleable concepts 
   settled {m} {columns} e s b =
       record { same = s; by = subst (λ (x : Node). SettledBy (countOf concepts) (chooseFrom atoms assignment) (getD firsts j 0) j columns x) (sym e) b }
 
-  pub settle-exists :
-      {before after : List ℕ} {own : Bool} → getD concepts (j * 3) 0 ≡ 2 → Takes before after (λ x. x ≡ j) (λ i. i ≡ j) own → SettledPass before after own
-  settle-exists e t inclusions = pass-as (marked t) (λ q. settled (node-exists concepts j e) q tt)
+  marked :
+      {inclusions before after : List ℕ} {changed : Bool} → Takes before after (λ x. x ≡ j) (λ i. i ≡ j) changed
+      → Pass concepts inclusions (chooseFrom atoms assignment) (λ l. has l j j ≡ true) before after changed
+  marked {inclusions} t =
+      step-pass (R .few) t
+      (λ g s i k h l p q. subst (λ (x : ℕ). Flow concepts inclusions (chooseFrom atoms assignment) g x k) (sym q)
+      (subst (λ (x : ℕ). Flow concepts inclusions (chooseFrom atoms assignment) g j x) (sym p) (flow-same j inside)))
+      (λ f. f j j inside refl refl)
 
-  pub settle-row :
-      {m : Node} {before mid after : List ℕ} {own a : Bool} → node concepts j ≡ m → Takes before mid (λ x. x ≡ j) (λ i. i ≡ j) own
-      → RowPass (chooseFrom atoms assignment) (getD firsts j 0) j m mid after a → SettledPass before after (own || a)
-  settle-row e t p inclusions =
-      pass-as (pass-then (marked t) (p concepts inclusions (row-at e))) (λ q. settled e (q .0) (q .1))
+  pub settle-exists :
+      (before after : List ℕ) (own : Bool) → getD concepts (j * 3) 0 ≡ 2 → Takes before after (λ x. x ≡ j) (λ i. i ≡ j) own → SettledPass before after own
+  settle-exists before after own e t inclusions = pass-as (marked t) (λ q. settled (node-exists concepts j e) q tt)
+
+  pub settle-top :
+      (before one after : List ℕ) (own a : Bool) → node concepts j ≡ topAt → Takes before one (λ x. x ≡ j) (λ i. i ≡ j) own
+      → Takes one after (λ x. x ≡ j) (λ i. Unit {0}) a → SettledPass before after (own || a)
+  settle-top before one after own a e t u inclusions = pass-as (pass-then (marked t) filled) (λ q. settled e (q .0) (q .1))
+    where
+      filled : Pass concepts inclusions (chooseFrom atoms assignment) (λ l. (i : ℕ) → i < countOf concepts → has l i j ≡ true) one after a
+      filled =
+          step-pass (R .few) u
+          (λ g s i k h l p _. subst (λ (x : ℕ). Flow concepts inclusions (chooseFrom atoms assignment) g i x) (sym p) (flow-top i j h inside e))
+          (λ f i h. f i j h refl tt)
+
+  pub settle-name :
+      (before one two after : List ℕ) (own a b : Bool) → getD concepts (j * 3) 0 ≡ 1 → Takes before one (λ x. x ≡ j) (λ i. i ≡ j) own
+      → Takes one two (λ x. x ≡ getD firsts j 0) (λ i. has one i j ≡ true) a
+      → Takes two after (λ x. x ≡ j) (λ i. has two i (getD firsts j 0) ≡ true) b → SettledPass before after ((own || a) || b)
+  settle-name before one two after own a b kind t u v inclusions =
+      pass-as (pass-then (pass-then (marked t) there) back) (λ q. settled e (q .0 .0) (q .0 .1, q .1))
+    where
+      e : node concepts j ≡ nameAt (getD concepts (j * 3 + 1) 0)
+      e = node-name concepts j kind
+
+      f : node concepts (getD firsts j 0) ≡ nameAt (getD concepts (j * 3 + 1) 0)
+      f = F .each j inside .named _ e
+
+      known : getD firsts j 0 < countOf concepts
+      known = omega (arith, F .each j inside .low)
+
+      there : Pass concepts inclusions (chooseFrom atoms assignment) (λ l. Into (countOf concepts) l j (getD firsts j 0)) one two a
+      there = flow-pass j (getD firsts j 0) (R .few) inside (λ g i h w. flow-named i j (getD firsts j 0) _ h inside known e f w) u
+
+      back : Pass concepts inclusions (chooseFrom atoms assignment) (λ l. Into (countOf concepts) l (getD firsts j 0) j) two after b
+      back = flow-pass (getD firsts j 0) j (R .few) known (λ g i h w. flow-named i (getD firsts j 0) j _ h known inside f e w) v
+
+  pub settle-and :
+      (before one two three after : List ℕ) (own a b c : Bool) → getD concepts (j * 3) 0 ≡ 3 → Takes before one (λ x. x ≡ j) (λ i. i ≡ j) own
+      → Takes one two (λ x. x ≡ getD concepts (j * 3 + 1) 0) (λ i. has one i j ≡ true) a
+      → Takes two three (λ x. x ≡ getD concepts (j * 3 + 2) 0) (λ i. has two i j ≡ true) b
+      → Takes three after (λ x. x ≡ j)
+      (λ i. (has three i (getD concepts (j * 3 + 1) 0) ≡ true) × (has three i (getD concepts (j * 3 + 2) 0) ≡ true)) c
+      → SettledPass before after (((own || a) || b) || c)
+  settle-and before one two three after own a b c kind t u v w inclusions =
+      pass-as (pass-then (pass-then (pass-then (marked t) left) right) both)
+      (λ q. settled e (q .0 .0 .0) (q .0 .0 .1, q .0 .1, q .1))
+    where
+      x : ℕ
+      x = getD concepts (j * 3 + 1) 0
+
+      y : ℕ
+      y = getD concepts (j * 3 + 2) 0
+
+      e : node concepts j ≡ andAt x y
+      e = node-and concepts j kind
+
+      x-known : x < countOf concepts
+      x-known = omega (arith, rising R j inside e .0)
+
+      y-known : y < countOf concepts
+      y-known = omega (arith, rising R j inside e .1)
+
+      left : Pass concepts inclusions (chooseFrom atoms assignment) (λ l. Into (countOf concepts) l j x) one two a
+      left = flow-pass j x (R .few) inside (λ g i h z. flow-first i j x y h inside e z) u
+
+      right : Pass concepts inclusions (chooseFrom atoms assignment) (λ l. Into (countOf concepts) l j y) two three b
+      right = flow-pass j y (R .few) inside (λ g i h z. flow-second i j x y h inside e z) v
+
+      both :
+          Pass concepts inclusions (chooseFrom atoms assignment)
+          (λ l. (i : ℕ) → i < countOf concepts → has l i x ≡ true → has l i y ≡ true → has l i j ≡ true) three after c
+      both =
+          step-pass (R .few) w
+          (λ g s i k h l p q.
+          subst (λ (z : ℕ). Flow concepts inclusions (chooseFrom atoms assignment) g i z) (sym p)
+          (flow-meet i j x y h inside e (s i x h x-known (q .0)) (s i y h y-known (q .1))))
+          (λ f i h p q. f i j h refl (p, q))
+
+  pub settle-var :
+      (before one two after : List ℕ) (own a b : Bool) → getD concepts (j * 3) 0 ≡ 4 → Takes before one (λ x. x ≡ j) (λ i. i ≡ j) own
+      → Takes one two (λ p. List·Memᴰ p (pick atoms (getD assignment (getD concepts (j * 3 + 1) 0) 0))) (λ i. has one i j ≡ true) a
+      → Takes two after (λ x. x ≡ j)
+      (λ i. (p : ℕ) → List·Memᴰ p (pick atoms (getD assignment (getD concepts (j * 3 + 1) 0) 0)) → has two i p ≡ true) b
+      → SettledPass before after ((own || a) || b)
+  settle-var before one two after own a b kind t u v inclusions =
+      pass-as (pass-then (pass-then (marked t) down) up) (λ q. settled e (q .0 .0) (q .0 .1, q .1))
+    where
+      k : ℕ
+      k = getD concepts (j * 3 + 1) 0
+
+      e : node concepts j ≡ varAt k
+      e = node-var concepts j kind
+
+      chosen-known : (z : ℕ) → List·Memᴰ z (chooseFrom atoms assignment k) → z < countOf concepts
+      chosen-known z m =
+          let c : ChosenBelow (length atoms) atoms (getD assignment k 0) z = at-picked atoms (getD assignment k 0) z m in
+          subst (λ (y : ℕ). y < countOf concepts) (c .found) (R .atoms-known (c .place) (c .before))
+
+      down :
+          Pass concepts inclusions (chooseFrom atoms assignment)
+          (λ l. (p : ℕ) → List·Memᴰ p (chooseFrom atoms assignment k) → Into (countOf concepts) l j p) one two a
+      down =
+          step-pass (R .few) u (λ g s i p h l m q. flow-chooses i j k p h inside e m (s i j h inside q)) (λ f p m i h q. f i p h m q)
+
+      up :
+          Pass concepts inclusions (chooseFrom atoms assignment)
+          (λ l. (i : ℕ) → i < countOf concepts → ((p : ℕ) → List·Memᴰ p (chooseFrom atoms assignment k) → has l i p ≡ true) → has l i j ≡ true)
+          two after b
+      up =
+          step-pass (R .few) v
+          (λ g s i x h l p q.
+          subst (λ (z : ℕ). Flow concepts inclusions (chooseFrom atoms assignment) g i z) (sym p)
+          (flow-all-chosen i j k h inside e (λ z m. s i z h (chosen-known z m) (q z m))))
+          (λ f i h q. f i j h refl q)

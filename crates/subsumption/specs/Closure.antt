@@ -238,21 +238,6 @@ IncludePass inclusions before after changed =
     (concepts : List ℕ) (choose : ℕ → List ℕ) → LeftKnown concepts inclusions
     → Pass concepts inclusions choose (AllIncluded concepts inclusions) before after changed
 
--- the row j has the node m, and its steps lead to known rows
-pub record RowAt (concepts : List ℕ) (choose : ℕ → List ℕ) (first j : ℕ) (m : Node) : Type 0 where
-  pub few : countOf concepts ≤ 192
-  pub inside : j < countOf concepts
-  pub row : node concepts j ≡ m
-  pub rising : Rising j m
-  pub named : FirstNamed concepts j first
-  pub chosen : (k p : ℕ) → List·Memᴰ p (choose k) → p < countOf concepts
-
--- the steps at a row of that node, in whatever tables it stands
-abbrev pub RowPass : (ℕ → List ℕ) → ℕ → ℕ → Node → List ℕ → List ℕ → Bool → Type 0
-RowPass choose first j m before after changed =
-    (concepts inclusions : List ℕ) → RowAt concepts choose first j m
-    → Pass concepts inclusions choose (λ l. SettledBy (countOf concepts) choose first j l m) before after changed
-
 -- what one word does: it takes in the bits of `add`
 pub record Absorbs (before after : List ℕ) (at add : ℕ) (changed : Bool) : Type 0 where
   pub long : length after ≡ length before

@@ -3,11 +3,11 @@
 ghost use mathlib.Core.Path.{_≡_};
 ghost use Prim.Native.Nat.{ℕ, _+_, _≤_, _<_};
 ghost use mathlib.Core.Bool.{true};
-ghost use mathlib.Core.List.{List, List·Memᴰ};
-ghost use Rattle.subsumption.specs.Tables.{nameAt, andAt, varAt, countOf};
+ghost use mathlib.Core.List.{List·Memᴰ};
+ghost use Rattle.subsumption.specs.Tables.{countOf};
 ghost use Rattle.subsumption.specs.Atoms.{pick};
 ghost use lib.ListN.{length};
-ghost use Rattle.subsumption.specs.Closure.{has, Absorbs, Takes, inThree, Known, Common, Ready, Settleable, LowPairs, Nameable, Seen, Firsts, Settled, chooseFrom, Pass, SettlePass, RowPass, IncludePass, LinkPass, AllSettled, LinkedTo, AllLinked, AllTaken, Inner, OnwardFrom, OnwardTo, Onward, Links, NextLink, IsNamed, FirstNamed, Empty, Closed};
+ghost use Rattle.subsumption.specs.Closure.{has, Absorbs, Takes, inThree, Known, Common, Ready, Settleable, LowPairs, Nameable, Seen, Firsts, Settled, chooseFrom, Pass, SettlePass, IncludePass, LinkPass, AllSettled, LinkedTo, AllLinked, AllTaken, Inner, OnwardFrom, OnwardTo, Onward, Links, NextLink, IsNamed, FirstNamed, Empty, Closed};
 
 const ALL: u64 = 18446744073709551615;
 
@@ -157,42 +157,6 @@ fn spread(atoms: &[u16], choice: u64, columns: &mut [u64], from: usize) -> bool
     changed
 }
 
-// The steps at a row of a name whose first row is `first`.
-fn settle_name(columns: &mut [u64], j: usize, first: usize) -> bool
-    requires { ⌜ length (now columns) ≡ 576 ⌝ }
-    requires { ⌜ (j < 192) × (first < 192) ⌝ }
-    ensures { λ r. ⌜ ((choose : ℕ → List ℕ) (n : ℕ) → RowPass choose first j (nameAt n) (now (columns .entry)) (now (columns .exit)) r) ⌝ }
-{
-    let a = flow(columns, j, first);
-    let b = flow(columns, first, j);
-    a | b
-}
-
-// The steps at the conjunction of x and y.
-fn settle_and(columns: &mut [u64], j: usize, x: usize, y: usize) -> bool
-    requires { ⌜ length (now columns) ≡ 576 ⌝ }
-    requires { ⌜ (j < 192) × (x < 192) × (y < 192) ⌝ }
-    ensures { λ r. ⌜ ((choose : ℕ → List ℕ) (first : ℕ) → RowPass choose first j (andAt x y) (now (columns .entry)) (now (columns .exit)) r) ⌝ }
-{
-    let a = flow(columns, j, x);
-    let b = flow(columns, j, y);
-    let c = meet(columns, x, y, j);
-    a | b | c
-}
-
-// The steps at a variable with that choice.
-fn settle_variable(atoms: &[u16], choice: u64, columns: &mut [u64], j: usize) -> bool
-    requires { ⌜ length (now columns) ≡ 576 ⌝ }
-    requires { ⌜ Known (now atoms) ⌝ }
-    requires { ⌜ j < 192 ⌝ }
-    ensures { λ r. ⌜ ((choose : ℕ → List ℕ) (first k : ℕ) → choose k ≡ pick (now (atoms .entry)) choice
-        → RowPass choose first j (varAt k) (now (columns .entry)) (now (columns .exit)) r) ⌝ }
-{
-    let a = spread(atoms, choice, columns, j);
-    let b = gather(atoms, choice, columns, j);
-    a | b
-}
-
 // The steps at the row j.
 fn settle(
     concepts: &[u16],
@@ -210,25 +174,31 @@ fn settle(
         (Settled (now (concepts .entry)) (now (firsts .entry)) (chooseFrom (now (atoms .entry)) (now (assignment .entry))) j)
         (now (columns .entry)) (now (columns .exit)) r ⌝ }
 {
-    let kind = concepts[j * 3];
-    let x = concepts[j * 3 + 1] as usize;
+    let at = j * 3;
+    let kind = concepts[at];
+    let x = concepts[at + 1] as usize;
     let own = mark(columns, j);
     if kind == 1 {
         let first = firsts[j] as usize;
-        let a = settle_name(columns, j, first);
-        return own | a;
+        let a = flow(columns, j, first);
+        let b = flow(columns, first, j);
+        return own | a | b;
     }
     if kind == 2 {
         return own;
     }
     if kind == 3 {
-        let y = concepts[j * 3 + 2] as usize;
-        let a = settle_and(columns, j, x, y);
-        return own | a;
+        let y = concepts[at + 2] as usize;
+        let a = flow(columns, j, x);
+        let b = flow(columns, j, y);
+        let c = meet(columns, x, y, j);
+        return own | a | b | c;
     }
     if kind == 4 {
-        let a = settle_variable(atoms, assignment[x], columns, j);
-        return own | a;
+        let choice = assignment[x];
+        let a = spread(atoms, choice, columns, j);
+        let b = gather(atoms, choice, columns, j);
+        return own | a | b;
     }
     let a = fill(columns, j);
     own | a
@@ -286,13 +256,14 @@ fn links(concepts: &[u16], columns: &[u64], role: u16, inner: usize, e: usize) -
     requires { ⌜ (inner < 192) × (e < countOf (now concepts)) ⌝ }
     ensures { λ r. ⌜ Links (now (concepts .entry)) (now (columns .entry)) role inner e r ⌝ }
 {
-    if concepts[e * 3] != 2 {
+    let at = e * 3;
+    if concepts[at] != 2 {
         return false;
     }
-    if concepts[e * 3 + 1] != role {
+    if concepts[at + 1] != role {
         return false;
     }
-    let from = concepts[e * 3 + 2] as usize;
+    let from = concepts[at + 2] as usize;
     below(columns, from, inner)
 }
 
@@ -331,11 +302,12 @@ fn link_to(concepts: &[u16], onward: &[u16], columns: &mut [u64], f: usize) -> b
     ensures { λ r. ⌜ LinkPass (now (concepts .entry)) (LinkedTo (now (concepts .entry)) f)
         (now (columns .entry)) (now (columns .exit)) r ⌝ }
 {
-    if concepts[f * 3] != 2 {
+    let at = f * 3;
+    if concepts[at] != 2 {
         return false;
     }
-    let role = concepts[f * 3 + 1];
-    let inner = concepts[f * 3 + 2] as usize;
+    let role = concepts[at + 1];
+    let inner = concepts[at + 2] as usize;
     let count = concepts.len() / 3;
     let mut changed = false;
     let mut e = next_link(concepts, onward, columns, role, inner, 0);

@@ -20,7 +20,7 @@ same-length : tie.Need-same-length
 same-length c = search needs
 
 returns : tie.Need-returns
-returns c = absorbs (c .before .args .columns .now) (c .before .args .at) (c .before .args .add) (search needs) (c .slice-known .given (c .before .args .at) .fits)
+returns c = absorbs (c .before .args .columns .now) (c .before .args .at) (c .before .args .add) (omega arith) (c .slice-known .given (c .before .args .at) .fits)
 
 pub absorb-spec : {M : Type 1} → statement M
 absorb-spec =

@@ -5,16 +5,16 @@ use Rattle.subsumption.proofs.closure.link_to.Statement.{statement}
 use Rattle.subsumption.proofs.closure.link_to.Tie as tie
 
 abbrev Inv-loop : tie.InvT-loop
-Inv-loop concepts onward columns₀ f role inner count changed₀ e₀ columns changed e = Linked concepts f columns₀ columns changed e
+Inv-loop concepts onward columns₀ f at role inner count changed₀ e₀ columns changed e = Linked concepts f columns₀ columns changed e
 
 abbrev μ-loop : tie.MeasureT-loop
-μ-loop concepts onward columns₀ f role inner count changed₀ e₀ columns changed e = count - e
+μ-loop concepts onward columns₀ f at role inner count changed₀ e₀ columns changed e = count - e
+
+mul-at : tie.Need-mul-at Inv-loop μ-loop
+mul-at c = omega arith
 
 mul-if1 : tie.Need-mul-if1 Inv-loop μ-loop
 mul-if1 c = omega arith
-
-mul-if1-2 : tie.Need-mul-if1-2 Inv-loop μ-loop
-mul-if1-2 c = omega arith
 
 shared-slice-read-if1 : tie.Need-shared-slice-read-if1 Inv-loop μ-loop
 shared-slice-read-if1 c = omega arith
@@ -22,26 +22,20 @@ shared-slice-read-if1 c = omega arith
 returns : tie.Need-returns Inv-loop μ-loop
 returns c = not-linked _ _ _ (c .if1 .taken)
 
-mul-role : tie.Need-mul-role Inv-loop μ-loop
-mul-role c = omega arith
-
 add-role : tie.Need-add-role Inv-loop μ-loop
 add-role c = omega arith
 
-mul-role-2 : tie.Need-mul-role-2 Inv-loop μ-loop
-mul-role-2 c = omega arith
+mul-role : tie.Need-mul-role Inv-loop μ-loop
+mul-role c = omega arith
 
 shared-slice-read-role : tie.Need-shared-slice-read-role Inv-loop μ-loop
 shared-slice-read-role c = omega arith
 
-mul-inner : tie.Need-mul-inner Inv-loop μ-loop
-mul-inner c = omega arith
-
 add-inner : tie.Need-add-inner Inv-loop μ-loop
 add-inner c = omega arith
 
-mul-inner-2 : tie.Need-mul-inner-2 Inv-loop μ-loop
-mul-inner-2 c = omega arith
+mul-inner : tie.Need-mul-inner Inv-loop μ-loop
+mul-inner c = omega arith
 
 shared-slice-read-inner : tie.Need-shared-slice-read-inner Inv-loop μ-loop
 shared-slice-read-inner c = omega arith
@@ -82,17 +76,15 @@ link-to-spec =
     (tie.spec
     Inv-loop
     μ-loop
+    mul-at
     mul-if1
-    mul-if1-2
     shared-slice-read-if1
     returns
-    mul-role
     add-role
-    mul-role-2
+    mul-role
     shared-slice-read-role
-    mul-inner
     add-inner
-    mul-inner-2
+    mul-inner
     shared-slice-read-inner
     cast-inner
     next-link-requires

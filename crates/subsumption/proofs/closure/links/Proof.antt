@@ -4,11 +4,11 @@ use Rattle.subsumption.proofs.Linking.{links-kind, links-role, links-be
 use Rattle.subsumption.proofs.closure.links.Statement.{statement}
 use Rattle.subsumption.proofs.closure.links.Tie as tie
 
+mul-at : tie.Need-mul-at
+mul-at c = omega arith
+
 mul-if1 : tie.Need-mul-if1
 mul-if1 c = omega arith
-
-mul-if1-2 : tie.Need-mul-if1-2
-mul-if1-2 c = omega arith
 
 shared-slice-read-if1 : tie.Need-shared-slice-read-if1
 shared-slice-read-if1 c = omega arith
@@ -16,14 +16,11 @@ shared-slice-read-if1 c = omega arith
 returns : tie.Need-returns
 returns c = links-kind _ _ _ _ _ (c .if1 .taken)
 
-mul-if2 : tie.Need-mul-if2
-mul-if2 c = omega arith
-
 add-if2 : tie.Need-add-if2
 add-if2 c = omega arith
 
-mul-if2-2 : tie.Need-mul-if2-2
-mul-if2-2 c = omega arith
+mul-if2 : tie.Need-mul-if2
+mul-if2 c = omega arith
 
 shared-slice-read-if2 : tie.Need-shared-slice-read-if2
 shared-slice-read-if2 c = omega arith
@@ -31,14 +28,11 @@ shared-slice-read-if2 c = omega arith
 returns-2 : tie.Need-returns-2
 returns-2 c = links-role _ _ _ _ _ (c .if2 .taken)
 
-mul-from : tie.Need-mul-from
-mul-from c = omega arith
-
 add-from : tie.Need-add-from
 add-from c = omega arith
 
-mul-from-2 : tie.Need-mul-from-2
-mul-from-2 c = omega arith
+mul-from : tie.Need-mul-from
+mul-from c = omega arith
 
 shared-slice-read-from : tie.Need-shared-slice-read-from
 shared-slice-read-from c = omega arith
@@ -56,18 +50,16 @@ pub links-spec : {M : Type 1} → statement M
 links-spec =
     tie.close
     (tie.spec
+    mul-at
     mul-if1
-    mul-if1-2
     shared-slice-read-if1
     returns
-    mul-if2
     add-if2
-    mul-if2-2
+    mul-if2
     shared-slice-read-if2
     returns-2
-    mul-from
     add-from
-    mul-from-2
+    mul-from
     shared-slice-read-from
     cast-from
     below-requires

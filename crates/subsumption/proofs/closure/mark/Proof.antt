@@ -1,5 +1,4 @@
 use native.Mathlib.Omega.{arith}
-use borrow.Author.Needs.{needs}
 use Rattle.subsumption.proofs.Columns.{mark-shifted}
 use Rattle.subsumption.proofs.closure.mark.Statement.{statement}
 use Rattle.subsumption.proofs.closure.mark.Tie as tie
@@ -20,7 +19,7 @@ same-length : tie.Need-same-length
 same-length c = omega arith
 
 returns : tie.Need-returns
-returns c = mark-shifted _ _ _ _ (search needs) (c .before .before .absorb .ensures)
+returns c = mark-shifted _ _ _ _ (omega arith) (c .before .before .absorb .ensures)
 
 pub mark-spec : {M : Type 1} → statement M
 mark-spec =

@@ -1,6 +1,5 @@
 use Prim.Native.Nat.{_-_}
 use native.Mathlib.Omega.{arith}
-use borrow.Author.Needs.{needs}
 use Rattle.subsumption.specs.Closure.{Seen}
 use Rattle.subsumption.proofs.Linking.{FirstsTo, firsts-none, firsts-more, firsts-done, seen-none}
 use Rattle.subsumption.proofs.closure.note_firsts.Statement.{statement}
@@ -16,13 +15,13 @@ loop-holds : tie.Need-loop-holds Inv-loop μ-loop
 loop-holds c = (firsts-none _ _ (c .before .before .pre .1), seen-none _)
 
 slice-aggregate-first-named : tie.Need-slice-aggregate-first-named Inv-loop μ-loop
-slice-aggregate-first-named c = search needs
+slice-aggregate-first-named c = omega arith
 
 first-named-requires : tie.Need-first-named-requires Inv-loop μ-loop
 first-named-requires c κs = (c .before .before .before .before .before .pre .0, (c .before .before .loop .inv .1, omega arith))
 
 slice-aggregate-note-seen : tie.Need-slice-aggregate-note-seen Inv-loop μ-loop
-slice-aggregate-note-seen c = search needs
+slice-aggregate-note-seen c = omega arith
 
 note-seen-requires : tie.Need-note-seen-requires Inv-loop μ-loop
 note-seen-requires c κs = (c .before .before .before .before .before .before .before .pre .0, (c .before .before .before .before .loop .inv .1, (omega arith, c .before .first-named .ensures)))

@@ -1,4 +1,3 @@
-use mathlib.Core.List.{[]}
 use native.Mathlib.Omega.{arith}
 use Rattle.subsumption.proofs.Settling.{ready-settleable}
 use Rattle.subsumption.proofs.Including.{ready-pairs, ready-left}
@@ -12,19 +11,19 @@ settle-all-requires : tie.Need-settle-all-requires
 settle-all-requires c κs = (ready-settleable (c .before .before .before .before .before .before .before .before .pre .0), (c .before .before .before .before .before .before .before .before .pre .1 .0, c .before .before .before .before .before .before .before .before .pre .1 .1 .0))
 
 include-all-requires : tie.Need-include-all-requires
-include-all-requires c κs = (ready-pairs (c .before .before .before .before .before .before .before .before .before .before .before .before .pre .0), omega (arith, c .before .before .before .settle-all .ensures [] .long, c .before .before .before .before .before .before .before .before .before .before .before .before .pre .1 .1 .0))
+include-all-requires c κs = (ready-pairs (c .before .before .before .before .before .before .before .before .before .before .before .before .pre .0), omega arith)
 
 same-length : tie.Need-same-length
-same-length c = omega (arith, (c .before .before .before .before .before .before .before .settle-all .ensures []) .long, (c .before .before .before .include-all .ensures _ (λ k. []) (ready-left (c .before .before .before .before .before .before .before .before .before .before .before .before .before .before .before .before .pre .0))) .long)
+same-length c = omega arith
 
 returns : tie.Need-returns
 returns c = pass-busy (pass-then (c .before .before .before .before .before .before .before .settle-all .ensures _) (c .before .before .before .include-all .ensures _ _ (ready-left (c .before .before .before .before .before .before .before .before .before .before .before .before .before .before .before .before .pre .0)))) (c .if1 .taken)
 
 link-all-requires : tie.Need-link-all-requires
-link-all-requires c κs = (ready-inner (c .before .before .before .before .before .before .before .before .before .before .before .before .before .before .before .before .before .pre .0), (omega (arith, c .before .before .before .before .before .before .before .before .settle-all .ensures [] .long, (c .before .before .before .before .include-all .ensures _ (λ k. []) (ready-left (c .before .before .before .before .before .before .before .before .before .before .before .before .before .before .before .before .before .pre .0))) .long, c .before .before .before .before .before .before .before .before .before .before .before .before .before .before .before .before .before .pre .1 .1 .0), c .before .before .before .before .before .before .before .before .before .before .before .before .before .before .before .before .before .pre .1 .1 .1))
+link-all-requires c κs = (ready-inner (c .before .before .before .before .before .before .before .before .before .before .before .before .before .before .before .before .before .pre .0), (omega arith, c .before .before .before .before .before .before .before .before .before .before .before .before .before .before .before .before .before .pre .1 .1 .1))
 
 same-length-2 : tie.Need-same-length-2
-same-length-2 c = omega (arith, c .before .before .before .before .before .before .before .before .before .before .before .settle-all .ensures [] .long, (c .before .before .before .before .before .before .before .include-all .ensures _ (λ k. []) (ready-left (c .before .before .before .before .before .before .before .before .before .before .before .before .before .before .before .before .before .before .before .before .pre .0))) .long, c .before .before .link-all .ensures [] (λ k. []) .long)
+same-length-2 c = omega arith
 
 returns-2 : tie.Need-returns-2
 returns-2 c = round-quiet _ _ _ _ _ _ _ _ _ _ _ (c .before .before .before .before .if1 .left) (c .before .before .before .before .before .before .before .before .before .before .before .settle-all .ensures _) (c .before .before .before .before .before .before .before .include-all .ensures _ _ (ready-left (c .before .before .before .before .before .before .before .before .before .before .before .before .before .before .before .before .before .before .before .before .pre .0))) (c .before .before .link-all .ensures _ _)

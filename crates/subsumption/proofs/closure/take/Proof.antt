@@ -1,5 +1,4 @@
 use native.Mathlib.Omega.{arith}
-use borrow.Author.Needs.{needs}
 use Rattle.subsumption.proofs.Columns.{takes}
 use Rattle.subsumption.proofs.closure.take.Statement.{statement}
 use Rattle.subsumption.proofs.closure.take.Tie as tie
@@ -32,7 +31,7 @@ same-length : tie.Need-same-length
 same-length c = omega arith
 
 returns : tie.Need-returns
-returns c = takes _ _ _ _ _ _ _ _ _ _ _ (search needs) (c .before .before .before .before .before .before .before .before .before .before .absorb .ensures) (c .before .before .before .before .before .before .absorb2 .ensures) (c .before .before .absorb3 .ensures)
+returns c = takes _ _ _ _ _ _ _ _ _ _ _ (omega arith) (c .before .before .before .before .before .before .before .before .before .before .absorb .ensures) (c .before .before .before .before .before .before .absorb2 .ensures) (c .before .before .absorb3 .ensures)
 
 pub take-spec : {M : Type 1} → statement M
 take-spec =
