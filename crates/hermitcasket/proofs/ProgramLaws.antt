@@ -1,8 +1,8 @@
 -- The answer for tables and for a text, by cases.
-use Prim.Native.Nat.{ℕ, _+_, _*_, _<_, _≤_}
+use Prim.Native.Nat.{ℕ, _+_, _*_, _≤_}
 use mathlib.Core.Path.{_≡_, refl, sym, ap, _∙_, subst}
 use mathlib.Core.List.{List, _++_}
-use mathlib.Core.Logic.{_⊎_, inl, inr}
+use mathlib.Core.Logic.{inl, inr}
 use native.Mathlib.Omega.{arith}
 use lib.ListN.{length, take, drop, length-append}
 use lib.Seq.{take-append-seam, drop-append-seam, length-take-le}
@@ -17,11 +17,10 @@ use Rattle.subsumption.specs.Refusal.{codeOf, orElse, refuseIf}
 use Rattle.subsumption.specs.Check.{tableFault, assignmentFault, bufferFault}
 use Rattle.matching.specs.declared.find.Match.{Match}
 use Rattle.matching.specs.declared.find.Match.the-variants.{Filled, Nothing, Rejected as NotFound}
-use Rattle.matching.specs.Solving.{Substitution, SolvesBy, First}
-use Rattle.matching.specs.Finding.{findingFault, FilledBy, NoneSolves, Finds}
+use Rattle.matching.specs.Finding.{findingFault, FilledBy, Finds}
 use Rattle.hermitcasket.specs.declared.text.Read.{Read}
 use Rattle.hermitcasket.specs.declared.text.Read.the-variants.{Problem, Rejected}
-use Rattle.hermitcasket.specs.Text.{Judged, accepted, refused, judge}
+use Rattle.hermitcasket.specs.Text.{Judged, accepted, judge}
 use Rattle.hermitcasket.specs.Reading.{judgedBy, ReadFits}
 use Rattle.hermitcasket.specs.Printing.{noneLine, filledText, refusedText, placed, Wrote}
 use Rattle.hermitcasket.specs.Answer.{AnsweredTables, AnsweredJudged, Answered, Output}
