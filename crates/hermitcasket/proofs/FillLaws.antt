@@ -25,9 +25,9 @@ module _ (before : List ℕ) (at id : ℕ) (later : Bool) (room : at + length (i
   unfolding idText
   comma-room h = omega (arith, ap (λ (z : Bool). length (idText z id)) h)
 
-  pub later-room : later ≡ true → (a : ℕ) (after : List ℕ) → Wrote before at (44 ∷ []) a after → a + length (digits id) ≤ length after
+  pub later-room : later ≡ true → (byte a : ℕ) (after : List ℕ) → Wrote before at (byte ∷ []) a after → a + length (digits id) ≤ length after
   unfolding idText
-  later-room h a after w = omega (arith, ap (λ (z : Bool). length (idText z id)) h, w .place, wrote-length before at (44 ∷ []) a after (comma-room h) w)
+  later-room h byte a after w = omega (arith, ap (λ (z : Bool). length (idText z id)) h, w .place, wrote-length before at (byte ∷ []) a after (comma-room h) w)
 
   pub wrote-later :
       later ≡ true → (a : ℕ) (between : List ℕ) → Wrote before at (44 ∷ []) a between → (end : ℕ) (after : List ℕ) → Wrote between a (digits id) end after

@@ -95,6 +95,9 @@ module _ (at : ℕ) (rest : List ℕ) (asked : Section) (out : List ℕ) (s : Se
     last-fits : (count ≤ 32) × (n ≤ length rest)
     last-fits = subst (λ (z : Section). SectionFits z 32 (length rest)) h (s .fits)
 
+    pub last-within : n ≤ length rest
+    last-within = last-fits .1
+
     pub last-more : n < length rest → Last at rest (Faulty (BadText (at + n))) out
     unfolding sectionThen lastThen judgeEnd
     last-more l = go (drop n rest) refl

@@ -1,4 +1,5 @@
-use Rattle.hermitcasket.proofs.SectionLaws.{last-refused, last-more, last-through}
+use native.Mathlib.Omega.{arith}
+use Rattle.hermitcasket.proofs.SectionLaws.{last-refused, last-within, last-more, last-through}
 use borrow.Author.Needs.{needs}
 use Rattle.hermitcasket.proofs.text.read_questions.Statement.{statement}
 use Rattle.hermitcasket.proofs.text.read_questions.Tie as tie
@@ -22,7 +23,7 @@ returns : tie.Need-returns
 returns c = search last-refused
 
 add-t14 : tie.Need-add-t14
-add-t14 c = search needs
+add-t14 c = omega (arith, last-within _ _ _ _ (c .before .before .before .before .before .before .read-section .ensures) _ _ (c .before .before .asked .given .1), c .before .before .before .before .before .before .before .before .before .before .before .pre)
 
 same-length-2 : tie.Need-same-length-2
 same-length-2 c = search needs
