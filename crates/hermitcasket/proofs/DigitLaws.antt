@@ -1,19 +1,15 @@
 -- Digits: how they grow, and that reading them gives the number back.
 use Prim.Native.Nat.{ℕ, zero, suc, _+_, _-_, _*_, _/_, _%_, _<_, _≤_}
-use mathlib.Core.Path.{_≡_, refl, sym, ap, _∙_, subst}
+use mathlib.Core.Path.{_≡_, refl, sym, ap, _∙_}
 use mathlib.Core.List.{List, [], _∷_, _++_, append-assoc}
 use mathlib.Core.Bool.{Bool, true, false}
 use native.Mathlib.Omega.{arith}
 use lib.Dec.{eqb, ltb}
-use lib.ListN.{length, drop, length-append}
-use lib.Seq.{drop-append-add}
-use borrow.Author.Tests.{lt-ltb, le-ltb, ltb-true, ltb-false, eq-eqb, ne-eqb, eqb-true}
+use lib.ListN.{length, length-append}
+use borrow.Author.Tests.{lt-ltb, le-ltb, ltb-true, ltb-false, ne-eqb, eqb-true}
 use Rattle.subsumption.specs.Tables.{or, both}
-use Rattle.hermitcasket.specs.declared.lines.Number.{Number}
-use Rattle.hermitcasket.specs.declared.lines.Number.the-variants.{Value, NoNumber}
 use Rattle.hermitcasket.specs.Digits.{digitsTo, digits}
 use Rattle.hermitcasket.specs.Lines.{wrongDigit, pickNumber, numberFrom}
-use Rattle.hermitcasket.proofs.NumberLaws.{Digit, digit-right}
 
 short : (more n : ℕ) → n < 10 → digitsTo more n ≡ (48 + n) ∷ []
 unfolding digitsTo

@@ -1,16 +1,20 @@
--- Printing the atoms that choices take.
-use Prim.Native.Nat.{ℕ, zero, suc, _+_, _-_, _/_, _%_, _^_, _<_, _≤_}
+-- Printing lists of ids, and a line for each variable.
+use Prim.Native.Nat.{ℕ, _+_, _<_, _≤_}
 use mathlib.Core.Path.{_≡_, refl, sym, ap, _∙_, subst}
 use mathlib.Core.List.{List, [], _∷_, _++_, append-assoc, append-nil}
 use mathlib.Core.Bool.{Bool, true, false}
 use native.Mathlib.Omega.{arith}
 use native.Mathlib.Numerals.{add-one}
-use native.Mathlib.Nat.{div-one}
-use lib.Dec.{eqb}
+use lib.Dec.{ltb}
 use lib.ListN.{length, getD, drop, length-append, drop-of-length-le}
 use lib.Seq.{drop-cons}
-use borrow.Author.Tests.{eq-eqb, ne-eqb}
-use Rattle.subsumption.specs.Atoms.{bit, pick}
+use borrow.Author.Tests.{lt-ltb}
+use Rattle.subsumption.specs.declared.refusal.Outcome.the-variants.{Done}
+use Rattle.subsumption.specs.Tables.{Tables}
+use Rattle.subsumption.specs.Atoms.{atoms, chosen}
+use Rattle.subsumption.specs.Check.{tableFault, assignmentFault}
+use Rattle.matching.specs.Chosen.{choosingFault, handedBack}
+use Rattle.matching.proofs.ChoosingFaults.{choices-length, choosing-done}
 use Rattle.hermitcasket.specs.Digits.{digits}
 use Rattle.hermitcasket.specs.Printing.{idText, idsText, fillText, fillsText, Wrote}
 use Rattle.hermitcasket.proofs.WriteLaws.{wrote-none, wrote-join, wrote-length}
@@ -21,9 +25,9 @@ module _ (before : List ℕ) (at id : ℕ) (later : Bool) (room : at + length (i
   unfolding idText
   comma-room h = omega (arith, ap (λ (z : Bool). length (idText z id)) h)
 
-  pub later-room : later ≡ true → (a : ℕ) (after : List ℕ) → Wrote before at (44 ∷ []) a after → a + length (digits id) ≤ length after
+  pub later-room : later ≡ true → (byte a : ℕ) (after : List ℕ) → Wrote before at (byte ∷ []) a after → a + length (digits id) ≤ length after
   unfolding idText
-  later-room h a after w = omega (arith, ap (λ (z : Bool). length (idText z id)) h, w .place, wrote-length before at (44 ∷ []) a after (comma-room h) w)
+  later-room h byte a after w = omega (arith, ap (λ (z : Bool). length (idText z id)) h, w .place, wrote-length before at (byte ∷ []) a after (comma-room h) w)
 
   pub wrote-later :
       later ≡ true → (a : ℕ) (between : List ℕ) → Wrote before at (44 ∷ []) a between → (end : ℕ) (after : List ℕ) → Wrote between a (digits id) end after
@@ -39,135 +43,102 @@ module _ (before : List ℕ) (at id : ℕ) (later : Bool) (room : at + length (i
   unfolding idText
   wrote-first h end after w = rw h w
 
--- ---- the choice's next bit
-bit-zero : (x : ℕ) → bit x 0 ≡ eqb (x % 2) 1
-unfolding bit
-bit-zero x = ap (λ (z : ℕ). eqb (z % 2) 1) (div-one x)
-
-pick-yes : (x : ℕ) (xs : List ℕ) (choice : ℕ) → (choice % 2 ≡ 0 → ⊥) → pick (x ∷ xs) choice ≡ x ∷ pick xs (choice / 2)
-unfolding pick
-pick-yes x xs choice h = rw (bit-zero choice, eq-eqb (choice % 2) 1 (omega arith)) refl
-
-pick-no : (x : ℕ) (xs : List ℕ) (choice : ℕ) → choice % 2 ≡ 0 → pick (x ∷ xs) choice ≡ pick xs (choice / 2)
-unfolding pick
-pick-no x xs choice h = rw (bit-zero choice, ne-eqb (choice % 2) 1 (λ e. omega arith)) refl
-
--- ---- the atoms of one choice: what is printed, and what is left
-module _ (atoms : List ℕ) (choice : ℕ) (before : List ℕ) (at : ℕ) where
-  pub record Picked (out : List ℕ) (rest end : ℕ) (later : Bool) (p : ℕ) : Type 0 where
+-- ---- piece after piece: what stands there, and what is left
+module _ (left : ℕ → List ℕ) (before : List ℕ) (at : ℕ) where
+  pub record Printed (out : List ℕ) (end i : ℕ) : Type 0 where
     pub text : List ℕ
     pub wrote : Wrote before at text end out
-    pub left : idsText false (pick atoms choice) ≡ text ++ idsText later (pick (drop p atoms) rest)
-    pub within : p ≤ length atoms
+    pub whole : left 0 ≡ text ++ left i
     pub long : length out ≡ length before
 
-  pub picked-none : Picked before choice at false 0
-  picked-none = record { text = []; wrote = wrote-none before at; left = refl; within = omega arith; long = refl }
-
-  pub picked-no :
-      (out : List ℕ) (rest end : ℕ) (later : Bool) (p : ℕ) → Picked out rest end later p → p < length atoms → rest % 2 ≡ 0
-      → Picked out (rest / 2) end later (p + 1)
-  picked-no out rest end later p s h e =
-      record {
-        text = s .text;
-        wrote = s .wrote;
-        left =
-            s .left
-            ∙ ap (λ (z : List ℕ). s .text ++ idsText later z)
-            (ap (λ (z : List ℕ). pick z rest) (drop-cons atoms p 0 h) ∙ pick-no (getD atoms p 0) (drop (suc p) atoms) rest e ∙ ap (λ (z : ℕ). pick (drop z atoms) (rest / 2)) (sym (add-one p)));
-        within = omega arith;
-        long = s .long;
-      }
+  pub printed-none : Printed before at 0
+  printed-none = record { text = []; wrote = wrote-none before at; whole = refl; long = refl }
 
   module _
-      (out : List ℕ) (rest end : ℕ) (later : Bool) (p : ℕ) (s : Picked out rest end later p) (h : p < length atoms) (e : rest % 2 ≡ 0 → ⊥)
-      (room : at + length (idsText false (pick atoms choice)) ≤ length before) where
-    next : idsText false (pick atoms choice) ≡ (s .text ++ idText later (getD atoms p 0)) ++ idsText true (pick (drop (p + 1) atoms) (rest / 2))
-    unfolding idsText
-    next =
-        s .left
-        ∙ ap (λ (z : List ℕ). s .text ++ idsText later z)
-        (ap (λ (z : List ℕ). pick z rest) (drop-cons atoms p 0 h) ∙ pick-yes (getD atoms p 0) (drop (suc p) atoms) rest e ∙ ap (λ (z : ℕ). getD atoms p 0 ∷ pick (drop z atoms) (rest / 2)) (sym (add-one p)))
-        ∙ sym (append-assoc (s .text) (idText later (getD atoms p 0)) (idsText true (pick (drop (p + 1) atoms) (rest / 2))))
+      (out : List ℕ) (end i : ℕ) (s : Printed out end i) (room : at + length (left 0) ≤ length before)
+      (piece : List ℕ) (next : left i ≡ piece ++ left (i + 1)) where
+    split : left 0 ≡ (s .text ++ piece) ++ left (i + 1)
+    split = s .whole ∙ ap (λ (z : List ℕ). s .text ++ z) next ∙ sym (append-assoc (s .text) piece (left (i + 1)))
 
-    lengths : at + length (s .text) + length (idText later (getD atoms p 0)) ≤ length before
-    lengths =
-        omega (
-          arith,
-          ap length next,
-          length-append (s .text ++ idText later (getD atoms p 0)) (idsText true (pick (drop (p + 1) atoms) (rest / 2))),
-          length-append (s .text) (idText later (getD atoms p 0)),
-        )
+    sizes : at + length (s .text) + length piece ≤ length before
+    sizes = omega (arith, ap length split, length-append (s .text ++ piece) (left (i + 1)), length-append (s .text) piece)
 
-    own-room : end + length (idText later (getD atoms p 0)) ≤ length out
-    own-room = omega (arith, lengths, s .wrote .place, s .long)
+    pub piece-room : end + length piece ≤ length out
+    piece-room = omega (arith, sizes, s .wrote .place, s .long)
 
-    pub id-room : (id : ℕ) → id ≡ getD atoms p 0 → end + length (idText later id) ≤ length out
-    id-room id q = rw q own-room
-
-    pub picked-yes : (id : ℕ) → id ≡ getD atoms p 0 → (end' : ℕ) (out' : List ℕ) → Wrote out end (idText later id) end' out' → Picked out' (rest / 2) end' true (p + 1)
-    picked-yes id q end' out' v =
-        let w = subst (λ (z : ℕ). Wrote out end (idText later z) end' out') q v in
+    pub printed-more : (end' : ℕ) (out' : List ℕ) → Wrote out end piece end' out' → Printed out' end' (i + 1)
+    printed-more end' out' w =
         record {
-          text = s .text ++ idText later (getD atoms p 0);
-          wrote = wrote-join before at (s .text) (idText later (getD atoms p 0)) end out end' out' (omega (arith, lengths)) (s .wrote) w;
-          left = next;
-          within = omega arith;
-          long = wrote-length out end (idText later (getD atoms p 0)) end' out' own-room w ∙ s .long;
+          text = s .text ++ piece;
+          wrote = wrote-join before at (s .text) piece end out end' out' (omega (arith, sizes)) (s .wrote) w;
+          whole = split;
+          long = wrote-length out end piece end' out' piece-room w ∙ s .long;
         }
 
-  pub picked-done :
-      (out : List ℕ) (rest end : ℕ) (later : Bool) (p : ℕ) → Picked out rest end later p → length atoms ≤ p
-      → Wrote before at (idsText false (pick atoms choice)) end out
-  unfolding idsText pick
-  picked-done out rest end later p s h =
-      subst (λ (z : List ℕ). Wrote before at z end out)
-      (sym (s .left ∙ ap (λ (z : List ℕ). s .text ++ idsText later (pick z rest)) (drop-of-length-le atoms h) ∙ append-nil (s .text))) (s .wrote)
+  pub printed-done : (out : List ℕ) (end i : ℕ) → Printed out end i → left i ≡ [] → Wrote before at (left 0) end out
+  printed-done out end i s e =
+      subst (λ (z : List ℕ). Wrote before at z end out) (sym (s .whole ∙ ap (λ (z : List ℕ). s .text ++ z) e ∙ append-nil (s .text))) (s .wrote)
 
--- ---- the lines of all choices
-module _ (atoms choices before : List ℕ) (at : ℕ) where
-  pub record Filling (out : List ℕ) (end k : ℕ) : Type 0 where
-    pub text : List ℕ
-    pub wrote : Wrote before at text end out
-    pub left : fillsText atoms choices ≡ text ++ fillsText atoms (drop k choices)
-    pub within : k ≤ length choices
-    pub long : length out ≡ length before
+-- ---- a list of ids
+abbrev pub idsLeft : List ℕ → ℕ → List ℕ
+idsLeft ids i = idsText (ltb 0 i) (drop i ids)
 
-  pub filling-none : Filling before at 0
-  filling-none = record { text = []; wrote = wrote-none before at; left = refl; within = omega arith; long = refl }
+cut : (xs : List ℕ) (i : ℕ) → i < length xs → drop i xs ≡ getD xs i 0 ∷ drop (i + 1) xs
+cut xs i h = rw (add-one, drop-cons xs i 0)
 
-  module _ (out : List ℕ) (end k : ℕ) (s : Filling out end k) (h : k < length choices) (room : at + length (fillsText atoms choices) ≤ length before) where
-    step : fillsText atoms choices ≡ (s .text ++ fillText (pick atoms (getD choices k 0))) ++ fillsText atoms (drop (k + 1) choices)
-    unfolding fillsText
-    step =
-        s .left
-        ∙ ap (λ (z : List ℕ). s .text ++ fillsText atoms z) (drop-cons choices k 0 h ∙ ap (λ (z : ℕ). getD choices k 0 ∷ drop z choices) (sym (add-one k)))
-        ∙ sym (append-assoc (s .text) (fillText (pick atoms (getD choices k 0))) (fillsText atoms (drop (k + 1) choices)))
+pub ids-next : (ids : List ℕ) (i : ℕ) → i < length ids → idsLeft ids i ≡ idText (ltb 0 i) (getD ids i 0) ++ idsLeft ids (i + 1)
+unfolding idsText
+ids-next ids i h = rw (cut ids i h, lt-ltb 0 (i + 1) (omega arith)) refl
 
-    sizes : at + length (s .text) + length (fillText (pick atoms (getD choices k 0))) ≤ length before
-    sizes =
-        omega (
-          arith,
-          ap length step,
-          length-append (s .text ++ fillText (pick atoms (getD choices k 0))) (fillsText atoms (drop (k + 1) choices)),
-          length-append (s .text) (fillText (pick atoms (getD choices k 0))),
-        )
+pub ids-last : (ids : List ℕ) (i : ℕ) → length ids ≤ i → idsLeft ids i ≡ []
+unfolding idsText
+ids-last ids i h = rw (drop-of-length-le ids h) refl
 
-    pub fill-room : end + length (fillText (pick atoms (getD choices k 0))) ≤ length out
-    fill-room = omega (arith, sizes, s .wrote .place, s .long)
+pub ids-done :
+    (ids before : List ℕ) (at : ℕ) (out : List ℕ) (end i : ℕ) → Printed (idsLeft ids) before at out end i → length ids ≤ i
+    → Wrote before at (idsText false ids) end out
+ids-done ids before at out end i s h = printed-done (idsLeft ids) before at out end i s (ids-last ids i h)
 
-    pub filling-more : (end' : ℕ) (out' : List ℕ) → Wrote out end (fillText (pick atoms (getD choices k 0))) end' out' → Filling out' end' (k + 1)
-    filling-more end' out' w =
-        record {
-          text = s .text ++ fillText (pick atoms (getD choices k 0));
-          wrote = wrote-join before at (s .text) (fillText (pick atoms (getD choices k 0))) end out end' out' (omega (arith, sizes)) (s .wrote) w;
-          left = step;
-          within = omega arith;
-          long = wrote-length out end (fillText (pick atoms (getD choices k 0))) end' out' fill-room w ∙ s .long;
-        }
+-- ---- a line for each variable
+abbrev pub fillsLeft : Tables → List ℕ → ℕ → List ℕ
+fillsLeft t assignment k = fillsText (atoms t) (drop k assignment)
 
-  pub filling-done : (out : List ℕ) (end k : ℕ) → Filling out end k → length choices ≤ k → Wrote before at (fillsText atoms choices) end out
+module _ (t : Tables) (assignment : List ℕ) (accepted : assignmentFault t assignment ≡ Done) where
+  one-each : length assignment ≡ t .variables
+  unfolding assignmentFault
+  one-each = choices-length (length (atoms t)) (t .variables) assignment accepted
+
+  fills-next : (k : ℕ) → k < t .variables → fillsLeft t assignment k ≡ fillText (chosen t assignment k) ++ fillsLeft t assignment (k + 1)
+  unfolding fillsText chosen
+  fills-next k h = rw (cut assignment k (omega (arith, one-each))) refl
+
+  module _
+      (before : List ℕ) (at : ℕ) (out : List ℕ) (end k : ℕ) (s : Printed (fillsLeft t assignment) before at out end k) (known : k < t .variables)
+      (room : at + length (fillsText (atoms t) assignment) ≤ length before) where
+    pub fill-room : end + length (fillText (chosen t assignment k)) ≤ length out
+    fill-room = piece-room (fillsLeft t assignment) before at out end k s room (fillText (chosen t assignment k)) (fills-next k known)
+
+    pub fills-more : (end' : ℕ) (out' : List ℕ) → Wrote out end (fillText (chosen t assignment k)) end' out' → Printed (fillsLeft t assignment) before at out' end' (k + 1)
+    fills-more = printed-more (fillsLeft t assignment) before at out end k s room (fillText (chosen t assignment k)) (fills-next k known)
+
+  pub fills-done :
+      (before : List ℕ) (at : ℕ) (out : List ℕ) (end k : ℕ) → Printed (fillsLeft t assignment) before at out end k → t .variables ≤ k
+      → Wrote before at (fillsText (atoms t) assignment) end out
   unfolding fillsText
-  filling-done out end k s h =
-      subst (λ (z : List ℕ). Wrote before at z end out)
-      (sym (s .left ∙ ap (λ (z : List ℕ). s .text ++ fillsText atoms z) (drop-of-length-le choices h) ∙ append-nil (s .text))) (s .wrote)
+  fills-done before at out end k s h =
+      let l : length assignment ≤ k = omega (arith, one-each) in
+      printed-done (fillsLeft t assignment) before at out end k s (rw (drop-of-length-le assignment l) refl)
+
+  -- what the listing hands back
+  module _
+      (k : ℕ) (buffer ids : List ℕ) (sound : tableFault t ≡ Done) (known : k < t .variables)
+      (big : 64 ≤ length buffer) (back : ids ≡ handedBack (choosingFault t assignment k (length buffer)) (chosen t assignment k) buffer) where
+    ids-chosen : ids ≡ chosen t assignment k
+    unfolding handedBack
+    ids-chosen = back ∙ rw (sym (choosing-done t assignment k (length buffer) sound accepted known big)) refl
+
+    pub chosen-room : (at size : ℕ) → at + length (fillText (chosen t assignment k)) ≤ size → at + length (fillText ids) ≤ size
+    chosen-room at size h = rw ids-chosen h
+
+    pub wrote-chosen : (before : List ℕ) (at end : ℕ) (after : List ℕ) → Wrote before at (fillText ids) end after → Wrote before at (fillText (chosen t assignment k)) end after
+    wrote-chosen before at end after w = subst (λ (z : List ℕ). Wrote before at (fillText z) end after) ids-chosen w

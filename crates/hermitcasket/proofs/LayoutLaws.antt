@@ -1,14 +1,14 @@
 -- An accepted text is the layout of the tables that it says, and they can be said.
-use Prim.Native.Nat.{ℕ, zero, suc, _+_, _*_, _/_, _<_, _≤_}
+use Prim.Native.Nat.{ℕ, zero, suc, _+_, _*_, _≤_}
 use mathlib.Core.Path.{_≡_, refl, sym, ap, _∙_, subst}
 use mathlib.Core.List.{List, [], _∷_, _++_, append-assoc, append-nil}
 use mathlib.Core.Bool.{Bool, true, false}
 use native.Mathlib.Omega.{arith}
-use native.Mathlib.Nat.{zero-add, zero-mul, suc-mul}
-use lib.Dec.{eqb, ltb}
+use native.Mathlib.Nat.{zero-mul, suc-mul}
+use lib.Dec.{ltb}
 use lib.ListN.{length, take, drop, length-append}
-use lib.Seq.{take-at, drop-at, drop-drop, drop-length}
-use borrow.Author.Tests.{ltb-true, ltb-false, eqb-true}
+use lib.Seq.{take-at, drop-at, drop-drop}
+use borrow.Author.Tests.{ltb-false}
 use Rattle.subsumption.specs.declared.refusal.Refusal.{Refusal}
 use Rattle.subsumption.specs.declared.refusal.Refusal.the-variants.{Limit, BadText}
 use Rattle.subsumption.specs.Tables.{Tables, tables, countOf, pairsOf}
@@ -19,7 +19,7 @@ use Rattle.hermitcasket.specs.declared.lines.PairLine.the-variants.{Two,
 use Rattle.hermitcasket.specs.declared.lines.RowLine.{RowLine}
 use Rattle.hermitcasket.specs.declared.lines.RowLine.the-variants.{Row, NoRow}
 use Rattle.hermitcasket.specs.Lines.{variablesKey, conceptsKey, inclusionsKey, questionsKey, belowKey, numberText, numberLine, pairLine, rowLine}
-use Rattle.hermitcasket.specs.Text.{linesText, rowOfNumbers, pairOfNumbers, layout, RowFits, RowsFit, ConceptFits, PairFits, Sayable, Line, numbers, off, rowNumbers, pairNumbers, rowAt, pairAt, Part, part, faulty, prepend, lineThen, readLines, Judged, accepted, refused, pickJudged, countThen, partThen, sectionAt, judgeEnd, judgeQuestions, judgeInclusions, judgeConcepts, judgeLines, judge}
+use Rattle.hermitcasket.specs.Text.{linesText, rowOfNumbers, pairOfNumbers, layout, RowsFit, ConceptFits, PairFits, Sayable, Line, numbers, off, rowNumbers, pairNumbers, rowAt, pairAt, Part, part, faulty, prepend, lineThen, readLines, accepted, refused, pickJudged, Onward, countThen, countAt, partThen, sectionAt, judgeEnd, judgeQuestions, judgeInclusions, judgeConcepts, judgeLines, judge}
 use Rattle.hermitcasket.proofs.LineLaws.{Holds, holds-join}
 use Rattle.hermitcasket.proofs.RightLines.{numberLine-holds, pairLine-holds, pairLine-small, rowLine-holds, rowLine-fits}
 
@@ -33,33 +33,37 @@ holds-none rest = record { front = refl; size = refl }
 module _
     (line : List ℕ → Line) (text : List ℕ → List ℕ) (Fits : List ℕ → Type 0) (width : ℕ)
     (shows : (rest xs : List ℕ) (n : ℕ) → line rest ≡ numbers xs n → Holds rest (text xs) n × Fits xs × (length xs ≡ width)) where
-  pub record Read (count at : ℕ) (rest xs : List ℕ) (p : ℕ) : Type 0 where
+  pub record Read (count at : ℕ) (rest xs : List ℕ) (p : ℕ) (behind : List ℕ) : Type 0 where
     pub used : ℕ
     pub place : p ≡ at + used
+    pub remains : behind ≡ drop used rest
     pub holds : Holds rest (linesText text width count xs) used
     pub fits : RowsFit Fits width count xs
     pub size : length xs ≡ count * width
 
-  unpart : (front : List ℕ) (q : Part) (xs : List ℕ) (p : ℕ) → prepend front q ≡ part xs p → (more : List ℕ) × (q ≡ part more p) × (xs ≡ front ++ more)
+  unpart :
+      (front : List ℕ) (q : Part) (xs : List ℕ) (p : ℕ) (behind : List ℕ) → prepend front q ≡ part xs p behind
+      → (more : List ℕ) × (q ≡ part more p behind) × (xs ≡ front ++ more)
   unfolding prepend
-  unpart front (part more at) xs p e = (more, cc, cc)
-  unpart front (faulty at) xs p e = absurd (let z : _≡_ {A = ℕ} 0 1 = cc in omega arith)
+  unpart front (part more at rest) xs p behind e = (more, cc, cc)
+  unpart front (faulty at) xs p behind e = absurd (let z : _≡_ {A = ℕ} 0 1 = cc in omega arith)
 
-  pub lines-read : (count at : ℕ) (rest xs : List ℕ) (p : ℕ) → readLines line count at rest ≡ part xs p → Read count at rest xs p
+  pub lines-read : (count at : ℕ) (rest xs : List ℕ) (p : ℕ) (behind : List ℕ) → readLines line count at rest ≡ part xs p behind → Read count at rest xs p behind
   unfolding readLines linesText lineThen
-  lines-read zero at rest xs p e =
+  lines-read zero at rest xs p behind e =
       let ex : [] ≡ xs = cc in
       let ep : at ≡ p = cc in
-      record { used = 0; place = omega arith; holds = holds-none rest; fits = sym ex; size = sym (ap length ex) ∙ sym (zero-mul width) }
-  lines-read (suc count) at rest xs p e = go (line rest) refl (λ n more. lines-read count (at + n) (drop n rest) more p)
+      let er : rest ≡ behind = cc in
+      record { used = 0; place = omega arith; remains = sym er; holds = holds-none rest; fits = sym ex; size = sym (ap length ex) ∙ sym (zero-mul width) }
+  lines-read (suc count) at rest xs p behind e = go (line rest) refl (λ n more. lines-read count (at + n) (drop n rest) more p behind)
     where
       go :
           (l : Line) → line rest ≡ l
-          → ((n : ℕ) (more : List ℕ) → readLines line count (at + n) (drop n rest) ≡ part more p → Read count (at + n) (drop n rest) more p)
-          → Read (suc count) at rest xs p
-      go off f ih = absurd (let g : faulty at ≡ part xs p = rw f at e in let z : _≡_ {A = ℕ} 0 1 = cc in omega arith)
+          → ((n : ℕ) (more : List ℕ) → readLines line count (at + n) (drop n rest) ≡ part more p behind → Read count (at + n) (drop n rest) more p behind)
+          → Read (suc count) at rest xs p behind
+      go off f ih = absurd (let g : faulty at ≡ part xs p behind = rw f at e in let z : _≡_ {A = ℕ} 0 1 = cc in omega arith)
       go (numbers front n) f ih =
-          let u = unpart front (readLines line count (at + n) (drop n rest)) xs p (rw f at e) in
+          let u = unpart front (readLines line count (at + n) (drop n rest)) xs p behind (rw f at e) in
           let r = ih n (u .0) (u .1) in
           let s = shows rest front n f in
           let tk : take width xs ≡ front = ap (λ (z : List ℕ). take width z) (u .2) ∙ take-at front (u .0) width (s .2) in
@@ -67,6 +71,7 @@ module _
           record {
             used = n + r .used;
             place = omega (arith, r .place);
+            remains = r .remains ∙ drop-drop (r .used) n rest;
             holds =
                 subst (λ (z : List ℕ). Holds rest (text z ++ linesText text width count (drop width xs)) (n + r .used)) (sym tk)
                 (subst (λ (z : List ℕ). Holds rest (text front ++ linesText text width count z) (n + r .used)) (sym dp)
@@ -110,14 +115,14 @@ pairs-show rest xs n e = go (pairLine belowKey rest) refl
 
 -- ---- counts and sections
 module _ (key : List ℕ) (limit table at : ℕ) (rest : List ℕ) (t : Tables) where
-  pub record Counted (go : ℕ → ℕ → Judged) : Type 0 where
+  pub record Counted (go : ℕ → Onward) : Type 0 where
     pub count : ℕ
     pub used : ℕ
     pub holds : Holds rest (numberText key count) used
     pub few : count ≤ limit
-    pub goes : go count (at + used) ≡ accepted t
+    pub goes : go count (at + used) (drop used rest) ≡ accepted t
 
-  pub count-read : (go : ℕ → ℕ → Judged) → countThen limit table at (numberLine key rest) go ≡ accepted t → Counted go
+  pub count-read : (go : ℕ → Onward) → countAt key limit table go at rest ≡ accepted t → Counted go
   unfolding countThen pickJudged
   count-read go e = pick (numberLine key rest) refl
     where
@@ -129,61 +134,64 @@ module _ (key : List ℕ) (limit table at : ℕ) (rest : List ℕ) (t : Tables) 
           test true h = not-accepted (Limit table) t (rw (f, h) at e)
           test false h = record { count = count; used = n; holds = numberLine-holds key rest count n f; few = ltb-false limit count h; goes = rw (f, h) at e }
 
-part-read : (q : Part) (go : List ℕ → ℕ → Judged) (t : Tables) → partThen q go ≡ accepted t → (xs : List ℕ) × (p : ℕ) × (q ≡ part xs p) × (go xs p ≡ accepted t)
+part-read :
+    (q : Part) (go : List ℕ → Onward) (t : Tables) → partThen q go ≡ accepted t
+    → (xs : List ℕ) × (p : ℕ) × (behind : List ℕ) × (q ≡ part xs p behind) × (go xs p behind ≡ accepted t)
 unfolding partThen
-part-read (part xs p) go t e = (xs, p, refl, e)
+part-read (part xs p behind) go t e = (xs, p, behind, refl, e)
 part-read (faulty p) go t e = not-accepted (BadText p) t e
 
 module _
     (line : List ℕ → Line) (write : List ℕ → List ℕ) (Fits : List ℕ → Type 0) (width : ℕ)
     (shows : (rest xs : List ℕ) (n : ℕ) → line rest ≡ numbers xs n → Holds rest (write xs) n × Fits xs × (length xs ≡ width))
-    (key : List ℕ) (limit table : ℕ) (text : List ℕ) (at : ℕ) (t : Tables) where
-  pub record Section (go : List ℕ → ℕ → Judged) : Type 0 where
+    (key : List ℕ) (limit table at : ℕ) (rest : List ℕ) (t : Tables) where
+  pub record Section (go : List ℕ → Onward) : Type 0 where
     pub count : ℕ
     pub xs : List ℕ
     pub used : ℕ
-    pub holds : Holds (drop at text) (numberText key count ++ linesText write width count xs) used
+    pub holds : Holds rest (numberText key count ++ linesText write width count xs) used
     pub few : count ≤ limit
     pub fits : RowsFit Fits width count xs
     pub size : length xs ≡ count * width
-    pub goes : go xs (at + used) ≡ accepted t
+    pub goes : go xs (at + used) (drop used rest) ≡ accepted t
 
-  pub section-read : (go : List ℕ → ℕ → Judged) → sectionAt key limit table line text at go ≡ accepted t → Section go
+  pub section-read : (go : List ℕ → Onward) → sectionAt key limit table line go at rest ≡ accepted t → Section go
   unfolding sectionAt
   section-read go e =
-      let c = count-read key limit table at (drop at text) t _ e in
-      let q = part-read (readLines line (c .count) (at + c .used) (drop (at + c .used) text)) go t (c .goes) in
-      let r = lines-read line write Fits width shows (c .count) (at + c .used) (drop (at + c .used) text) (q .0) (q .1) (q .2) in
+      let c = count-read key limit table at rest t _ e in
+      let q = part-read (readLines line (c .count) (at + c .used) (drop (c .used) rest)) go t (c .goes) in
+      let r = lines-read line write Fits width shows (c .count) (at + c .used) (drop (c .used) rest) (q .0) (q .1) (q .2) (q .3) in
       record {
         count = c .count;
         xs = q .0;
         used = c .used + r .used;
-        holds =
-            holds-join (drop at text) (numberText key (c .count)) (linesText write width (c .count) (q .0)) (c .used) (r .used) (c .holds)
-            (subst (λ (z : List ℕ). Holds z (linesText write width (c .count) (q .0)) (r .used)) (sym (drop-drop (c .used) at text)) (r .holds));
+        holds = holds-join rest (numberText key (c .count)) (linesText write width (c .count) (q .0)) (c .used) (r .used) (c .holds) (r .holds);
         few = c .few;
         fits = r .fits;
         size = r .size;
-        goes = subst (λ (z : ℕ). go (q .0) z ≡ accepted t) (places at (c .used) (r .used) (q .1) (r .place)) (q .3);
+        goes =
+            subst (λ (z : ℕ). go (q .0) z (drop (c .used + r .used) rest) ≡ accepted t) (places at (c .used) (r .used) (q .1) (r .place))
+            (subst (λ (z : List ℕ). go (q .0) (q .1) z ≡ accepted t) (r .remains ∙ drop-drop (r .used) (c .used) rest) (q .4));
       }
     where
       places : (a b c p : ℕ) → p ≡ a + b + c → p ≡ a + (b + c)
       places a b c p e = omega arith
 
 -- ---- the whole text
-regroup : (a b c d e f g : List ℕ) → ((a ++ (b ++ c)) ++ (d ++ e)) ++ (f ++ g) ≡ a ++ (b ++ (c ++ (d ++ (e ++ (f ++ g)))))
+regroup : (a b c d e f g : List ℕ) → a ++ ((b ++ c) ++ ((d ++ e) ++ (f ++ g))) ≡ a ++ (b ++ (c ++ (d ++ (e ++ (f ++ g)))))
 regroup a b c d e f g = simp append-assoc
 
+-- four parts, each behind the one before, and nothing behind the last
 all-held :
-    (text a b c d e f g : List ℕ) (u0 u1 u2 u3 : ℕ) → Holds text a u0 → Holds (drop (0 + u0) text) (b ++ c) u1 → Holds (drop (0 + u0 + u1) text) (d ++ e) u2
-    → Holds (drop (0 + u0 + u1 + u2) text) (f ++ g) u3 → 0 + u0 + u1 + u2 + u3 ≡ length text → text ≡ a ++ (b ++ (c ++ (d ++ (e ++ (f ++ g)))))
+    (text a b c d e f g : List ℕ) (u0 u1 u2 u3 : ℕ) → Holds text a u0 → Holds (drop u0 text) (b ++ c) u1 → Holds (drop u1 (drop u0 text)) (d ++ e) u2
+    → Holds (drop u2 (drop u1 (drop u0 text))) (f ++ g) u3 → drop u3 (drop u2 (drop u1 (drop u0 text))) ≡ [] → text ≡ a ++ (b ++ (c ++ (d ++ (e ++ (f ++ g)))))
 all-held text a b c d e f g u0 u1 u2 u3 h0 h1 h2 h3 q =
-    let start = subst (λ (z : ℕ). Holds text a z) (sym (zero-add u0)) h0 in
-    let h =
-    holds-join text ((a ++ (b ++ c)) ++ (d ++ e)) (f ++ g) (0 + u0 + u1 + u2) u3
-    (holds-join text (a ++ (b ++ c)) (d ++ e) (0 + u0 + u1) u2 (holds-join text a (b ++ c) (0 + u0) u1 start h1) h2) h3 in
-    h .front ∙ ap (λ (z : List ℕ). (((a ++ (b ++ c)) ++ (d ++ e)) ++ (f ++ g)) ++ z) (ap (λ (z : ℕ). drop z text) q ∙ drop-length text)
-    ∙ append-nil (((a ++ (b ++ c)) ++ (d ++ e)) ++ (f ++ g)) ∙ regroup a b c d e f g
+    h0 .front
+    ∙ ap (λ (z : List ℕ). a ++ z)
+    (h1 .front
+    ∙ ap (λ (z : List ℕ). (b ++ c) ++ z)
+    (h2 .front ∙ ap (λ (z : List ℕ). (d ++ e) ++ z) (h3 .front ∙ ap (λ (z : List ℕ). (f ++ g) ++ z) q ∙ append-nil (f ++ g))))
+    ∙ regroup a b c d e f g
 
 module _
     (v : ℕ) (C I Q : List ℕ) (c i q : ℕ) (sizeC : length C ≡ c * 3) (sizeI : length I ≡ i * 2) (sizeQ : length Q ≡ q * 2) where
@@ -212,31 +220,31 @@ module _
 
   whole :
       (text : List ℕ) (u0 u1 u2 u3 : ℕ) → Holds text (numberText variablesKey v) u0
-      → Holds (drop (0 + u0) text) (numberText conceptsKey c ++ linesText rowOfNumbers 3 c C) u1
-      → Holds (drop (0 + u0 + u1) text) (numberText inclusionsKey i ++ linesText pairOfNumbers 2 i I) u2
-      → Holds (drop (0 + u0 + u1 + u2) text) (numberText questionsKey q ++ linesText pairOfNumbers 2 q Q) u3
-      → 0 + u0 + u1 + u2 + u3 ≡ length text → text ≡ layout (tables C I Q v)
+      → Holds (drop u0 text) (numberText conceptsKey c ++ linesText rowOfNumbers 3 c C) u1
+      → Holds (drop u1 (drop u0 text)) (numberText inclusionsKey i ++ linesText pairOfNumbers 2 i I) u2
+      → Holds (drop u2 (drop u1 (drop u0 text))) (numberText questionsKey q ++ linesText pairOfNumbers 2 q Q) u3
+      → drop u3 (drop u2 (drop u1 (drop u0 text))) ≡ [] → text ≡ layout (tables C I Q v)
   whole text u0 u1 u2 u3 h0 h1 h2 h3 e =
       all-held text (numberText variablesKey v) (numberText conceptsKey c) (linesText rowOfNumbers 3 c C) (numberText inclusionsKey i) (linesText pairOfNumbers 2 i I)
       (numberText questionsKey q) (linesText pairOfNumbers 2 q Q) u0 u1 u2 u3 h0 h1 h2 h3 e
       ∙ sym laid-out
 
-end-read : (text : List ℕ) (s t : Tables) (end : ℕ) → judgeEnd text s end ≡ accepted t → (end ≡ length text) × (s ≡ t)
-unfolding judgeEnd pickJudged
-end-read text s t end e = go (eqb end (length text)) refl
-  where
-    go : (b : Bool) → eqb end (length text) ≡ b → (end ≡ length text) × (s ≡ t)
-    go true h = let f : accepted s ≡ accepted t = rw h at e in (eqb-true end (length text) h, cc)
-    go false h = not-accepted (BadText end) t (rw h at e)
+end-read : (s t : Tables) (at : ℕ) (rest : List ℕ) → judgeEnd s at rest ≡ accepted t → (rest ≡ []) × (s ≡ t)
+unfolding judgeEnd
+end-read s t at [] e = (refl, cc)
+end-read s t at (b ∷ rest) e = not-accepted (BadText at) t e
 
-lines-accepted : (text : List ℕ) (t : Tables) → judgeLines text ≡ accepted t → (text ≡ layout t) × Sayable t
+lines-accepted : (text : List ℕ) (t : Tables) → judgeLines 0 text ≡ accepted t → (text ≡ layout t) × Sayable t
 unfolding judgeLines judgeConcepts judgeInclusions judgeQuestions
 lines-accepted text t e =
     let a = count-read variablesKey 8 3 0 text t _ e in
-    let s1 = section-read rowAt rowOfNumbers ConceptFits 3 rows-show conceptsKey 192 0 text (0 + a .used) t _ (a .goes) in
-    let s2 = section-read pairAt pairOfNumbers PairFits 2 pairs-show inclusionsKey 96 1 text (0 + a .used + s1 .used) t _ (s1 .goes) in
-    let s3 = section-read pairAt pairOfNumbers PairFits 2 pairs-show questionsKey 32 2 text (0 + a .used + s1 .used + s2 .used) t _ (s2 .goes) in
-    let z = end-read text (tables (s1 .xs) (s2 .xs) (s3 .xs) (a .count)) t (0 + a .used + s1 .used + s2 .used + s3 .used) (s3 .goes) in
+    let r1 = drop (a .used) text in
+    let s1 = section-read rowAt rowOfNumbers ConceptFits 3 rows-show conceptsKey 192 0 (0 + a .used) r1 t _ (a .goes) in
+    let r2 = drop (s1 .used) r1 in
+    let s2 = section-read pairAt pairOfNumbers PairFits 2 pairs-show inclusionsKey 96 1 (0 + a .used + s1 .used) r2 t _ (s1 .goes) in
+    let r3 = drop (s2 .used) r2 in
+    let s3 = section-read pairAt pairOfNumbers PairFits 2 pairs-show questionsKey 32 2 (0 + a .used + s1 .used + s2 .used) r3 t _ (s2 .goes) in
+    let z = end-read (tables (s1 .xs) (s2 .xs) (s3 .xs) (a .count)) t (0 + a .used + s1 .used + s2 .used + s3 .used) (drop (s3 .used) r3) (s3 .goes) in
     subst (λ (y : Tables). (text ≡ layout y) × Sayable y) (z .1) (
       whole (a .count) (s1 .xs) (s2 .xs) (s3 .xs) (s1 .count) (s2 .count) (s3 .count) (s1 .size) (s2 .size) (s3 .size) text (a .used) (s1 .used) (s2 .used) (s3 .used) (a .holds) (s1 .holds) (s2 .holds) (s3 .holds) (z .0),
       sayable (a .count) (s1 .xs) (s2 .xs) (s3 .xs) (s1 .count) (s2 .count) (s3 .count) (s1 .size) (s2 .size) (s3 .size) (a .few) (s1 .few) (s2 .few) (s3 .few) (s1 .fits) (s2 .fits) (s3 .fits),

@@ -1,25 +1,20 @@
 -- Each layout within the counts is accepted, and reading it gives the tables back.
-use Prim.Native.Nat.{ℕ, zero, suc, _+_, _*_, _<_, _≤_}
-use mathlib.Core.Path.{_≡_, refl, sym, ap, _∙_, subst}
+use Prim.Native.Nat.{ℕ, zero, suc, _+_, _<_, _≤_}
+use mathlib.Core.Path.{_≡_, refl, sym, ap, _∙_}
 use mathlib.Core.List.{List, [], _∷_, _++_, append-assoc, append-nil}
-use mathlib.Core.Bool.{Bool, true, false}
+use mathlib.Core.Bool.{false}
 use native.Mathlib.Omega.{arith}
 use native.Mathlib.Numerals.{add-one}
-use native.Mathlib.Nat.{zero-add}
-use lib.Dec.{eqb, ltb}
-use lib.ListN.{length, getD, take, drop, length-append, take-append-drop}
-use lib.Seq.{drop-append-add, drop-append-seam, drop-drop, drop-length}
+use lib.ListN.{length, take, drop, length-append, take-append-drop}
+use lib.Seq.{drop-append-add, drop-append-seam}
 use borrow.Author.Tests.{le-ltb, eq-eqb, ne-eqb}
 use Rattle.subsumption.specs.Tables.{Tables, tables, both, countOf, pairsOf}
-use Rattle.hermitcasket.specs.declared.lines.Number.{Number}
 use Rattle.hermitcasket.specs.declared.lines.Number.the-variants.{Value, NoNumber}
-use Rattle.hermitcasket.specs.declared.lines.PairLine.{PairLine}
 use Rattle.hermitcasket.specs.declared.lines.PairLine.the-variants.{Two, NoPair}
-use Rattle.hermitcasket.specs.declared.lines.RowLine.{RowLine}
-use Rattle.hermitcasket.specs.declared.lines.RowLine.the-variants.{Row, NoRow}
+use Rattle.hermitcasket.specs.declared.lines.RowLine.the-variants.{Row}
 use Rattle.hermitcasket.specs.Digits.{digits}
 use Rattle.hermitcasket.specs.Lines.{variablesKey, conceptsKey, inclusionsKey, questionsKey, belowKey, topText, nameKey, someKey, andKey, variableKey, numberText, pairText, rowText, starts, pickNumber, numberFrom, behind as shifted, numberLine, secondOf, firstOf, pairIf, pairLine, topRow, oneRow, twoRow, orRow, rowLine}
-use Rattle.hermitcasket.specs.Text.{linesText, rowOfNumbers, pairOfNumbers, layout, RowFits, RowsFit, ConceptFits, PairFits, Sayable, Line, numbers, off, rowNumbers, pairNumbers, rowAt, pairAt, Part, part, faulty, prepend, lineThen, readLines, Judged, accepted, refused, pickJudged, countThen, partThen, sectionAt, judgeEnd, judgeQuestions, judgeInclusions, judgeConcepts, judgeLines, judge}
+use Rattle.hermitcasket.specs.Text.{linesText, rowOfNumbers, pairOfNumbers, layout, RowFits, RowsFit, ConceptFits, PairFits, Sayable, Line, numbers, rowNumbers, pairNumbers, rowAt, pairAt, part, prepend, lineThen, readLines, accepted, pickJudged, Onward, countThen, partThen, sectionAt, judgeEnd, judgeQuestions, judgeInclusions, judgeConcepts, judgeLines, judge}
 use Rattle.hermitcasket.proofs.DigitLaws.{digits-some, reads-digits}
 use Rattle.hermitcasket.proofs.LineLaws.{starts-right}
 
@@ -148,46 +143,34 @@ module _
     (reads : (xs more : List ℕ) → length xs ≡ width → Fits xs → line (write xs ++ more) ≡ numbers xs (length (write xs))) where
   step :
       (front after more xs ys : List ℕ) (count at p : ℕ) → line (front ++ (after ++ more)) ≡ numbers xs (length front)
-      → readLines line count (at + length front) (after ++ more) ≡ part ys p → readLines line (suc count) at ((front ++ after) ++ more) ≡ part (xs ++ ys) p
+      → readLines line count (at + length front) (after ++ more) ≡ part ys p more → readLines line (suc count) at ((front ++ after) ++ more) ≡ part (xs ++ ys) p more
   unfolding readLines lineThen prepend
   step front after more xs ys count at p e f = rw (append-assoc front after more) (rw e (rw (drop-append-seam front (after ++ more), f) refl))
 
   lines-right :
       (count at : ℕ) (xs more : List ℕ) → RowsFit Fits width count xs
-      → readLines line count at (linesText write width count xs ++ more) ≡ part xs (at + length (linesText write width count xs))
+      → readLines line count at (linesText write width count xs ++ more) ≡ part xs (at + length (linesText write width count xs)) more
   unfolding readLines linesText
-  lines-right zero at xs more h = let e : at ≡ at + 0 = omega arith in rw h (ap (λ (z : ℕ). part [] z) e)
+  lines-right zero at xs more h = let e : at ≡ at + 0 = omega arith in rw h (ap (λ (z : ℕ). part [] z more) e)
   lines-right (suc count) at xs more h =
       step (write (take width xs)) (linesText write width count (drop width xs)) more (take width xs) (drop width xs) count at _
       (reads (take width xs) (linesText write width count (drop width xs) ++ more) (h .0) (h .1))
       (lines-right count (at + length (write (take width xs))) (drop width xs) more (h .2))
-      ∙ ap (λ (z : List ℕ). part z (at + length (write (take width xs)) + length (linesText write width count (drop width xs)))) (take-append-drop width xs)
-      ∙ ap (λ (z : ℕ). part xs z) places
+      ∙ ap (λ (z : List ℕ). part z (at + length (write (take width xs)) + length (linesText write width count (drop width xs))) more) (take-append-drop width xs)
+      ∙ ap (λ (z : ℕ). part xs z more) places
     where
       places : at + length (write (take width xs)) + length (linesText write width count (drop width xs)) ≡ at + length (write (take width xs) ++ linesText write width count (drop width xs))
       places = rw length-append (omega arith)
 
   -- ---- a section
   pub section-right :
-      (key : List ℕ) (limit table : ℕ) (text : List ℕ) (at count : ℕ) (xs more : List ℕ) (go : List ℕ → ℕ → Judged)
-      → drop at text ≡ numberText key count ++ (linesText write width count xs ++ more) → count ≤ limit → limit ≤ 65535 → RowsFit Fits width count xs
-      → sectionAt key limit table line text at go ≡ go xs (at + length (numberText key count) + length (linesText write width count xs))
+      (key : List ℕ) (limit table at count : ℕ) (xs more : List ℕ) (go : List ℕ → Onward) → count ≤ limit → limit ≤ 65535 → RowsFit Fits width count xs
+      → sectionAt key limit table line go at (numberText key count ++ (linesText write width count xs ++ more))
+      ≡ go xs (at + length (numberText key count) + length (linesText write width count xs)) more
   unfolding sectionAt countThen pickJudged partThen
-  section-right key limit table text at count xs more go e l m h =
-      rw (e, numberLine-right key count (linesText write width count xs ++ more) (omega arith), le-ltb limit count l)
-      (rw (behind-it, lines-right count (at + length (numberText key count)) xs more h) refl)
-    where
-      behind-it : drop (at + length (numberText key count)) text ≡ linesText write width count xs ++ more
-      behind-it =
-          sym (drop-drop (length (numberText key count)) at text) ∙ ap (λ (z : List ℕ). drop (length (numberText key count)) z) e
-          ∙ drop-append-seam (numberText key count) (linesText write width count xs ++ more)
-
--- what is left behind a section
-behind : (text : List ℕ) (at : ℕ) (a b more : List ℕ) → drop at text ≡ a ++ (b ++ more) → drop (at + length a + length b) text ≡ more
-behind text at a b more e =
-    sym (drop-drop (length b) (at + length a) text ∙ refl)
-    ∙ ap (λ (z : List ℕ). drop (length b) z) (sym (drop-drop (length a) at text) ∙ ap (λ (z : List ℕ). drop (length a) z) e ∙ drop-append-seam a (b ++ more))
-    ∙ drop-append-seam b more
+  section-right key limit table at count xs more go l m h =
+      rw (numberLine-right key count (linesText write width count xs ++ more) (omega arith), le-ltb limit count l)
+      (rw (drop-append-seam (numberText key count) (linesText write width count xs ++ more), lines-right count (at + length (numberText key count)) xs more h) refl)
 
 -- ---- the whole text
 module _ (t : Tables) (s : Sayable t) where
@@ -216,54 +199,35 @@ module _ (t : Tables) (s : Sayable t) where
   unfolding layout a b c d e f g
   text-is = refl
 
-  from-a : drop (0 + length a) (layout t) ≡ b ++ (c ++ (d ++ (e ++ (f ++ g))))
-  from-a = ap (λ (z : ℕ). drop z (layout t)) (zero-add (length a)) ∙ ap (λ (z : List ℕ). drop (length a) z) text-is ∙ drop-append-seam a (b ++ (c ++ (d ++ (e ++ (f ++ g)))))
-
-  from-c : drop (0 + length a + length b + length c) (layout t) ≡ d ++ (e ++ (f ++ g))
-  from-c = behind (layout t) (0 + length a) b c (d ++ (e ++ (f ++ g))) from-a
-
-  from-e : drop (0 + length a + length b + length c + length d + length e) (layout t) ≡ f ++ (g ++ [])
-  from-e = behind (layout t) (0 + length a + length b + length c) d e (f ++ g) from-c ∙ ap (λ (z : List ℕ). f ++ z) (sym (append-nil g))
-
-  end-is : 0 + length a + length b + length c + length d + length e + length f + length g ≡ length (layout t)
-  end-is =
-      omega (
-        arith,
-        ap length text-is,
-        length-append a (b ++ (c ++ (d ++ (e ++ (f ++ g))))),
-        length-append b (c ++ (d ++ (e ++ (f ++ g)))),
-        length-append c (d ++ (e ++ (f ++ g))),
-        length-append d (e ++ (f ++ g)),
-        length-append e (f ++ g),
-        length-append f g,
-      )
-
-  first : judgeLines (layout t) ≡ judgeConcepts (layout t) (t .variables) (0 + length a)
+  first : judgeLines 0 (a ++ (b ++ (c ++ (d ++ (e ++ (f ++ g)))))) ≡ judgeConcepts (t .variables) (0 + length a) (b ++ (c ++ (d ++ (e ++ (f ++ g)))))
   unfolding judgeLines countThen pickJudged a
   first =
-      rw (text-is, numberLine-right variablesKey (t .variables) (b ++ (c ++ (d ++ (e ++ (f ++ g))))) (omega (arith, s .few-variables)), le-ltb 8 (t .variables) (s .few-variables)) refl
+      let more = b ++ (c ++ (d ++ (e ++ (f ++ g)))) in
+      rw (numberLine-right variablesKey (t .variables) more (omega (arith, s .few-variables)), le-ltb 8 (t .variables) (s .few-variables))
+      (rw (drop-append-seam (numberText variablesKey (t .variables)) more) refl)
 
-  second : judgeConcepts (layout t) (t .variables) (0 + length a) ≡ judgeInclusions (layout t) (t .variables) (t .concepts) (0 + length a + length b + length c)
+  second :
+      (at : ℕ) → judgeConcepts (t .variables) at (b ++ (c ++ (d ++ (e ++ (f ++ g))))) ≡ judgeInclusions (t .variables) (t .concepts) (at + length b + length c) (d ++ (e ++ (f ++ g)))
   unfolding judgeConcepts b c
-  second =
-      section-right rowAt rowOfNumbers ConceptFits 3 rows-right conceptsKey 192 0 (layout t) (0 + length a) (countOf (t .concepts)) (t .concepts) (d ++ (e ++ (f ++ g))) _ from-a
+  second at =
+      section-right rowAt rowOfNumbers ConceptFits 3 rows-right conceptsKey 192 0 at (countOf (t .concepts)) (t .concepts) (d ++ (e ++ (f ++ g))) _
       (s .few-concepts) (omega arith) (s .concepts-fit)
 
   third :
-      judgeInclusions (layout t) (t .variables) (t .concepts) (0 + length a + length b + length c)
-      ≡ judgeQuestions (layout t) (t .variables) (t .concepts) (t .inclusions) (0 + length a + length b + length c + length d + length e)
+      (at : ℕ) → judgeInclusions (t .variables) (t .concepts) at (d ++ (e ++ (f ++ g))) ≡ judgeQuestions (t .variables) (t .concepts) (t .inclusions) (at + length d + length e) (f ++ g)
   unfolding judgeInclusions d e
-  third =
-      section-right pairAt pairOfNumbers PairFits 2 pairs-right inclusionsKey 96 1 (layout t) (0 + length a + length b + length c) (pairsOf (t .inclusions)) (t .inclusions) (f ++ g) _ from-c
+  third at =
+      section-right pairAt pairOfNumbers PairFits 2 pairs-right inclusionsKey 96 1 at (pairsOf (t .inclusions)) (t .inclusions) (f ++ g) _
       (s .few-inclusions) (omega arith) (s .inclusions-fit)
 
-  fourth : judgeQuestions (layout t) (t .variables) (t .concepts) (t .inclusions) (0 + length a + length b + length c + length d + length e) ≡ accepted t
-  unfolding judgeQuestions judgeEnd pickJudged f g
-  fourth =
-      section-right pairAt pairOfNumbers PairFits 2 pairs-right questionsKey 32 2 (layout t) (0 + length a + length b + length c + length d + length e) (pairsOf (t .questions)) (t .questions) [] _ from-e
+  fourth : (at : ℕ) → judgeQuestions (t .variables) (t .concepts) (t .inclusions) at (f ++ g) ≡ accepted t
+  unfolding judgeQuestions judgeEnd f g
+  fourth at =
+      ap (λ (z : List ℕ). judgeQuestions (t .variables) (t .concepts) (t .inclusions) at (f ++ z)) (sym (append-nil g))
+      ∙ section-right pairAt pairOfNumbers PairFits 2 pairs-right questionsKey 32 2 at (pairsOf (t .questions)) (t .questions) [] _
       (s .few-questions) (omega arith) (s .questions-fit)
-      ∙ rw (eq-eqb _ (length (layout t)) end-is) refl
 
   pub layout-accepted : length (layout t) ≤ 8192 → judge (layout t) ≡ accepted t
   unfolding judge pickJudged
-  layout-accepted h = rw (le-ltb 8192 (length (layout t)) h) (first ∙ second ∙ third ∙ fourth)
+  layout-accepted h =
+      rw (le-ltb 8192 (length (layout t)) h) (ap (λ (z : List ℕ). judgeLines 0 z) text-is ∙ first ∙ second _ ∙ third _ ∙ fourth _)

@@ -10,7 +10,6 @@ pub mod ReadLaws
 pub mod WriteLaws
 pub mod FillLaws
 pub mod SizeLaws
-pub mod AnswerLaws
 pub mod LayoutLaws
 pub mod ProgramLaws
 pub mod LayoutRead

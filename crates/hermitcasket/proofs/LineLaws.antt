@@ -1,22 +1,21 @@
 -- What a line that was read shows of the text, and that each right line is read.
-use Prim.Native.Nat.{ℕ, zero, suc, _+_, _-_, _*_, _<_, _≤_}
+use Prim.Native.Nat.{ℕ, suc, _+_, _-_, _*_, _<_, _≤_}
 use mathlib.Core.Path.{_≡_, refl, sym, ap, _∙_, subst}
 use mathlib.Core.List.{List, [], _∷_, _++_, append-assoc}
 use mathlib.Core.Bool.{Bool, true, false, not}
 use native.Mathlib.Omega.{arith}
-use lib.Dec.{eqb, ltb}
+use lib.Dec.{eqb}
 use lib.ListN.{length, take, drop, length-append, length-drop}
 use lib.Seq.{take-all, drop-append-add, drop-append-seam, drop-drop}
-use borrow.Author.Tests.{eq-eqb, ne-eqb, eqb-true, eqb-false, not-true, not-false}
+use borrow.Author.Tests.{eq-eqb, ne-eqb, eqb-true, not-true, not-false}
 use Rattle.subsumption.specs.Tables.{both}
 use Rattle.hermitcasket.specs.declared.lines.Number.{Number}
 use Rattle.hermitcasket.specs.declared.lines.Number.the-variants.{Value, NoNumber}
-use Rattle.hermitcasket.specs.declared.lines.PairLine.{PairLine}
 use Rattle.hermitcasket.specs.declared.lines.PairLine.the-variants.{Two, NoPair}
 use Rattle.hermitcasket.specs.Digits.{digits}
-use Rattle.hermitcasket.specs.Lines.{numberText, pairText, starts, wrongDigit, pickNumber, numberFrom, behind, numberLine, secondOf, firstOf, pairIf, pairLine}
+use Rattle.hermitcasket.specs.Lines.{starts, wrongDigit, pickNumber, numberFrom, behind, numberLine, secondOf, firstOf, pairIf, pairLine}
 use Rattle.hermitcasket.proofs.NumberLaws.{Digit, digit-right}
-use Rattle.hermitcasket.proofs.DigitLaws.{digits-one, digits-snoc, digits-some, reads-digits}
+use Rattle.hermitcasket.proofs.DigitLaws.{digits-one, digits-snoc}
 
 -- ---- the remaining text begins with so many bytes
 pub record Holds (rest text : List ℕ) (n : ℕ) : Type 0 where
@@ -154,60 +153,49 @@ module _ (key rest : List ℕ) (begins : Bool) (same : begins ≡ starts key res
   unfolding pairLine pairIf
   pair-unkeyed h = rw (sym same ∙ not-true begins h)
 
-  module _ (keyed : not begins ≡ false) where
-    pub value-line :
-        (found : Number) (v n : ℕ) → found ≡ numberFrom 10 0 0 (take (length rest - length key) (drop (length key) rest)) → found ≡ Value v n
-        → Value v (length key + n) ≡ numberLine key rest
-    unfolding numberLine pickNumber behind
-    value-line found v n e h = let q = sym (sym h ∙ (rw rest-whole at e)) in rw (begun keyed, q)
+  module _ (keyed : not begins ≡ false) (digits : List ℕ) (part : digits ≡ drop (length key) rest) (found : Number) where
+    here : (stop : ℕ) → found ≡ numberFrom stop 0 0 digits → found ≡ numberFrom stop 0 0 (drop (length key) rest)
+    here stop e = e ∙ ap (numberFrom stop 0 0) part
 
-    pub value-within :
-        (found : Number) (stop v n : ℕ) → found ≡ numberFrom stop 0 0 (take (length rest - length key) (drop (length key) rest)) → found ≡ Value v n
-        → length key + n ≤ length rest
-    value-within found stop v n e h =
-        let q = sym (rw rest-whole at e) ∙ h in
-        omega (arith, holds-within (drop (length key) rest) _ n (number-holds stop v n (drop (length key) rest) q), length-drop (length key) rest, key-within keyed)
-
-    pub none-line :
-        (found : Number) → found ≡ numberFrom 10 0 0 (take (length rest - length key) (drop (length key) rest)) → found ≡ NoNumber
-        → NoNumber ≡ numberLine key rest
+    pub value-line : (v n : ℕ) → found ≡ numberFrom 10 0 0 digits → found ≡ Value v n → Value v (length key + n) ≡ numberLine key rest
     unfolding numberLine pickNumber behind
-    none-line found e h = let q = sym (sym h ∙ (rw rest-whole at e)) in rw (begun keyed, q)
+    value-line v n e h = rw (begun keyed, sym (here 10 e) ∙ h)
+
+    digits-within : (stop v n : ℕ) → found ≡ numberFrom stop 0 0 digits → found ≡ Value v n → n ≤ length digits
+    digits-within stop v n e h = holds-within digits _ n (number-holds stop v n digits (sym e ∙ h))
+
+    pub value-within : (stop v n : ℕ) → found ≡ numberFrom stop 0 0 digits → found ≡ Value v n → length key + n ≤ length rest
+    value-within stop v n e h = omega (arith, digits-within stop v n e h, ap length part, length-drop (length key) rest, key-within keyed)
+
+    pub none-line : found ≡ numberFrom 10 0 0 digits → found ≡ NoNumber → NoNumber ≡ numberLine key rest
+    unfolding numberLine pickNumber behind
+    none-line e h = rw (begun keyed, sym (here 10 e) ∙ h)
 
     -- ---- of two numbers
-    pub first-none :
-        (found : Number) → found ≡ numberFrom 44 0 0 (take (length rest - length key) (drop (length key) rest)) → found ≡ NoNumber
-        → NoPair ≡ pairLine key rest
+    pub first-none : found ≡ numberFrom 44 0 0 digits → found ≡ NoNumber → NoPair ≡ pairLine key rest
     unfolding pairLine pairIf firstOf
-    first-none found e h = let q = sym (sym h ∙ (rw rest-whole at e)) in rw (begun keyed, q)
+    first-none e h = rw (begun keyed, sym (here 44 e) ∙ h)
 
-    module _
-        (found : Number) (a n : ℕ) (e : found ≡ numberFrom 44 0 0 (take (length rest - length key) (drop (length key) rest)))
-        (h : found ≡ Value a n) where
-      pub first-within : length key + n ≤ length rest
-      first-within = value-within found 44 a n e h
+    module _ (a n : ℕ) (e : found ≡ numberFrom 44 0 0 digits) (h : found ≡ Value a n) where
+      pub first-within : n ≤ length digits
+      first-within = digits-within 44 a n e h
 
-      pub second-none :
-          (second : Number) → second ≡ numberFrom 10 0 0 (take (length rest - (length key + n)) (drop (length key + n) rest)) → second ≡ NoNumber
-          → NoPair ≡ pairLine key rest
-      unfolding pairLine pairIf firstOf secondOf
-      second-none second f k =
-          let q = sym (sym h ∙ (rw rest-whole at e)) in
-          let r = sym (sym k ∙ (rw rest-whole at f)) in
-          rw (begun keyed, q, r)
+      pub first-short : length key + n ≤ length rest
+      first-short = value-within 44 a n e h
 
-      pub second-within :
-          (second : Number) (b l : ℕ) → second ≡ numberFrom 10 0 0 (take (length rest - (length key + n)) (drop (length key + n) rest)) → second ≡ Value b l
-          → length key + n + l ≤ length rest
-      second-within second b l f k =
-          let q = sym (rw rest-whole at f) ∙ k in
-          omega (arith, holds-within (drop (length key + n) rest) _ l (number-holds 10 b l (drop (length key + n) rest) q), length-drop (length key + n) rest, first-within)
+      module _ (more : List ℕ) (onward : more ≡ drop n digits) (second : Number) (f : second ≡ numberFrom 10 0 0 more) where
+        there : more ≡ drop (length key + n) rest
+        there = onward ∙ ap (drop n) part ∙ drop-drop n (length key) rest
 
-      pub two-line :
-          (second : Number) (b l : ℕ) → second ≡ numberFrom 10 0 0 (take (length rest - (length key + n)) (drop (length key + n) rest)) → second ≡ Value b l
-          → Two a b (length key + n + l) ≡ pairLine key rest
-      unfolding pairLine pairIf firstOf secondOf
-      two-line second b l f k =
-          let q = sym (sym h ∙ (rw rest-whole at e)) in
-          let r = sym (sym k ∙ (rw rest-whole at f)) in
-          rw (begun keyed, q, r)
+        pub second-none : second ≡ NoNumber → NoPair ≡ pairLine key rest
+        unfolding pairLine pairIf firstOf secondOf
+        second-none k = rw (begun keyed, sym (here 44 e) ∙ h, sym (f ∙ ap (numberFrom 10 0 0) there) ∙ k)
+
+        module _ (b l : ℕ) (k : second ≡ Value b l) where
+          pub second-within : length key + n + l ≤ length rest
+          second-within =
+              omega (arith, holds-within more _ l (number-holds 10 b l more (sym f ∙ k)), ap length there, length-drop (length key + n) rest, first-short)
+
+          pub two-line : Two a b (length key + n + l) ≡ pairLine key rest
+          unfolding pairLine pairIf firstOf secondOf
+          two-line = rw (begun keyed, sym (here 44 e) ∙ h, sym (f ∙ ap (numberFrom 10 0 0) there) ∙ k)

@@ -1,29 +1,30 @@
 -- The answer for tables and for a text, by cases.
-use Prim.Native.Nat.{ℕ, _+_, _*_, _<_, _≤_}
+use Prim.Native.Nat.{ℕ, _+_, _*_, _≤_}
 use mathlib.Core.Path.{_≡_, refl, sym, ap, _∙_, subst}
 use mathlib.Core.List.{List, _++_}
-use mathlib.Core.Logic.{_⊎_, inl, inr}
+use mathlib.Core.Logic.{inl, inr}
 use native.Mathlib.Omega.{arith}
 use lib.ListN.{length, take, drop, length-append}
 use lib.Seq.{take-append-seam, drop-append-seam, length-take-le}
 use borrow.Author.Tests.{le-ltb}
 use Rattle.subsumption.specs.declared.refusal.Refusal.{Refusal}
+use Rattle.subsumption.specs.declared.refusal.Code.{Code}
 use Rattle.subsumption.specs.declared.refusal.Outcome.{Outcome}
 use Rattle.subsumption.specs.declared.refusal.Outcome.the-variants.{Done, Refused}
 use Rattle.subsumption.specs.Tables.{Tables, tables}
 use Rattle.subsumption.specs.Atoms.{atoms}
 use Rattle.subsumption.specs.Refusal.{codeOf, orElse, refuseIf}
-use Rattle.subsumption.specs.Check.{tableFault, bufferFault}
+use Rattle.subsumption.specs.Check.{tableFault, assignmentFault, bufferFault}
 use Rattle.matching.specs.declared.find.Match.{Match}
 use Rattle.matching.specs.declared.find.Match.the-variants.{Filled, Nothing, Rejected as NotFound}
-use Rattle.matching.specs.Solving.{Substitution, SolvesBy, First}
-use Rattle.matching.specs.Finding.{findingFault, FilledBy, NoneSolves, Finds}
+use Rattle.matching.specs.Finding.{findingFault, FilledBy, Finds}
 use Rattle.hermitcasket.specs.declared.text.Read.{Read}
 use Rattle.hermitcasket.specs.declared.text.Read.the-variants.{Problem, Rejected}
-use Rattle.hermitcasket.specs.Text.{Judged, accepted, refused, judge}
+use Rattle.hermitcasket.specs.Text.{Judged, accepted, judge}
 use Rattle.hermitcasket.specs.Reading.{judgedBy, ReadFits}
 use Rattle.hermitcasket.specs.Printing.{noneLine, filledText, refusedText, placed, Wrote}
 use Rattle.hermitcasket.specs.Answer.{AnsweredTables, AnsweredJudged, Answered, Output}
+use Rattle.hermitcasket.proofs.SizeLaws.{filled-room}
 
 -- what was written in front is the output
 module _ (Right : List ℕ → Type 0) (before bytes : List ℕ) (size : ℕ) (after : List ℕ) (wrote : Wrote before 0 bytes size after) where
@@ -45,6 +46,12 @@ module _ (Right : List ℕ → Type 0) (before bytes : List ℕ) (size : ℕ) (a
             ap (λ (z : ℕ). drop z after) length-is ∙ ap (λ (z : List ℕ). drop (length bytes) z) whole ∙ drop-append-seam bytes (drop (0 + length bytes) before)
             ∙ ap (λ (z : ℕ). drop z before) (sym (wrote .place));
       }
+
+-- ---- a refusal
+pub wrote-code :
+    (refusal : Refusal) (code : Code) → code ≡ codeOf refusal → (out : List ℕ) (end : ℕ) (exit : List ℕ) → Wrote out 0 (refusedText code) end exit
+    → Wrote out 0 (refusedText (codeOf refusal)) end exit
+wrote-code refusal code e out end exit w = subst (λ (z : Code). Wrote out 0 (refusedText z) end exit) e w
 
 -- ---- tables
 module _
@@ -77,8 +84,12 @@ module _
   pub filled-exact : found ≡ Filled → t .variables ≡ length (take (t .variables) new)
   filled-exact e = sym (length-take-le (t .variables) new (filled-count e))
 
-  pub filled-eight : found ≡ Filled → length (take (t .variables) new) ≤ 8
-  filled-eight e = omega (arith, length-take-le (t .variables) new (filled-count e))
+  pub filled-accepted : found ≡ Filled → assignmentFault t (take (t .variables) new) ≡ Done
+  filled-accepted e = filled-by e .first .accepted
+
+  pub filled-fits : found ≡ Filled → (out : List ℕ) → 4096 ≤ length out → 0 + length (filledText (atoms t) (take (t .variables) new)) ≤ length out
+  filled-fits e out h =
+      filled-room t (take (t .variables) new) out (filled-sound e) (omega (arith, length-take-le (t .variables) new (filled-count e))) h
 
   module _ (before : List ℕ) (size : ℕ) (after : List ℕ) where
     pub answered-filled : found ≡ Filled → Wrote before 0 (filledText (atoms t) (take (t .variables) new)) size after → Output (AnsweredTables t (tableFault t)) before size after

@@ -1,14 +1,11 @@
 -- A line that is read is the right line of its numbers, and each right line is read.
-use Prim.Native.Nat.{ℕ, zero, suc, _+_, _<_, _≤_}
+use Prim.Native.Nat.{ℕ, _+_, _≤_}
 use mathlib.Core.Path.{_≡_, refl, sym, ap, _∙_, subst}
 use mathlib.Core.List.{List, [], _∷_, _++_, append-assoc}
 use mathlib.Core.Bool.{Bool, true, false}
 use mathlib.Core.Logic.{_⊎_, inl, inr, ⊎-elim}
 use native.Mathlib.Omega.{arith}
-use lib.Dec.{eqb}
-use lib.ListN.{length, drop, length-append}
-use lib.Seq.{drop-append-seam, drop-append-add}
-use borrow.Author.Tests.{eq-eqb, ne-eqb}
+use lib.ListN.{length, drop}
 use Rattle.hermitcasket.specs.declared.lines.Number.{Number}
 use Rattle.hermitcasket.specs.declared.lines.Number.the-variants.{Value, NoNumber}
 use Rattle.hermitcasket.specs.declared.lines.PairLine.{PairLine}
@@ -18,8 +15,7 @@ use Rattle.hermitcasket.specs.declared.lines.RowLine.the-variants.{Row, 
 use Rattle.hermitcasket.specs.Digits.{digits}
 use Rattle.hermitcasket.specs.Lines.{topText, nameKey, someKey, andKey, variableKey, numberText, pairText, rowText, starts, pickNumber, numberFrom, behind, numberLine, secondOf, firstOf, pairIf, pairLine, topRow, oneRow, twoRow, orRow, rowLine}
 use Rattle.hermitcasket.specs.Text.{RowFits}
-use Rattle.hermitcasket.proofs.DigitLaws.{digits-some, reads-digits}
-use Rattle.hermitcasket.proofs.LineLaws.{Holds, holds-within, holds-join, starts-holds, starts-right, number-holds, number-small}
+use Rattle.hermitcasket.proofs.LineLaws.{Holds, holds-within, holds-join, starts-holds, number-holds, number-small}
 
 -- ---- one number
 module _ (key rest : List ℕ) (v n : ℕ) where

@@ -1,13 +1,12 @@
 -- A line of the concept table: the first kind whose line is there.
 use Prim.Native.Nat.{ℕ}
-use mathlib.Core.Path.{_≡_, refl, sym, _∙_}
+use mathlib.Core.Path.{_≡_, sym, _∙_}
 use mathlib.Core.List.{List}
 use mathlib.Core.Bool.{Bool, true, false}
 use Rattle.hermitcasket.specs.declared.lines.Number.{Number}
 use Rattle.hermitcasket.specs.declared.lines.Number.the-variants.{Value, NoNumber}
 use Rattle.hermitcasket.specs.declared.lines.PairLine.{PairLine}
 use Rattle.hermitcasket.specs.declared.lines.PairLine.the-variants.{Two, NoPair}
-use Rattle.hermitcasket.specs.declared.lines.RowLine.{RowLine}
 use Rattle.hermitcasket.specs.declared.lines.RowLine.the-variants.{Row, NoRow}
 use Rattle.hermitcasket.specs.Lines.{topText, nameKey, someKey, andKey, variableKey, starts, numberLine, pairLine, topRow, oneRow, twoRow, orRow, rowLine}
 

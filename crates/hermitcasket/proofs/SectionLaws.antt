@@ -1,9 +1,10 @@
 -- Counts and sections: how the judgement goes on behind them.
-use Prim.Native.Nat.{ℕ, _+_, _-_, _*_, _<_, _≤_}
+use Prim.Native.Nat.{ℕ, _+_, _*_, _<_, _≤_}
 use mathlib.Core.Path.{_≡_, refl, sym, ap, _∙_, subst}
-use mathlib.Core.List.{List}
+use mathlib.Core.List.{List, [], _∷_}
 use native.Mathlib.Omega.{arith}
-use lib.ListN.{length, take, drop, length-drop}
+use lib.ListN.{length, drop, length-drop}
+use lib.Seq.{drop-drop, drop-length}
 use borrow.Author.Tests.{lt-ltb, le-ltb}
 use Rattle.subsumption.specs.declared.refusal.Refusal.{Refusal}
 use Rattle.subsumption.specs.declared.refusal.Refusal.the-variants.{Limit, BadText}
@@ -13,80 +14,100 @@ use Rattle.hermitcasket.specs.declared.text.Lines.{Lines}
 use Rattle.hermitcasket.specs.declared.text.Lines.the-variants.{Upto, Off}
 use Rattle.hermitcasket.specs.declared.text.Section.{Section}
 use Rattle.hermitcasket.specs.declared.text.Section.the-variants.{Through, Faulty}
-use Rattle.hermitcasket.specs.Lines.{numberLine}
-use Rattle.hermitcasket.specs.Text.{Line, Part, Judged, refused, pickJudged, countThen, partThen, readLines, sectionAt}
-use Rattle.hermitcasket.specs.Reading.{partOf, PartFits, countedThen, sectionThen, SectionFits, Counts, Sectioned}
-use Rattle.hermitcasket.proofs.LineLaws.{rest-whole, holds-within}
+use Rattle.hermitcasket.specs.Lines.{questionsKey, numberLine}
+use Rattle.hermitcasket.specs.Text.{Line, pickJudged, countThen, partThen, readLines, sectionAt, pairAt, judgeEnd}
+use Rattle.hermitcasket.specs.Reading.{partOf, PartFits, countedThen, sectionThen, lastThen, SectionFits, Counts, Sectioned, Last}
+use Rattle.hermitcasket.proofs.LineLaws.{holds-within}
 use Rattle.hermitcasket.proofs.RightLines.{numberLine-holds}
 
 -- ---- a count
 module _ (key : List ℕ) (limit table at : ℕ) (rest : List ℕ) (found : Number) (is-found : found ≡ numberLine key rest) where
-  pub count-none : found ≡ NoNumber → Counts key limit table at rest (at + length rest) (Faulty (BadText at))
+  pub count-none : found ≡ NoNumber → Counts key limit table at rest (Faulty (BadText at))
   unfolding countThen countedThen
   count-none h = record { judged = λ go. rw (sym is-found ∙ h) refl; fits = tt }
 
-  pub number-within : (count n : ℕ) → found ≡ Value count n → n ≤ length rest
-  number-within count n h = holds-within rest _ n (numberLine-holds key rest count n (sym is-found ∙ h))
-
-  pub count-over : (count n : ℕ) → found ≡ Value count n → limit < count → Counts key limit table at rest (at + length rest) (Faulty (Limit table))
+  pub count-over : (count n : ℕ) → found ≡ Value count n → limit < count → Counts key limit table at rest (Faulty (Limit table))
   unfolding countThen countedThen pickJudged
   count-over count n h l = record { judged = λ go. rw (sym is-found ∙ h, lt-ltb limit count l) refl; fits = tt }
 
-  pub count-through : (count n : ℕ) → found ≡ Value count n → count ≤ limit → Counts key limit table at rest (at + length rest) (Through count (at + n))
+  pub count-through : (count n : ℕ) → found ≡ Value count n → count ≤ limit → Counts key limit table at rest (Through count n)
   unfolding countThen countedThen pickJudged
   count-through count n h l =
-      record { judged = λ go. rw (sym is-found ∙ h, le-ltb limit count l) refl; fits = (l, omega (arith, number-within count n h)) }
-
--- the part from a place on ends where the text does
-part-end : (text : List ℕ) (at : ℕ) → at ≤ length text → at + length (take (length text - at) (drop at text)) ≡ length text
-part-end text at h = omega (arith, ap length (rest-whole text at), length-drop at text)
+      record {
+        judged = λ go. rw (sym is-found ∙ h, le-ltb limit count l) refl;
+        fits = (l, holds-within rest _ n (numberLine-holds key rest count n (sym is-found ∙ h)));
+      }
 
 -- ---- a section
-module _
-    (key : List ℕ) (limit table : ℕ) (text : List ℕ) (at : ℕ) (within : at ≤ length text) (counted : Section)
-    (counts : Counts key limit table at (take (length text - at) (drop at text)) (at + length (take (length text - at) (drop at text))) counted) where
-  whole : (go : ℕ → ℕ → Judged) → countThen limit table at (numberLine key (drop at text)) go ≡ countedThen counted go
-  whole go = subst (λ (z : List ℕ). countThen limit table at (numberLine key z) go ≡ countedThen counted go) (rest-whole text at) (counts .judged go)
-
+module _ (key : List ℕ) (limit table at : ℕ) (rest : List ℕ) (counted : Section) (counts : Counts key limit table at rest counted) where
   pub section-refused :
       (line : List ℕ → Line) (width : ℕ) (r : Refusal) (out : List ℕ) → counted ≡ Faulty r
-      → Sectioned key limit table line width text at (length text) counted out
+      → Sectioned key limit table line width at rest counted out
   unfolding sectionAt countedThen sectionThen
   section-refused line width r out h =
-      subst (λ (z : Section). Sectioned key limit table line width text at (length text) z out) (sym h)
-      (record { judged = λ go. whole _ ∙ rw h refl; fits = tt })
+      subst (λ (z : Section). Sectioned key limit table line width at rest z out) (sym h)
+      (record { judged = λ go. counts .judged _ ∙ rw h refl; fits = tt })
 
-  module _ (count start : ℕ) (h : counted ≡ Through count start) where
-    fits : SectionFits (Through count start) limit (at + length (take (length text - at) (drop at text)))
-    fits = subst (λ (z : Section). SectionFits z limit (at + length (take (length text - at) (drop at text)))) h (counts .fits)
+  module _ (count n : ℕ) (h : counted ≡ Through count n) where
+    fits : SectionFits (Through count n) limit (length rest)
+    fits = subst (λ (z : Section). SectionFits z limit (length rest)) h (counts .fits)
 
     pub counted-few : count ≤ limit
     counted-few = fits .0
 
-    pub counted-within : start ≤ length text
-    counted-within = omega (arith, fits .1, part-end text at within)
+    pub counted-within : n ≤ length rest
+    counted-within = fits .1
 
-    pub lines-room : length text ≤ 8192 → start + length (take (length text - start) (drop start text)) ≤ 8192
-    lines-room l = omega (arith, part-end text start counted-within)
+    module _ (more : List ℕ) (e : more ≡ drop n rest) where
+      pub lines-room : at + length rest ≤ 8192 → at + n + length more ≤ 8192
+      lines-room l = omega (arith, counted-within, ap length e, length-drop n rest)
 
-    module _ (line : List ℕ → Line) (width : ℕ) (lines : Lines) (out : List ℕ)
-        (e : readLines line count start (take (length text - start) (drop start text)) ≡ partOf lines (count * width) out) where
-      all : readLines line count start (drop start text) ≡ partOf lines (count * width) out
-      all = subst (λ (z : List ℕ). readLines line count start z ≡ partOf lines (count * width) out) (rest-whole text start) e
+      pub lines-used : (lines : Lines) (m : ℕ) → lines ≡ Upto m → PartFits lines (length more) → n + m ≤ length rest
+      lines-used lines m f p = omega (arith, counted-within, ap length e, length-drop n rest, subst (λ (z : Lines). PartFits z (length more)) f p)
 
-      pub section-off : (place : ℕ) → lines ≡ Off place → Sectioned key limit table line width text at (length text) (Faulty (BadText place)) out
-      unfolding sectionAt countedThen sectionThen partThen partOf
-      section-off place f = record { judged = λ go. whole _ ∙ rw h (rw (all, f) refl); fits = tt }
+      module _
+          (line : List ℕ → Line) (width : ℕ) (lines : Lines) (out : List ℕ)
+          (r : readLines line count (at + n) more ≡ partOf lines (at + n) more (count * width) out) where
+        all : readLines line count (at + n) (drop n rest) ≡ partOf lines (at + n) (drop n rest) (count * width) out
+        all = subst (λ (z : List ℕ). readLines line count (at + n) z ≡ partOf lines (at + n) z (count * width) out) e r
 
-      pub section-through :
-          (place : ℕ) → lines ≡ Upto place → PartFits lines (start + length (take (length text - start) (drop start text)))
-          → Sectioned key limit table line width text at (length text) (Through count place) out
-      unfolding sectionAt countedThen sectionThen partThen partOf
-      section-through place f p =
-          record {
-            judged = λ go. whole _ ∙ rw h (rw (all, f) refl);
-            fits = (
-              counted-few,
-              omega (arith, subst (λ (z : Lines). PartFits z (start + length (take (length text - start) (drop start text)))) f p, part-end text start counted-within),
-            );
-          }
+        pub section-off : (place : ℕ) → lines ≡ Off place → Sectioned key limit table line width at rest (Faulty (BadText place)) out
+        unfolding sectionAt countedThen sectionThen partThen partOf
+        section-off place f = record { judged = λ go. counts .judged _ ∙ rw h (rw (all, f) refl); fits = tt }
+
+        pub section-through :
+            (m : ℕ) → lines ≡ Upto m → PartFits lines (length more) → Sectioned key limit table line width at rest (Through count (n + m)) out
+        unfolding sectionAt countedThen sectionThen partThen partOf
+        section-through m f p =
+            let q : at + n + m ≡ at + (n + m) = omega arith in
+            record {
+              judged = λ go. counts .judged _ ∙ rw h (rw (all, f) (rw (q, drop-drop m n rest) refl));
+              fits = (counted-few, lines-used lines m f p);
+            }
+
+-- ---- the last section
+module _ (at : ℕ) (rest : List ℕ) (asked : Section) (out : List ℕ) (s : Sectioned questionsKey 32 2 pairAt 2 at rest asked out) where
+  pub last-refused : (r : Refusal) → asked ≡ Faulty r → Last at rest asked out
+  unfolding sectionThen lastThen
+  last-refused r h = subst (λ (z : Section). Last at rest z out) (sym h) (record { judged = λ t. s .judged _ ∙ rw h refl; fits = tt })
+
+  module _ (count n : ℕ) (h : asked ≡ Through count n) where
+    last-fits : (count ≤ 32) × (n ≤ length rest)
+    last-fits = subst (λ (z : Section). SectionFits z 32 (length rest)) h (s .fits)
+
+    pub last-within : n ≤ length rest
+    last-within = last-fits .1
+
+    pub last-more : n < length rest → Last at rest (Faulty (BadText (at + n))) out
+    unfolding sectionThen lastThen judgeEnd
+    last-more l = go (drop n rest) refl
+      where
+        go : (more : List ℕ) → drop n rest ≡ more → Last at rest (Faulty (BadText (at + n))) out
+        go [] e = absurd (omega (arith, ap length e, length-drop n rest))
+        go (b ∷ more) e = record { judged = λ t. s .judged _ ∙ rw h (rw e refl); fits = tt }
+
+    pub last-through : length rest ≤ n → Last at rest (Through count n) out
+    unfolding sectionThen lastThen judgeEnd
+    last-through l =
+        let e : n ≡ length rest = omega (arith, last-fits) in
+        record { judged = λ t. s .judged _ ∙ rw h (rw (ap (λ (z : ℕ). drop z rest) e ∙ drop-length rest) refl); fits = last-fits }

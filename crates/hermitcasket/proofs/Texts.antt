@@ -1,13 +1,13 @@
 -- The accepted texts are exactly the layouts of tables within the counts, and reading a layout gives the tables back.
-use Prim.Native.Nat.{ℕ, zero, suc, _+_, _*_, _^_, _<_, _≤_}
-use mathlib.Core.Path.{_≡_, refl, sym, ap, _∙_, subst}
+use Prim.Native.Nat.{ℕ, zero, suc, _+_, _*_, _≤_}
+use mathlib.Core.Path.{_≡_, ap, _∙_}
 use mathlib.Core.List.{List, [], _∷_, _++_}
 use mathlib.Core.Logic.{_↔_}
 use native.Mathlib.Omega.{arith}
 use lib.ListN.{length, getD, take, drop, length-append}
 use Rattle.subsumption.specs.Tables.{Tables, countOf, pairsOf}
 use Rattle.hermitcasket.specs.Digits.{digits}
-use Rattle.hermitcasket.specs.Lines.{variablesKey, conceptsKey, inclusionsKey, questionsKey, belowKey, topText, nameKey, someKey, andKey, variableKey, numberText, pairText, rowText}
+use Rattle.hermitcasket.specs.Lines.{variablesKey, conceptsKey, inclusionsKey, questionsKey, belowKey, nameKey, someKey, andKey, variableKey, numberText, pairText, rowText}
 use Rattle.hermitcasket.specs.Text.{linesText, rowOfNumbers, pairOfNumbers, layout, RowFits, RowsFit, ConceptFits, PairFits, Sayable, accepted, judge}
 use Rattle.hermitcasket.proofs.SizeLaws.{digits-short}
 use Rattle.hermitcasket.proofs.LayoutLaws.{accepted-layout}

@@ -1,7 +1,7 @@
 -- Decimal digits as bytes, the highest first, without leading zeros.
 use Prim.Native.Nat.{ℕ, zero, suc, _+_, _/_, _%_}
 use mathlib.Core.List.{List, [], _∷_, _++_}
-use mathlib.Core.Bool.{Bool, true, false}
+use mathlib.Core.Bool.{true, false}
 use lib.Dec.{ltb}
 
 unfoldable pub digitsTo : ℕ → ℕ → List ℕ

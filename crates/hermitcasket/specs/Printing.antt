@@ -1,10 +1,9 @@
 -- The whole output as bytes (01, "House text and the program").
-use Prim.Native.Nat.{ℕ, zero, suc, _+_}
+use Prim.Native.Nat.{ℕ, _+_}
 use mathlib.Core.Path.{_≡_}
 use mathlib.Core.List.{List, [], _∷_, _++_}
 use mathlib.Core.Bool.{Bool, true, false}
-use lib.ListN.{length, getD, take, drop}
-use Rattle.subsumption.specs.declared.refusal.Refusal.{Refusal}
+use lib.ListN.{length, take, drop}
 use Rattle.subsumption.specs.declared.refusal.Code.{Code}
 use Rattle.subsumption.specs.Atoms.{pick}
 use Rattle.hermitcasket.specs.Digits.{digits}

@@ -1,52 +1,61 @@
 -- What the readers of the tables answer and leave in the lent arrays (no operation's contract cites this).
-use Prim.Native.Nat.{ℕ, _*_, _≤_}
+use Prim.Native.Nat.{ℕ, _+_, _*_, _≤_}
 use mathlib.Core.Path.{_≡_}
 use mathlib.Core.List.{List}
-use lib.ListN.{take}
+use lib.ListN.{length, take, drop}
 use Rattle.subsumption.specs.declared.refusal.Refusal.{Refusal}
 use Rattle.subsumption.specs.declared.refusal.Refusal.the-variants.{BadText}
-use Rattle.subsumption.specs.Tables.{tables}
+use Rattle.subsumption.specs.Tables.{Tables, tables}
 use Rattle.hermitcasket.specs.declared.text.Lines.{Lines}
 use Rattle.hermitcasket.specs.declared.text.Lines.the-variants.{Upto, Off}
 use Rattle.hermitcasket.specs.declared.text.Section.{Section}
 use Rattle.hermitcasket.specs.declared.text.Section.the-variants.{Through, Faulty}
 use Rattle.hermitcasket.specs.declared.text.Read.{Read}
 use Rattle.hermitcasket.specs.declared.text.Read.the-variants.{Problem, Rejected}
-use Rattle.hermitcasket.specs.Lines.{numberLine}
-use Rattle.hermitcasket.specs.Text.{Line, Part, part, faulty, Judged, accepted, refused, countThen, sectionAt}
+use Rattle.hermitcasket.specs.Lines.{questionsKey}
+use Rattle.hermitcasket.specs.Text.{Line, pairAt, Part, part, faulty, Judged, accepted, refused, Onward, countAt, sectionAt, judgeEnd}
 
--- The numbers read stand in front.
-unfoldable pub partOf : Lines → ℕ → List ℕ → Part
-partOf (Upto at) size out = part (take size out) at
-partOf (Off at) size out = faulty at
+-- The numbers read stand in front, and so many bytes are used.
+unfoldable pub partOf : Lines → ℕ → List ℕ → ℕ → List ℕ → Part
+partOf (Upto used) at rest size out = part (take size out) (at + used) (drop used rest)
+partOf (Off place) at rest size out = faulty place
 
 abbrev pub PartFits : Lines → ℕ → Type 0
-PartFits (Upto at) end = at ≤ end
-PartFits (Off at) end = Unit
+PartFits (Upto used) size = used ≤ size
+PartFits (Off place) size = Unit
 
--- A count, or a section's count of lines, and the place behind: the judgement goes on there.
-unfoldable pub countedThen : Section → (ℕ → ℕ → Judged) → Judged
-countedThen (Through count at) go = go count at
-countedThen (Faulty r) go = refused r
+-- A count, or a section's count of lines, and the bytes used: the judgement goes on behind them.
+unfoldable pub countedThen : Section → (ℕ → Onward) → Onward
+countedThen (Through count used) go at rest = go count (at + used) (drop used rest)
+countedThen (Faulty r) go at rest = refused r
 
-unfoldable pub sectionThen : Section → ℕ → List ℕ → (List ℕ → ℕ → Judged) → Judged
-sectionThen (Through count at) width out go = go (take (count * width) out) at
-sectionThen (Faulty r) width out go = refused r
+unfoldable pub sectionThen : Section → ℕ → List ℕ → (List ℕ → Onward) → Onward
+sectionThen (Through count used) width out go at rest = go (take (count * width) out) (at + used) (drop used rest)
+sectionThen (Faulty r) width out go at rest = refused r
+
+-- The last section: nothing follows it.
+unfoldable pub lastThen : Section → List ℕ → (List ℕ → Tables) → Judged
+lastThen (Through count used) out t = accepted (t (take (count * 2) out))
+lastThen (Faulty r) out t = refused r
 
 abbrev pub SectionFits : Section → ℕ → ℕ → Type 0
-SectionFits (Through count at) limit end = (count ≤ limit) × (at ≤ end)
-SectionFits (Faulty r) limit end = Unit
+SectionFits (Through count used) limit size = (count ≤ limit) × (used ≤ size)
+SectionFits (Faulty r) limit size = Unit
 
-pub record Counts (key : List ℕ) (limit table at : ℕ) (rest : List ℕ) (end : ℕ) (r : Section) : Type 0 where
-  pub judged : (go : ℕ → ℕ → Judged) → countThen limit table at (numberLine key rest) go ≡ countedThen r go
-  pub fits : SectionFits r limit end
+pub record Counts (key : List ℕ) (limit table at : ℕ) (rest : List ℕ) (r : Section) : Type 0 where
+  pub judged : (go : ℕ → Onward) → countAt key limit table go at rest ≡ countedThen r go at rest
+  pub fits : SectionFits r limit (length rest)
 
-pub record Sectioned (key : List ℕ) (limit table : ℕ) (line : List ℕ → Line) (width : ℕ) (text : List ℕ) (at end : ℕ) (r : Section) (out : List ℕ) : Type 0 where
-  pub judged : (go : List ℕ → ℕ → Judged) → sectionAt key limit table line text at go ≡ sectionThen r width out go
-  pub fits : SectionFits r limit end
+pub record Sectioned (key : List ℕ) (limit table : ℕ) (line : List ℕ → Line) (width at : ℕ) (rest : List ℕ) (r : Section) (out : List ℕ) : Type 0 where
+  pub judged : (go : List ℕ → Onward) → sectionAt key limit table line go at rest ≡ sectionThen r width out go at rest
+  pub fits : SectionFits r limit (length rest)
+
+pub record Last (at : ℕ) (rest : List ℕ) (r : Section) (out : List ℕ) : Type 0 where
+  pub judged : (t : List ℕ → Tables) → sectionAt questionsKey 32 2 pairAt (λ questions. judgeEnd (t questions)) at rest ≡ lastThen r out t
+  pub fits : SectionFits r 32 (length rest)
 
 unfoldable pub faultOf : Section → Refusal
-faultOf (Through count at) = BadText at
+faultOf (Through count used) = BadText used
 faultOf (Faulty r) = r
 
 -- The tables stand in front of the arrays.

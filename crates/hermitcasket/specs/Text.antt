@@ -3,7 +3,7 @@ use Prim.Native.Nat.{ℕ, zero, suc, _+_, _≤_}
 use mathlib.Core.Path.{_≡_}
 use mathlib.Core.List.{List, [], _∷_, _++_}
 use mathlib.Core.Bool.{Bool, true, false}
-use lib.Dec.{eqb, ltb}
+use lib.Dec.{ltb}
 use lib.ListN.{length, getD, take, drop}
 use Rattle.subsumption.specs.declared.refusal.Refusal.{Refusal}
 use Rattle.subsumption.specs.declared.refusal.Refusal.the-variants.{Limit, BadText}
@@ -87,13 +87,13 @@ rowAt rest = rowNumbers (rowLine rest)
 abbrev pub pairAt : List ℕ → Line
 pairAt rest = pairNumbers (pairLine belowKey rest)
 
--- The numbers of several lines and the place behind them, or the place where the earliest faulty one starts.
+-- The numbers of several lines, the place behind them and the text that remains there; or the place where the earliest faulty one starts.
 pub data Part : Type 0 where
-  part : List ℕ → ℕ → Part
+  part : List ℕ → ℕ → List ℕ → Part
   faulty : ℕ → Part
 
 unfoldable pub prepend : List ℕ → Part → Part
-prepend front (part more at) = part (front ++ more) at
+prepend front (part more at rest) = part (front ++ more) at rest
 prepend front (faulty at) = faulty at
 
 unfoldable pub lineThen : ℕ → Line → (ℕ → Part) → Part
@@ -102,7 +102,7 @@ lineThen at (numbers front n) go = prepend front (go n)
 
 -- So many lines from the front of the remaining text, which starts at byte `at`.
 unfoldable pub readLines : (List ℕ → Line) → ℕ → ℕ → List ℕ → Part
-readLines line zero at rest = part [] at
+readLines line zero at rest = part [] at rest
 readLines line (suc count) at rest = lineThen at (line rest) (λ n. readLines line count (at + n) (drop n rest))
 
 pub data Judged : Type 0 where
@@ -113,42 +113,44 @@ unfoldable pub pickJudged : Bool → Judged → Judged → Judged
 pickJudged true a b = a
 pickJudged false a b = b
 
--- A count over its limit is refused on its line with the table's place.
-unfoldable pub countThen : ℕ → ℕ → ℕ → Number → (ℕ → ℕ → Judged) → Judged
-countThen limit table at NoNumber go = refused (BadText at)
-countThen limit table at (Value count n) go = pickJudged (ltb limit count) (refused (Limit table)) (go count (at + n))
+-- The judgement goes on from a place, with the text that remains there.
+abbrev pub Onward : Type 0
+Onward = ℕ → List ℕ → Judged
 
-unfoldable pub partThen : Part → (List ℕ → ℕ → Judged) → Judged
-partThen (part read at) go = go read at
+-- A count over its limit is refused on its line with the table's place.
+unfoldable pub countThen : ℕ → ℕ → Number → (ℕ → Onward) → Onward
+countThen limit table NoNumber go at rest = refused (BadText at)
+countThen limit table (Value count n) go at rest = pickJudged (ltb limit count) (refused (Limit table)) (go count (at + n) (drop n rest))
+
+unfoldable pub partThen : Part → (List ℕ → Onward) → Judged
+partThen (part read at rest) go = go read at rest
 partThen (faulty at) go = refused (BadText at)
 
-abbrev pub countAt : List ℕ → ℕ → ℕ → List ℕ → ℕ → (ℕ → ℕ → Judged) → Judged
-countAt key limit table text at go = countThen limit table at (numberLine key (drop at text)) go
-
-abbrev pub linesAt : (List ℕ → Line) → ℕ → List ℕ → ℕ → (List ℕ → ℕ → Judged) → Judged
-linesAt line count text at go = partThen (readLines line count at (drop at text)) go
+abbrev pub countAt : List ℕ → ℕ → ℕ → (ℕ → Onward) → Onward
+countAt key limit table go at rest = countThen limit table (numberLine key rest) go at rest
 
 -- A count line, and that many lines.
-unfoldable pub sectionAt : List ℕ → ℕ → ℕ → (List ℕ → Line) → List ℕ → ℕ → (List ℕ → ℕ → Judged) → Judged
-sectionAt key limit table line text at go = countAt key limit table text at (λ count behind. linesAt line count text behind go)
+unfoldable pub sectionAt : List ℕ → ℕ → ℕ → (List ℕ → Line) → (List ℕ → Onward) → Onward
+sectionAt key limit table line go at rest = countAt key limit table (λ count behind more. partThen (readLines line count behind more) go) at rest
 
 -- The lines in order, from the last to the first: the end of the text, and what goes before it.
-unfoldable pub judgeEnd : List ℕ → Tables → ℕ → Judged
-judgeEnd text t end = pickJudged (eqb end (length text)) (accepted t) (refused (BadText end))
+unfoldable pub judgeEnd : Tables → Onward
+judgeEnd t at [] = accepted t
+judgeEnd t at (byte ∷ rest) = refused (BadText at)
 
-unfoldable pub judgeQuestions : List ℕ → ℕ → List ℕ → List ℕ → ℕ → Judged
-judgeQuestions text variables concepts inclusions at =
-    sectionAt questionsKey 32 2 pairAt text at (λ questions end. judgeEnd text (tables concepts inclusions questions variables) end)
+unfoldable pub judgeQuestions : ℕ → List ℕ → List ℕ → Onward
+judgeQuestions variables concepts inclusions at rest =
+    sectionAt questionsKey 32 2 pairAt (λ questions. judgeEnd (tables concepts inclusions questions variables)) at rest
 
-unfoldable pub judgeInclusions : List ℕ → ℕ → List ℕ → ℕ → Judged
-judgeInclusions text variables concepts at = sectionAt inclusionsKey 96 1 pairAt text at (λ inclusions behind. judgeQuestions text variables concepts inclusions behind)
+unfoldable pub judgeInclusions : ℕ → List ℕ → Onward
+judgeInclusions variables concepts at rest = sectionAt inclusionsKey 96 1 pairAt (λ inclusions. judgeQuestions variables concepts inclusions) at rest
 
-unfoldable pub judgeConcepts : List ℕ → ℕ → ℕ → Judged
-judgeConcepts text variables at = sectionAt conceptsKey 192 0 rowAt text at (λ concepts behind. judgeInclusions text variables concepts behind)
+unfoldable pub judgeConcepts : ℕ → Onward
+judgeConcepts variables at rest = sectionAt conceptsKey 192 0 rowAt (λ concepts. judgeInclusions variables concepts) at rest
 
-unfoldable pub judgeLines : List ℕ → Judged
-judgeLines text = countAt variablesKey 8 3 text 0 (λ variables behind. judgeConcepts text variables behind)
+unfoldable pub judgeLines : Onward
+judgeLines at rest = countAt variablesKey 8 3 judgeConcepts at rest
 
 -- A longer text is refused before any line is judged.
 unfoldable pub judge : List ℕ → Judged
-judge text = pickJudged (ltb 8192 (length text)) (refused (BadText 8192)) (judgeLines text)
+judge text = pickJudged (ltb 8192 (length text)) (refused (BadText 8192)) (judgeLines 0 text)

@@ -1,7 +1,7 @@
-// Lines of the house text, each read from the front of the text's remaining part; the length used says where the next one starts.
+// Lines of the house text, each read from the front of the text's remaining part; `behind` passes on the part behind it.
 ghost use mathlib.Core.Path.{_≡_};
 ghost use Prim.Native.Nat.{_≤_};
-ghost use lib.ListN.{length};
+ghost use lib.ListN.{length, drop};
 ghost use Rattle.hermitcasket.specs.Lines.{belowKey, starts, wrongDigit, number, numberLine, pairLine, rowLine};
 
 // A number and the length used, its end among it.
@@ -19,6 +19,14 @@ pub enum PairLine {
 pub enum RowLine {
     Row(u16, u16, u16, usize),
     NoRow,
+}
+
+// The text that remains behind so many bytes.
+pub fn behind<'a>(rest: &'a [u8], n: usize) -> &'a [u8]
+    requires { ⌜ n ≤ length (now rest) ⌝ }
+    ensures { λ r. ⌜ now r ≡ drop n (now (rest .entry)) ⌝ }
+{
+    &rest[n..]
 }
 
 // The remaining text starts with these bytes.
@@ -91,7 +99,8 @@ pub fn number_line(rest: &[u8], key: &[u8]) -> Number
         return Number::NoNumber;
     }
     let k = key.len();
-    let found = read_number(&rest[k..], 10);
+    let digits = behind(rest, k);
+    let found = read_number(digits, 10);
     if let Number::Value(value, n) = found {
         return Number::Value(value, k + n);
     }
@@ -107,16 +116,17 @@ pub fn pair_line(rest: &[u8], key: &[u8]) -> PairLine
         return PairLine::NoPair;
     }
     let k = key.len();
-    let first = read_number(&rest[k..], 44);
+    let digits = behind(rest, k);
+    let first = read_number(digits, 44);
     let Number::Value(a, n) = first else {
         return PairLine::NoPair;
     };
-    let m = k + n;
-    let second = read_number(&rest[m..], 10);
+    let more = behind(digits, n);
+    let second = read_number(more, 10);
     let Number::Value(b, l) = second else {
         return PairLine::NoPair;
     };
-    PairLine::Two(a, b, m + l)
+    PairLine::Two(a, b, k + n + l)
 }
 
 // A line of the concept table: the key says the kind.

@@ -1,5 +1,6 @@
 // The program: one problem in house text from standard input, its answer to standard output.
 mod answer;
+mod filled;
 mod lines;
 mod print;
 mod text;

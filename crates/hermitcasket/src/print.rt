@@ -2,14 +2,13 @@
 use subsumption::refusal::Code;
 ghost use mathlib.Core.Bool.{false};
 ghost use mathlib.Core.Path.{_≡_};
-ghost use Prim.Native.Nat.{_+_, _<_, _≤_};
-ghost use lib.ListN.{length, getD};
-ghost use Rattle.subsumption.specs.Atoms.{pick};
+ghost use Prim.Native.Nat.{_+_, _≤_};
+ghost use lib.ListN.{length};
 ghost use Rattle.hermitcasket.specs.Digits.{digits};
 ghost use Rattle.hermitcasket.specs.Lines.{numberText};
-ghost use Rattle.hermitcasket.specs.Printing.{Wrote, idText, idsText, fillText, fillsText, filledText, refusedText, noneLine};
+ghost use Rattle.hermitcasket.specs.Printing.{Wrote, idText, idsText, fillText, refusedText, noneLine};
 
-fn put_bytes(bytes: &[u8], at: usize, out: &mut [u8]) -> usize
+pub fn put_bytes(bytes: &[u8], at: usize, out: &mut [u8]) -> usize
     requires { ⌜ at + length (now bytes) ≤ length (now out) ⌝ }
     ensures { λ r. ⌜ Wrote (now (out .entry)) at (now (bytes .entry)) r (now (out .exit)) ⌝ }
 {
@@ -36,7 +35,7 @@ fn put_number(n: usize, at: usize, out: &mut [u8]) -> usize
 }
 
 // A line of one number.
-fn put_line(key: &[u8], n: usize, at: usize, out: &mut [u8]) -> usize
+pub fn put_line(key: &[u8], n: usize, at: usize, out: &mut [u8]) -> usize
     requires { ⌜ at + length (numberText (now key) n) ≤ length (now out) ⌝ }
     ensures { λ r. ⌜ Wrote (now (out .entry)) at (numberText (now (key .entry)) n) r (now (out .exit)) ⌝ }
 {
@@ -57,68 +56,28 @@ fn put_id(id: u16, later: bool, at: usize, out: &mut [u8]) -> usize
     put_number(id as usize, at, out)
 }
 
-// The id of the atom at a position.
-fn id_at(atoms: &[u16], p: usize) -> u16
-    requires { ⌜ p < length (now atoms) ⌝ }
-    ensures { λ r. ⌜ r ≡ getD (now (atoms .entry)) p 0 ⌝ }
+// Ids with commas between them.
+fn put_ids(ids: &[u16], at: usize, out: &mut [u8]) -> usize
+    requires { ⌜ at + length (idsText false (now ids)) ≤ length (now out) ⌝ }
+    ensures { λ r. ⌜ Wrote (now (out .entry)) at (idsText false (now (ids .entry))) r (now (out .exit)) ⌝ }
 {
-    atoms[p]
-}
-
-// The atoms that a choice takes.
-fn put_ids(atoms: &[u16], choice: u64, at: usize, out: &mut [u8]) -> usize
-    requires { ⌜ at + length (idsText false (pick (now atoms) choice)) ≤ length (now out) ⌝ }
-    ensures { λ r. ⌜ Wrote (now (out .entry)) at (idsText false (pick (now (atoms .entry)) choice)) r (now (out .exit)) ⌝ }
-{
-    let mut rest = choice;
     let mut end = at;
-    let mut later = false;
-    let mut p: usize = 0;
-    while p < atoms.len() {
-        let id = id_at(atoms, p);
-        let taken = rest % 2;
-        rest = rest / 2;
-        p += 1;
-        if taken == 0 {
-            continue;
-        }
-        end = put_id(id, later, end, out);
-        later = true;
+    let mut i: usize = 0;
+    while i < ids.len() {
+        end = put_id(ids[i], 0 < i, end, out);
+        i += 1;
     }
     end
 }
 
 // The line of one variable.
-fn put_fill(atoms: &[u16], choice: u64, at: usize, out: &mut [u8]) -> usize
-    requires { ⌜ at + length (fillText (pick (now atoms) choice)) ≤ length (now out) ⌝ }
-    ensures { λ r. ⌜ Wrote (now (out .entry)) at (fillText (pick (now (atoms .entry)) choice)) r (now (out .exit)) ⌝ }
+pub fn put_fill(ids: &[u16], at: usize, out: &mut [u8]) -> usize
+    requires { ⌜ at + length (fillText (now ids)) ≤ length (now out) ⌝ }
+    ensures { λ r. ⌜ Wrote (now (out .entry)) at (fillText (now (ids .entry))) r (now (out .exit)) ⌝ }
 {
     let a = put_bytes(b"fill=", at, out);
-    let b = put_ids(atoms, choice, a, out);
+    let b = put_ids(ids, a, out);
     put_bytes(b"\n", b, out)
-}
-
-// The lines of all variables.
-fn put_fills(atoms: &[u16], assignment: &[u64], at: usize, out: &mut [u8]) -> usize
-    requires { ⌜ at + length (fillsText (now atoms) (now assignment)) ≤ length (now out) ⌝ }
-    ensures { λ r. ⌜ Wrote (now (out .entry)) at (fillsText (now (atoms .entry)) (now (assignment .entry))) r (now (out .exit)) ⌝ }
-{
-    let mut end = at;
-    let mut k: usize = 0;
-    while k < assignment.len() {
-        end = put_fill(atoms, assignment[k], end, out);
-        k += 1;
-    }
-    end
-}
-
-pub fn put_filled(atoms: &[u16], assignment: &[u64], out: &mut [u8]) -> usize
-    requires { ⌜ 0 + length (filledText (now atoms) (now assignment)) ≤ length (now out) ⌝ }
-    ensures { λ r. ⌜ Wrote (now (out .entry)) 0 (filledText (now (atoms .entry)) (now (assignment .entry))) r (now (out .exit)) ⌝ }
-{
-    let a = put_bytes(b"answer=filled\n", 0, out);
-    let b = put_line(b"blanks=", assignment.len(), a, out);
-    put_fills(atoms, assignment, b, out)
 }
 
 pub fn put_refused(code: Code, out: &mut [u8]) -> usize

@@ -1,7 +1,8 @@
-// The whole text: counts and tables, section by section. Each reader takes the text's remaining part and the byte where it starts.
+// The whole text: counts and tables, section by section. Each reader takes the text's remaining part and the byte where that starts.
 use crate::lines::Number;
 use crate::lines::PairLine;
 use crate::lines::RowLine;
+use crate::lines::behind;
 use crate::lines::below_line;
 use crate::lines::number_line;
 use crate::lines::row_line;
@@ -10,10 +11,10 @@ ghost use mathlib.Core.Path.{_≡_};
 ghost use Prim.Native.Nat.{_+_, _*_, _≤_};
 ghost use lib.ListN.{length};
 ghost use Rattle.hermitcasket.specs.Lines.{conceptsKey};
-ghost use Rattle.hermitcasket.specs.Text.{readLines, rowAt, pairAt, judge};
-ghost use Rattle.hermitcasket.specs.Reading.{partOf, PartFits, Counts, Sectioned, faultOf, judgedBy, ReadFits};
+ghost use Rattle.hermitcasket.specs.Text.{readLines, rowAt, pairAt, judgeConcepts, judge};
+ghost use Rattle.hermitcasket.specs.Reading.{partOf, PartFits, Counts, Sectioned, Last, faultOf, judgedBy, ReadFits};
 
-// The place behind the lines, or the place where the earliest faulty one starts.
+// The length of the lines, or the place where the earliest faulty one starts.
 pub enum Lines {
     Upto(usize),
     Off(usize),
@@ -25,17 +26,18 @@ pub enum Read {
     Rejected(Refusal),
 }
 
-// So many lines of the concept table, three numbers each. The remaining text starts at byte `at`.
-fn read_rows(rest: &[u8], at: usize, count: usize, out: &mut [u16]) -> Lines
-    requires { ⌜ at + length (now rest) ≤ 8192 ⌝ }
+// So many lines of the concept table, three numbers each.
+fn read_rows(part: &[u8], at: usize, count: usize, out: &mut [u16]) -> Lines
+    requires { ⌜ at + length (now part) ≤ 8192 ⌝ }
     requires { ⌜ count * 3 ≤ length (now out) ⌝ }
-    ensures { λ r. ⌜ readLines rowAt count at (now (rest .entry)) ≡ partOf r (count * 3) (now (out .exit)) ⌝ }
-    ensures { λ r. ⌜ PartFits r (at + length (now (rest .entry))) ⌝ }
+    ensures { λ r. ⌜ readLines rowAt count at (now (part .entry)) ≡ partOf r at (now (part .entry)) (count * 3) (now (out .exit)) ⌝ }
+    ensures { λ r. ⌜ PartFits r (length (now (part .entry))) ⌝ }
 {
+    let mut rest = part;
     let mut used: usize = 0;
     let mut i: usize = 0;
     while i < count {
-        let line = row_line(&rest[used..]);
+        let line = row_line(rest);
         let RowLine::Row(kind, a, b, n) = line else {
             return Lines::Off(at + used);
         };
@@ -43,36 +45,41 @@ fn read_rows(rest: &[u8], at: usize, count: usize, out: &mut [u16]) -> Lines
         out[m] = kind;
         out[m + 1] = a;
         out[m + 2] = b;
+        let next = behind(rest, n);
+        rest = next;
         used += n;
         i += 1;
     }
-    Lines::Upto(at + used)
+    Lines::Upto(used)
 }
 
 // So many inclusions or questions, two numbers each.
-fn read_pairs(rest: &[u8], at: usize, count: usize, out: &mut [u16]) -> Lines
-    requires { ⌜ at + length (now rest) ≤ 8192 ⌝ }
+fn read_pairs(part: &[u8], at: usize, count: usize, out: &mut [u16]) -> Lines
+    requires { ⌜ at + length (now part) ≤ 8192 ⌝ }
     requires { ⌜ count * 2 ≤ length (now out) ⌝ }
-    ensures { λ r. ⌜ readLines pairAt count at (now (rest .entry)) ≡ partOf r (count * 2) (now (out .exit)) ⌝ }
-    ensures { λ r. ⌜ PartFits r (at + length (now (rest .entry))) ⌝ }
+    ensures { λ r. ⌜ readLines pairAt count at (now (part .entry)) ≡ partOf r at (now (part .entry)) (count * 2) (now (out .exit)) ⌝ }
+    ensures { λ r. ⌜ PartFits r (length (now (part .entry))) ⌝ }
 {
+    let mut rest = part;
     let mut used: usize = 0;
     let mut i: usize = 0;
     while i < count {
-        let line = below_line(&rest[used..]);
+        let line = below_line(rest);
         let PairLine::Two(left, right, n) = line else {
             return Lines::Off(at + used);
         };
         let m = i * 2;
         out[m] = left;
         out[m + 1] = right;
+        let next = behind(rest, n);
+        rest = next;
         used += n;
         i += 1;
     }
-    Lines::Upto(at + used)
+    Lines::Upto(used)
 }
 
-// A count, or a section's count of lines, and the place behind.
+// A count, or a section's count of lines, and the length used.
 pub enum Section {
     Through(usize, usize),
     Faulty(Refusal),
@@ -80,9 +87,8 @@ pub enum Section {
 
 // A count line. A count over its limit is refused with the table's place.
 fn read_count(rest: &[u8], at: usize, key: &[u8], limit: u16, table: usize) -> Section
-    requires { ⌜ at + length (now rest) ≤ 8192 ⌝ }
     requires { ⌜ length (now key) ≤ 16 ⌝ }
-    ensures { λ r. ⌜ Counts (now (key .entry)) limit table at (now (rest .entry)) (at + length (now (rest .entry))) r ⌝ }
+    ensures { λ r. ⌜ Counts (now (key .entry)) limit table at (now (rest .entry)) r ⌝ }
 {
     let found = number_line(rest, key);
     let Number::Value(count, n) = found else {
@@ -91,51 +97,67 @@ fn read_count(rest: &[u8], at: usize, key: &[u8], limit: u16, table: usize) -> S
     if limit < count {
         return Section::Faulty(Refusal::Limit(table));
     }
-    Section::Through(count as usize, at + n)
+    Section::Through(count as usize, n)
 }
 
 // The concept table.
-fn read_concepts(text: &[u8], at: usize, out: &mut [u16]) -> Section
-    requires { ⌜ at ≤ length (now text) ⌝ }
-    requires { ⌜ length (now text) ≤ 8192 ⌝ }
+fn read_concepts(rest: &[u8], at: usize, out: &mut [u16]) -> Section
+    requires { ⌜ at + length (now rest) ≤ 8192 ⌝ }
     requires { ⌜ 192 * 3 ≤ length (now out) ⌝ }
-    ensures { λ r. ⌜ Sectioned conceptsKey 192 0 rowAt 3 (now (text .entry)) at (length (now (text .entry))) r (now (out .exit)) ⌝ }
+    ensures { λ r. ⌜ Sectioned conceptsKey 192 0 rowAt 3 at (now (rest .entry)) r (now (out .exit)) ⌝ }
 {
-    let counted = read_count(&text[at..], at, b"entries=", 192, 0);
-    let Section::Through(count, start) = counted else {
+    let counted = read_count(rest, at, b"entries=", 192, 0);
+    let Section::Through(count, n) = counted else {
         return counted;
     };
-    let lines = read_rows(&text[start..], start, count, out);
+    let rows = behind(rest, n);
+    let lines = read_rows(rows, at + n, count, out);
     match lines {
-        Lines::Upto(end) => Section::Through(count, end),
+        Lines::Upto(m) => Section::Through(count, n + m),
         Lines::Off(place) => Section::Faulty(Refusal::BadText(place)),
     }
 }
 
 // The inclusions or the questions.
 fn read_section(
-    text: &[u8],
+    rest: &[u8],
     at: usize,
     key: &[u8],
     limit: u16,
     table: usize,
     out: &mut [u16],
 ) -> Section
-    requires { ⌜ at ≤ length (now text) ⌝ }
-    requires { ⌜ length (now text) ≤ 8192 ⌝ }
+    requires { ⌜ at + length (now rest) ≤ 8192 ⌝ }
     requires { ⌜ length (now key) ≤ 16 ⌝ }
     requires { ⌜ limit * 2 ≤ length (now out) ⌝ }
-    ensures { λ r. ⌜ Sectioned (now (key .entry)) limit table pairAt 2 (now (text .entry)) at (length (now (text .entry))) r (now (out .exit)) ⌝ }
+    ensures { λ r. ⌜ Sectioned (now (key .entry)) limit table pairAt 2 at (now (rest .entry)) r (now (out .exit)) ⌝ }
 {
-    let counted = read_count(&text[at..], at, key, limit, table);
-    let Section::Through(count, start) = counted else {
+    let counted = read_count(rest, at, key, limit, table);
+    let Section::Through(count, n) = counted else {
         return counted;
     };
-    let lines = read_pairs(&text[start..], start, count, out);
+    let pairs = behind(rest, n);
+    let lines = read_pairs(pairs, at + n, count, out);
     match lines {
-        Lines::Upto(end) => Section::Through(count, end),
+        Lines::Upto(m) => Section::Through(count, n + m),
         Lines::Off(place) => Section::Faulty(Refusal::BadText(place)),
     }
+}
+
+// The questions, with nothing behind them.
+fn read_questions(rest: &[u8], at: usize, out: &mut [u16]) -> Section
+    requires { ⌜ at + length (now rest) ≤ 8192 ⌝ }
+    requires { ⌜ 32 * 2 ≤ length (now out) ⌝ }
+    ensures { λ r. ⌜ Last at (now (rest .entry)) r (now (out .exit)) ⌝ }
+{
+    let asked = read_section(rest, at, b"questions=", 32, 2, out);
+    let Section::Through(count, n) = asked else {
+        return asked;
+    };
+    if n < rest.len() {
+        return Section::Faulty(Refusal::BadText(at + n));
+    }
+    Section::Through(count, n)
 }
 
 // The refusal of a section that was not read through.
@@ -143,9 +165,44 @@ fn fault(section: Section) -> Refusal
     ensures { λ r. ⌜ r ≡ faultOf section ⌝ }
 {
     match section {
-        Section::Through(_, at) => Refusal::BadText(at),
+        Section::Through(_, used) => Refusal::BadText(used),
         Section::Faulty(r) => r,
     }
+}
+
+// The tables behind the variables' count, into the caller's arrays.
+fn read_tables(
+    rest: &[u8],
+    at: usize,
+    variables: u16,
+    concepts: &mut [u16],
+    inclusions: &mut [u16],
+    questions: &mut [u16],
+) -> Read
+    requires { ⌜ at + length (now rest) ≤ 8192 ⌝ }
+    requires { ⌜ variables ≤ 8 ⌝ }
+    requires { ⌜ 192 * 3 ≤ length (now concepts) ⌝ }
+    requires { ⌜ 96 * 2 ≤ length (now inclusions) ⌝ }
+    requires { ⌜ 32 * 2 ≤ length (now questions) ⌝ }
+    ensures { λ r. ⌜ judgeConcepts variables at (now (rest .entry)) ≡ judgedBy r (now (concepts .exit)) (now (inclusions .exit)) (now (questions .exit)) ⌝ }
+    ensures { λ r. ⌜ ReadFits r ⌝ }
+{
+    let rows = read_concepts(rest, at, concepts);
+    let Section::Through(c, n) = rows else {
+        return Read::Rejected(fault(rows));
+    };
+    let second = behind(rest, n);
+    let b = at + n;
+    let given = read_section(second, b, b"inclusions=", 96, 1, inclusions);
+    let Section::Through(i, m) = given else {
+        return Read::Rejected(fault(given));
+    };
+    let third = behind(second, m);
+    let asked = read_questions(third, b + m, questions);
+    let Section::Through(q, _) = asked else {
+        return Read::Rejected(fault(asked));
+    };
+    Read::Problem(variables, c, i, q)
 }
 
 // The whole text, into the caller's arrays.
@@ -165,23 +222,9 @@ pub fn read_text(
         return Read::Rejected(Refusal::BadText(8192));
     }
     let counted = read_count(text, 0, b"blanks=", 8, 3);
-    let Section::Through(variables, a) = counted else {
+    let Section::Through(variables, n) = counted else {
         return Read::Rejected(fault(counted));
     };
-    let rows = read_concepts(text, a, concepts);
-    let Section::Through(c, b) = rows else {
-        return Read::Rejected(fault(rows));
-    };
-    let given = read_section(text, b, b"inclusions=", 96, 1, inclusions);
-    let Section::Through(i, d) = given else {
-        return Read::Rejected(fault(given));
-    };
-    let asked = read_section(text, d, b"questions=", 32, 2, questions);
-    let Section::Through(q, end) = asked else {
-        return Read::Rejected(fault(asked));
-    };
-    if end != text.len() {
-        return Read::Rejected(Refusal::BadText(end));
-    }
-    Read::Problem(variables as u16, c, i, q)
+    let rest = behind(text, n);
+    read_tables(rest, n, variables as u16, concepts, inclusions, questions)
 }

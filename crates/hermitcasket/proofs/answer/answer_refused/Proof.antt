@@ -1,5 +1,5 @@
 use native.Mathlib.Omega.{arith}
-use Rattle.hermitcasket.proofs.AnswerLaws.{wrote-code}
+use Rattle.hermitcasket.proofs.ProgramLaws.{wrote-code}
 use Rattle.hermitcasket.proofs.SizeLaws.{refused-room}
 use borrow.Author.Needs.{needs}
 use Rattle.hermitcasket.proofs.answer.answer_refused.Statement.{statement}

@@ -5,10 +5,6 @@ use Rattle.hermitcasket.proofs.LineLaws.{number-unkeyed, key-within, va
 use borrow.Author.Needs.{needs}
 use Rattle.hermitcasket.proofs.lines.number_line.Statement.{statement}
 use Rattle.hermitcasket.proofs.lines.number_line.Tie as tie
-use Rattle.hermitcasket.proofs.lines.number_line.Reads as reads
-use Rattle.hermitcasket.proofs.lines.number_line.Lts as lts
-use Rattle.hermitcasket.proofs.lines.read_number.Reads as read-number-reads
-use Rattle.hermitcasket.proofs.lines.starts_with.Reads as starts-with-reads
 
 starts-with-requires : tie.Need-starts-with-requires
 starts-with-requires c κs = search needs
@@ -16,14 +12,8 @@ starts-with-requires c κs = search needs
 returns : tie.Need-returns
 returns c = search number-unkeyed
 
-sub-read-number : tie.Need-sub-read-number
-sub-read-number c = search key-within
-
-part-read-number-start : tie.Need-part-read-number-start
-part-read-number-start c = search key-within
-
-part-read-number-end : tie.Need-part-read-number-end
-part-read-number-end c = search needs
+behind-requires : tie.Need-behind-requires
+behind-requires c κs = search key-within
 
 read-number-requires : tie.Need-read-number-requires
 read-number-requires c κs = search needs
@@ -31,10 +21,11 @@ read-number-requires c κs = search needs
 enum-known-found : tie.Need-enum-known-found
 enum-known-found c = search needs
 
-add-t13 : tie.Need-add-t13
-add-t13 c = let c' = c .before .before .before .before .before .before .before .before .before in
-    let h : length (c' .args .key .now) + c .before .found .given .0 .1 .0 ≤ length (c' .args .rest .now) = search value-within in
-    omega (arith, c' .good)
+add-t10 : tie.Need-add-t10
+add-t10 c =
+    let s = c .before .before .before .before .before .before .before .before .before in
+    let h : length (s .args .key .now) + c .before .found .given .0 .1 .0 ≤ length (s .args .rest .now) = search value-within in
+    omega (arith, s .good)
 
 returns-2 : tie.Need-returns-2
 returns-2 c = search value-line
@@ -51,12 +42,10 @@ number-line-spec =
     (tie.spec
     starts-with-requires
     returns
-    sub-read-number
-    part-read-number-start
-    part-read-number-end
+    behind-requires
     read-number-requires
     enum-known-found
-    add-t13
+    add-t10
     returns-2
     enum-told
     returns-3)

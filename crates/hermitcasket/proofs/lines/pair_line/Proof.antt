@@ -5,10 +5,6 @@ use Rattle.hermitcasket.proofs.LineLaws.{pair-unkeyed, key-within, firs
 use borrow.Author.Needs.{needs}
 use Rattle.hermitcasket.proofs.lines.pair_line.Statement.{statement}
 use Rattle.hermitcasket.proofs.lines.pair_line.Tie as tie
-use Rattle.hermitcasket.proofs.lines.pair_line.Reads as reads
-use Rattle.hermitcasket.proofs.lines.pair_line.Lts as lts
-use Rattle.hermitcasket.proofs.lines.read_number.Reads as read-number-reads
-use Rattle.hermitcasket.proofs.lines.starts_with.Reads as starts-with-reads
 
 starts-with-requires : tie.Need-starts-with-requires
 starts-with-requires c κs = search needs
@@ -16,14 +12,8 @@ starts-with-requires c κs = search needs
 returns : tie.Need-returns
 returns c = search pair-unkeyed
 
-sub-read-number : tie.Need-sub-read-number
-sub-read-number c = search key-within
-
-part-read-number-start : tie.Need-part-read-number-start
-part-read-number-start c = search key-within
-
-part-read-number-end : tie.Need-part-read-number-end
-part-read-number-end c = search needs
+behind-requires : tie.Need-behind-requires
+behind-requires c κs = search key-within
 
 read-number-requires : tie.Need-read-number-requires
 read-number-requires c κs = search needs
@@ -37,19 +27,8 @@ enum-told c = search needs
 returns-2 : tie.Need-returns-2
 returns-2 c = search first-none
 
-add-m : tie.Need-add-m
-add-m c = let c' = c .before .before .before .before .before .before .before .before .before in
-    let h : length (c' .args .key .now) + c .before .first .given .0 .1 .0 ≤ length (c' .args .rest .now) = search first-within in
-    omega (arith, c' .good)
-
-sub-read-number-2 : tie.Need-sub-read-number-2
-sub-read-number-2 c = search first-within
-
-part-read-number-start-2 : tie.Need-part-read-number-start-2
-part-read-number-start-2 c = search first-within
-
-part-read-number-end-2 : tie.Need-part-read-number-end-2
-part-read-number-end-2 c = search needs
+behind-requires-2 : tie.Need-behind-requires-2
+behind-requires-2 c κs = search first-within
 
 read-number-requires-2 : tie.Need-read-number-requires-2
 read-number-requires-2 c κs = search needs
@@ -64,9 +43,16 @@ returns-3 : tie.Need-returns-3
 returns-3 c = search second-none
 
 add-t14 : tie.Need-add-t14
-add-t14 c = let c' = c .before .before .before .before .before .before .before .before .before .before .before .before .before .before in
-    let h : length (c' .args .key .now) + c .before .before .before .before .before .before .first .given .0 .1 .0 + c .before .second .given .0 .1 .0 ≤ length (c' .args .rest .now) = search second-within in
-    omega (arith, c' .good)
+add-t14 c =
+    let s = c .before .before .before .before .before .before .before .before .before .before .before .before .before .before in
+    let h : length (s .args .key .now) + c .before .before .before .before .before .before .first .given .0 .1 .0 + c .before .second .given .0 .1 .0 ≤ length (s .args .rest .now) = search second-within in
+    omega (arith, s .good)
+
+add-t15 : tie.Need-add-t15
+add-t15 c =
+    let s = c .before .before .before .before .before .before .before .before .before .before .before .before .before .before in
+    let h : length (s .args .key .now) + c .before .before .before .before .before .before .first .given .0 .1 .0 + c .before .second .given .0 .1 .0 ≤ length (s .args .rest .now) = search second-within in
+    omega (arith, s .good)
 
 returns-4 : tie.Need-returns-4
 returns-4 c = search two-line
@@ -77,20 +63,16 @@ pair-line-spec =
     (tie.spec
     starts-with-requires
     returns
-    sub-read-number
-    part-read-number-start
-    part-read-number-end
+    behind-requires
     read-number-requires
     enum-known-first
     enum-told
     returns-2
-    add-m
-    sub-read-number-2
-    part-read-number-start-2
-    part-read-number-end-2
+    behind-requires-2
     read-number-requires-2
     enum-known-second
     enum-told-2
     returns-3
     add-t14
+    add-t15
     returns-4)

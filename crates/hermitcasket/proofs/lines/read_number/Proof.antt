@@ -1,7 +1,6 @@
 use Prim.Native.Nat.{_-_}
 use native.Mathlib.Omega.{arith}
 use lib.ListN.{length}
-use borrow.Author.Needs.{needs}
 use mathlib.Core.Path.{sym, _∙_}
 use Rattle.hermitcasket.proofs.NumberLaws.{Numbered, digit-right, numbered-none, numbered-end, numbered-empty, numbered-stop, numbered-wrong, numbered-more}
 use Rattle.hermitcasket.proofs.lines.read_number.Statement.{statement}

@@ -1,7 +1,6 @@
 use Prim.Native.Nat.{_-_}
 use native.Mathlib.Omega.{arith}
 use lib.ListN.{length}
-use borrow.Author.Needs.{needs}
 use Rattle.hermitcasket.proofs.NumberLaws.{Agree, agree-none, agree-short, agree-differ, agree-more, agree-done}
 use Rattle.hermitcasket.proofs.lines.starts_with.Statement.{statement}
 use Rattle.hermitcasket.proofs.lines.starts_with.Tie as tie

@@ -1,10 +1,9 @@
-use Prim.Native.Nat.{_+_, _-_, _≤_}
-use mathlib.Core.Path.{_≡_, refl, sym, ap, _∙_}
+use Prim.Native.Nat.{_-_, _≤_}
+use mathlib.Core.Path.{_≡_, refl}
 use native.Mathlib.Omega.{arith}
-use native.Mathlib.Numerals.{add-one}
 use borrow.Author.Needs.{needs}
-use lib.ListN.{length, set, length-set}
-use lib.Seq.{paste, paste-zero, paste-suc}
+use lib.ListN.{length, length-set}
+use lib.Seq.{paste, paste-zero}
 use Rattle.hermitcasket.proofs.WriteLaws.{wrote-paste, paste-more}
 use Rattle.hermitcasket.proofs.print.put_bytes.Statement.{statement}
 use Rattle.hermitcasket.proofs.print.put_bytes.Tie as tie

@@ -1,5 +1,4 @@
 use Rattle.hermitcasket.proofs.WriteLaws.{room-1, room-2, room-3, wrote-three}
-use mathlib.Core.List.{[], _∷_}
 use Rattle.hermitcasket.specs.Lines.{numberText}
 use Rattle.hermitcasket.specs.Printing.{refusedLine, numberKey, placeKey, refusedText}
 use borrow.Author.Needs.{needs}

@@ -1,23 +1,10 @@
 use Prim.Native.Nat.{_+_, _≤_}
 use native.Mathlib.Omega.{arith}
 use lib.ListN.{length}
-use Rattle.hermitcasket.proofs.SectionLaws.{counted-few, counted-within, lines-room, section-refused, section-off, section-through}
+use Rattle.hermitcasket.proofs.SectionLaws.{counted-few, counted-within, lines-room, lines-used, section-refused, section-off, section-through}
 use borrow.Author.Needs.{needs}
 use Rattle.hermitcasket.proofs.text.read_concepts.Statement.{statement}
 use Rattle.hermitcasket.proofs.text.read_concepts.Tie as tie
-use Rattle.hermitcasket.proofs.text.read_concepts.Reads as reads
-use Rattle.hermitcasket.proofs.text.read_concepts.Lts as lts
-use Rattle.hermitcasket.proofs.text.read_count.Reads as read-count-reads
-use Rattle.hermitcasket.proofs.text.read_rows.Reads as read-rows-reads
-
-sub-read-count : tie.Need-sub-read-count
-sub-read-count c = search needs
-
-part-read-count-start : tie.Need-part-read-count-start
-part-read-count-start c = search needs
-
-part-read-count-end : tie.Need-part-read-count-end
-part-read-count-end c = search needs
 
 slice-aggregate-read-count : tie.Need-slice-aggregate-read-count
 slice-aggregate-read-count c = search needs
@@ -34,24 +21,23 @@ enum-told c = search needs
 returns : tie.Need-returns
 returns c = search section-refused
 
-sub-read-rows : tie.Need-sub-read-rows
-sub-read-rows c = search counted-within
+behind-requires : tie.Need-behind-requires
+behind-requires c κs = search counted-within
 
-part-read-rows-start : tie.Need-part-read-rows-start
-part-read-rows-start c = search counted-within
-
-part-read-rows-end : tie.Need-part-read-rows-end
-part-read-rows-end c = search needs
+add-read-rows : tie.Need-add-read-rows
+add-read-rows c = omega (arith, counted-within _ _ _ _ _ _ (c .before .before .before .before .read-count .ensures) _ _ (c .before .before .counted .given .1), c .before .before .before .before .before .before .before .before .pre)
 
 read-rows-requires : tie.Need-read-rows-requires
-read-rows-requires c κs = (
-  search lines-room,
-  (let h : c .before .before .before .counted .given .0 .0 ≤ 192 = search counted-few in
-      omega (arith, c .before .before .before .before .before .before .before .before .before .before .pre)),
-)
+read-rows-requires c κs = (search lines-room, omega (arith, counted-few _ _ _ _ _ _ (c .before .before .before .before .before .read-count .ensures) _ _ (c .before .before .before .counted .given .1), c .before .before .before .before .before .before .before .before .before .pre))
 
 enum-known-lines : tie.Need-enum-known-lines
 enum-known-lines c = search needs
+
+add-t18 : tie.Need-add-t18
+add-t18 c =
+    let s = c .before .before .before .before .before .before .before .before .before .before .before .before .before .before .before in
+    let h : c .before .before .before .before .before .before .before .before .before .counted .given .0 .1 .0 + c .before .lines .given .0 .0 ≤ length (s .args .rest .now) = search lines-used in
+    omega (arith, s .good)
 
 enum-known-lines-2 : tie.Need-enum-known-lines-2
 enum-known-lines-2 c = search needs
@@ -72,19 +58,16 @@ pub read-concepts-spec : {M : Type 1} → statement M
 read-concepts-spec =
     tie.close
     (tie.spec
-    sub-read-count
-    part-read-count-start
-    part-read-count-end
     slice-aggregate-read-count
     read-count-requires
     enum-known-counted
     enum-told
     returns
-    sub-read-rows
-    part-read-rows-start
-    part-read-rows-end
+    behind-requires
+    add-read-rows
     read-rows-requires
     enum-known-lines
+    add-t18
     enum-known-lines-2
     same-length
     returns-2

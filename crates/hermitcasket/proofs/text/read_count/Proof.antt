@@ -1,13 +1,7 @@
-use Prim.Native.Nat.{_+_, _≤_}
-use native.Mathlib.Omega.{arith}
-use lib.ListN.{length}
-use Rattle.hermitcasket.proofs.SectionLaws.{count-none, number-within, count-over, count-through}
+use Rattle.hermitcasket.proofs.SectionLaws.{count-none, count-over, count-through}
 use borrow.Author.Needs.{needs}
 use Rattle.hermitcasket.proofs.text.read_count.Statement.{statement}
 use Rattle.hermitcasket.proofs.text.read_count.Tie as tie
-use Rattle.hermitcasket.proofs.text.read_count.Reads as reads
-use Rattle.hermitcasket.proofs.text.read_count.Lts as lts
-use Rattle.hermitcasket.proofs.lines.number_line.Reads as number-line-reads
 
 number-line-requires : tie.Need-number-line-requires
 number-line-requires c κs = search needs
@@ -27,24 +21,10 @@ returns-2 c = search count-over
 cast-t12 : tie.Need-cast-t12
 cast-t12 c = search needs
 
-add-t13 : tie.Need-add-t13
-add-t13 c =
-    let s = c .before .before .before .before .before .before .before in
-    let h : c .before .before .found .given .0 .1 .0 ≤ length (s .args .rest .now) = search number-within in
-    omega (arith, s .pre)
-
 returns-3 : tie.Need-returns-3
 returns-3 c = search count-through
 
 pub read-count-spec : {M : Type 1} → statement M
 read-count-spec =
     tie.close
-    (tie.spec
-    number-line-requires
-    enum-known-found
-    enum-told
-    returns
-    returns-2
-    cast-t12
-    add-t13
-    returns-3)
+    (tie.spec number-line-requires enum-known-found enum-told returns returns-2 cast-t12 returns-3)

@@ -1,33 +1,21 @@
 use Prim.Native.Nat.{_+_, _-_, _≤_}
-use mathlib.Core.Path.{_≡_, refl, _∙_}
+use mathlib.Core.Path.{_≡_, refl}
 use native.Mathlib.Omega.{arith}
 use borrow.Author.Needs.{needs}
 use lib.ListN.{length, length-set}
 use Rattle.hermitcasket.specs.Text.{rowAt}
-use Rattle.hermitcasket.proofs.PartLaws.{Lined, lined-none, lined-done, rows-off, rows-within, rows-more}
+use Rattle.hermitcasket.proofs.PartLaws.{Lined, lined-none, lined-done, rows-off, rows-within, rows-used, rows-more}
 use Rattle.hermitcasket.proofs.text.read_rows.Statement.{statement}
 use Rattle.hermitcasket.proofs.text.read_rows.Tie as tie
-use Rattle.hermitcasket.proofs.text.read_rows.Reads as reads
-use Rattle.hermitcasket.proofs.text.read_rows.Lts as lts
-use Rattle.hermitcasket.proofs.lines.row_line.Reads as row-line-reads
 
 abbrev Inv-loop : tie.InvT-loop
-Inv-loop rest at count out₀ used₀ i₀ out used i = (length out ≡ length out₀) × Lined rowAt 3 count at rest out i used
+Inv-loop part at count out₀ rest₀ used₀ i₀ out rest used i = (length out ≡ length out₀) × Lined rowAt 3 count at part out rest i used
 
 abbrev μ-loop : tie.MeasureT-loop
-μ-loop rest at count out₀ used₀ i₀ out used i = count - i
+μ-loop part at count out₀ rest₀ used₀ i₀ out rest used i = count - i
 
 loop-holds : tie.Need-loop-holds Inv-loop μ-loop
 loop-holds c = (refl, lined-none _ _ _ _ _ _)
-
-sub-row-line : tie.Need-sub-row-line Inv-loop μ-loop
-sub-row-line c = search needs
-
-part-row-line-start : tie.Need-part-row-line-start Inv-loop μ-loop
-part-row-line-start c = search needs
-
-part-row-line-end : tie.Need-part-row-line-end Inv-loop μ-loop
-part-row-line-end c = search needs
 
 row-line-requires : tie.Need-row-line-requires Inv-loop μ-loop
 row-line-requires c κs = search needs
@@ -38,8 +26,8 @@ enum-known-line c = search needs
 enum-told : tie.Need-enum-told Inv-loop μ-loop
 enum-told c = search needs
 
-add-t18 : tie.Need-add-t18 Inv-loop μ-loop
-add-t18 c = search needs
+add-t16 : tie.Need-add-t16 Inv-loop μ-loop
+add-t16 c = search needs
 
 same-length : tie.Need-same-length Inv-loop μ-loop
 same-length c = search needs
@@ -74,11 +62,14 @@ mul-out-3 c = search needs
 slice-write-out-3 : tie.Need-slice-write-out-3 Inv-loop μ-loop
 slice-write-out-3 c = simp length-set (omega arith)
 
+behind-requires : tie.Need-behind-requires Inv-loop μ-loop
+behind-requires c κs = search rows-within
+
 add-used : tie.Need-add-used Inv-loop μ-loop
 add-used c =
-    let l = c .before .before .before .before .before .before .loop in
-    let h : l .used + c .before .line .given .0 .1 .1 .1 .0 ≤ length (c .before .before .before .before .before .before .before .before .before .args .rest .now) = search rows-within in
-    omega (arith, c .before .before .before .before .before .before .before .before .before .pre)
+    let s = c .before .before .before .before .before .before .before .before .before in
+    let h : c .before .before .before .before .before .before .loop .used + c .before .before .line .given .0 .1 .1 .1 .0 ≤ length (s .args .part .now) = search rows-used in
+    omega (arith, s .pre)
 
 add-i : tie.Need-add-i Inv-loop μ-loop
 add-i c = search needs
@@ -88,9 +79,6 @@ loop-less c = search needs
 
 loop-again : tie.Need-loop-again Inv-loop μ-loop
 loop-again c = (simp length-set (c .before .before .before .before .before .before .loop .inv .0), search rows-more)
-
-add-t23 : tie.Need-add-t23 Inv-loop μ-loop
-add-t23 c = search needs
 
 same-length-2 : tie.Need-same-length-2 Inv-loop μ-loop
 same-length-2 c = search needs
@@ -105,13 +93,10 @@ read-rows-spec =
     Inv-loop
     μ-loop
     loop-holds
-    sub-row-line
-    part-row-line-start
-    part-row-line-end
     row-line-requires
     enum-known-line
     enum-told
-    add-t18
+    add-t16
     same-length
     returns
     mul-m
@@ -123,10 +108,10 @@ read-rows-spec =
     add-out-2
     mul-out-3
     slice-write-out-3
+    behind-requires
     add-used
     add-i
     loop-less
     loop-again
-    add-t23
     same-length-2
     returns-2)

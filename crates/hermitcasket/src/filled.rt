@@ -1,0 +1,104 @@
+// The filled answer: for each variable in turn the line of the ids that are listed for it.
+use crate::print::put_bytes;
+use crate::print::put_fill;
+use crate::print::put_line;
+ghost use mathlib.Core.Path.{_≡_};
+ghost use Prim.Native.Nat.{_+_, _<_, _≤_};
+ghost use lib.ListN.{length};
+ghost use Rattle.subsumption.specs.declared.refusal.Outcome.the-variants.{Done};
+ghost use Rattle.subsumption.specs.Tables.{tables};
+ghost use Rattle.subsumption.specs.Atoms.{atoms, chosen};
+ghost use Rattle.subsumption.specs.Check.{tableFault, assignmentFault};
+ghost use Rattle.hermitcasket.specs.Printing.{Wrote, fillText, fillsText, filledText};
+
+// Tables and assignment are accepted, so the listing is not refused.
+fn put_variable(
+    concepts: &[u16],
+    inclusions: &[u16],
+    questions: &[u16],
+    variables: u16,
+    assignment: &[u64],
+    variable: u16,
+    at: usize,
+    out: &mut [u8],
+) -> usize
+    requires { ⌜ tableFault (tables (now concepts) (now inclusions) (now questions) variables) ≡ Done ⌝ }
+    requires { ⌜ assignmentFault (tables (now concepts) (now inclusions) (now questions) variables) (now assignment) ≡ Done ⌝ }
+    requires { ⌜ variable < variables ⌝ }
+    requires { ⌜ at + length (fillText (chosen (tables (now concepts) (now inclusions) (now questions) variables) (now assignment) variable)) ≤ length (now out) ⌝ }
+    ensures { λ r. ⌜ Wrote (now (out .entry)) at (fillText (chosen (tables (now (concepts .entry)) (now (inclusions .entry)) (now (questions .entry)) variables) (now (assignment .entry)) variable)) r (now (out .exit)) ⌝ }
+{
+    let mut buffer = [0u16; 64];
+    let mut number: u16 = 0;
+    let mut place: u64 = 0;
+    let ids = matching::list_chosen(
+        concepts,
+        inclusions,
+        questions,
+        variables,
+        assignment,
+        variable,
+        &mut buffer,
+        &mut number,
+        &mut place,
+    );
+    put_fill(ids, at, out)
+}
+
+fn put_fills(
+    concepts: &[u16],
+    inclusions: &[u16],
+    questions: &[u16],
+    variables: u16,
+    assignment: &[u64],
+    at: usize,
+    out: &mut [u8],
+) -> usize
+    requires { ⌜ tableFault (tables (now concepts) (now inclusions) (now questions) variables) ≡ Done ⌝ }
+    requires { ⌜ assignmentFault (tables (now concepts) (now inclusions) (now questions) variables) (now assignment) ≡ Done ⌝ }
+    requires { ⌜ at + length (fillsText (atoms (tables (now concepts) (now inclusions) (now questions) variables)) (now assignment)) ≤ length (now out) ⌝ }
+    ensures { λ r. ⌜ Wrote (now (out .entry)) at (fillsText (atoms (tables (now (concepts .entry)) (now (inclusions .entry)) (now (questions .entry)) variables)) (now (assignment .entry))) r (now (out .exit)) ⌝ }
+{
+    let mut end = at;
+    let mut k: u16 = 0;
+    while k < variables {
+        end = put_variable(
+            concepts,
+            inclusions,
+            questions,
+            variables,
+            assignment,
+            k,
+            end,
+            out,
+        );
+        k += 1;
+    }
+    end
+}
+
+pub fn put_filled(
+    concepts: &[u16],
+    inclusions: &[u16],
+    questions: &[u16],
+    variables: u16,
+    assignment: &[u64],
+    out: &mut [u8],
+) -> usize
+    requires { ⌜ tableFault (tables (now concepts) (now inclusions) (now questions) variables) ≡ Done ⌝ }
+    requires { ⌜ assignmentFault (tables (now concepts) (now inclusions) (now questions) variables) (now assignment) ≡ Done ⌝ }
+    requires { ⌜ 0 + length (filledText (atoms (tables (now concepts) (now inclusions) (now questions) variables)) (now assignment)) ≤ length (now out) ⌝ }
+    ensures { λ r. ⌜ Wrote (now (out .entry)) 0 (filledText (atoms (tables (now (concepts .entry)) (now (inclusions .entry)) (now (questions .entry)) variables)) (now (assignment .entry))) r (now (out .exit)) ⌝ }
+{
+    let a = put_bytes(b"answer=filled\n", 0, out);
+    let b = put_line(b"blanks=", assignment.len(), a, out);
+    put_fills(
+        concepts,
+        inclusions,
+        questions,
+        variables,
+        assignment,
+        b,
+        out,
+    )
+}
