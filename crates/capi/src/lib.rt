@@ -158,7 +158,6 @@ pub extern "C" fn hc_match(
     let answer = matching::find_assignment(concepts, inclusions, questions, variables, out);
     match answer {
         Match::Rejected(r) => refused(r),
-        Match::Nothing => refused(Refusal::NoAssignment),
         Match::Filled => done(0),
     }
 }

@@ -2,12 +2,13 @@
 use Prim.Native.Nat.{ℕ, _+_, _*_, _≤_}
 use mathlib.Core.Path.{_≡_, refl, sym, ap, _∙_, subst}
 use mathlib.Core.List.{List, _++_}
-use mathlib.Core.Logic.{inl, inr}
+use mathlib.Core.Logic.{inl, inr, ⊎-elim}
 use native.Mathlib.Omega.{arith}
 use lib.ListN.{length, take, drop, length-append}
 use lib.Seq.{take-append-seam, drop-append-seam, length-take-le}
-use borrow.Author.Tests.{le-ltb}
+use borrow.Author.Tests.{le-ltb, eq-eqb, ne-eqb}
 use Rattle.subsumption.specs.declared.refusal.Refusal.{Refusal}
+use Rattle.subsumption.specs.declared.refusal.Refusal.the-variants.{NoAssignment}
 use Rattle.subsumption.specs.declared.refusal.Code.{Code}
 use Rattle.subsumption.specs.declared.refusal.Outcome.{Outcome}
 use Rattle.subsumption.specs.declared.refusal.Outcome.the-variants.{Done, Refused}
@@ -15,14 +16,15 @@ use Rattle.subsumption.specs.Tables.{Tables, tables}
 use Rattle.subsumption.specs.Atoms.{atoms}
 use Rattle.subsumption.specs.Refusal.{codeOf, orElse, refuseIf}
 use Rattle.subsumption.specs.Check.{tableFault, assignmentFault, bufferFault}
+use Rattle.subsumption.proofs.Replies.{same-refusal, not-done}
 use Rattle.matching.specs.declared.find.Match.{Match}
-use Rattle.matching.specs.declared.find.Match.the-variants.{Filled, Nothing, Rejected as NotFound}
-use Rattle.matching.specs.Finding.{findingFault, FilledBy, Finds}
+use Rattle.matching.specs.declared.find.Match.the-variants.{Filled, Rejected as NotFound}
+use Rattle.matching.specs.Finding.{findingFault, FilledBy, matchReply, FindsAfter, Finds}
 use Rattle.hermitcasket.specs.declared.text.Read.{Read}
 use Rattle.hermitcasket.specs.declared.text.Read.the-variants.{Problem, Rejected}
 use Rattle.hermitcasket.specs.Text.{Judged, accepted, judge}
 use Rattle.hermitcasket.specs.Reading.{judgedBy, ReadFits}
-use Rattle.hermitcasket.specs.Printing.{noneLine, filledText, refusedText, placed, Wrote}
+use Rattle.hermitcasket.specs.Printing.{noneLine, filledText, refusedText, pickText, codeText, placed, Wrote}
 use Rattle.hermitcasket.specs.Answer.{AnsweredTables, AnsweredJudged, Answered, Output}
 use Rattle.hermitcasket.proofs.SizeLaws.{filled-room}
 
@@ -48,15 +50,19 @@ module _ (Right : List ℕ → Type 0) (before bytes : List ℕ) (size : ℕ) (a
       }
 
 -- ---- a refusal
-pub wrote-code :
-    (refusal : Refusal) (code : Code) → code ≡ codeOf refusal → (out : List ℕ) (end : ℕ) (exit : List ℕ) → Wrote out 0 (refusedText code) end exit
-    → Wrote out 0 (refusedText (codeOf refusal)) end exit
-wrote-code refusal code e out end exit w = subst (λ (z : Code). Wrote out 0 (refusedText z) end exit) e w
+module _ (refusal : Refusal) (code : Code) (e : code ≡ codeOf refusal) (out : List ℕ) (end : ℕ) (exit : List ℕ) where
+  pub wrote-none : code .number ≡ 10 → Wrote out 0 noneLine end exit → Wrote out 0 (codeText (codeOf refusal)) end exit
+  unfolding codeText pickText
+  wrote-none h w = rw (← e, eq-eqb (code .number) 10 h) w
+
+  pub wrote-code : (code .number ≡ 10 → ⊥) → Wrote out 0 (refusedText code) end exit → Wrote out 0 (codeText (codeOf refusal)) end exit
+  unfolding codeText pickText
+  wrote-code h w = rw (← e, ne-eqb (code .number) 10 h) w
 
 -- ---- tables
 module _
     (t : Tables) (few : t .variables ≤ 8) (old new : List ℕ) (eight : length old ≡ 8) (found : Match)
-    (finds : Finds t old new (findingFault t (length old)) found) where
+    (finds : Finds t old new (matchReply found)) where
   same-fault : findingFault t (length old) ≡ tableFault t
   unfolding findingFault bufferFault refuseIf orElse
   same-fault = rw (le-ltb (length old) (t .variables) (omega arith)) (go (tableFault t))
@@ -65,18 +71,22 @@ module _
       go Done = refl
       go (Refused r) = refl
 
-  by-tables : Finds t old new (tableFault t) found
-  by-tables = subst (λ (z : Outcome). Finds t old new z found) same-fault finds
+  said : (y : Match) → found ≡ y → (o : Outcome) → tableFault t ≡ o → FindsAfter o t old new (matchReply y)
+  said y e o f =
+      subst (λ (z : Outcome). FindsAfter z t old new (matchReply y)) (same-fault ∙ f) (subst (λ (z : Match). Finds t old new (matchReply z)) e finds)
+
+  filled : found ≡ Filled → (tableFault t ≡ Done) × FilledBy t old new
+  filled e = go (tableFault t) refl
+    where
+      go : (o : Outcome) → tableFault t ≡ o → (tableFault t ≡ Done) × FilledBy t old new
+      go Done f = ⊎-elim (λ (_, b). (f, b)) (λ (g, _). not-done NoAssignment 0 (sym g)) (said Filled e Done f)
+      go (Refused r) f = not-done r 0 (sym (said Filled e (Refused r) f .0))
 
   pub filled-sound : found ≡ Filled → tableFault t ≡ Done
-  filled-sound e = go (tableFault t) refl
-    where
-      go : (o : Outcome) → tableFault t ≡ o → tableFault t ≡ Done
-      go Done f = f
-      go (Refused r) f = absurd (let g = subst (λ (z : Outcome). Finds t old new z found) f by-tables .0 in let z : _≡_ {A = ℕ} 0 1 = cc (e, g) in omega arith)
+  filled-sound e = filled e .0
 
   filled-by : found ≡ Filled → FilledBy t old new
-  filled-by e = subst (λ (z : Match). Finds t old new Done z) e (subst (λ (z : Outcome). Finds t old new z found) (filled-sound e) by-tables)
+  filled-by e = filled e .1
 
   pub filled-count : found ≡ Filled → t .variables ≤ length new
   filled-count e = omega (arith, filled-by e .size)
@@ -97,33 +107,30 @@ module _
         output _ before _ size after w
         (subst (λ (z : Outcome). AnsweredTables t z (filledText (atoms t) (take (t .variables) new))) (sym (filled-sound e)) (inl (take (t .variables) new, filled-by e .first, refl)))
 
-    pub answered-none : found ≡ Nothing → Wrote before 0 noneLine size after → Output (AnsweredTables t (tableFault t)) before size after
-    answered-none e w = output _ before noneLine size after w (go (tableFault t) refl)
-      where
-        go : (o : Outcome) → tableFault t ≡ o → AnsweredTables t (tableFault t) noneLine
-        go Done f =
-            subst (λ (z : Outcome). AnsweredTables t z noneLine) (sym f)
-            (inr (subst (λ (z : Match). Finds t old new Done z) e (subst (λ (z : Outcome). Finds t old new z found) f by-tables) .none, refl))
-        go (Refused r) f = absurd (let g = subst (λ (z : Outcome). Finds t old new z found) f by-tables .0 in let z : _≡_ {A = ℕ} 0 1 = cc (e, g) in omega arith)
-
-    pub answered-refused : (r : Refusal) → found ≡ NotFound r → Wrote before 0 (refusedText (codeOf r)) size after → Output (AnsweredTables t (tableFault t)) before size after
+    pub answered-refused : (r : Refusal) → found ≡ NotFound r → Wrote before 0 (codeText (codeOf r)) size after → Output (AnsweredTables t (tableFault t)) before size after
+    unfolding codeText pickText
     answered-refused r e w = output _ before _ size after w (go (tableFault t) refl)
       where
-        go : (o : Outcome) → tableFault t ≡ o → AnsweredTables t (tableFault t) (refusedText (codeOf r))
-        go Done f = absurd (subst (λ (z : Match). Finds t old new Done z) e (subst (λ (z : Outcome). Finds t old new z found) f by-tables))
+        none : codeText (codeOf NoAssignment) ≡ noneLine
+        none = refl
+
+        go : (o : Outcome) → tableFault t ≡ o → AnsweredTables t (tableFault t) (codeText (codeOf r))
+        go Done f =
+            subst (λ (z : Outcome). AnsweredTables t z (codeText (codeOf r))) (sym f)
+            (⊎-elim (λ (g, _). not-done r 0 g)
+            (λ (g, n). inr (n .none, ap (λ (z : Refusal). codeText (codeOf z)) (same-refusal r NoAssignment g) ∙ none)) (said (NotFound r) e Done f))
         go (Refused x) f =
-            let g = subst (λ (z : Outcome). Finds t old new z found) f by-tables .0 in
-            let rx : x ≡ r = cc (e, g) in
-            subst (λ (z : Outcome). AnsweredTables t z (refusedText (codeOf r))) (sym f) (ap (λ (z : Refusal). refusedText (codeOf z)) (sym rx))
+            subst (λ (z : Outcome). AnsweredTables t z (codeText (codeOf r))) (sym f)
+            (ap (λ (z : Refusal). codeText (codeOf z)) (same-refusal r x (said (NotFound r) e (Refused x) f .0)))
 
 -- ---- a text
 module _ (text concepts inclusions questions : List ℕ) (read : Read) (judged : judge text ≡ judgedBy read concepts inclusions questions) where
   module _ (before : List ℕ) (size : ℕ) (after : List ℕ) where
-    pub text-refused : (r : Refusal) → read ≡ Rejected r → Wrote before 0 (refusedText (codeOf r)) size after → Output (Answered text) before size after
+    pub text-refused : (r : Refusal) → read ≡ Rejected r → Wrote before 0 (codeText (codeOf r)) size after → Output (Answered text) before size after
     unfolding judgedBy
     text-refused r e w =
         output _ before _ size after w
-        (subst (λ (z : Judged). AnsweredJudged z (refusedText (codeOf r))) (sym (judged ∙ ap (λ (z : Read). judgedBy z concepts inclusions questions) e)) refl)
+        (subst (λ (z : Judged). AnsweredJudged z (codeText (codeOf r))) (sym (judged ∙ ap (λ (z : Read). judgedBy z concepts inclusions questions) e)) refl)
 
     pub text-answered :
         (v c i q : ℕ) → read ≡ Problem v c i q

@@ -12,19 +12,19 @@ use Rattle.subsumption.specs.Refusal.{codeOf}
 use Rattle.subsumption.specs.Check.{tableFault}
 use Rattle.matching.specs.Solving.{Substitution, SolvesBy, First}
 use Rattle.hermitcasket.specs.Text.{Judged, accepted, refused, judge}
-use Rattle.hermitcasket.specs.Printing.{noneLine, filledText, refusedText}
+use Rattle.hermitcasket.specs.Printing.{noneLine, filledText, codeText}
 
 -- Tables: the first assignment that solves, or none where no substitution solves, unless the tables are refused.
 abbrev pub AnsweredTables : Tables → Outcome → List ℕ → Type 0
 AnsweredTables t Done output =
     ((assignment : List ℕ) × First t assignment × (output ≡ filledText (atoms t) assignment))
     ⊎ (((σ : Substitution t) → SolvesBy t σ → ⊥) × (output ≡ noneLine))
-AnsweredTables t (Refused r) output = output ≡ refusedText (codeOf r)
+AnsweredTables t (Refused r) output = output ≡ codeText (codeOf r)
 
 -- A text: its refusal, or the answer for the tables that it says.
 abbrev pub AnsweredJudged : Judged → List ℕ → Type 0
 AnsweredJudged (accepted t) output = AnsweredTables t (tableFault t) output
-AnsweredJudged (refused r) output = output ≡ refusedText (codeOf r)
+AnsweredJudged (refused r) output = output ≡ codeText (codeOf r)
 
 abbrev pub Answered : List ℕ → List ℕ → Type 0
 Answered text output = AnsweredJudged (judge text) output

@@ -3,6 +3,7 @@ use Prim.Native.Nat.{ℕ, _+_}
 use mathlib.Core.Path.{_≡_}
 use mathlib.Core.List.{List, [], _∷_, _++_}
 use mathlib.Core.Bool.{Bool, true, false}
+use lib.Dec.{eqb}
 use lib.ListN.{length, take, drop}
 use Rattle.subsumption.specs.declared.refusal.Code.{Code}
 use Rattle.subsumption.specs.Atoms.{pick}
@@ -53,6 +54,14 @@ filledText atoms assignment = filledLine ++ (numberText variablesKey (length ass
 
 unfoldable pub refusedText : Code → List ℕ
 refusedText code = refusedLine ++ (numberText numberKey (code .number) ++ numberText placeKey (code .place))
+
+unfoldable pub pickText : Bool → List ℕ → List ℕ → List ℕ
+pickText true a b = a
+pickText false a b = b
+
+-- Refusal 10 is one line; any other is told by its number and place.
+unfoldable pub codeText : Code → List ℕ
+codeText code = pickText (eqb (code .number) 10) noneLine (refusedText code)
 
 -- ---- what the printing functions do to the buffer
 

@@ -12,14 +12,17 @@ ghost use lib.ListN.{length};
 ghost use Rattle.subsumption.specs.Tables.{tables};
 ghost use Rattle.subsumption.specs.Refusal.{codeOf};
 ghost use Rattle.subsumption.specs.Check.{tableFault};
-ghost use Rattle.hermitcasket.specs.Printing.{Wrote, refusedText};
+ghost use Rattle.hermitcasket.specs.Printing.{Wrote, codeText};
 ghost use Rattle.hermitcasket.specs.Answer.{AnsweredTables, Answered, Output};
 
 fn answer_refused(refusal: Refusal, out: &mut [u8]) -> usize
     requires { ⌜ 4096 ≤ length (now out) ⌝ }
-    ensures { λ r. ⌜ Wrote (now (out .entry)) 0 (refusedText (codeOf refusal)) r (now (out .exit)) ⌝ }
+    ensures { λ r. ⌜ Wrote (now (out .entry)) 0 (codeText (codeOf refusal)) r (now (out .exit)) ⌝ }
 {
     let code = code_of(refusal);
+    if code.number == 10 {
+        return put_none(out);
+    }
     put_refused(code, out)
 }
 
@@ -55,7 +58,6 @@ fn answer_tables(
                 out,
             )
         }
-        Match::Nothing => put_none(out),
         Match::Rejected(r) => answer_refused(r, out),
     }
 }

@@ -13,7 +13,7 @@ use lib.Seq.{getD-set-same, getD-set-other, getD-take, getD-drop, length-take-le
 use Rattle.subsumption.specs.declared.refusal.Outcome.{Outcome}
 use Rattle.subsumption.specs.declared.refusal.Outcome.the-variants.{Done, Refused}
 use Rattle.subsumption.specs.declared.refusal.Refusal.{Refusal}
-use Rattle.subsumption.specs.declared.refusal.Refusal.the-variants.{BufferTooShort}
+use Rattle.subsumption.specs.declared.refusal.Refusal.the-variants.{BufferTooShort, NoAssignment}
 use Rattle.subsumption.specs.Tables.{Tables, both}
 use Rattle.subsumption.specs.Atoms.{atoms, bit}
 use Rattle.subsumption.specs.Check.{tableFault, assignmentFault, bufferFault}
@@ -26,7 +26,7 @@ use Rattle.subsumption.proofs.Refusals.{stops, goes-on, done-le, refused-lt}
 use Rattle.subsumption.proofs.Accepted.{wellFormed}
 use Rattle.matching.specs.Solving.{takes, Solves, First}
 use Rattle.matching.specs.Search.{Within, Between, IntervalOf, SolutionIn, NoSolution, FirstIn, Full, Found, FoundBy, Copied}
-use Rattle.matching.specs.declared.find.Match.the-variants.{Filled, Nothing}
+use Rattle.matching.specs.declared.find.Match.the-variants.{Filled}
 use Rattle.matching.specs.Finding.{findingFault, matchReply, FindsAfter, Finds}
 use Rattle.matching.proofs.Choices.{one-bit}
 use Rattle.matching.proofs.Conjoined.{some-solves}
@@ -206,7 +206,7 @@ module _ (t : Tables) (before after : List ℕ) (ok : tableFault t ≡ Done) (ro
       ))
 
   pub finds-nothing :
-      (b : Bool) (choice : List ℕ) → FoundBy t b choice → b ≡ false → after ≡ before → Finds t before after (matchReply Nothing)
+      (b : Bool) (choice : List ℕ) → FoundBy t b choice → b ≡ false → after ≡ before → Finds t before after (replyRefused NoAssignment)
   finds-nothing b choice g y k =
-      subst (λ (z : Outcome). FindsAfter z t before after (matchReply Nothing)) passed
+      subst (λ (z : Outcome). FindsAfter z t before after (replyRefused NoAssignment)) passed
       (inr (refl, record { none = none-by-substitution t ok (subst (λ (z : Bool). FoundBy t z choice) y g); kept = k }))

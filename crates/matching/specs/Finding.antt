@@ -8,7 +8,7 @@ use Rattle.subsumption.specs.declared.refusal.Refusal.the-variants.{NoAssignmen
 use Rattle.subsumption.specs.declared.refusal.Outcome.{Outcome}
 use Rattle.subsumption.specs.declared.refusal.Outcome.the-variants.{Done, Refused}
 use Rattle.matching.specs.declared.find.Match.{Match}
-use Rattle.matching.specs.declared.find.Match.the-variants.{Filled, Nothing, Rejected}
+use Rattle.matching.specs.declared.find.Match.the-variants.{Filled, Rejected}
 use Rattle.subsumption.specs.Tables.{Tables}
 use Rattle.subsumption.specs.Refusal.{Reply, replyDone, replyRefused, orElse}
 use Rattle.subsumption.specs.Check.{tableFault, bufferFault}
@@ -35,9 +35,9 @@ pub record NoneSolves (t : Tables) (before after : List ℕ) : Type 0 where
   pub none : (σ : Substitution t) → SolvesBy t σ → ⊥
   pub kept : after ≡ before
 
+-- No value: what is found is written.
 abbrev pub matchReply : Match → Reply
 matchReply Filled = replyDone 0
-matchReply Nothing = replyRefused NoAssignment
 matchReply (Rejected r) = replyRefused r
 
 -- Where nothing is refused, either the first assignment is written, or none exists and the reply is refusal 10.

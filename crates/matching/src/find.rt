@@ -17,7 +17,6 @@ ghost use Rattle.matching.specs.Finding.{matchReply, Finds};
 
 pub enum Match {
     Filled,
-    Nothing,
     Rejected(Refusal),
 }
 
@@ -129,7 +128,7 @@ fn find_known(
         write_choice(choice, wanted, out);
         return Match::Filled;
     }
-    Match::Nothing
+    Match::Rejected(Refusal::NoAssignment)
 }
 
 // Finds the first assignment that makes every question hold, or says that no substitution does. It writes one number a variable.

@@ -22,19 +22,11 @@ enum-known-answer c = search needs
 refused-requires : tie.Need-refused-requires
 refused-requires c κs = search needs
 
--- src/lib.rt:161:35
+-- src/lib.rt:161:26
 enum-told : tie.Need-enum-told
 enum-told c = search needs
 
--- src/lib.rt:161:27
-refused-requires-2 : tie.Need-refused-requires-2
-refused-requires-2 c κs = search needs
-
--- src/lib.rt:162:26
-enum-told-2 : tie.Need-enum-told-2
-enum-told-2 c = search needs
-
--- src/lib.rt:162:26
+-- src/lib.rt:161:26
 done-requires : tie.Need-done-requires
 done-requires c κs = search needs
 
@@ -52,15 +44,7 @@ same-length-2 c = search needs
 
 -- src/lib.rt:148:1
 returns-2 : tie.Need-returns-2
-returns-2 c = finds-as (tables (c .before .before .before .before .before .before .before .before .before .before .before .args .concepts .now) (c .before .before .before .before .before .before .before .before .before .before .before .args .inclusions .now) (c .before .before .before .before .before .before .before .before .before .before .before .args .questions .now) (c .before .before .before .before .before .before .before .before .before .before .before .args .variables)) [] (c .before .before .before .before .before .before .before .before .before .before .before .args .out .now) _ 0 0 (c .refused2 .result) (c .before .before .before .before .before .find-assignment .result) _ (c .before .before .before .before .before .find-assignment .ensures) (c .before .enum-told .given .1) (c .refused2 .ensures)
-
--- src/lib.rt:148:1
-same-length-3 : tie.Need-same-length-3
-same-length-3 c = search needs
-
--- src/lib.rt:148:1
-returns-3 : tie.Need-returns-3
-returns-3 c = finds-as (tables (c .before .before .before .before .before .before .before .before .before .before .before .args .concepts .now) (c .before .before .before .before .before .before .before .before .before .before .before .args .inclusions .now) (c .before .before .before .before .before .before .before .before .before .before .before .args .questions .now) (c .before .before .before .before .before .before .before .before .before .before .before .args .variables)) [] (c .before .before .before .before .before .before .before .before .before .before .before .args .out .now) _ 0 0 (c .done .result) (c .before .before .before .before .before .find-assignment .result) _ (c .before .before .before .before .before .find-assignment .ensures) (c .before .enum-told2 .given .1) (c .done .ensures)
+returns-2 c = finds-as (tables (c .before .before .before .before .before .before .before .before .before .before .before .args .concepts .now) (c .before .before .before .before .before .before .before .before .before .before .before .args .inclusions .now) (c .before .before .before .before .before .before .before .before .before .before .before .args .questions .now) (c .before .before .before .before .before .before .before .before .before .before .before .args .variables)) [] (c .before .before .before .before .before .before .before .before .before .before .before .args .out .now) _ 0 0 (c .done .result) (c .before .before .before .before .before .find-assignment .result) _ (c .before .before .before .before .before .find-assignment .ensures) (c .before .enum-told .given .1) (c .done .ensures)
 
 pub hc-match-spec : {M : Type 1} → statement M
 hc-match-spec =
@@ -70,12 +54,8 @@ hc-match-spec =
     enum-known-answer
     refused-requires
     enum-told
-    refused-requires-2
-    enum-told-2
     done-requires
     same-length
     returns
     same-length-2
-    returns-2
-    same-length-3
-    returns-3)
+    returns-2)
