@@ -4,12 +4,13 @@ use mathlib.Core.Path.{_≡_, sym, ap, _∙_, subst}
 use mathlib.Core.List.{List}
 use Rattle.subsumption.specs.declared.refusal.Refusal.{Refusal}
 use Rattle.subsumption.specs.declared.refusal.Outcome.{Outcome}
+use Rattle.subsumption.specs.declared.refusal.Outcome.the-variants.{Done, Refused}
 use Rattle.subsumption.specs.declared.refusal.Code.{Code}
 use Rattle.subsumption.specs.declared.decide.Decision.{Decision}
 use Rattle.matching.specs.declared.find.Match.{Match}
 use Rattle.matching.specs.declared.writer.Derived.{Derived}
 use Rattle.subsumption.specs.Tables.{Tables}
-use Rattle.subsumption.specs.Refusal.{codeOf, Reply, replyRefused, replyOf}
+use Rattle.subsumption.specs.Refusal.{codeOf, Reply, replyDone, replyWith, replyOf}
 use Rattle.subsumption.specs.Table.{Wrote}
 use Rattle.subsumption.specs.Decide.{decisionReply, Decides}
 use Rattle.matching.specs.Finding.{matchReply, Finds}
@@ -18,8 +19,14 @@ use Rattle.capi.specs.declared.Answer.{Answer}
 use Rattle.capi.specs.Answer.{replied}
 
 -- a refusal's number and place
-pub by-code : (r : Refusal) (code : Code) → code ≡ codeOf r → _≡_ {A = Reply} (record { number = code .number; place = code .place; value = 0 }) (replyRefused r)
-by-code r code e = ap (λ (z : Code). record { number = z .number; place = z .place; value = 0 }) e
+pub by-code :
+    (outcome : Outcome) (value : ℕ) (r : Refusal) (code : Code) → outcome ≡ Refused r → code ≡ codeOf r
+    → _≡_ {A = Reply} (record { number = code .number; place = code .place; value = 0 }) (replyWith outcome value)
+by-code outcome value r code h e =
+    ap (λ (z : Code). record { number = z .number; place = z .place; value = 0 }) e ∙ ap (λ (z : Outcome). replyWith z value) (sym h)
+
+pub by-done : (outcome : Outcome) (value : ℕ) → outcome ≡ Done → replyDone value ≡ replyWith outcome value
+by-done outcome value h = ap (λ (z : Outcome). replyWith z value) (sym h)
 
 pub same-answer : {E : Type 0} (reply : E → Reply) (right : Reply) (x y : E) (a : Answer) → reply x ≡ right → x ≡ y → replied a ≡ reply y → replied a ≡ right
 same-answer reply right x y a p e f = f ∙ ap reply (sym e) ∙ p

@@ -5,13 +5,12 @@ use matching::Match;
 use subsumption::Decision;
 use subsumption::Listed;
 use subsumption::refusal::Outcome;
-use subsumption::refusal::Refusal;
 use subsumption::refusal::code_of;
 ghost use mathlib.Core.Path.{_≡_};
 ghost use lib.ListN.{length};
 ghost use Rattle.subsumption.specs.Tables.{tables};
 ghost use Rattle.subsumption.specs.Atoms.{atoms, chosen};
-ghost use Rattle.subsumption.specs.Refusal.{replyDone, replyRefused, replyWith, replyOf};
+ghost use Rattle.subsumption.specs.Refusal.{replyWith, replyOf};
 ghost use Rattle.subsumption.specs.Check.{tableFault};
 ghost use Rattle.subsumption.specs.Listing.{listingFault, listedIn};
 ghost use Rattle.subsumption.specs.Table.{Wrote};
@@ -30,26 +29,26 @@ pub struct Answer {
     pub value: u64,
 }
 
-fn done(value: u64) -> Answer
-    ensures { λ a. ⌜ replied a ≡ replyDone value ⌝ }
+// What an operation answered, in the header's numbers.
+fn answer_of(outcome: Outcome, value: u64) -> Answer
+    ensures { λ a. ⌜ replied a ≡ replyWith outcome value ⌝ }
 {
-    Answer {
-        number: 0,
-        place: 0,
-        value,
-    }
-}
-
-fn refused(r: Refusal) -> Answer
-    ensures { λ a. ⌜ replied a ≡ replyRefused r ⌝ }
-{
-    let code = code_of(r);
-    let number = code.number;
-    let place = code.place as u64;
-    Answer {
-        number,
-        place,
-        value: 0,
+    match outcome {
+        Outcome::Done => Answer {
+            number: 0,
+            place: 0,
+            value,
+        },
+        Outcome::Refused(r) => {
+            let code = code_of(r);
+            let number = code.number;
+            let place = code.place as u64;
+            Answer {
+                number,
+                place,
+                value: 0,
+            }
+        }
     }
 }
 
@@ -64,10 +63,7 @@ pub extern "C" fn hc_check(
     ensures { λ a. ⌜ replied a ≡ replyOf (tableFault (tables (now (concepts .entry)) (now (inclusions .entry)) (now (questions .entry)) variables)) ⌝ }
 {
     let answer = subsumption::check_tables(concepts, inclusions, questions, variables);
-    match answer {
-        Outcome::Refused(r) => refused(r),
-        Outcome::Done => done(0),
-    }
+    answer_of(answer, 0)
 }
 
 // Lists the atoms' ids; value: how many.
@@ -84,8 +80,8 @@ pub extern "C" fn hc_atoms(
 {
     let answer = subsumption::list_atoms(concepts, inclusions, questions, variables, out);
     match answer {
-        Listed::Rejected(r) => refused(r),
-        Listed::Atoms(n) => done(n as u64),
+        Listed::Rejected(r) => answer_of(Outcome::Refused(r), 0),
+        Listed::Atoms(n) => answer_of(Outcome::Done, n as u64),
     }
 }
 
@@ -109,10 +105,7 @@ pub extern "C" fn hc_subsumption_table(
         assignment,
         out,
     );
-    match answer {
-        Outcome::Refused(r) => refused(r),
-        Outcome::Done => done(0),
-    }
+    answer_of(answer, 0)
 }
 
 // Decides one pair under an assignment; value: 1 or 0.
@@ -138,9 +131,9 @@ pub extern "C" fn hc_subsumed(
         right,
     );
     match answer {
-        Decision::Rejected(r) => refused(r),
-        Decision::Yes => done(1),
-        Decision::No => done(0),
+        Decision::Rejected(r) => answer_of(Outcome::Refused(r), 0),
+        Decision::Yes => answer_of(Outcome::Done, 1),
+        Decision::No => answer_of(Outcome::Done, 0),
     }
 }
 
@@ -157,8 +150,8 @@ pub extern "C" fn hc_match(
 {
     let answer = matching::find_assignment(concepts, inclusions, questions, variables, out);
     match answer {
-        Match::Rejected(r) => refused(r),
-        Match::Filled => done(0),
+        Match::Rejected(r) => answer_of(Outcome::Refused(r), 0),
+        Match::Filled => answer_of(Outcome::Done, 0),
     }
 }
 
@@ -186,8 +179,8 @@ pub extern "C" fn hc_chosen(
         out,
     );
     match answer {
-        Chosen::Rejected(r) => refused(r),
-        Chosen::Ids(n) => done(n as u64),
+        Chosen::Rejected(r) => answer_of(Outcome::Refused(r), 0),
+        Chosen::Ids(n) => answer_of(Outcome::Done, n as u64),
     }
 }
 
@@ -216,8 +209,8 @@ pub extern "C" fn hc_derive(
         out,
     );
     match answer {
-        Derived::Rejected(r) => refused(r),
-        Derived::Lines(n) => done(n as u64),
+        Derived::Rejected(r) => answer_of(Outcome::Refused(r), 0),
+        Derived::Lines(n) => answer_of(Outcome::Done, n as u64),
     }
 }
 
@@ -245,8 +238,5 @@ pub extern "C" fn hc_check_derivation(
         right,
         lines,
     );
-    match answer {
-        Outcome::Refused(r) => refused(r),
-        Outcome::Done => done(0),
-    }
+    answer_of(answer, 0)
 }

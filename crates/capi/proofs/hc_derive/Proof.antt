@@ -5,45 +5,44 @@ use Rattle.capi.proofs.hc_derive.Statement.{statement}
 use Rattle.capi.proofs.hc_derive.Tie as tie
 use Rattle.capi.proofs.hc_derive.Reads as reads
 use Rattle.capi.proofs.hc_derive.Lts as lts
-use Rattle.capi.proofs.done.Reads as done-reads
-use Rattle.capi.proofs.refused.Reads as refused-reads
+use Rattle.capi.proofs.answer_of.Reads as answer-of-reads
 use Rattle.matching.proofs.derive.Reads as derive-reads
 
--- src/lib.rt:209:9
+-- src/lib.rt:201:9
 derive-requires : tie.Need-derive-requires
 derive-requires c κs = search needs
 
--- src/lib.rt:220:27
+-- src/lib.rt:212:27
 enum-known-answer : tie.Need-enum-known-answer
 enum-known-answer c = search needs
 
--- src/lib.rt:220:33
-refused-requires : tie.Need-refused-requires
-refused-requires c κs = search needs
+-- src/lib.rt:212:33
+answer-of-requires : tie.Need-answer-of-requires
+answer-of-requires c κs = search needs
 
--- src/lib.rt:221:24
+-- src/lib.rt:213:24
 enum-known-answer-2 : tie.Need-enum-known-answer-2
 enum-known-answer-2 c = search needs
 
--- src/lib.rt:221:30
-done-requires : tie.Need-done-requires
-done-requires c κs = search needs
+-- src/lib.rt:213:30
+answer-of-requires-2 : tie.Need-answer-of-requires-2
+answer-of-requires-2 c κs = search needs
 
--- src/lib.rt:196:1
+-- src/lib.rt:188:1
 same-length : tie.Need-same-length
 same-length c = search needs
 
--- src/lib.rt:196:1
+-- src/lib.rt:188:1
 returns : tie.Need-returns
-returns c = derives-as (tables (c .before .before .before .before .before .before .before .before .before .before .before .before .before .args .concepts .now) (c .before .before .before .before .before .before .before .before .before .before .before .before .before .args .inclusions .now) (c .before .before .before .before .before .before .before .before .before .before .before .before .before .args .questions .now) (c .before .before .before .before .before .before .before .before .before .before .before .before .before .args .variables)) (c .before .before .before .before .before .before .before .before .before .before .before .before .before .args .assignment .now) (c .before .before .before .before .before .before .before .before .before .before .before .before .before .args .out .now) _ (c .before .before .before .before .before .before .before .before .before .before .before .before .before .args .left) (c .before .before .before .before .before .before .before .before .before .before .before .before .before .args .right) (c .refused .result) (c .before .before .before .before .before .before .derive .result) _ (c .before .before .before .before .before .before .derive .ensures) (c .before .before .answer .given .1) (c .refused .ensures)
+returns c = derives-as (tables (c .before .before .before .before .before .before .before .before .before .before .before .before .before .args .concepts .now) (c .before .before .before .before .before .before .before .before .before .before .before .before .before .args .inclusions .now) (c .before .before .before .before .before .before .before .before .before .before .before .before .before .args .questions .now) (c .before .before .before .before .before .before .before .before .before .before .before .before .before .args .variables)) (c .before .before .before .before .before .before .before .before .before .before .before .before .before .args .assignment .now) (c .before .before .before .before .before .before .before .before .before .before .before .before .before .args .out .now) _ (c .before .before .before .before .before .before .before .before .before .before .before .before .before .args .left) (c .before .before .before .before .before .before .before .before .before .before .before .before .before .args .right) (c .answer-of .result) (c .before .before .before .before .before .before .derive .result) _ (c .before .before .before .before .before .before .derive .ensures) (c .before .before .answer .given .1) (c .answer-of .ensures)
 
--- src/lib.rt:196:1
+-- src/lib.rt:188:1
 same-length-2 : tie.Need-same-length-2
 same-length-2 c = search needs
 
--- src/lib.rt:196:1
+-- src/lib.rt:188:1
 returns-2 : tie.Need-returns-2
-returns-2 c = derives-as (tables (c .before .before .before .before .before .before .before .before .before .before .before .before .before .args .concepts .now) (c .before .before .before .before .before .before .before .before .before .before .before .before .before .args .inclusions .now) (c .before .before .before .before .before .before .before .before .before .before .before .before .before .args .questions .now) (c .before .before .before .before .before .before .before .before .before .before .before .before .before .args .variables)) (c .before .before .before .before .before .before .before .before .before .before .before .before .before .args .assignment .now) (c .before .before .before .before .before .before .before .before .before .before .before .before .before .args .out .now) _ (c .before .before .before .before .before .before .before .before .before .before .before .before .before .args .left) (c .before .before .before .before .before .before .before .before .before .before .before .before .before .args .right) (c .done .result) (c .before .before .before .before .before .before .derive .result) _ (c .before .before .before .before .before .before .derive .ensures) (c .before .before .answer2 .given .1) (c .done .ensures)
+returns-2 c = derives-as (tables (c .before .before .before .before .before .before .before .before .before .before .before .before .before .args .concepts .now) (c .before .before .before .before .before .before .before .before .before .before .before .before .before .args .inclusions .now) (c .before .before .before .before .before .before .before .before .before .before .before .before .before .args .questions .now) (c .before .before .before .before .before .before .before .before .before .before .before .before .before .args .variables)) (c .before .before .before .before .before .before .before .before .before .before .before .before .before .args .assignment .now) (c .before .before .before .before .before .before .before .before .before .before .before .before .before .args .out .now) _ (c .before .before .before .before .before .before .before .before .before .before .before .before .before .args .left) (c .before .before .before .before .before .before .before .before .before .before .before .before .before .args .right) (c .answer-of2 .result) (c .before .before .before .before .before .before .derive .result) _ (c .before .before .before .before .before .before .derive .ensures) (c .before .before .answer2 .given .1) (c .answer-of2 .ensures)
 
 pub hc-derive-spec : {M : Type 1} → statement M
 hc-derive-spec =
@@ -51,9 +50,9 @@ hc-derive-spec =
     (tie.spec
     derive-requires
     enum-known-answer
-    refused-requires
+    answer-of-requires
     enum-known-answer-2
-    done-requires
+    answer-of-requires-2
     same-length
     returns
     same-length-2
