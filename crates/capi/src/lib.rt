@@ -62,8 +62,8 @@ pub extern "C" fn hc_check(
 ) -> Answer
     ensures { λ a. ⌜ replied a ≡ replyOf (tableFault (tables (now (concepts .entry)) (now (inclusions .entry)) (now (questions .entry)) variables)) ⌝ }
 {
-    let answer = subsumption::check_tables(concepts, inclusions, questions, variables);
-    answer_of(answer, 0)
+    let checked = subsumption::check_tables(concepts, inclusions, questions, variables);
+    answer_of(checked, 0)
 }
 
 // Lists the atoms' ids; value: how many.
@@ -97,7 +97,7 @@ pub extern "C" fn hc_subsumption_table(
 ) -> Answer
     ensures { λ a. ⌜ Wrote (tables (now (concepts .entry)) (now (inclusions .entry)) (now (questions .entry)) variables) (now (assignment .entry)) (now (out .entry)) (now (out .exit)) (replied a) ⌝ }
 {
-    let answer = subsumption::write_table(
+    let written = subsumption::write_table(
         concepts,
         inclusions,
         questions,
@@ -105,7 +105,7 @@ pub extern "C" fn hc_subsumption_table(
         assignment,
         out,
     );
-    answer_of(answer, 0)
+    answer_of(written, 0)
 }
 
 // Decides one pair under an assignment; value: 1 or 0.
@@ -228,7 +228,7 @@ pub extern "C" fn hc_check_derivation(
 ) -> Answer
     ensures { λ a. ⌜ replied a ≡ replyOf (checkingFault (tables (now (concepts .entry)) (now (inclusions .entry)) (now (questions .entry)) variables) (now (assignment .entry)) left right (now (lines .entry))) ⌝ }
 {
-    let answer = matching::check_derivation(
+    let judged = matching::check_derivation(
         concepts,
         inclusions,
         questions,
@@ -238,5 +238,5 @@ pub extern "C" fn hc_check_derivation(
         right,
         lines,
     );
-    answer_of(answer, 0)
+    answer_of(judged, 0)
 }
