@@ -1,6 +1,7 @@
 //! The independent implementation that the proved library is held against, and what that takes:
 //! the C interface, random tables, guarded buffers.
 
+pub mod believed;
 pub mod builder;
 pub mod capi;
 pub mod compare;

@@ -1,0 +1,337 @@
+//! What a reader must believe: the definitions that the contracts of the public operations and the sentences of the scope reach.
+//!
+//! A contract cites definitions of `specs/`, and these cite others. This module reads the sources as text, follows the names, and so
+//! tells the definitions that are reached from those that only private contracts use.
+
+use std::collections::{BTreeMap, BTreeSet};
+use std::fs;
+use std::path::{Path, PathBuf};
+
+/// A definition by its crate, its module below `specs/` (as `Tables` or `Inner.Closure`) and its name.
+#[derive(Clone, Debug, PartialEq, Eq, PartialOrd, Ord)]
+pub struct Name {
+    pub of: String,
+    pub module: String,
+    pub name: String,
+}
+
+impl Name {
+    /// Definitions of private contracts stand in the module `Inner`.
+    pub fn is_private(&self) -> bool {
+        self.module.starts_with("Inner.")
+    }
+}
+
+/// A law of `proofs/` that the scope asks for beside the operations.
+pub struct Sentence {
+    pub of: &'static str,
+    pub file: &'static str,
+    pub law: &'static str,
+}
+
+pub const SENTENCES: &[Sentence] = &[
+    Sentence { of: "matching", file: "SampleCards", law: "every-card" },
+    Sentence { of: "hermitcasket", file: "Texts", law: "texts" },
+];
+
+/// The functions of a program that stand for it, since a program passes nothing on.
+const PROGRAM: &[(&str, &str, &str)] = &[("hermitcasket", "answer", "answer")];
+
+type Imports = BTreeMap<String, Name>;
+
+struct Item {
+    names: Vec<String>,
+    text: String,
+}
+
+fn crates_dir() -> PathBuf {
+    Path::new(env!("CARGO_MANIFEST_DIR")).join("../crates")
+}
+
+fn read(path: &Path) -> String {
+    fs::read_to_string(path).unwrap_or_else(|error| panic!("{}: {}", path.display(), error))
+}
+
+/// The files below a folder with an extension, with their paths from there.
+fn files(folder: &Path, extension: &str) -> Vec<PathBuf> {
+    let mut found = Vec::new();
+    let mut open = vec![folder.to_path_buf()];
+    while let Some(at) = open.pop() {
+        let Ok(entries) = fs::read_dir(&at) else { continue };
+        for entry in entries {
+            let path = entry.expect("an entry of a folder").path();
+            if path.is_dir() {
+                open.push(path);
+            } else if path.extension().is_some_and(|of| of == extension) {
+                found.push(path);
+            }
+        }
+    }
+    found.sort();
+    found
+}
+
+fn is_part(c: char) -> bool {
+    c.is_alphanumeric() || "_-·'".contains(c)
+}
+
+/// The words of a text that may be names. Comments are left out.
+fn words(text: &str) -> BTreeSet<String> {
+    let mut found = BTreeSet::new();
+    for line in text.lines() {
+        let code = line.split("--").next().unwrap_or("");
+        for word in code.split(|c: char| !is_part(c)) {
+            if !word.is_empty() {
+                found.insert(word.to_string());
+            }
+        }
+    }
+    found
+}
+
+/// Crate and module of a path such as `Rattle.subsumption.specs.Tables` or `Rattle.subsumption.specs.Tables`; nothing for
+/// other libraries and for declared types, which are those of the code.
+fn spec_module(path: &str) -> Option<(String, String)> {
+    let rest = path.strip_prefix("Rattle·")?;
+    let (of, rest) = match rest.split_once("·specs.specs.") {
+        Some(parts) => parts,
+        None => rest.split_once(".specs.")?,
+    };
+    if rest.starts_with("declared.") || of.contains('·') {
+        return None;
+    }
+    Some((of.to_string(), rest.to_string()))
+}
+
+/// The names that the `use` lines of a file bring from `specs/`.
+fn imports(text: &str) -> Imports {
+    let mut found = Imports::new();
+    for line in text.lines() {
+        let line = line.trim_start_matches("ghost ").trim_end_matches(';');
+        let Some(rest) = line.strip_prefix("use ") else { continue };
+        let Some((path, names)) = rest.split_once(".{") else { continue };
+        let Some((of, module)) = spec_module(path) else { continue };
+        for part in names.trim_end_matches('}').split(", ") {
+            let (name, local) = part.split_once(" as ").unwrap_or((part, part));
+            let to = Name { of: of.clone(), module: module.clone(), name: name.to_string() };
+            found.insert(local.to_string(), to);
+        }
+    }
+    found
+}
+
+const HEADS: &[&str] = &["abbrev pub ", "unfoldable pub ", "pub data ", "pub record "];
+
+fn head(line: &str) -> Option<&str> {
+    let line = line.trim_start();
+    let rest = HEADS.iter().find_map(|start| line.strip_prefix(start))?;
+    rest.split(|c: char| !is_part(c)).next()
+}
+
+/// The constructors on a line of a `data` definition.
+fn constructors(line: &str) -> Vec<String> {
+    let Some((names, _)) = line.split_once(" : ") else { return Vec::new() };
+    names.split_whitespace().map(str::to_string).collect()
+}
+
+/// The definitions of a file of `specs/`, each with what its section binds.
+fn items(text: &str) -> Vec<Item> {
+    let mut found: Vec<Item> = Vec::new();
+    let mut section = String::new();
+    let mut in_data = false;
+    for line in text.lines() {
+        if line.starts_with("module _") {
+            section = line.to_string();
+            continue;
+        }
+        if !line.is_empty() && !line.starts_with(' ') {
+            section = String::new();
+        }
+        if line.starts_with("use ") || line.trim_start().starts_with("--") {
+            continue;
+        }
+        if let Some(name) = head(line) {
+            in_data = line.trim_start().starts_with("pub data ");
+            found.push(Item { names: vec![name.to_string()], text: section.clone() });
+        } else if in_data {
+            if let Some(item) = found.last_mut() {
+                item.names.extend(constructors(line));
+            }
+        }
+        if let Some(item) = found.last_mut() {
+            item.text += "\n";
+            item.text += line;
+        }
+    }
+    found
+}
+
+/// The clauses of the functions of a file of `src/`.
+fn clauses(text: &str) -> BTreeMap<String, String> {
+    let mut found = BTreeMap::new();
+    let mut name = None;
+    let mut clause = String::new();
+    for line in text.lines() {
+        let start = line.strip_prefix("pub fn ").or_else(|| line.strip_prefix("pub extern \"C\" fn "));
+        if let Some(rest) = start {
+            let end = rest.find(|c: char| !is_part(c)).unwrap_or(rest.len());
+            name = Some(rest[..end].to_string());
+            clause.clear();
+        }
+        if line == "{" {
+            if let Some(name) = name.take() {
+                found.insert(name, clause.clone());
+            }
+        }
+        if name.is_some() && line.contains('⌜') || line.trim_start().starts_with('(') {
+            clause += line;
+            clause += "\n";
+        }
+    }
+    found
+}
+
+/// The public operations of a crate: the module of `src/` and the name of each. An empty name stands for all of the module.
+fn operations(of: &str) -> Vec<(String, String)> {
+    let src = crates_dir().join(of).join("src");
+    let mut found: Vec<(String, String)> = PROGRAM
+        .iter()
+        .filter(|(program, _, _)| *program == of)
+        .map(|(_, module, name)| (module.to_string(), name.to_string()))
+        .collect();
+    let Ok(lib) = fs::read_to_string(src.join("lib.rt")) else { return found };
+    if lib.contains("pub extern \"C\" fn") {
+        found.push(("lib".to_string(), String::new()));
+    }
+    for line in lib.lines() {
+        if let Some(module) = line.strip_prefix("pub mod ") {
+            let module = module.trim_end_matches(';');
+            if module != "helpers" {
+                found.push((module.to_string(), String::new()));
+            }
+        } else if let Some(path) = line.strip_prefix("pub use ") {
+            let path = path.trim_end_matches(';');
+            let (module, name) = path.rsplit_once("::").expect("a path");
+            found.push((module.replace("::", "/"), name.to_string()));
+        }
+    }
+    found
+}
+
+fn resolve(text: &str, imports: &Imports) -> BTreeSet<Name> {
+    words(text).iter().filter_map(|word| imports.get(word)).cloned().collect()
+}
+
+/// What the contracts of the public operations cite.
+fn cited_by_operations() -> BTreeSet<Name> {
+    let mut found = BTreeSet::new();
+    for of in crate_names() {
+        for (module, name) in operations(&of) {
+            let path = crates_dir().join(&of).join("src").join(format!("{}.rt", module));
+            let text = read(&path);
+            let brought = imports(&text);
+            for (function, clause) in clauses(&text) {
+                if name.is_empty() || function == name {
+                    found.extend(resolve(&clause, &brought));
+                }
+            }
+        }
+    }
+    found
+}
+
+/// What the sentences cite: a law's signature runs to the line that starts its proof.
+fn cited_by_sentences() -> BTreeSet<Name> {
+    let mut found = BTreeSet::new();
+    for sentence in SENTENCES {
+        let path = crates_dir().join(sentence.of).join(format!("proofs/{}.antt", sentence.file));
+        let text = read(&path);
+        let start = format!("pub {} :", sentence.law);
+        let signature: Vec<&str> = text
+            .lines()
+            .skip_while(|line| !line.starts_with(&start))
+            .take_while(|line| !line.starts_with(&format!("{} ", sentence.law)))
+            .collect();
+        assert!(!signature.is_empty(), "no law {} in {}", sentence.law, path.display());
+        found.extend(resolve(&signature.join("\n"), &imports(&text)));
+    }
+    found
+}
+
+pub fn crate_names() -> Vec<String> {
+    let mut found: Vec<String> = fs::read_dir(crates_dir())
+        .expect("the folder crates")
+        .map(|entry| entry.expect("a crate").file_name().into_string().expect("a crate's name"))
+        .filter(|name| crates_dir().join(name).join("specs").is_dir())
+        .collect();
+    found.sort();
+    found
+}
+
+/// The definitions of all `specs/`, each with those that it cites. Constructors stand for their type.
+pub struct Definitions {
+    cites: BTreeMap<Name, BTreeSet<Name>>,
+    type_of: BTreeMap<Name, Name>,
+}
+
+impl Definitions {
+    pub fn of_all_crates() -> Definitions {
+        let mut all = Definitions { cites: BTreeMap::new(), type_of: BTreeMap::new() };
+        for of in crate_names() {
+            let folder = crates_dir().join(&of).join("specs");
+            for path in files(&folder, "antt") {
+                let module = path.strip_prefix(&folder).expect("below specs").with_extension("");
+                let module = module.to_string_lossy().replace('/', ".");
+                all.add(&of, &module, &read(&path));
+            }
+        }
+        all
+    }
+
+    fn add(&mut self, of: &str, module: &str, text: &str) {
+        let items = items(text);
+        let mut known = imports(text);
+        for item in &items {
+            let first = Name { of: of.into(), module: module.into(), name: item.names[0].clone() };
+            for name in &item.names {
+                let here = Name { name: name.clone(), ..first.clone() };
+                self.type_of.insert(here.clone(), first.clone());
+                known.insert(name.clone(), here);
+            }
+        }
+        for item in &items {
+            let name = Name { of: of.into(), module: module.into(), name: item.names[0].clone() };
+            let cited = resolve(&item.text, &known);
+            self.cites.insert(name, cited);
+        }
+    }
+
+    pub fn all(&self) -> BTreeSet<Name> {
+        self.cites.keys().cloned().collect()
+    }
+
+    /// The definitions that the public contracts and the sentences reach.
+    pub fn reached(&self) -> BTreeSet<Name> {
+        let mut found = BTreeSet::new();
+        let mut open: Vec<Name> = cited_by_operations().into_iter().chain(cited_by_sentences()).collect();
+        while let Some(name) = open.pop() {
+            let name = self.type_of.get(&name).unwrap_or_else(|| panic!("no definition {:?}", name)).clone();
+            if found.insert(name.clone()) {
+                open.extend(self.cites[&name].iter().cloned());
+            }
+        }
+        found
+    }
+}
+
+/// The lines of the files at the top of `specs/`, without empty ones: what there is to read.
+pub fn lines_to_believe() -> usize {
+    let lines = |path: &Path| read(path).lines().filter(|line| !line.is_empty()).count();
+    crate_names()
+        .iter()
+        .flat_map(|of| files(&crates_dir().join(of).join("specs"), "antt"))
+        .filter(|path| !path.to_string_lossy().contains("/Inner"))
+        .filter(|path| path.file_name().is_some_and(|name| name != "Lib.antt"))
+        .map(|path| lines(&path))
+        .sum()
+}

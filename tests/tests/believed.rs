@@ -1,0 +1,34 @@
+//! specs/ shows what must be believed: at its top exactly the definitions that public contracts and the scope's sentences reach.
+
+use std::collections::BTreeSet;
+
+use hermitcasket_tests::believed::{lines_to_believe, Definitions, Name};
+
+fn list(names: &BTreeSet<&Name>) -> String {
+    let rows = names.iter().map(|name| format!("  {} {}.{}", name.of, name.module, name.name));
+    rows.collect::<Vec<String>>().join("\n")
+}
+
+#[test]
+fn what_is_reached_stands_at_the_top() {
+    let reached = Definitions::of_all_crates().reached();
+    assert!(reached.len() > 100, "{} definitions are reached: the reader of sources is broken", reached.len());
+    let hidden: BTreeSet<&Name> = reached.iter().filter(|name| name.is_private()).collect();
+    assert!(hidden.is_empty(), "public contracts reach these of Inner:\n{}", list(&hidden));
+}
+
+#[test]
+fn what_is_not_reached_stands_in_the_private_module() {
+    let definitions = Definitions::of_all_crates();
+    let reached = definitions.reached();
+    let all = definitions.all();
+    let open: BTreeSet<&Name> = all.difference(&reached).filter(|name| !name.is_private()).collect();
+    assert!(open.is_empty(), "no public contract reaches these at the top of specs/:\n{}", list(&open));
+}
+
+#[test]
+fn the_readme_says_how_much_there_is_to_believe() {
+    let readme = include_str!("../../README.md");
+    let wanted = format!("{} lines", lines_to_believe());
+    assert!(readme.contains(&wanted), "README.md does not say that there are {} to believe", wanted);
+}
