@@ -6,7 +6,8 @@ ghost use Prim.Native.Nat.{_+_, _≤_};
 ghost use lib.ListN.{length};
 ghost use Rattle.hermitcasket.specs.Digits.{digits};
 ghost use Rattle.hermitcasket.specs.Lines.{numberText};
-ghost use Rattle.hermitcasket.specs.Printing.{Wrote, idText, idsText, fillText, refusedText, noneLine};
+ghost use Rattle.hermitcasket.specs.Printing.{idText, idsText, fillText, refusedText, noneLine};
+ghost use Rattle.hermitcasket.specs.Inner.Print.{Wrote};
 
 pub fn put_bytes(bytes: &[u8], at: usize, out: &mut [u8]) -> usize
     requires { ⌜ at + length (now bytes) ≤ length (now out) ⌝ }

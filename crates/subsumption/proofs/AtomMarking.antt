@@ -14,12 +14,13 @@ use Rattle.subsumption.specs.declared.refusal.Refusal.the-variants.{TooM
 use Rattle.subsumption.specs.declared.refusal.Outcome.{Outcome}
 use Rattle.subsumption.specs.declared.refusal.Outcome.the-variants.{Done, Refused}
 use Rattle.subsumption.specs.declared.tables.Row.{Row}
-use Rattle.subsumption.specs.TableRows.{rowOf}
+use Rattle.subsumption.specs.Inner.Tables.{rowOf}
 use Rattle.subsumption.specs.Tables.{Tables, or, both, anyBelow, node, decode, countOf, pairsOf, leftOf, rightOf, tree, hasVariable}
 use Rattle.subsumption.specs.Atoms.{isAtomic, occurs, inInclusion, inQuestion, isAtom, keep, atoms}
 use Rattle.subsumption.specs.Refusal.{orElse, refuseIf}
 use Rattle.subsumption.specs.Check.{inclusionFault, sidesFault, atomsFault, useFault}
-use Rattle.subsumption.specs.Marks.{Layered, Known, markAt, VariableMarks, MarkedBy, inPair, onSide, inGroundRight, onGroundRight, Spread, Narrowed, AtomMarks, Used, markedIds}
+use Rattle.subsumption.specs.Inner.Atoms.{Layered, Known, markAt, VariableMarks, MarkedBy, inPair, onSide, inGroundRight, onGroundRight, Spread, Narrowed, AtomMarks, markedIds}
+use Rattle.subsumption.specs.Inner.Check.{Used}
 use Rattle.subsumption.proofs.Bools.{or-cases, or-first, or-second, both-true, both-intro, both-skip, both-none, anyBelow-intro, anyBelow-elim, eq-or-ne, last-cases, le-or-lt, same-bool}
 use Rattle.subsumption.proofs.Refusals.{passed-if, passed-second}
 use Rattle.subsumption.proofs.Marks.{row-node}

@@ -14,8 +14,8 @@ use lib.Bits.{bitAnd, bitOr}
 use borrow.Author.Tests.{eqb-true, eqb-false, ltb-true, leb-true, lt-ltb, le-ltb}
 use Rattle.subsumption.specs.Tables.{or, both}
 use Rattle.subsumption.specs.Atoms.{bit}
-use Rattle.subsumption.specs.Closure.{has}
-use Rattle.subsumption.specs.Rows.{exchanged, shown, Transposed, BlockOf, BandOf, Banded}
+use Rattle.subsumption.specs.Inner.Columns.{has}
+use Rattle.subsumption.specs.Inner.Rows.{exchanged, shown, Transposed, BlockOf, BandOf, Banded}
 use Rattle.subsumption.proofs.Bools.{both-true, last-cases}
 use Rattle.subsumption.proofs.Bits.{bit-and, bit-or, bit-of-zero, bit-shr, bit-shl, bit-shl-low, bit-mod, bit-past}
 

@@ -11,7 +11,7 @@ use lib.Dec.{eqb}
 use lib.Bits.{bitAnd}
 use borrow.Author.Tests.{eqb-true, eqb-false, eq-eqb}
 use Rattle.subsumption.specs.Atoms.{bit, pick}
-use Rattle.subsumption.specs.Closure.{has, slack, Takes, inThree, Common}
+use Rattle.subsumption.specs.Inner.Columns.{has, slack, Takes, inThree, Common}
 use Rattle.subsumption.proofs.Bools.{both-true, both-intro}
 use Rattle.subsumption.proofs.Bits.{bit-ones, bit-and}
 use Rattle.subsumption.proofs.Picks.{ChosenBelow, picked-at, at-picked}

@@ -10,7 +10,11 @@ use lib.Dec.{eqb}
 use borrow.Author.Tests.{eqb-true, eqb-false}
 use Rattle.subsumption.specs.Tables.{Node, topAt, nameAt, andAt, varAt, node, countOf}
 use Rattle.subsumption.specs.Atoms.{bit}
-use Rattle.subsumption.specs.Closure.{has, slack, Firsts, SettledBy, Steps, flow-given, Sound, Pass, Empty, AllTaken, AllSettled, AllIncluded, AllLinked, Closed}
+use Rattle.subsumption.specs.Inner.Columns.{has, slack, Empty}
+use Rattle.subsumption.specs.Inner.Names.{Firsts}
+use Rattle.subsumption.specs.Inner.Settling.{SettledBy, AllSettled}
+use Rattle.subsumption.specs.Inner.Links.{AllLinked}
+use Rattle.subsumption.specs.Inner.Closure.{Steps, flow-given, Sound, Pass, AllTaken, AllIncluded, Closed}
 use Rattle.subsumption.proofs.Bits.{bit-of-zero}
 use Rattle.subsumption.proofs.Columns.{not-both}
 use Rattle.subsumption.proofs.Passes.{pass-as, pass-then}

@@ -16,9 +16,12 @@ use Rattle.subsumption.specs.Atoms.{atoms}
 use Rattle.subsumption.specs.Subsumption.{Subsumed}
 use Rattle.subsumption.specs.Refusal.{replyDone, replyRefused, replyOf, Replies, orElse}
 use Rattle.subsumption.specs.Check.{bufferFault, noConcept, aloneFault, tableFault, pairFault, assignmentFaultAt, assignmentFault}
-use Rattle.subsumption.specs.Closure.{has, Ready, chooseFrom, Empty, Closed}
-use Rattle.subsumption.specs.Ground.{Accepted, Prepared, ForAccepted, ColumnsOf}
-use Rattle.subsumption.specs.Rows.{Written}
+use Rattle.subsumption.specs.Inner.Columns.{has, Empty}
+use Rattle.subsumption.specs.Inner.Settling.{chooseFrom}
+use Rattle.subsumption.specs.Inner.Closure.{Ready, Closed}
+use Rattle.subsumption.specs.Inner.Listing.{Accepted, Prepared, ForAccepted}
+use Rattle.subsumption.specs.Inner.Ground.{ColumnsOf}
+use Rattle.subsumption.specs.Inner.Rows.{Written}
 use Rattle.subsumption.specs.Table.{rowStart, writingFault, TableOf, Left, Wrote}
 use Rattle.subsumption.specs.Decide.{decidingFault, decisionReply, Tells, Decides}
 use Rattle.subsumption.proofs.WellFormed.{WellFormed}

@@ -10,7 +10,7 @@ use borrow.Author.Tests.{lt-ltb, le-ltb, le-leb, lt-leb}
 use Rattle.subsumption.specs.declared.tables.Row.{Row}
 use Rattle.subsumption.specs.declared.tables.Pair.{Pair}
 use Rattle.subsumption.specs.Tables.{or, decode, node, leftOf, rightOf}
-use Rattle.subsumption.specs.TableRows.{rowOf, pairOf}
+use Rattle.subsumption.specs.Inner.Tables.{rowOf, pairOf}
 use Rattle.subsumption.specs.Check.{forward, noConcept}
 
 -- the code's test and the paper's

@@ -17,8 +17,9 @@ use Rattle.subsumption.specs.Atoms.{atoms}
 use Rattle.subsumption.specs.Refusal.{replyDone, replyRefused, replyWith, orElse}
 use Rattle.subsumption.specs.Check.{useFault, conceptFault, aloneFault, idFault, tableFault, pairFault, bufferFault}
 use Rattle.subsumption.specs.Listing.{listingFault, listedReply, listedIn}
-use Rattle.subsumption.specs.Ground.{Accepted, Prepared, usedFault, askedFault}
-use Rattle.subsumption.specs.Marks.{AtomMarks, Used, markedIds, inFront}
+use Rattle.subsumption.specs.Inner.Listing.{Accepted, Prepared, usedFault, askedFault}
+use Rattle.subsumption.specs.Inner.Atoms.{AtomMarks, markedIds, inFront}
+use Rattle.subsumption.specs.Inner.Check.{Used}
 use Rattle.subsumption.proofs.Refusals.{stops, goes-on, done-le, refused-lt, passed-first, passed-second}
 use Rattle.subsumption.proofs.Replies.{by-refusal, by-value}
 use Rattle.subsumption.proofs.AtomMarking.{atoms-listed, used-few}

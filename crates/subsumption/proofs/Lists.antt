@@ -10,7 +10,7 @@ use mathlib.Core.Logic.{⊎-elim}
 use lib.ListN.{length, getD, set, drop, length-append, length-drop}
 use lib.Seq.{set-append-seam, drop-cons}
 use Rattle.subsumption.specs.Atoms.{keep}
-use Rattle.subsumption.specs.Marks.{inFront}
+use Rattle.subsumption.specs.Inner.Atoms.{inFront}
 
 front-more : (xs before : List ℕ) (v : ℕ) → length xs < length before → set (inFront xs before) (length xs) v ≡ inFront (xs ++ (v ∷ [])) before
 front-more xs before v h =

@@ -7,7 +7,7 @@ use lib.Dec.{eqb, ltb}
 use borrow.Author.Tests.{eq-eqb, ne-eqb, lt-ltb, le-ltb}
 use Rattle.subsumption.specs.declared.tables.Row.{Row}
 use Rattle.subsumption.specs.Tables.{or}
-use Rattle.subsumption.specs.TableRows.{rowOf}
+use Rattle.subsumption.specs.Inner.Tables.{rowOf}
 use Rattle.subsumption.specs.Check.{malformedRow, malformed}
 
 module _ (v k a b : ℕ) where

@@ -8,8 +8,8 @@ ghost use lib.Dec.{eqb};
 ghost use lib.ListN.{length, replicate};
 ghost use Rattle.subsumption.specs.Tables.{tables, decode, or, both, node, countOf};
 ghost use Rattle.subsumption.specs.Atoms.{inside, isAtomic};
-ghost use Rattle.subsumption.specs.Closure.{Rising};
-ghost use Rattle.subsumption.specs.Marks.{Layered, Known, markAt, heldBy, VariableMarks, MarkedBy, onSide, onGroundRight, Spread, Narrowed, AtomMarks, markedIds, inFront};
+ghost use Rattle.subsumption.specs.Inner.Tables.{Rising};
+ghost use Rattle.subsumption.specs.Inner.Atoms.{Layered, Known, markAt, heldBy, VariableMarks, MarkedBy, onSide, onGroundRight, Spread, Narrowed, AtomMarks, markedIds, inFront};
 
 fn holds_variable(marks: &[bool], kind: u16, a: u16, b: u16) -> bool
     requires { ⌜ Rising (length (now marks)) (decode kind a b) ⌝ }

@@ -16,7 +16,8 @@ ghost use lib.ListN.{length, getD, replicate};
 ghost use Rattle.subsumption.specs.Tables.{tables, or, decode, node, countOf};
 ghost use Rattle.subsumption.specs.Refusal.{replyOf, orElse, refuseIf, firstAt};
 ghost use Rattle.subsumption.specs.Check.{unfit, limitFault, malformedRow, malformedFault, forward, forwardFault, noConcept, pairsFault, aloneFault, bufferFault, conceptFault, idFault, inclusionFault, sidesFault, tableFault, assignmentFaultAt};
-ghost use Rattle.subsumption.specs.Marks.{VariableMarks, Known, Used};
+ghost use Rattle.subsumption.specs.Inner.Atoms.{VariableMarks, Known};
+ghost use Rattle.subsumption.specs.Inner.Check.{Used};
 ghost use Rattle.subsumption.specs.declared.refusal.Outcome.the-variants.{Done};
 
 // A table's length is no multiple of its row's width, or has too many rows.

@@ -7,7 +7,11 @@ ghost use mathlib.Core.List.{List·Memᴰ};
 ghost use Rattle.subsumption.specs.Tables.{countOf};
 ghost use Rattle.subsumption.specs.Atoms.{pick};
 ghost use lib.ListN.{length};
-ghost use Rattle.subsumption.specs.Closure.{has, Absorbs, Takes, inThree, Known, Common, Ready, Settleable, LowPairs, Nameable, Seen, Firsts, Settled, chooseFrom, Pass, SettlePass, IncludePass, LinkPass, AllSettled, LinkedTo, AllLinked, AllTaken, Inner, OnwardFrom, OnwardTo, Onward, Links, NextLink, IsNamed, FirstNamed, Empty, Closed};
+ghost use Rattle.subsumption.specs.Inner.Columns.{has, Absorbs, Takes, inThree, Known, Common, Empty};
+ghost use Rattle.subsumption.specs.Inner.Names.{Nameable, Seen, Firsts, IsNamed, FirstNamed};
+ghost use Rattle.subsumption.specs.Inner.Settling.{Settleable, Settled, chooseFrom, AllSettled};
+ghost use Rattle.subsumption.specs.Inner.Links.{LinkedTo, AllLinked, Inner, OnwardFrom, OnwardTo, Onward, Links, NextLink};
+ghost use Rattle.subsumption.specs.Inner.Closure.{Ready, LowPairs, Pass, SettlePass, IncludePass, LinkPass, AllTaken, Closed};
 
 const ALL: u64 = 18446744073709551615;
 

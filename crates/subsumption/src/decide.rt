@@ -9,7 +9,7 @@ use crate::refusal::Refusal;
 ghost use mathlib.Core.Path.{_≡_};
 ghost use Prim.Native.Nat.{_<_};
 ghost use Rattle.subsumption.specs.Tables.{tables, countOf};
-ghost use Rattle.subsumption.specs.Ground.{ForAccepted, Prepared};
+ghost use Rattle.subsumption.specs.Inner.Listing.{ForAccepted, Prepared};
 ghost use Rattle.subsumption.specs.Decide.{decisionReply, Decides};
 
 pub enum Decision {

@@ -8,7 +8,8 @@ ghost use Rattle.subsumption.specs.declared.refusal.Outcome.the-variants
 ghost use Rattle.subsumption.specs.Tables.{tables};
 ghost use Rattle.subsumption.specs.Atoms.{atoms};
 ghost use Rattle.subsumption.specs.Check.{tableFault, assignmentFault};
-ghost use Rattle.subsumption.specs.Ground.{ForAccepted, Prepared, Grounded, ColumnsOf, Free, FreeWords, Kept, AllKept};
+ghost use Rattle.subsumption.specs.Inner.Listing.{ForAccepted, Prepared};
+ghost use Rattle.subsumption.specs.Inner.Ground.{Grounded, ColumnsOf, Free, FreeWords, Kept, AllKept};
 
 // The ids of the word `part` of a column that hold no variable.
 fn free_word(held: &[bool], part: usize) -> u64

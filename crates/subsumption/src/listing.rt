@@ -14,7 +14,7 @@ ghost use Rattle.subsumption.specs.Atoms.{atoms};
 ghost use Rattle.subsumption.specs.Refusal.{replyWith};
 ghost use Rattle.subsumption.specs.Check.{conceptFault, idFault};
 ghost use Rattle.subsumption.specs.Listing.{listingFault, listedReply, listedIn};
-ghost use Rattle.subsumption.specs.Ground.{usedFault, askedFault};
+ghost use Rattle.subsumption.specs.Inner.Listing.{usedFault, askedFault};
 
 pub enum Listed {
     Atoms(usize),

@@ -3,7 +3,7 @@ ghost use mathlib.Core.Path.{_≡_};
 ghost use Prim.Native.Nat.{_+_, _*_, _/_, _<_, _≤_};
 ghost use lib.ListN.{length};
 ghost use Rattle.subsumption.specs.Table.{rowStart};
-ghost use Rattle.subsumption.specs.Rows.{exchanged, Transposed, BlockOf, BandOf, Banded, RowWritten, Written};
+ghost use Rattle.subsumption.specs.Inner.Rows.{exchanged, Transposed, BlockOf, BandOf, Banded, RowWritten, Written};
 
 const ROW_STARTS: [usize; 192] = [
     0,

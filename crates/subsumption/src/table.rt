@@ -8,7 +8,7 @@ use crate::refusal::Outcome;
 use crate::rows::write_rows;
 ghost use Rattle.subsumption.specs.Tables.{tables};
 ghost use Rattle.subsumption.specs.Refusal.{replyOf};
-ghost use Rattle.subsumption.specs.Ground.{ForAccepted, Prepared};
+ghost use Rattle.subsumption.specs.Inner.Listing.{ForAccepted, Prepared};
 ghost use Rattle.subsumption.specs.Table.{Wrote};
 
 // The rest of the checks, given the atoms of accepted tables, and then the table.

@@ -2,7 +2,7 @@ use Prim.Native.Nat.{_-_, _≤_}
 use mathlib.Core.Path.{_≡_, _∙_, ap}
 use native.Mathlib.Omega.{arith}
 use lib.ListN.{length}
-use Rattle.subsumption.specs.Marks.{markAt, markedIds}
+use Rattle.subsumption.specs.Inner.Atoms.{markAt, markedIds}
 use Rattle.subsumption.proofs.Lists.{keep-le, count-none, count-yes, count-no}
 use Rattle.subsumption.proofs.atoms.count_marks.Statement.{statement}
 use Rattle.subsumption.proofs.atoms.count_marks.Tie as tie

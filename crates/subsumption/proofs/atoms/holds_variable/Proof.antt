@@ -1,4 +1,4 @@
-use Rattle.subsumption.specs.Marks.{markAt}
+use Rattle.subsumption.specs.Inner.Atoms.{markAt}
 use Rattle.subsumption.proofs.Marks.{exists-below, first-below, second-below, held-exists, held-first, held-second, held-rest}
 use Rattle.subsumption.proofs.atoms.holds_variable.Statement.{statement}
 use Rattle.subsumption.proofs.atoms.holds_variable.Tie as tie

@@ -2,7 +2,7 @@ use borrow.Author.Needs.{needs}
 use Prim.Native.Nat.{_-_}
 use native.Mathlib.Omega.{arith}
 use Rattle.subsumption.specs.Tables.{pairsOf}
-use Rattle.subsumption.specs.Marks.{inGroundRight}
+use Rattle.subsumption.specs.Inner.Atoms.{inGroundRight}
 use Rattle.subsumption.proofs.Marks.{MarkedTo, marked-to-none, marked-to-done, right-below, rights-more, rights-skip}
 use Rattle.subsumption.proofs.atoms.mark_ground_rights.Statement.{statement}
 use Rattle.subsumption.proofs.atoms.mark_ground_rights.Tie as tie

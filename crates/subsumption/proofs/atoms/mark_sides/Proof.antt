@@ -3,7 +3,7 @@ use Prim.Native.Nat.{_-_}
 use native.Mathlib.Omega.{arith}
 use lib.ListN.{length-set}
 use Rattle.subsumption.specs.Tables.{pairsOf}
-use Rattle.subsumption.specs.Marks.{inPair}
+use Rattle.subsumption.specs.Inner.Atoms.{inPair}
 use Rattle.subsumption.proofs.Marks.{MarkedTo, marked-to-none, marked-to-done, left-below, right-below, sides-more}
 use Rattle.subsumption.proofs.atoms.mark_sides.Statement.{statement}
 use Rattle.subsumption.proofs.atoms.mark_sides.Tie as tie

@@ -2,7 +2,7 @@ use native.Mathlib.Omega.{arith}
 use borrow.Author.Needs.{needs}
 use mathlib.Core.Path.{refl}
 use Rattle.subsumption.specs.Atoms.{bit}
-use Rattle.subsumption.specs.Closure.{has}
+use Rattle.subsumption.specs.Inner.Columns.{has}
 use Rattle.subsumption.proofs.closure.below.Statement.{statement}
 use Rattle.subsumption.proofs.closure.below.Tie as tie
 

@@ -1,7 +1,7 @@
 use Prim.Native.Nat.{_-_, _≤_}
 use native.Mathlib.Omega.{arith}
 use lib.ListN.{length}
-use Rattle.subsumption.specs.Closure.{Common}
+use Rattle.subsumption.specs.Inner.Columns.{Common}
 use Rattle.subsumption.proofs.Choices.{common-none, common-skip, common-more, common-more-first, common-done}
 use Rattle.subsumption.proofs.closure.common.Statement.{statement}
 use Rattle.subsumption.proofs.closure.common.Tie as tie

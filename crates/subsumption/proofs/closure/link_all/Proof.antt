@@ -1,7 +1,8 @@
 use Prim.Native.Nat.{ℕ, _-_, _<_, _≤_}
 use mathlib.Core.List.{[]}
 use native.Mathlib.Omega.{arith}
-use Rattle.subsumption.specs.Closure.{LinkPass, LinkedTo}
+use Rattle.subsumption.specs.Inner.Links.{LinkedTo}
+use Rattle.subsumption.specs.Inner.Closure.{LinkPass}
 use Rattle.subsumption.proofs.Passes.{loop-first, loop-more, loop-done}
 use Rattle.subsumption.proofs.closure.link_all.Statement.{statement}
 use Rattle.subsumption.proofs.closure.link_all.Tie as tie

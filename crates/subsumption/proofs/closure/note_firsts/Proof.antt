@@ -1,6 +1,6 @@
 use Prim.Native.Nat.{_-_}
 use native.Mathlib.Omega.{arith}
-use Rattle.subsumption.specs.Closure.{Seen}
+use Rattle.subsumption.specs.Inner.Names.{Seen}
 use Rattle.subsumption.proofs.Linking.{FirstsTo, firsts-none, firsts-more, firsts-done, seen-none}
 use Rattle.subsumption.proofs.closure.note_firsts.Statement.{statement}
 use Rattle.subsumption.proofs.closure.note_firsts.Tie as tie

@@ -2,7 +2,7 @@ use Prim.Native.Nat.{_+_, _-_, _≤_}
 use mathlib.Core.Path.{_∙_, sym}
 use native.Mathlib.Omega.{arith}
 use Rattle.subsumption.specs.Tables.{countOf}
-use Rattle.subsumption.specs.Closure.{OnwardTo}
+use Rattle.subsumption.specs.Inner.Links.{OnwardTo}
 use Rattle.subsumption.proofs.Linking.{onward-end, onward-more, onward-back, onward-all}
 use Rattle.subsumption.proofs.closure.note_onward.Statement.{statement}
 use Rattle.subsumption.proofs.closure.note_onward.Tie as tie

@@ -1,16 +1,13 @@
--- What the private passes over marks of ids promise (no operation's contract cites this).
+-- What the passes over marks of ids promise (src/atoms.rt).
 use Prim.Native.Nat.{ℕ, _*_, _<_, _≤_}
 use mathlib.Core.Path.{_≡_}
 use mathlib.Core.List.{List, _++_}
 use mathlib.Core.Bool.{Bool, true, false, not}
 use lib.Dec.{eqb}
 use lib.ListN.{length, getD, drop}
-use Rattle.subsumption.specs.Tables.{Tables, or, both, anyBelow, Node, topAt, nameAt, existsAt, andAt, varAt, node, countOf, pairsOf, leftOf, rightOf, tree, hasVariable}
-use Rattle.subsumption.specs.Atoms.{occurs, inside, isAtomic, inInclusion, inQuestion, keep}
-use Rattle.subsumption.specs.declared.refusal.Outcome.{Outcome}
-use Rattle.subsumption.specs.declared.refusal.Outcome.the-variants.{Done}
-use Rattle.subsumption.specs.Check.{useFault}
-use Rattle.subsumption.specs.Closure.{Rising}
+use Rattle.subsumption.specs.Tables.{or, both, anyBelow, Node, topAt, nameAt, existsAt, andAt, varAt, node, countOf, pairsOf, leftOf, rightOf, tree, hasVariable}
+use Rattle.subsumption.specs.Atoms.{occurs, isAtomic, inInclusion, inQuestion, keep}
+use Rattle.subsumption.specs.Inner.Tables.{Rising}
 
 abbrev pub markAt : List Bool → ℕ → Bool
 markAt marks i = getD marks i false
@@ -73,11 +70,6 @@ pub record AtomMarks (concepts inclusions questions : List ℕ) (marks : List Bo
   pub holds :
       (p : ℕ) → p < countOf concepts
       → markAt marks p ≡ both (isAtomic (node concepts p)) (or (inInclusion concepts inclusions p) (inQuestion concepts questions p))
-
--- checks 5 to 7, and the marks where they pass
-pub record Used (t : Tables) (marks : List Bool) (answer : Outcome) : Type 0 where
-  pub answered : answer ≡ useFault t
-  pub marked : answer ≡ Done → AtomMarks (t .concepts) (t .inclusions) (t .questions) marks
 
 -- the marked ids below count, rising
 abbrev pub markedIds : List Bool → ℕ → List ℕ

@@ -1,41 +1,16 @@
--- Columns that a test of the matcher starts from, and what it ends in (helpers of the crate above; no operation's contract cites this).
+-- Columns that a test of the matcher starts from, and what it ends in (src/ground.rt).
 use Prim.Native.Nat.{ℕ, _+_, _*_, _/_, _%_, _<_}
 use mathlib.Core.Path.{_≡_}
 use mathlib.Core.List.{List}
 use mathlib.Core.Bool.{Bool, true, false}
 use lib.ListN.{length, getD}
-use Rattle.subsumption.specs.declared.refusal.Outcome.{Outcome}
 use Rattle.subsumption.specs.declared.refusal.Outcome.the-variants.{Done}
-use Rattle.subsumption.specs.Tables.{Tables, tables, countOf}
-use Rattle.subsumption.specs.Atoms.{atoms, bit}
+use Rattle.subsumption.specs.Tables.{Tables, countOf}
+use Rattle.subsumption.specs.Atoms.{bit}
 use Rattle.subsumption.specs.Subsumption.{Subsumed}
-use Rattle.subsumption.specs.Check.{useFault, tableFault, pairFault, assignmentFault, bufferFault}
-use Rattle.subsumption.specs.Refusal.{orElse}
-use Rattle.subsumption.specs.Closure.{has}
-use Rattle.subsumption.specs.Marks.{markAt}
-
--- The tables are accepted, and these are their atoms.
-pub record Accepted (t : Tables) (ids : List ℕ) : Type 0 where
-  pub passed : tableFault t ≡ Done
-  pub listed : ids ≡ atoms t
-
--- They are so with some questions. What is left to do reads no question.
-pub record Prepared (concepts inclusions : List ℕ) (variables : ℕ) (ids : List ℕ) : Type 0 where
-  pub questions : List ℕ
-  pub accepted : Accepted (tables concepts inclusions questions variables) ids
-
--- Whatever questions they are accepted with.
-abbrev pub ForAccepted : List ℕ → List ℕ → ℕ → List ℕ → (Tables → Type 0) → Type 0
-ForAccepted concepts inclusions variables ids Holds =
-    (questions : List ℕ) → Accepted (tables concepts inclusions questions variables) ids → Holds (tables concepts inclusions questions variables)
-
--- Listing the atoms of tables with an asked pair.
-unfoldable pub askedFault : Tables → ℕ → ℕ → ℕ → Outcome
-askedFault t left right size = orElse (pairFault t left right) (bufferFault 64 size)
-
--- Checks 5 to 8, with the atoms listed.
-unfoldable pub usedFault : Tables → ℕ → Outcome
-usedFault t size = orElse (useFault t) (bufferFault 64 size)
+use Rattle.subsumption.specs.Check.{assignmentFault}
+use Rattle.subsumption.specs.Inner.Atoms.{markAt}
+use Rattle.subsumption.specs.Inner.Columns.{has}
 
 -- What the columns say holds under every assignment.
 pub record Grounded (t : Tables) (columns : List ℕ) : Type 0 where

@@ -1,4 +1,4 @@
--- What writing the rows out promises (private to the crate).
+-- What writing the rows out of the columns promises (src/rows.rt).
 use Prim.Native.Nat.{ℕ, _+_, _*_, _/_, _%_, _^_, _<_, _≤_}
 use mathlib.Core.Path.{_≡_}
 use mathlib.Core.List.{List}
@@ -8,8 +8,8 @@ use lib.ListN.{length, getD}
 use lib.Bits.{bitAnd, bitOr}
 use Rattle.subsumption.specs.Tables.{both}
 use Rattle.subsumption.specs.Atoms.{bit}
-use Rattle.subsumption.specs.Closure.{has}
 use Rattle.subsumption.specs.Table.{rowStart, marked}
+use Rattle.subsumption.specs.Inner.Columns.{has}
 
 -- the bit of a row at j: set if j is an id and i is in its column
 abbrev pub shown : List ℕ → ℕ → ℕ → ℕ → Bool

@@ -1,17 +1,17 @@
--- What the readers of the tables answer and leave in the lent arrays (no operation's contract cites this).
+-- What the readers of the tables answer and leave in the lent arrays (src/text.rt).
 use Prim.Native.Nat.{ℕ, _+_, _*_, _≤_}
 use mathlib.Core.Path.{_≡_}
 use mathlib.Core.List.{List}
 use lib.ListN.{length, take, drop}
 use Rattle.subsumption.specs.declared.refusal.Refusal.{Refusal}
 use Rattle.subsumption.specs.declared.refusal.Refusal.the-variants.{BadText}
-use Rattle.subsumption.specs.Tables.{Tables, tables}
 use Rattle.hermitcasket.specs.declared.text.Lines.{Lines}
 use Rattle.hermitcasket.specs.declared.text.Lines.the-variants.{Upto, Off}
 use Rattle.hermitcasket.specs.declared.text.Section.{Section}
 use Rattle.hermitcasket.specs.declared.text.Section.the-variants.{Through, Faulty}
 use Rattle.hermitcasket.specs.declared.text.Read.{Read}
 use Rattle.hermitcasket.specs.declared.text.Read.the-variants.{Problem, Rejected}
+use Rattle.subsumption.specs.Tables.{Tables, tables}
 use Rattle.hermitcasket.specs.Lines.{questionsKey}
 use Rattle.hermitcasket.specs.Text.{Line, pairAt, Part, part, faulty, Judged, accepted, refused, Onward, countAt, sectionAt, judgeEnd}
 
