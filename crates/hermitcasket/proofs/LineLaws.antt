@@ -25,9 +25,6 @@ pub record Holds (rest text : List ℕ) (n : ℕ) : Type 0 where
 pub holds-within : (rest text : List ℕ) (n : ℕ) → Holds rest text n → n ≤ length rest
 holds-within rest text n s = omega (arith, s .size, simp length-append at (ap length (s .front)))
 
-pub holds-of : (text more : List ℕ) → Holds (text ++ more) text (length text)
-holds-of text more = record { front = ap (λ (z : List ℕ). text ++ z) (sym (drop-append-seam text more)); size = refl }
-
 pub holds-join : (rest a b : List ℕ) (k n : ℕ) → Holds rest a k → Holds (drop k rest) b n → Holds rest (a ++ b) (k + n)
 holds-join rest a b k n s t =
     record {

@@ -89,7 +89,7 @@ pow-shift d j = ap (λ (z : ℕ). z / 2 ^ j) (pow-add 2 d j) ∙ shl-shr (2 ^ d)
 pow-even : (e : ℕ) → 2 ^ suc e % 2 ≡ 0
 pow-even e = ap (λ (z : ℕ). z % 2) (pow-suc 2 e) ∙ mul-mod-left (2 ^ e) 2
 
-zero-bit : (x k : ℕ) → x / 2 ^ k % 2 ≡ 0 → bit x k ≡ true → ⊥
+pub zero-bit : (x k : ℕ) → x / 2 ^ k % 2 ≡ 0 → bit x k ≡ true → ⊥
 unfolding bit
 zero-bit x k e h = omega (arith, eqb-true (x / 2 ^ k % 2) 1 h)
 

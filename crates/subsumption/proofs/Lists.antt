@@ -99,6 +99,3 @@ module _ (test : ℕ → Bool) where
 
   pub listed-no : (before out : List ℕ) (listed p : ℕ) → ListedTo before out listed p → test p ≡ false → ListedTo before out listed (p + 1)
   listed-no before out listed p s h = record { count = count-no listed p (s .count) h; buffer = rw (keep-no p h) (s .buffer) }
-
-  pub listed-long : (before out : List ℕ) (listed p : ℕ) → ListedTo before out listed p → length (keep test 0 p) ≤ length before → length out ≡ length before
-  listed-long before out listed p s h = ap length (s .buffer) ∙ rw (length-append, length-drop) (omega arith)
