@@ -1,7 +1,6 @@
 // The output, written to a buffer: each function answers the place behind what it wrote.
 use subsumption::refusal::Code;
 ghost use mathlib.Core.Bool.{false};
-ghost use mathlib.Core.Path.{_≡_};
 ghost use Prim.Native.Nat.{_+_, _≤_};
 ghost use lib.ListN.{length};
 ghost use Rattle.hermitcasket.specs.Digits.{digits};

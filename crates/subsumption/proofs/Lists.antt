@@ -1,13 +1,13 @@
 -- Marked ids, listed in front of a buffer.
 use Prim.Native.Nat.{ℕ, zero, suc, _+_, _<_, _≤_}
-use mathlib.Core.Path.{_≡_, refl, sym, ap, _∙_, subst}
+use mathlib.Core.Path.{_≡_, refl, ap, subst}
 use mathlib.Core.List.{List, [], _∷_, _++_, append-assoc}
 use mathlib.Core.Bool.{Bool, true, false}
 use native.Mathlib.Omega.{arith}
 use native.Mathlib.Numerals.{add-one}
 use native.Mathlib.Nat.{zero-add, eq-or-lt-of-le}
 use mathlib.Core.Logic.{⊎-elim}
-use lib.ListN.{length, getD, set, drop, length-append, length-drop}
+use lib.ListN.{length, set, length-append}
 use lib.Seq.{set-append-seam, drop-cons}
 use Rattle.subsumption.specs.Atoms.{keep}
 use Rattle.subsumption.specs.Inner.Atoms.{inFront}

@@ -11,7 +11,6 @@ use lib.Seq.{getD-set-same, getD-set-other}
 use borrow.Author.Tests.{eqb-true, eqb-false}
 use Rattle.subsumption.specs.Tables.{Tables, both, countOf}
 use Rattle.subsumption.specs.Atoms.{bit}
-use Rattle.subsumption.specs.Subsumption.{Subsumed}
 use Rattle.subsumption.specs.Inner.Columns.{has}
 use Rattle.subsumption.specs.Table.{rowStart, marked, TableOf}
 use Rattle.subsumption.specs.Inner.Ground.{ColumnsOf}

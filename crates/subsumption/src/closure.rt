@@ -7,7 +7,7 @@ ghost use mathlib.Core.List.{List·Memᴰ};
 ghost use Rattle.subsumption.specs.Tables.{countOf};
 ghost use Rattle.subsumption.specs.Atoms.{pick};
 ghost use lib.ListN.{length};
-ghost use Rattle.subsumption.specs.Inner.Columns.{has, Absorbs, Takes, inThree, Known, Common, Empty};
+ghost use Rattle.subsumption.specs.Inner.Columns.{has, Absorbs, Takes, inThree, Known, Common};
 ghost use Rattle.subsumption.specs.Inner.Names.{Nameable, Seen, Firsts, IsNamed, FirstNamed};
 ghost use Rattle.subsumption.specs.Inner.Settling.{Settleable, Settled, chooseFrom, AllSettled};
 ghost use Rattle.subsumption.specs.Inner.Links.{LinkedTo, AllLinked, Inner, OnwardFrom, OnwardTo, Onward, Links, NextLink};

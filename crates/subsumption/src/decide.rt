@@ -6,7 +6,6 @@ use crate::listing::Listed;
 use crate::listing::list_asked;
 use crate::refusal::Outcome;
 use crate::refusal::Refusal;
-ghost use mathlib.Core.Path.{_≡_};
 ghost use Prim.Native.Nat.{_<_};
 ghost use Rattle.subsumption.specs.Tables.{tables, countOf};
 ghost use Rattle.subsumption.specs.Inner.Listing.{ForAccepted, Prepared};

@@ -3,11 +3,6 @@ use lib.Seq.{length-take-le}
 use borrow.Author.Needs.{needs}
 use Rattle.hermitcasket.proofs.main.Statement.{statement}
 use Rattle.hermitcasket.proofs.main.Tie as tie
-use Rattle.hermitcasket.proofs.main.Reads as reads
-use Rattle.hermitcasket.proofs.main.Lts as lts
-use Rattle.hermitcasket.proofs.answer.answer.Reads as answer-reads
-use Rattle.io.proofs.read_full.Reads as read-full-reads
-use Rattle.io.proofs.write_all.Reads as write-all-reads
 
 slice-aggregate-read-full : tie.Need-slice-aggregate-read-full
 slice-aggregate-read-full c = search needs

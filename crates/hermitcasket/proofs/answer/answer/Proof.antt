@@ -5,11 +5,6 @@ use Rattle.hermitcasket.proofs.ProgramLaws.{read-fits, text-answered, t
 use borrow.Author.Needs.{needs}
 use Rattle.hermitcasket.proofs.answer.answer.Statement.{statement}
 use Rattle.hermitcasket.proofs.answer.answer.Tie as tie
-use Rattle.hermitcasket.proofs.answer.answer.Reads as reads
-use Rattle.hermitcasket.proofs.answer.answer.Lts as lts
-use Rattle.hermitcasket.proofs.answer.answer_refused.Reads as answer-refused-reads
-use Rattle.hermitcasket.proofs.answer.answer_tables.Reads as answer-tables-reads
-use Rattle.hermitcasket.proofs.text.read_text.Reads as read-text-reads
 
 slice-aggregate-read-text : tie.Need-slice-aggregate-read-text
 slice-aggregate-read-text c = search needs

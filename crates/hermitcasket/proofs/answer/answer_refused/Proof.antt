@@ -4,11 +4,6 @@ use native.Mathlib.Omega.{arith}
 use borrow.Author.Needs.{needs}
 use Rattle.hermitcasket.proofs.answer.answer_refused.Statement.{statement}
 use Rattle.hermitcasket.proofs.answer.answer_refused.Tie as tie
-use Rattle.hermitcasket.proofs.answer.answer_refused.Reads as reads
-use Rattle.hermitcasket.proofs.answer.answer_refused.Lts as lts
-use Rattle.hermitcasket.proofs.print.put_none.Reads as put-none-reads
-use Rattle.hermitcasket.proofs.print.put_refused.Reads as put-refused-reads
-use Rattle.subsumption.proofs.refusal.code_of.Reads as code-of-reads
 
 code-of-requires : tie.Need-code-of-requires
 code-of-requires c κs = search needs

@@ -4,11 +4,6 @@ use native.Mathlib.Omega.{arith}
 use borrow.Author.Needs.{needs}
 use Rattle.hermitcasket.proofs.answer.answer_tables.Statement.{statement}
 use Rattle.hermitcasket.proofs.answer.answer_tables.Tie as tie
-use Rattle.hermitcasket.proofs.answer.answer_tables.Reads as reads
-use Rattle.hermitcasket.proofs.answer.answer_tables.Lts as lts
-use Rattle.hermitcasket.proofs.answer.answer_refused.Reads as answer-refused-reads
-use Rattle.hermitcasket.proofs.filled.put_filled.Reads as put-filled-reads
-use Rattle.matching.proofs.find_assignment.Reads as find-assignment-reads
 
 slice-aggregate-find-assignment : tie.Need-slice-aggregate-find-assignment
 slice-aggregate-find-assignment c = search needs

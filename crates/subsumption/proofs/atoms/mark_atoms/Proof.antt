@@ -4,12 +4,6 @@ use Rattle.subsumption.proofs.AtomMarking.{atoms-marked}
 use borrow.Author.Needs.{needs}
 use Rattle.subsumption.proofs.atoms.mark_atoms.Statement.{statement}
 use Rattle.subsumption.proofs.atoms.mark_atoms.Tie as tie
-use Rattle.subsumption.proofs.atoms.mark_atoms.Reads as reads
-use Rattle.subsumption.proofs.atoms.mark_atoms.Lts as lts
-use Rattle.subsumption.proofs.atoms.keep_atomic.Reads as keep-atomic-reads
-use Rattle.subsumption.proofs.atoms.mark_ground_rights.Reads as mark-ground-rights-reads
-use Rattle.subsumption.proofs.atoms.mark_sides.Reads as mark-sides-reads
-use Rattle.subsumption.proofs.atoms.spread.Reads as spread-reads
 
 mark-sides-requires : tie.Need-mark-sides-requires
 mark-sides-requires c κs = (c .before .before .before .before .before .before .pre .1 .0, (c .before .before .before .before .before .before .pre .0 .few, ap length (c .before .before .before .before .before .before .pre .1 .1 .1 .1)))

@@ -1,16 +1,10 @@
 use Rattle.subsumption.proofs.Replies.{same-reply, same-refused}
-use mathlib.Core.Path.{refl, ap}
+use mathlib.Core.Path.{refl}
 use Rattle.subsumption.proofs.Refusals.{stops, goes-on, is-done}
-use Rattle.subsumption.specs.Refusal.{replyOf}
 use Rattle.subsumption.specs.Check.{tableFault}
 use borrow.Author.Needs.{needs}
 use Rattle.subsumption.proofs.check.check_tables.Statement.{statement}
 use Rattle.subsumption.proofs.check.check_tables.Tie as tie
-use Rattle.subsumption.proofs.check.check_tables.Reads as reads
-use Rattle.subsumption.proofs.check.check_tables.Lts as lts
-use Rattle.subsumption.proofs.check.check_concepts.Reads as check-concepts-reads
-use Rattle.subsumption.proofs.check.check_ids.Reads as check-ids-reads
-use Rattle.subsumption.proofs.check.check_use.Reads as check-use-reads
 
 check-concepts-requires : tie.Need-check-concepts-requires
 check-concepts-requires c κs = search needs

@@ -7,13 +7,6 @@ use Rattle.subsumption.proofs.Accepted.{concepts-layered, concepts-few,
 use borrow.Author.Needs.{needs}
 use Rattle.subsumption.proofs.check.check_use.Statement.{statement}
 use Rattle.subsumption.proofs.check.check_use.Tie as tie
-use Rattle.subsumption.proofs.check.check_use.Reads as reads
-use Rattle.subsumption.proofs.check.check_use.Lts as lts
-use Rattle.subsumption.proofs.atoms.count_marks.Reads as count-marks-reads
-use Rattle.subsumption.proofs.atoms.mark_atoms.Reads as mark-atoms-reads
-use Rattle.subsumption.proofs.atoms.mark_variables.Reads as mark-variables-reads
-use Rattle.subsumption.proofs.check.check_inclusions.Reads as check-inclusions-reads
-use Rattle.subsumption.proofs.check.check_sides.Reads as check-sides-reads
 
 slice-aggregate-mark-variables : tie.Need-slice-aggregate-mark-variables
 slice-aggregate-mark-variables c = search needs

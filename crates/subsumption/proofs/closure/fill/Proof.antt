@@ -1,5 +1,4 @@
 use native.Mathlib.Omega.{arith}
-use borrow.Author.Needs.{needs}
 use Rattle.subsumption.proofs.Columns.{fill-takes}
 use Rattle.subsumption.proofs.closure.fill.Statement.{statement}
 use Rattle.subsumption.proofs.closure.fill.Tie as tie

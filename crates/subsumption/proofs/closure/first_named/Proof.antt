@@ -1,6 +1,5 @@
 use native.Mathlib.Omega.{arith}
 use Rattle.subsumption.proofs.Linking.{first-unnamed, name-low, first-seen, first-new}
-use borrow.Author.Needs.{needs}
 use Rattle.subsumption.proofs.closure.first_named.Statement.{statement}
 use Rattle.subsumption.proofs.closure.first_named.Tie as tie
 

@@ -1,5 +1,4 @@
 use native.Mathlib.Omega.{arith}
-use borrow.Author.Needs.{needs}
 use Rattle.subsumption.proofs.Columns.{flow-takes}
 use Rattle.subsumption.proofs.closure.flow.Statement.{statement}
 use Rattle.subsumption.proofs.closure.flow.Tie as tie

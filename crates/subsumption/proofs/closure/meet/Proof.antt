@@ -1,5 +1,4 @@
 use native.Mathlib.Omega.{arith}
-use borrow.Author.Needs.{needs}
 use Rattle.subsumption.proofs.Columns.{meet-takes}
 use Rattle.subsumption.proofs.closure.meet.Statement.{statement}
 use Rattle.subsumption.proofs.closure.meet.Tie as tie

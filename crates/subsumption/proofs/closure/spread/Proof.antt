@@ -1,6 +1,5 @@
 use Prim.Native.Nat.{_-_}
 use native.Mathlib.Omega.{arith}
-use borrow.Author.Needs.{needs}
 use lib.ListN.{length}
 use Rattle.subsumption.proofs.Choices.{Spread, spread-first, spread-skip, spread-turn, spread-done}
 use Rattle.subsumption.proofs.closure.spread.Statement.{statement}

@@ -4,11 +4,6 @@ use native.Mathlib.Omega.{arith}
 use borrow.Author.Needs.{needs}
 use Rattle.subsumption.proofs.decide.decide_known.Statement.{statement}
 use Rattle.subsumption.proofs.decide.decide_known.Tie as tie
-use Rattle.subsumption.proofs.decide.decide_known.Reads as reads
-use Rattle.subsumption.proofs.decide.decide_known.Lts as lts
-use Rattle.subsumption.proofs.check.check_assignment.Reads as check-assignment-reads
-use Rattle.subsumption.proofs.closure.below.Reads as below-reads
-use Rattle.subsumption.proofs.closure.close.Reads as close-reads
 
 check-assignment-requires : tie.Need-check-assignment-requires
 check-assignment-requires c κs = few-atoms _ _ _ _ (c .before .before .before .before .pre .0)

@@ -7,10 +7,6 @@ use native.Mathlib.Omega.{arith}
 use borrow.Author.Needs.{needs}
 use Rattle.subsumption.proofs.decide.decide_pair.Statement.{statement}
 use Rattle.subsumption.proofs.decide.decide_pair.Tie as tie
-use Rattle.subsumption.proofs.decide.decide_pair.Reads as reads
-use Rattle.subsumption.proofs.decide.decide_pair.Lts as lts
-use Rattle.subsumption.proofs.decide.decide_known.Reads as decide-known-reads
-use Rattle.subsumption.proofs.listing.list_asked.Reads as list-asked-reads
 
 slice-aggregate-list-asked : tie.Need-slice-aggregate-list-asked
 slice-aggregate-list-asked c = search needs

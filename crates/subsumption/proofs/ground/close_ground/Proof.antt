@@ -5,11 +5,6 @@ use mathlib.Core.Path.{refl, sym, ap}
 use borrow.Author.Needs.{needs}
 use Rattle.subsumption.proofs.ground.close_ground.Statement.{statement}
 use Rattle.subsumption.proofs.ground.close_ground.Tie as tie
-use Rattle.subsumption.proofs.ground.close_ground.Reads as reads
-use Rattle.subsumption.proofs.ground.close_ground.Lts as lts
-use Rattle.subsumption.proofs.atoms.mark_variables.Reads as mark-variables-reads
-use Rattle.subsumption.proofs.closure.close.Reads as close-reads
-use Rattle.subsumption.proofs.ground.keep_free.Reads as keep-free-reads
 
 array-share-prefix-nothing : tie.Need-array-share-prefix-nothing
 array-share-prefix-nothing c = few-variables _ _ _ _ (c .before .before .before .before .pre .0)

@@ -3,12 +3,6 @@ use Rattle.subsumption.proofs.Refusals.{is-done}
 use borrow.Author.Needs.{needs}
 use Rattle.subsumption.proofs.listing.list_asked.Statement.{statement}
 use Rattle.subsumption.proofs.listing.list_asked.Tie as tie
-use Rattle.subsumption.proofs.listing.list_asked.Reads as reads
-use Rattle.subsumption.proofs.listing.list_asked.Lts as lts
-use Rattle.subsumption.proofs.check.check_alone.Reads as check-alone-reads
-use Rattle.subsumption.proofs.check.check_concepts.Reads as check-concepts-reads
-use Rattle.subsumption.proofs.check.check_ids.Reads as check-ids-reads
-use Rattle.subsumption.proofs.listing.list_used.Reads as list-used-reads
 
 check-concepts-requires : tie.Need-check-concepts-requires
 check-concepts-requires c κs = search needs

@@ -3,11 +3,6 @@ use Rattle.subsumption.proofs.Refusals.{is-done}
 use borrow.Author.Needs.{needs}
 use Rattle.subsumption.proofs.listing.list_atoms.Statement.{statement}
 use Rattle.subsumption.proofs.listing.list_atoms.Tie as tie
-use Rattle.subsumption.proofs.listing.list_atoms.Reads as reads
-use Rattle.subsumption.proofs.listing.list_atoms.Lts as lts
-use Rattle.subsumption.proofs.check.check_concepts.Reads as check-concepts-reads
-use Rattle.subsumption.proofs.check.check_ids.Reads as check-ids-reads
-use Rattle.subsumption.proofs.listing.list_used.Reads as list-used-reads
 
 check-concepts-requires : tie.Need-check-concepts-requires
 check-concepts-requires c κs = search needs

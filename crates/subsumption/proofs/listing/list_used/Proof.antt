@@ -4,10 +4,6 @@ use Rattle.subsumption.proofs.ListingLaws.{used-refused, used-short, us
 use borrow.Author.Needs.{needs}
 use Rattle.subsumption.proofs.listing.list_used.Statement.{statement}
 use Rattle.subsumption.proofs.listing.list_used.Tie as tie
-use Rattle.subsumption.proofs.listing.list_used.Reads as reads
-use Rattle.subsumption.proofs.listing.list_used.Lts as lts
-use Rattle.subsumption.proofs.atoms.list_marks.Reads as list-marks-reads
-use Rattle.subsumption.proofs.check.check_use.Reads as check-use-reads
 
 slice-aggregate-check-use : tie.Need-slice-aggregate-check-use
 slice-aggregate-check-use c = search needs

@@ -1,8 +1,6 @@
 use borrow.Author.Needs.{needs}
 use Rattle.subsumption.proofs.refusal.code_of.Statement.{statement}
 use Rattle.subsumption.proofs.refusal.code_of.Tie as tie
-use Rattle.subsumption.proofs.refusal.code_of.Reads as reads
-use Rattle.subsumption.proofs.refusal.code_of.Lts as lts
 
 enum-known-r : tie.Need-enum-known-r
 enum-known-r c = search needs

@@ -5,12 +5,6 @@ use native.Mathlib.Omega.{arith}
 use borrow.Author.Needs.{needs}
 use Rattle.subsumption.proofs.table.put_table.Statement.{statement}
 use Rattle.subsumption.proofs.table.put_table.Tie as tie
-use Rattle.subsumption.proofs.table.put_table.Reads as reads
-use Rattle.subsumption.proofs.table.put_table.Lts as lts
-use Rattle.subsumption.proofs.check.check_assignment.Reads as check-assignment-reads
-use Rattle.subsumption.proofs.check.check_buffer.Reads as check-buffer-reads
-use Rattle.subsumption.proofs.closure.close.Reads as close-reads
-use Rattle.subsumption.proofs.rows.write_rows.Reads as write-rows-reads
 
 check-assignment-requires : tie.Need-check-assignment-requires
 check-assignment-requires c κs = few-atoms _ _ _ _ (c .before .before .before .before .before .pre)

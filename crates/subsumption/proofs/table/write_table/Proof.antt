@@ -7,10 +7,6 @@ use native.Mathlib.Omega.{arith}
 use borrow.Author.Needs.{needs}
 use Rattle.subsumption.proofs.table.write_table.Statement.{statement}
 use Rattle.subsumption.proofs.table.write_table.Tie as tie
-use Rattle.subsumption.proofs.table.write_table.Reads as reads
-use Rattle.subsumption.proofs.table.write_table.Lts as lts
-use Rattle.subsumption.proofs.listing.list_atoms.Reads as list-atoms-reads
-use Rattle.subsumption.proofs.table.put_table.Reads as put-table-reads
 
 slice-aggregate-list-atoms : tie.Need-slice-aggregate-list-atoms
 slice-aggregate-list-atoms c = search needs
