@@ -1,6 +1,6 @@
 // Deciding one pair.
 use crate::check::check_assignment;
-use crate::closure::below;
+use crate::closure::columns::below;
 use crate::closure::close;
 use crate::listing::Listed;
 use crate::listing::list_asked;
