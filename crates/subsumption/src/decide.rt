@@ -1,7 +1,7 @@
 // Deciding one pair.
 use crate::check::check_assignment;
-use crate::closure::columns::below;
 use crate::closure::close;
+use crate::closure::columns::below;
 use crate::listing::Listed;
 use crate::listing::list_asked;
 use crate::refusal::Outcome;
