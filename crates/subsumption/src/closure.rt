@@ -9,6 +9,7 @@ use crate::closure::links::link_all;
 use crate::closure::links::note_onward;
 use crate::closure::names::note_firsts;
 use crate::closure::settling::settle_all;
+use crate::limits::CONCEPTS;
 ghost use mathlib.Core.Path.{_≡_};
 ghost use lib.ListN.{length};
 ghost use Rattle.subsumption.specs.Inner.Names.{Firsts};
@@ -73,9 +74,9 @@ pub fn close(
     requires { ⌜ length (now columns) ≡ 576 ⌝ }
     ensures { λ r. ⌜ Closed (now (concepts .entry)) (now (inclusions .entry)) (chooseFrom (now (atoms .entry)) (now (assignment .entry))) (now (columns .entry)) (now (columns .exit)) ⌝ }
 {
-    let mut firsts = [0u16; 192];
+    let mut firsts = [0u16; CONCEPTS];
     note_firsts(concepts, &mut firsts);
-    let mut onward = [0u16; 193];
+    let mut onward = [0u16; CONCEPTS + 1];
     note_onward(concepts, &mut onward);
     let mut busy = true;
     while busy {

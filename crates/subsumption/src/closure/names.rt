@@ -1,4 +1,5 @@
 // Of each name its first row, by which the rows of one name exchange.
+use crate::limits::NAMES;
 ghost use mathlib.Core.Path.{_≡_};
 ghost use Prim.Native.Nat.{_+_, _<_};
 ghost use Rattle.subsumption.specs.Tables.{countOf};
@@ -54,7 +55,7 @@ pub fn note_firsts(concepts: &[u16], firsts: &mut [u16])
     ensures { λ r. ⌜ Firsts (now (concepts .entry)) (now (firsts .exit)) ⌝ }
 {
     let count = concepts.len() / 3;
-    let mut seen = [0u16; 1000];
+    let mut seen = [0u16; NAMES];
     let mut j = 0;
     while j < count {
         let first = first_named(concepts, &seen, j);
