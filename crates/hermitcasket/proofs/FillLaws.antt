@@ -16,7 +16,8 @@ use Rattle.subsumption.specs.Check.{tableFault, assignmentFault}
 use Rattle.matching.specs.Chosen.{choosingFault, handedBack}
 use Rattle.matching.proofs.ChoosingFaults.{choices-length, choosing-done}
 use Rattle.hermitcasket.specs.Digits.{digits}
-use Rattle.hermitcasket.specs.Printing.{idText, idsText, fillText, fillsText, Wrote}
+use Rattle.hermitcasket.specs.Printing.{idText, idsText, fillText, fillsText}
+use Rattle.hermitcasket.specs.Inner.Print.{Wrote}
 use Rattle.hermitcasket.proofs.WriteLaws.{wrote-none, wrote-join, wrote-length}
 
 -- ---- an id

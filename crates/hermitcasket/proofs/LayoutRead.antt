@@ -8,7 +8,7 @@ use native.Mathlib.Numerals.{add-one}
 use lib.ListN.{length, take, drop, length-append, take-append-drop}
 use lib.Seq.{drop-append-add, drop-append-seam}
 use borrow.Author.Tests.{le-ltb, eq-eqb, ne-eqb}
-use Rattle.subsumption.specs.Tables.{Tables, tables, both, countOf, pairsOf}
+use Rattle.subsumption.specs.Tables.{Tables, both, countOf, pairsOf}
 use Rattle.hermitcasket.specs.declared.lines.Number.the-variants.{Value, NoNumber}
 use Rattle.hermitcasket.specs.declared.lines.PairLine.the-variants.{Two, NoPair}
 use Rattle.hermitcasket.specs.declared.lines.RowLine.the-variants.{Row}

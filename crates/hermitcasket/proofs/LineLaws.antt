@@ -6,7 +6,7 @@ use mathlib.Core.Bool.{Bool, true, false, not}
 use native.Mathlib.Omega.{arith}
 use lib.Dec.{eqb}
 use lib.ListN.{length, take, drop, length-append, length-drop}
-use lib.Seq.{take-all, drop-append-add, drop-append-seam, drop-drop}
+use lib.Seq.{take-all, drop-append-add, drop-drop}
 use borrow.Author.Tests.{eq-eqb, ne-eqb, eqb-true, not-true, not-false}
 use Rattle.subsumption.specs.Tables.{both}
 use Rattle.hermitcasket.specs.declared.lines.Number.{Number}
@@ -24,9 +24,6 @@ pub record Holds (rest text : List ℕ) (n : ℕ) : Type 0 where
 
 pub holds-within : (rest text : List ℕ) (n : ℕ) → Holds rest text n → n ≤ length rest
 holds-within rest text n s = omega (arith, s .size, simp length-append at (ap length (s .front)))
-
-pub holds-of : (text more : List ℕ) → Holds (text ++ more) text (length text)
-holds-of text more = record { front = ap (λ (z : List ℕ). text ++ z) (sym (drop-append-seam text more)); size = refl }
 
 pub holds-join : (rest a b : List ℕ) (k n : ℕ) → Holds rest a k → Holds (drop k rest) b n → Holds rest (a ++ b) (k + n)
 holds-join rest a b k n s t =

@@ -13,7 +13,7 @@ use Rattle.hermitcasket.specs.declared.lines.RowLine.the-variants.{Row, 
 use Rattle.hermitcasket.specs.declared.text.Lines.the-variants.{Upto, Off}
 use Rattle.hermitcasket.specs.Lines.{belowKey, pairLine, rowLine}
 use Rattle.hermitcasket.specs.Text.{Line, numbers, off, rowNumbers, pairNumbers, rowAt, pairAt, Part, part, faulty, prepend, lineThen, readLines}
-use Rattle.hermitcasket.specs.Reading.{partOf}
+use Rattle.hermitcasket.specs.Inner.Text.{partOf}
 use Rattle.hermitcasket.proofs.RightLines.{row-within, pair-within}
 
 prepend-none : (p : Part) → p ≡ prepend [] p

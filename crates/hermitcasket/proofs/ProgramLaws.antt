@@ -23,8 +23,9 @@ use Rattle.matching.specs.Finding.{findingFault, FilledBy, matchReply, FindsAft
 use Rattle.hermitcasket.specs.declared.text.Read.{Read}
 use Rattle.hermitcasket.specs.declared.text.Read.the-variants.{Problem, Rejected}
 use Rattle.hermitcasket.specs.Text.{Judged, accepted, judge}
-use Rattle.hermitcasket.specs.Reading.{judgedBy, ReadFits}
-use Rattle.hermitcasket.specs.Printing.{noneLine, filledText, refusedText, pickText, codeText, placed, Wrote}
+use Rattle.hermitcasket.specs.Inner.Text.{judgedBy, ReadFits}
+use Rattle.hermitcasket.specs.Printing.{noneLine, filledText, refusedText, pickText, codeText}
+use Rattle.hermitcasket.specs.Inner.Print.{placed, Wrote}
 use Rattle.hermitcasket.specs.Answer.{AnsweredTables, AnsweredJudged, Answered, Output}
 use Rattle.hermitcasket.proofs.SizeLaws.{filled-room}
 

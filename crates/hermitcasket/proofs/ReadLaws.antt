@@ -14,7 +14,7 @@ use Rattle.hermitcasket.specs.declared.text.Read.{Read}
 use Rattle.hermitcasket.specs.declared.text.Read.the-variants.{Problem, Rejected}
 use Rattle.hermitcasket.specs.Lines.{variablesKey, conceptsKey, inclusionsKey}
 use Rattle.hermitcasket.specs.Text.{Line, rowAt, pairAt, refused, pickJudged, Onward, sectionAt, judgeQuestions, judgeInclusions, judgeConcepts, judgeLines, judge}
-use Rattle.hermitcasket.specs.Reading.{countedThen, sectionThen, lastThen, SectionFits, Counts, Sectioned, Last, faultOf, judgedBy, ReadFits}
+use Rattle.hermitcasket.specs.Inner.Text.{countedThen, sectionThen, lastThen, SectionFits, Counts, Sectioned, Last, faultOf, judgedBy, ReadFits}
 
 pub fault-through : (s : Section) (count used : ℕ) → s ≡ Through count used → BadText used ≡ faultOf s
 unfolding faultOf

@@ -16,7 +16,7 @@ use Rattle.hermitcasket.specs.declared.text.Section.{Section}
 use Rattle.hermitcasket.specs.declared.text.Section.the-variants.{Through, Faulty}
 use Rattle.hermitcasket.specs.Lines.{questionsKey, numberLine}
 use Rattle.hermitcasket.specs.Text.{Line, pickJudged, countThen, partThen, readLines, sectionAt, pairAt, judgeEnd}
-use Rattle.hermitcasket.specs.Reading.{partOf, PartFits, countedThen, sectionThen, lastThen, SectionFits, Counts, Sectioned, Last}
+use Rattle.hermitcasket.specs.Inner.Text.{partOf, PartFits, countedThen, sectionThen, lastThen, SectionFits, Counts, Sectioned, Last}
 use Rattle.hermitcasket.proofs.LineLaws.{holds-within}
 use Rattle.hermitcasket.proofs.RightLines.{numberLine-holds}
 

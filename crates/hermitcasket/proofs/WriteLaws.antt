@@ -1,5 +1,5 @@
 -- Writing to a buffer, piece after piece.
-use Prim.Native.Nat.{ℕ, _+_, _-_, _/_, _%_, _<_, _≤_}
+use Prim.Native.Nat.{ℕ, _+_, _/_, _%_, _<_, _≤_}
 use mathlib.Core.Path.{_≡_, refl, sym, ap, _∙_}
 use mathlib.Core.List.{List, [], _∷_, _++_, append-assoc, append-nil}
 use native.Mathlib.Omega.{arith}
@@ -7,7 +7,7 @@ use native.Mathlib.Numerals.{add-one}
 use lib.ListN.{length, getD, take, drop, set, length-append, length-drop, take-append-drop}
 use lib.Seq.{length-take-le, take-at, drop-drop, drop-append-add, set-split, take-length, paste, paste-suc}
 use Rattle.hermitcasket.specs.Digits.{digits}
-use Rattle.hermitcasket.specs.Printing.{placed, Wrote}
+use Rattle.hermitcasket.specs.Inner.Print.{placed, Wrote}
 use Rattle.hermitcasket.proofs.DigitLaws.{digits-one, digits-more}
 
 head-length : (before : List ℕ) (at : ℕ) (xs : List ℕ) → at ≤ length before → length (take at before ++ xs) ≡ at + length xs

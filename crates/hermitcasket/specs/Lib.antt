@@ -1,7 +1,8 @@
--- What a reader must believe: the house text, its judgement, and the whole output. proofs/ has the laws.
+-- What a reader must believe: the house text, its judgement, and the whole output. `Inner` has the definitions of private contracts,
+-- and proofs/ the laws.
 pub mod Digits
 pub mod Lines
 pub mod Text
-pub mod Reading
 pub mod Printing
 pub mod Answer
+pub mod Inner

@@ -1,10 +1,9 @@
 -- The whole output as bytes (01, "House text and the program").
-use Prim.Native.Nat.{ℕ, _+_}
-use mathlib.Core.Path.{_≡_}
+use Prim.Native.Nat.{ℕ}
 use mathlib.Core.List.{List, [], _∷_, _++_}
 use mathlib.Core.Bool.{Bool, true, false}
 use lib.Dec.{eqb}
-use lib.ListN.{length, take, drop}
+use lib.ListN.{length}
 use Rattle.subsumption.specs.declared.refusal.Code.{Code}
 use Rattle.subsumption.specs.Atoms.{pick}
 use Rattle.hermitcasket.specs.Digits.{digits}
@@ -62,13 +61,3 @@ pickText false a b = b
 -- Refusal 10 is one line; any other is told by its number and place.
 unfoldable pub codeText : Code → List ℕ
 codeText code = pickText (eqb (code .number) 10) noneLine (refusedText code)
-
--- ---- what the printing functions do to the buffer
-
-unfoldable pub placed : ℕ → List ℕ → List ℕ → List ℕ
-placed at bytes before = (take at before ++ bytes) ++ drop (at + length bytes) before
-
--- The bytes stand from `at` on, `end` is the place behind them, and the rest is as it was.
-pub record Wrote (before : List ℕ) (at : ℕ) (bytes : List ℕ) (end : ℕ) (after : List ℕ) : Type 0 where
-  pub place : end ≡ at + length bytes
-  pub buffer : after ≡ placed at bytes before

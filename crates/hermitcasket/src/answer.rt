@@ -12,7 +12,8 @@ ghost use lib.ListN.{length};
 ghost use Rattle.subsumption.specs.Tables.{tables};
 ghost use Rattle.subsumption.specs.Refusal.{codeOf};
 ghost use Rattle.subsumption.specs.Check.{tableFault};
-ghost use Rattle.hermitcasket.specs.Printing.{Wrote, codeText};
+ghost use Rattle.hermitcasket.specs.Printing.{codeText};
+ghost use Rattle.hermitcasket.specs.Inner.Print.{Wrote};
 ghost use Rattle.hermitcasket.specs.Answer.{AnsweredTables, Answered, Output};
 
 fn answer_refused(refusal: Refusal, out: &mut [u8]) -> usize

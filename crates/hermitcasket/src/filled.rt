@@ -9,7 +9,8 @@ ghost use Rattle.subsumption.specs.declared.refusal.Outcome.the-variants.{Done}
 ghost use Rattle.subsumption.specs.Tables.{tables};
 ghost use Rattle.subsumption.specs.Atoms.{atoms, chosen};
 ghost use Rattle.subsumption.specs.Check.{tableFault, assignmentFault};
-ghost use Rattle.hermitcasket.specs.Printing.{Wrote, fillText, fillsText, filledText};
+ghost use Rattle.hermitcasket.specs.Printing.{fillText, fillsText, filledText};
+ghost use Rattle.hermitcasket.specs.Inner.Print.{Wrote};
 
 // Tables and assignment are accepted, so the listing is not refused.
 fn put_variable(

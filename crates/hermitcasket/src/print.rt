@@ -1,12 +1,12 @@
 // The output, written to a buffer: each function answers the place behind what it wrote.
 use subsumption::refusal::Code;
 ghost use mathlib.Core.Bool.{false};
-ghost use mathlib.Core.Path.{_≡_};
 ghost use Prim.Native.Nat.{_+_, _≤_};
 ghost use lib.ListN.{length};
 ghost use Rattle.hermitcasket.specs.Digits.{digits};
 ghost use Rattle.hermitcasket.specs.Lines.{numberText};
-ghost use Rattle.hermitcasket.specs.Printing.{Wrote, idText, idsText, fillText, refusedText, noneLine};
+ghost use Rattle.hermitcasket.specs.Printing.{idText, idsText, fillText, refusedText, noneLine};
+ghost use Rattle.hermitcasket.specs.Inner.Print.{Wrote};
 
 pub fn put_bytes(bytes: &[u8], at: usize, out: &mut [u8]) -> usize
     requires { ⌜ at + length (now bytes) ≤ length (now out) ⌝ }

@@ -12,7 +12,7 @@ ghost use Prim.Native.Nat.{_+_, _*_, _≤_};
 ghost use lib.ListN.{length};
 ghost use Rattle.hermitcasket.specs.Lines.{conceptsKey};
 ghost use Rattle.hermitcasket.specs.Text.{readLines, rowAt, pairAt, judgeConcepts, judge};
-ghost use Rattle.hermitcasket.specs.Reading.{partOf, PartFits, Counts, Sectioned, Last, faultOf, judgedBy, ReadFits};
+ghost use Rattle.hermitcasket.specs.Inner.Text.{partOf, PartFits, Counts, Sectioned, Last, faultOf, judgedBy, ReadFits};
 
 // The length of the lines, or the place where the earliest faulty one starts.
 pub enum Lines {

@@ -18,7 +18,7 @@ use Rattle.subsumption.specs.Tables.{Tables, both}
 use Rattle.subsumption.specs.Atoms.{atoms, bit}
 use Rattle.subsumption.specs.Check.{tableFault, assignmentFault, bufferFault}
 use Rattle.subsumption.specs.Refusal.{replyRefused}
-use Rattle.subsumption.specs.Ground.{Accepted}
+use Rattle.subsumption.specs.Inner.Listing.{Accepted}
 use Rattle.subsumption.proofs.WellFormed.{WellFormed}
 use Rattle.subsumption.proofs.Bools.{last-cases, both-true}
 use Rattle.subsumption.proofs.Bits.{bit-and, bit-pow, bit-of-zero}

@@ -13,7 +13,7 @@ use lib.Seq.{drop-cons, take-suc, set-append-seam, length-take-le, take-length}
 use lib.Bits.{bitAnd, and-step, and-self, and-le-r}
 use lib.Count.{ones, ones-step, ones-le, trailingZeros}
 use Rattle.subsumption.specs.Atoms.{bit, pick}
-use Rattle.subsumption.specs.Marks.{inFront}
+use Rattle.subsumption.specs.Inner.Atoms.{inFront}
 use Rattle.subsumption.proofs.Bools.{eq-or-ne}
 
 -- the lowest bit

@@ -18,8 +18,8 @@ use Rattle.subsumption.specs.Tables.{Tables}
 use Rattle.subsumption.specs.Atoms.{atoms, pick, chosen}
 use Rattle.subsumption.specs.Refusal.{codeOf, replyDone, replyRefused, replyWith, replyOf, orElse, refuseIf, firstAt}
 use Rattle.subsumption.specs.Check.{limitFault, malformedFault, forwardFault, pairsFault, inclusionFault, sidesFault, atomsFault, conceptFault, idFault, useFault, tableFault, assignmentFaultAt, assignmentFault, bufferFault}
-use Rattle.subsumption.specs.Ground.{Accepted}
-use Rattle.subsumption.specs.Marks.{inFront}
+use Rattle.subsumption.specs.Inner.Listing.{Accepted}
+use Rattle.subsumption.specs.Inner.Atoms.{inFront}
 use Rattle.subsumption.proofs.Refusals.{stops, goes-on, refused-lt, done-le, passed-first, passed-second, passed-if, passed-at}
 use Rattle.subsumption.proofs.Replies.{same-value, same-refusal, not-done}
 use Rattle.matching.specs.declared.chosen.Chosen.{Chosen}

@@ -12,7 +12,7 @@ use borrow.Author.Tests.{eqb-true, eq-eqb}
 use Rattle.subsumption.specs.declared.refusal.Refusal.{Refusal}
 use Rattle.subsumption.specs.declared.refusal.Outcome.the-variants.{Done}
 use Rattle.subsumption.specs.Tables.{Tables, or, both, countOf}
-use Rattle.subsumption.specs.Closure.{Ready}
+use Rattle.subsumption.specs.Inner.Closure.{Ready}
 use Rattle.subsumption.specs.Refusal.{firstAt}
 use Rattle.subsumption.specs.Rules.{follows}
 use Rattle.subsumption.proofs.Bools.{both-true, both-intro, both-none, both-skip, or-first, or-skip, last-cases, anyBelow-intro, anyBelow-elim}

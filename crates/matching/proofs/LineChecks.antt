@@ -16,10 +16,10 @@ use Rattle.subsumption.specs.declared.refusal.Outcome.{Outcome}
 use Rattle.subsumption.specs.declared.refusal.Outcome.the-variants.{Done, Refused}
 use Rattle.subsumption.specs.Tables.{Tables, or, both, anyBelow, countOf}
 use Rattle.subsumption.specs.Atoms.{atoms}
-use Rattle.subsumption.specs.Closure.{Ready}
+use Rattle.subsumption.specs.Inner.Closure.{Ready}
 use Rattle.subsumption.specs.Refusal.{refuseIf}
 use Rattle.subsumption.specs.Check.{pairFault}
-use Rattle.subsumption.specs.Ground.{Accepted}
+use Rattle.subsumption.specs.Inner.Listing.{Accepted}
 use Rattle.subsumption.specs.Rules.{byRule, follows}
 use Rattle.subsumption.specs.Decide.{decidingFault}
 use Rattle.subsumption.proofs.Bools.{both-intro, both-none, both-skip, or-first, or-second, or-skip, or-false, eq-or-ne}

@@ -9,7 +9,7 @@ use native.Mathlib.Nat.{mod-lt, div-lt-iff-lt-mul, zero-mul}
 use borrow.Author.Tests.{ne-eqb, le-ltb}
 use Rattle.subsumption.specs.declared.tables.Row.{Row}
 use Rattle.subsumption.specs.Tables.{Tables, Node, topAt, nameAt, existsAt, andAt, varAt, node, countOf, pairsOf}
-use Rattle.subsumption.specs.TableRows.{rowOf}
+use Rattle.subsumption.specs.Inner.Tables.{rowOf}
 use Rattle.subsumption.specs.Rules.{onPicked, byRule}
 use Rattle.subsumption.proofs.Bools.{both-true, both-none, last-cases, le-or-lt}
 use Rattle.subsumption.proofs.Chosen.{chosen-known}

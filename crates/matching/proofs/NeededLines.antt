@@ -6,7 +6,7 @@ use mathlib.Core.Bool.{Bool, true, false, true≢false}
 use mathlib.Core.Logic.{_⊎_, ⊎-elim}
 use native.Mathlib.Omega.{arith}
 use Rattle.subsumption.specs.Tables.{Tables, both, countOf}
-use Rattle.subsumption.specs.Closure.{Ready}
+use Rattle.subsumption.specs.Inner.Closure.{Ready}
 use Rattle.subsumption.specs.Rules.{byRule, follows}
 use Rattle.subsumption.proofs.Bools.{both-true, both-intro, eq-or-ne}
 use Rattle.matching.specs.Derivation.{ruleAt, leftAt, rightAt, extraAt, provedBy, lineFollows}

@@ -11,7 +11,7 @@ use borrow.Author.Tests.{ltb-true, lt-ltb}
 use Rattle.subsumption.specs.declared.tables.Row.{Row}
 use Rattle.subsumption.specs.declared.tables.Pair.{Pair}
 use Rattle.subsumption.specs.Tables.{Tables, or, both, Node, topAt, nameAt, existsAt, andAt, varAt, node, countOf, pairsOf, leftOf, rightOf}
-use Rattle.subsumption.specs.TableRows.{rowOf, pairOf}
+use Rattle.subsumption.specs.Inner.Tables.{rowOf, pairOf}
 use Rattle.subsumption.specs.Atoms.{chosen, pick}
 use Rattle.subsumption.specs.Rules.{every, contains, onPicked, byRule}
 use Rattle.subsumption.proofs.Bools.{both-true, both-intro, eq-or-ne}

@@ -9,10 +9,10 @@ use lib.ListN.{length, getD}
 use borrow.Author.Tests.{ne-eqb}
 use Rattle.subsumption.specs.declared.tables.Row.{Row}
 use Rattle.subsumption.specs.Tables.{or, both, Node, topAt, nameAt, existsAt, andAt, varAt, node, countOf, pairsOf, leftOf, rightOf}
-use Rattle.subsumption.specs.TableRows.{rowOf}
+use Rattle.subsumption.specs.Inner.Tables.{rowOf, Rising}
 use Rattle.subsumption.specs.Atoms.{atoms, chosen, pick}
-use Rattle.subsumption.specs.Closure.{Rising, Ready}
-use Rattle.subsumption.specs.Marks.{Known}
+use Rattle.subsumption.specs.Inner.Closure.{Ready}
+use Rattle.subsumption.specs.Inner.Atoms.{Known}
 use Rattle.subsumption.specs.Rules.{every, contains, sameName, isTop, onPicked, onBoth, onInner, onVariable, byRule}
 use Rattle.matching.specs.LineMarks.{seen, nodeOf, KnownAtoms, Numbered, ByRule}
 

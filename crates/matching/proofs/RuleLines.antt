@@ -10,10 +10,9 @@ use lib.ListN.{length, getD}
 use borrow.Author.Tests.{eqb-true, eq-eqb, ne-eqb, lt-ltb, le-ltb}
 use Rattle.subsumption.specs.declared.tables.Pair.{Pair}
 use Rattle.subsumption.specs.Tables.{or, both, andAt, decode, pairsOf, leftOf, rightOf}
-use Rattle.subsumption.specs.TableRows.{pairOf}
+use Rattle.subsumption.specs.Inner.Tables.{pairOf, Rising}
 use Rattle.subsumption.specs.Atoms.{bit, pick}
-use Rattle.subsumption.specs.Closure.{Rising}
-use Rattle.subsumption.specs.Marks.{Known}
+use Rattle.subsumption.specs.Inner.Atoms.{Known}
 use Rattle.subsumption.specs.Rules.{every, contains, sameName, isTop, onPicked, onBoth, onInner, onVariable}
 use Rattle.subsumption.proofs.Bools.{both-none, both-skip, last-cases}
 use Rattle.subsumption.proofs.Chosen.{pick-member, pick-intro}

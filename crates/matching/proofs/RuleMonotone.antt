@@ -7,7 +7,8 @@ use native.Mathlib.Omega.{arith}
 use borrow.Author.Tests.{eq-eqb, ltb-true}
 use Rattle.subsumption.specs.Tables.{Tables, both, Node, topAt, nameAt, existsAt, andAt, varAt, node, countOf, pairsOf, leftOf, rightOf}
 use Rattle.subsumption.specs.Atoms.{chosen}
-use Rattle.subsumption.specs.Closure.{Rising, Ready}
+use Rattle.subsumption.specs.Inner.Tables.{Rising}
+use Rattle.subsumption.specs.Inner.Closure.{Ready}
 use Rattle.subsumption.specs.Rules.{every, contains, onPicked, onBoth, onInner, onVariable, byRule, follows}
 use Rattle.subsumption.proofs.Bools.{both-true, both-intro, same-bool}
 use Rattle.subsumption.proofs.Chosen.{chosen-known}

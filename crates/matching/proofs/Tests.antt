@@ -9,13 +9,13 @@ use lib.Dec.{eqb}
 use lib.ListN.{length, getD}
 use Rattle.subsumption.specs.declared.refusal.Outcome.the-variants.{Done}
 use Rattle.subsumption.specs.declared.tables.Pair.{Pair}
-use Rattle.subsumption.specs.TableRows.{pairOf}
+use Rattle.subsumption.specs.Inner.Tables.{pairOf}
 use Rattle.subsumption.specs.Tables.{Tables, countOf, pairsOf, leftOf, rightOf, tree, hasVariable}
 use Rattle.subsumption.specs.Subsumption.{Subsumed}
 use Rattle.subsumption.specs.Check.{tableFault}
-use Rattle.subsumption.specs.Closure.{has}
-use Rattle.subsumption.specs.Ground.{ColumnsOf}
-use Rattle.subsumption.specs.Marks.{Layered, Known, VariableMarks, markAt}
+use Rattle.subsumption.specs.Inner.Columns.{has}
+use Rattle.subsumption.specs.Inner.Ground.{ColumnsOf}
+use Rattle.subsumption.specs.Inner.Atoms.{Layered, Known, VariableMarks, markAt}
 use Rattle.subsumption.proofs.WellFormed.{WellFormed}
 use Rattle.subsumption.proofs.Bools.{last-cases}
 use Rattle.subsumption.proofs.Accepted.{wellFormed, table-concepts, concepts-layered}

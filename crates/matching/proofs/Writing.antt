@@ -18,7 +18,7 @@ use Rattle.subsumption.specs.Subsumption.{Subsumed}
 use Rattle.subsumption.specs.Refusal.{Reply, replyDone, replyRefused, Replies}
 use Rattle.subsumption.specs.Check.{bufferFault, pairFault, assignmentFaultAt}
 use Rattle.subsumption.specs.Decide.{decidingFault, decisionReply, Tells, Decides}
-use Rattle.subsumption.specs.Ground.{Accepted, Prepared, ForAccepted}
+use Rattle.subsumption.specs.Inner.Listing.{Accepted, Prepared, ForAccepted}
 use Rattle.subsumption.proofs.Refusals.{stops, goes-on, refused-lt, done-le}
 use Rattle.subsumption.proofs.Accepted.{wellFormed}
 use Rattle.subsumption.proofs.Replies.{not-done}

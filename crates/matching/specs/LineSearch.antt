@@ -4,7 +4,7 @@ use mathlib.Core.Path.{_≡_}
 use mathlib.Core.List.{List}
 use mathlib.Core.Bool.{Bool, true, false}
 use Rattle.subsumption.specs.Tables.{Tables, countOf, pairsOf}
-use Rattle.subsumption.specs.Closure.{Ready}
+use Rattle.subsumption.specs.Inner.Closure.{Ready}
 use Rattle.subsumption.specs.Rules.{byRule}
 use Rattle.matching.specs.declared.search.Extra.{Extra}
 use Rattle.matching.specs.declared.search.Extra.the-variants.{At, None}

@@ -14,7 +14,7 @@ ghost use Rattle.subsumption.specs.Tables.{tables};
 ghost use Rattle.subsumption.specs.Atoms.{pick, chosen};
 ghost use Rattle.subsumption.specs.Refusal.{replyWith, replyOf};
 ghost use Rattle.subsumption.specs.Check.{assignmentFaultAt};
-ghost use Rattle.subsumption.specs.Marks.{inFront};
+ghost use Rattle.subsumption.specs.Inner.Atoms.{inFront};
 ghost use Rattle.matching.specs.Chosen.{choosingFault, chosenReply, chosenIn, handedBack};
 ghost use Rattle.matching.specs.Listing.{knownFault, earlierOf, toldOf};
 

@@ -14,8 +14,8 @@ ghost use Rattle.subsumption.specs.declared.refusal.Refusal.the-variants.{BadDe
 ghost use Rattle.subsumption.specs.declared.refusal.Outcome.the-variants.{Done};
 ghost use Rattle.subsumption.specs.Tables.{tables, countOf};
 ghost use Rattle.subsumption.specs.Refusal.{replyOf, refuseIf};
-ghost use Rattle.subsumption.specs.Closure.{Ready};
-ghost use Rattle.subsumption.specs.Ground.{Prepared, ForAccepted};
+ghost use Rattle.subsumption.specs.Inner.Closure.{Ready};
+ghost use Rattle.subsumption.specs.Inner.Listing.{Prepared, ForAccepted};
 ghost use Rattle.matching.specs.Derivation.{linesOf, noLines, lastFault, checkingFault};
 ghost use Rattle.matching.specs.LineMarks.{Square, MarksOf, LineTest, RulesTest};
 

@@ -11,7 +11,7 @@ ghost use mathlib.Core.Path.{_≡_};
 ghost use Prim.Native.Nat.{_≤_};
 ghost use lib.ListN.{length};
 ghost use Rattle.subsumption.specs.Tables.{tables};
-ghost use Rattle.subsumption.specs.Ground.{Accepted};
+ghost use Rattle.subsumption.specs.Inner.Listing.{Accepted};
 ghost use Rattle.matching.specs.Search.{Full, FoundBy, Copied};
 ghost use Rattle.matching.specs.Finding.{matchReply, Finds};
 

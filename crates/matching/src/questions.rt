@@ -11,7 +11,7 @@ ghost use lib.ListN.{length};
 ghost use Rattle.subsumption.specs.declared.refusal.Outcome.the-variants.{Done};
 ghost use Rattle.subsumption.specs.Tables.{tables};
 ghost use Rattle.subsumption.specs.Check.{assignmentFault};
-ghost use Rattle.subsumption.specs.Marks.{Known};
+ghost use Rattle.subsumption.specs.Inner.Atoms.{Known};
 ghost use Rattle.matching.specs.Search.{Decided, Seen, Hold, Prepared};
 
 // The questions whose right side holds a variable just where `right` says so are in the columns.

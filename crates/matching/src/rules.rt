@@ -8,8 +8,9 @@ ghost use lib.Dec.{eqb, ltb};
 ghost use lib.ListN.{length, getD};
 ghost use Rattle.subsumption.specs.Tables.{or, both, countOf, pairsOf, leftOf, rightOf};
 ghost use Rattle.subsumption.specs.Atoms.{pick};
-ghost use Rattle.subsumption.specs.Marks.{Known};
-ghost use Rattle.subsumption.specs.Closure.{Rising, Ready};
+ghost use Rattle.subsumption.specs.Inner.Atoms.{Known};
+ghost use Rattle.subsumption.specs.Inner.Tables.{Rising};
+ghost use Rattle.subsumption.specs.Inner.Closure.{Ready};
 ghost use Rattle.subsumption.specs.Rules.{every, contains, sameName, isTop, onPicked, onBoth, onInner, onVariable};
 ghost use Rattle.matching.specs.LineMarks.{Square, seen, nodeOf, KnownAtoms, Numbered, ByRule};
 

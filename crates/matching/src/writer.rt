@@ -16,7 +16,7 @@ ghost use Prim.Native.Nat.{ℕ, _+_, _*_, _<_, _≤_};
 ghost use lib.Dec.{eqb};
 ghost use lib.ListN.{length};
 ghost use Rattle.subsumption.specs.Tables.{tables, both, countOf};
-ghost use Rattle.subsumption.specs.Ground.{Prepared, ForAccepted};
+ghost use Rattle.subsumption.specs.Inner.Listing.{Prepared, ForAccepted};
 ghost use Rattle.matching.specs.Derivation.{leftAt, rightAt};
 ghost use Rattle.matching.specs.Deriving.{derivedReply, Derives};
 ghost use Rattle.matching.specs.LineMarks.{Square};

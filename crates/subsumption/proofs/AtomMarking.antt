@@ -3,10 +3,10 @@ use Prim.Native.Nat.{ℕ, zero, suc, _+_, _<_, _≤_}
 use mathlib.Core.Path.{_≡_, refl, sym, ap, ap₂, _∙_, subst}
 use mathlib.Core.List.{List, _∷_}
 use mathlib.Core.Bool.{Bool, true, false, not, false≢true}
-use mathlib.Core.Logic.{_⊎_, inl, inr, ⊎-elim}
+use mathlib.Core.Logic.{⊎-elim}
 use native.Mathlib.Omega.{arith}
 use lib.Dec.{eqb}
-use lib.ListN.{length, getD, set, length-set, replicate, getD-replicate, List·getD-eq-default, length-replicate}
+use lib.ListN.{length, set, length-set, replicate, getD-replicate, List·getD-eq-default}
 use lib.Seq.{getD-set-same, getD-set-other}
 use borrow.Author.Tests.{eq-eqb, ne-eqb, eqb-true, lt-ltb, le-ltb, ltb-false}
 use Rattle.subsumption.specs.declared.refusal.Refusal.{Refusal}
@@ -14,13 +14,14 @@ use Rattle.subsumption.specs.declared.refusal.Refusal.the-variants.{TooM
 use Rattle.subsumption.specs.declared.refusal.Outcome.{Outcome}
 use Rattle.subsumption.specs.declared.refusal.Outcome.the-variants.{Done, Refused}
 use Rattle.subsumption.specs.declared.tables.Row.{Row}
-use Rattle.subsumption.specs.TableRows.{rowOf}
-use Rattle.subsumption.specs.Tables.{Tables, or, both, anyBelow, node, decode, countOf, pairsOf, leftOf, rightOf, tree, hasVariable}
+use Rattle.subsumption.specs.Inner.Tables.{rowOf}
+use Rattle.subsumption.specs.Tables.{Tables, or, both, node, decode, countOf, pairsOf, leftOf, rightOf, tree, hasVariable}
 use Rattle.subsumption.specs.Atoms.{isAtomic, occurs, inInclusion, inQuestion, isAtom, keep, atoms}
 use Rattle.subsumption.specs.Refusal.{orElse, refuseIf}
 use Rattle.subsumption.specs.Check.{inclusionFault, sidesFault, atomsFault, useFault}
-use Rattle.subsumption.specs.Marks.{Layered, Known, markAt, VariableMarks, MarkedBy, inPair, onSide, inGroundRight, onGroundRight, Spread, Narrowed, AtomMarks, Used, markedIds}
-use Rattle.subsumption.proofs.Bools.{or-cases, or-first, or-second, both-true, both-intro, both-skip, both-none, anyBelow-intro, anyBelow-elim, eq-or-ne, last-cases, le-or-lt, same-bool}
+use Rattle.subsumption.specs.Inner.Atoms.{Known, markAt, VariableMarks, MarkedBy, inPair, onSide, onGroundRight, Spread, Narrowed, AtomMarks, markedIds}
+use Rattle.subsumption.specs.Inner.Check.{Used}
+use Rattle.subsumption.proofs.Bools.{or-cases, or-first, or-second, both-true, both-intro, anyBelow-intro, anyBelow-elim, last-cases, le-or-lt, same-bool}
 use Rattle.subsumption.proofs.Refusals.{passed-if, passed-second}
 use Rattle.subsumption.proofs.Marks.{row-node}
 

@@ -2,7 +2,7 @@
 use Prim.Native.Nat.{ℕ, zero, suc, _+_, _*_, _-_, _/_, _%_, _^_, _<_, _≤_, min, max}
 use mathlib.Core.Path.{_≡_, refl, ap, sym, _∙_, subst}
 use mathlib.Core.Bool.{Bool, true, false}
-use mathlib.Core.Logic.{_⊎_, inl, inr}
+use mathlib.Core.Logic.{_⊎_}
 use native.Mathlib.Omega.{arith}
 use native.Mathlib.Nat.{div-eq-of-lt, pow-suc, mul-mod-left, div-div-eq-div-mul, mod-eq-of-lt, mul-comm, mul-assoc, lt-of-lt-of-le}
 use lib.Pow.{pow-pos, pow-lt, pow-mono, pow-add, shl-shr, shr-shr}
@@ -89,7 +89,7 @@ pow-shift d j = ap (λ (z : ℕ). z / 2 ^ j) (pow-add 2 d j) ∙ shl-shr (2 ^ d)
 pow-even : (e : ℕ) → 2 ^ suc e % 2 ≡ 0
 pow-even e = ap (λ (z : ℕ). z % 2) (pow-suc 2 e) ∙ mul-mod-left (2 ^ e) 2
 
-zero-bit : (x k : ℕ) → x / 2 ^ k % 2 ≡ 0 → bit x k ≡ true → ⊥
+pub zero-bit : (x k : ℕ) → x / 2 ^ k % 2 ≡ 0 → bit x k ≡ true → ⊥
 unfolding bit
 zero-bit x k e h = omega (arith, eqb-true (x / 2 ^ k % 2) 1 h)
 

@@ -14,9 +14,9 @@ use lib.Bits.{bitAnd, bitOr}
 use borrow.Author.Tests.{eqb-true, eqb-false, ltb-true, leb-true, lt-ltb, le-ltb}
 use Rattle.subsumption.specs.Tables.{or, both}
 use Rattle.subsumption.specs.Atoms.{bit}
-use Rattle.subsumption.specs.Closure.{has}
-use Rattle.subsumption.specs.Rows.{exchanged, shown, Transposed, BlockOf, BandOf, Banded}
-use Rattle.subsumption.proofs.Bools.{both-true, last-cases}
+use Rattle.subsumption.specs.Inner.Columns.{has}
+use Rattle.subsumption.specs.Inner.Rows.{exchanged, shown, Transposed, BlockOf, BandOf, Banded}
+use Rattle.subsumption.proofs.Bools.{or-skip, both-true, last-cases}
 use Rattle.subsumption.proofs.Bits.{bit-and, bit-or, bit-of-zero, bit-shr, bit-shl, bit-shl-low, bit-mod, bit-past}
 
 -- ---- one exchange
@@ -168,11 +168,6 @@ unfolding or
 or-left true b e = refl
 or-left false b e = e
 
-or-right : (a b : Bool) → a ≡ false → or a b ≡ b
-unfolding or
-or-right true b e = cc e
-or-right false b e = refl
-
 pub shows-below : (columns : List ℕ) (count i j : ℕ) → j < count → shown columns count i j ≡ has columns i j
 unfolding both
 shows-below columns count i j h = rw (lt-ltb j count h, both) refl
@@ -212,7 +207,7 @@ module _ (columns : List ℕ) (count m a : ℕ) where
       old k l = bit-or word put k ∙ or-left _ _ (bit-shl-low byte (b * 8) k l (omega arith))
 
       new : (k : ℕ) → b * 8 ≤ k → k < 64 → bit (bitOr word put) k ≡ bit byte (k - b * 8)
-      new k l q = bit-or word put k ∙ or-right _ _ (B .high k l q) ∙ bit-shl byte (b * 8) k l q
+      new k l q = bit-or word put k ∙ or-skip _ _ (B .high k l q) ∙ bit-shl byte (b * 8) k l q
 
       here : (r : ℕ) → r < 8 → bit byte r ≡ shown columns count (m * 8 + r) (a * 8 + b)
       unfolding has

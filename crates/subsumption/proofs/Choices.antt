@@ -11,15 +11,11 @@ use lib.Dec.{eqb}
 use lib.Bits.{bitAnd}
 use borrow.Author.Tests.{eqb-true, eqb-false, eq-eqb}
 use Rattle.subsumption.specs.Atoms.{bit, pick}
-use Rattle.subsumption.specs.Closure.{has, slack, Takes, inThree, Common}
+use Rattle.subsumption.specs.Inner.Columns.{has, slack, Takes, inThree, Common}
 use Rattle.subsumption.proofs.Bools.{both-true, both-intro}
-use Rattle.subsumption.proofs.Bits.{bit-ones, bit-and}
+use Rattle.subsumption.proofs.Bits.{zero-bit, bit-ones, bit-and}
 use Rattle.subsumption.proofs.Picks.{ChosenBelow, picked-at, at-picked}
 use Rattle.subsumption.proofs.Columns.{any-true, any-false, not-both, falls, takes-as}
-
-unpicked : (choice q : ℕ) → choice / 2 ^ q % 2 ≡ 0 → bit choice q ≡ true → ⊥
-unfolding bit
-unpicked choice q e h = omega (arith, eqb-true (choice / 2 ^ q % 2) 1 h)
 
 picked-bit : (choice q : ℕ) → (choice / 2 ^ q % 2 ≡ 0 → ⊥) → bit choice q ≡ true
 unfolding bit
@@ -41,7 +37,7 @@ module _ (atoms : List ℕ) (choice : ℕ) (columns : List ℕ) (part : ℕ) whe
       record {
         only =
             λ k m h b l p.
-            ⊎-elim (λ u. c .only k m h b u p) (λ u. absurd (unpicked choice q e (subst (λ (x : ℕ). bit choice x ≡ true) u p)))
+            ⊎-elim (λ u. c .only k m h b u p) (λ u. absurd (zero-bit choice q e (subst (λ (x : ℕ). bit choice x ≡ true) u p)))
             (last-or-before m q l);
         every = λ k h f. c .every k h (λ m l p. f m (omega arith) p);
       }
@@ -186,7 +182,7 @@ module _ (q : ℕ) (atoms : List ℕ) (choice : ℕ) (before : List ℕ) (from :
       narrower : (j : ℕ) → ChosenBelow (q + 1) atoms choice j → ChosenBelow q atoms choice j
       narrower j c =
           ⊎-elim (λ u. record { place = c .place; before = u; picked = c .picked; found = c .found })
-          (λ u. absurd (unpicked choice q e (subst (λ (x : ℕ). bit choice x ≡ true) u (c .picked)))) (last-or-before (c .place) q (c .before))
+          (λ u. absurd (zero-bit choice q e (subst (λ (x : ℕ). bit choice x ≡ true) u (c .picked)))) (last-or-before (c .place) q (c .before))
 
   pub spread-turn :
       (after : List ℕ) (b : Bool) → from < 192 → (choice / 2 ^ q % 2 ≡ 0 → ⊥)

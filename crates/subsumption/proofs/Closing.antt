@@ -1,16 +1,18 @@
 -- Rounds until nothing changes.
-use Prim.Native.Nat.{ℕ, _+_, _*_, _/_, _%_, _<_, _≤_}
+use Prim.Native.Nat.{ℕ, _+_, _*_, _/_, _%_, _<_}
 use mathlib.Core.Path.{_≡_, refl, ap, sym, _∙_, subst}
 use mathlib.Core.List.{List}
 use mathlib.Core.Bool.{Bool, true, false, _||_}
 use native.Mathlib.Omega.{arith}
 use native.Mathlib.Nat.{le-antisymm}
 use lib.ListN.{length, getD}
-use lib.Dec.{eqb}
-use borrow.Author.Tests.{eqb-true, eqb-false}
 use Rattle.subsumption.specs.Tables.{Node, topAt, nameAt, andAt, varAt, node, countOf}
 use Rattle.subsumption.specs.Atoms.{bit}
-use Rattle.subsumption.specs.Closure.{has, slack, Firsts, SettledBy, Steps, flow-given, Sound, Pass, Empty, AllTaken, AllSettled, AllIncluded, AllLinked, Closed}
+use Rattle.subsumption.specs.Inner.Columns.{has, slack, Empty}
+use Rattle.subsumption.specs.Inner.Names.{Firsts}
+use Rattle.subsumption.specs.Inner.Settling.{SettledBy, AllSettled}
+use Rattle.subsumption.specs.Inner.Links.{AllLinked}
+use Rattle.subsumption.specs.Inner.Closure.{Steps, flow-given, Sound, Pass, AllTaken, AllIncluded, Closed}
 use Rattle.subsumption.proofs.Bits.{bit-of-zero}
 use Rattle.subsumption.proofs.Columns.{not-both}
 use Rattle.subsumption.proofs.Passes.{pass-as, pass-then}

@@ -13,7 +13,7 @@ use native.Mathlib.Nat.{one-mul}
 use lib.Bits.{bitAnd, bitOr}
 use borrow.Author.Tests.{eqb-true, eqb-false, not-true, not-false}
 use Rattle.subsumption.specs.Atoms.{bit}
-use Rattle.subsumption.specs.Closure.{has, slack, Absorbs, Takes, inThree}
+use Rattle.subsumption.specs.Inner.Columns.{has, slack, Absorbs, Takes, inThree}
 use Rattle.subsumption.proofs.Bools.{both-true, both-intro}
 use Rattle.subsumption.proofs.Bits.{or-grows, bit-or-cases, bit-or-right, bit-and, bit-ones, bit-pow, bit-pow-other}
 

@@ -6,8 +6,10 @@ use mathlib.Core.Bool.{Bool, true}
 use Rattle.subsumption.specs.Tables.{Tables, countOf}
 use Rattle.subsumption.specs.Atoms.{atoms, chosen}
 use Rattle.subsumption.specs.Subsumption.{Subsumed}
-use Rattle.subsumption.specs.Closure.{has, chooseFrom, Steps, Closed}
-use Rattle.subsumption.specs.Ground.{ColumnsOf}
+use Rattle.subsumption.specs.Inner.Columns.{has}
+use Rattle.subsumption.specs.Inner.Settling.{chooseFrom}
+use Rattle.subsumption.specs.Inner.Closure.{Steps, Closed}
+use Rattle.subsumption.specs.Inner.Ground.{ColumnsOf}
 use Rattle.subsumption.proofs.WellFormed.{WellFormed}
 use Rattle.subsumption.proofs.Inward.{below-inward}
 use Rattle.subsumption.proofs.Soundness.{flow-sound}

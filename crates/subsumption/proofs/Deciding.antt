@@ -4,7 +4,6 @@ use mathlib.Core.Path.{_≡_, refl, sym, ap, _∙_, subst}
 use mathlib.Core.List.{List}
 use mathlib.Core.Bool.{Bool, true, false, not, false≢true}
 use native.Mathlib.Omega.{arith}
-use lib.Dec.{eqb}
 use lib.ListN.{length, getD, replicate, getD-replicate, length-replicate}
 use borrow.Author.Tests.{eqb-true, ltb-true, lt-ltb, not-false}
 use Rattle.subsumption.specs.declared.refusal.Outcome.{Outcome}
@@ -13,15 +12,16 @@ use Rattle.subsumption.specs.declared.refusal.Refusal.{Refusal}
 use Rattle.subsumption.specs.declared.decide.Decision.the-variants.{Yes, No}
 use Rattle.subsumption.specs.Tables.{Tables, tables, countOf}
 use Rattle.subsumption.specs.Atoms.{atoms}
-use Rattle.subsumption.specs.Subsumption.{Subsumed}
-use Rattle.subsumption.specs.Refusal.{replyDone, replyRefused, replyOf, Replies, orElse}
+use Rattle.subsumption.specs.Refusal.{replyDone, replyRefused, replyOf, Replies}
 use Rattle.subsumption.specs.Check.{bufferFault, noConcept, aloneFault, tableFault, pairFault, assignmentFaultAt, assignmentFault}
-use Rattle.subsumption.specs.Closure.{has, Ready, chooseFrom, Empty, Closed}
-use Rattle.subsumption.specs.Ground.{Accepted, Prepared, ForAccepted, ColumnsOf}
-use Rattle.subsumption.specs.Rows.{Written}
+use Rattle.subsumption.specs.Inner.Columns.{has, Empty}
+use Rattle.subsumption.specs.Inner.Settling.{chooseFrom}
+use Rattle.subsumption.specs.Inner.Closure.{Ready, Closed}
+use Rattle.subsumption.specs.Inner.Listing.{Accepted, Prepared, ForAccepted}
+use Rattle.subsumption.specs.Inner.Ground.{ColumnsOf}
+use Rattle.subsumption.specs.Inner.Rows.{Written}
 use Rattle.subsumption.specs.Table.{rowStart, writingFault, TableOf, Left, Wrote}
 use Rattle.subsumption.specs.Decide.{decidingFault, decisionReply, Tells, Decides}
-use Rattle.subsumption.proofs.WellFormed.{WellFormed}
 use Rattle.subsumption.proofs.Bools.{or-false, or-skip}
 use Rattle.subsumption.proofs.Refusals.{passed-first, passed-second, passed-if, done-if, stops, goes-on, both-done, refuses}
 use Rattle.subsumption.proofs.AtomLaws.{atom-known}

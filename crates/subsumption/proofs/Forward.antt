@@ -1,16 +1,16 @@
 -- Check 3, by the kind of a row; and check 4 of one pair.
 use Prim.Native.Nat.{ℕ, zero, suc, _<_, _≤_}
-use mathlib.Core.Path.{_≡_, refl, sym, _∙_}
+use mathlib.Core.Path.{_≡_, refl, sym}
 use mathlib.Core.Bool.{Bool, true, false, not}
 use mathlib.Core.List.{List}
-use mathlib.Core.Logic.{⊎-elim, _⊎_, inl, inr}
+use mathlib.Core.Logic.{⊎-elim}
 use lib.Dec.{ltb, leb}
 use Rattle.subsumption.proofs.Bools.{le-or-lt}
 use borrow.Author.Tests.{lt-ltb, le-ltb, le-leb, lt-leb}
 use Rattle.subsumption.specs.declared.tables.Row.{Row}
 use Rattle.subsumption.specs.declared.tables.Pair.{Pair}
 use Rattle.subsumption.specs.Tables.{or, decode, node, leftOf, rightOf}
-use Rattle.subsumption.specs.TableRows.{rowOf, pairOf}
+use Rattle.subsumption.specs.Inner.Tables.{rowOf, pairOf}
 use Rattle.subsumption.specs.Check.{forward, noConcept}
 
 -- the code's test and the paper's

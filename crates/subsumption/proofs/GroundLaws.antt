@@ -19,9 +19,12 @@ use Rattle.subsumption.specs.Tables.{Tables, tables, countOf}
 use Rattle.subsumption.specs.Atoms.{atoms, bit}
 use Rattle.subsumption.specs.Check.{tableFault, assignmentFault}
 use Rattle.subsumption.specs.Subsumption.{Subsumed}
-use Rattle.subsumption.specs.Closure.{has, Ready, chooseFrom, Empty, Closed}
-use Rattle.subsumption.specs.Marks.{Layered, markAt, VariableMarks}
-use Rattle.subsumption.specs.Ground.{Prepared, ForAccepted, Grounded, ColumnsOf, Free, FreeWords, Kept, AllKept}
+use Rattle.subsumption.specs.Inner.Columns.{has, Empty}
+use Rattle.subsumption.specs.Inner.Settling.{chooseFrom}
+use Rattle.subsumption.specs.Inner.Closure.{Ready, Closed}
+use Rattle.subsumption.specs.Inner.Atoms.{Layered, markAt, VariableMarks}
+use Rattle.subsumption.specs.Inner.Listing.{Prepared, ForAccepted}
+use Rattle.subsumption.specs.Inner.Ground.{Grounded, ColumnsOf, Free, FreeWords, Kept, AllKept}
 use Rattle.subsumption.proofs.Bools.{both-true}
 use Rattle.subsumption.proofs.Bits.{bit-and, bit-or-cases, bit-pow-other, bit-of-zero}
 use Rattle.subsumption.proofs.Refusals.{no-fault}

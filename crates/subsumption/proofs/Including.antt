@@ -6,7 +6,8 @@ use mathlib.Core.Bool.{Bool, true, false, _||_}
 use native.Mathlib.Omega.{arith}
 use lib.ListN.{length}
 use Rattle.subsumption.specs.Tables.{countOf, pairsOf, leftOf, rightOf}
-use Rattle.subsumption.specs.Closure.{has, Into, Ready, LowPairs, LeftKnown, flow-included, Pass, IncludePass, Takes}
+use Rattle.subsumption.specs.Inner.Columns.{has, Into, Takes}
+use Rattle.subsumption.specs.Inner.Closure.{Ready, LowPairs, LeftKnown, flow-included, Pass, IncludePass}
 use Rattle.subsumption.proofs.Passes.{loop-first, loop-more, loop-done, flow-pass}
 
 pub ready-pairs : {concepts inclusions atoms assignment : List ℕ} → Ready concepts inclusions atoms assignment → LowPairs inclusions

@@ -5,7 +5,7 @@ use mathlib.Core.List.{List}
 use mathlib.Core.Bool.{false}
 use native.Mathlib.Omega.{arith}
 use Rattle.subsumption.specs.Tables.{existsAt, andAt, node, tree, hasVariable}
-use Rattle.subsumption.specs.Closure.{Rising}
+use Rattle.subsumption.specs.Inner.Tables.{Rising}
 use Rattle.subsumption.proofs.Bools.{or-false}
 use Rattle.subsumption.proofs.Trees.{inner-exists, inner-and, variable-exists, variable-and}
 

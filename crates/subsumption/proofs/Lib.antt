@@ -2,7 +2,7 @@
 pub mod WellFormed
 pub mod Bools
 pub mod Scans
-pub mod Limits
+pub mod LimitLaws
 pub mod Shapes
 pub mod Forward
 pub mod Refusals

@@ -8,10 +8,13 @@ use native.Mathlib.Omega.{arith}
 use lib.ListN.{length, getD, set, replicate, length-set, length-replicate, getD-replicate}
 use lib.Seq.{getD-set-same, getD-set-other}
 use lib.Dec.{eqb, ltb}
-use borrow.Author.Count.{below-more}
 use borrow.Author.Tests.{eqb-true, eqb-false, ltb-true, ltb-false}
 use Rattle.subsumption.specs.Tables.{Node, nameAt, existsAt, node, countOf}
-use Rattle.subsumption.specs.Closure.{has, Into, Rising, Ready, FirstNamed, Nameable, Seen, Firsts, Inner, OnwardFrom, OnwardTo, Linkable, Links, NextLink, LinkedTo, IsNamed, Flow, flow-linked, LinkPass, Takes}
+use Rattle.subsumption.specs.Inner.Tables.{Rising}
+use Rattle.subsumption.specs.Inner.Columns.{has, Into, Takes}
+use Rattle.subsumption.specs.Inner.Names.{FirstNamed, Nameable, Seen, Firsts, IsNamed}
+use Rattle.subsumption.specs.Inner.Links.{Inner, OnwardFrom, OnwardTo, Linkable, Links, NextLink, LinkedTo}
+use Rattle.subsumption.specs.Inner.Closure.{Ready, Flow, flow-linked, LinkPass}
 use Rattle.subsumption.proofs.Bools.{le-or-lt}
 use Rattle.subsumption.proofs.Nodes.{name-node, exists-node, node-name, node-exists}
 use Rattle.subsumption.proofs.Columns.{not-both}

@@ -4,7 +4,7 @@ use mathlib.Core.Path.{_≡_, refl, sym, ap, _∙_, subst}
 use mathlib.Core.List.{List, _++_}
 use mathlib.Core.Bool.{Bool}
 use native.Mathlib.Omega.{arith}
-use lib.ListN.{length, take, drop, replicate}
+use lib.ListN.{length, take, drop}
 use lib.Seq.{take-append-seam}
 use Rattle.subsumption.specs.declared.refusal.Refusal.{Refusal}
 use Rattle.subsumption.specs.declared.refusal.Refusal.the-variants.{BufferTooShort}
@@ -14,11 +14,12 @@ use Rattle.subsumption.specs.declared.listing.Listed.{Listed}
 use Rattle.subsumption.specs.declared.listing.Listed.the-variants.{Atoms, Rejected}
 use Rattle.subsumption.specs.Tables.{Tables, tables, countOf}
 use Rattle.subsumption.specs.Atoms.{atoms}
-use Rattle.subsumption.specs.Refusal.{replyDone, replyRefused, replyWith, orElse}
+use Rattle.subsumption.specs.Refusal.{replyDone, replyWith, orElse}
 use Rattle.subsumption.specs.Check.{useFault, conceptFault, aloneFault, idFault, tableFault, pairFault, bufferFault}
 use Rattle.subsumption.specs.Listing.{listingFault, listedReply, listedIn}
-use Rattle.subsumption.specs.Ground.{Accepted, Prepared, usedFault, askedFault}
-use Rattle.subsumption.specs.Marks.{AtomMarks, Used, markedIds, inFront}
+use Rattle.subsumption.specs.Inner.Listing.{Accepted, Prepared, usedFault, askedFault}
+use Rattle.subsumption.specs.Inner.Atoms.{markedIds, inFront}
+use Rattle.subsumption.specs.Inner.Check.{Used}
 use Rattle.subsumption.proofs.Refusals.{stops, goes-on, done-le, refused-lt, passed-first, passed-second}
 use Rattle.subsumption.proofs.Replies.{by-refusal, by-value}
 use Rattle.subsumption.proofs.AtomMarking.{atoms-listed, used-few}

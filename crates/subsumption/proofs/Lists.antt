@@ -1,16 +1,16 @@
 -- Marked ids, listed in front of a buffer.
 use Prim.Native.Nat.{ℕ, zero, suc, _+_, _<_, _≤_}
-use mathlib.Core.Path.{_≡_, refl, sym, ap, _∙_, subst}
+use mathlib.Core.Path.{_≡_, refl, ap, subst}
 use mathlib.Core.List.{List, [], _∷_, _++_, append-assoc}
 use mathlib.Core.Bool.{Bool, true, false}
 use native.Mathlib.Omega.{arith}
 use native.Mathlib.Numerals.{add-one}
 use native.Mathlib.Nat.{zero-add, eq-or-lt-of-le}
 use mathlib.Core.Logic.{⊎-elim}
-use lib.ListN.{length, getD, set, drop, length-append, length-drop}
+use lib.ListN.{length, set, length-append}
 use lib.Seq.{set-append-seam, drop-cons}
 use Rattle.subsumption.specs.Atoms.{keep}
-use Rattle.subsumption.specs.Marks.{inFront}
+use Rattle.subsumption.specs.Inner.Atoms.{inFront}
 
 front-more : (xs before : List ℕ) (v : ℕ) → length xs < length before → set (inFront xs before) (length xs) v ≡ inFront (xs ++ (v ∷ [])) before
 front-more xs before v h =
@@ -99,6 +99,3 @@ module _ (test : ℕ → Bool) where
 
   pub listed-no : (before out : List ℕ) (listed p : ℕ) → ListedTo before out listed p → test p ≡ false → ListedTo before out listed (p + 1)
   listed-no before out listed p s h = record { count = count-no listed p (s .count) h; buffer = rw (keep-no p h) (s .buffer) }
-
-  pub listed-long : (before out : List ℕ) (listed p : ℕ) → ListedTo before out listed p → length (keep test 0 p) ≤ length before → length out ≡ length before
-  listed-long before out listed p s h = ap length (s .buffer) ∙ rw (length-append, length-drop) (omega arith)

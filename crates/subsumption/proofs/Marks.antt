@@ -3,21 +3,20 @@ use Prim.Native.Nat.{ℕ, zero, suc, _+_, _-_, _<_, _≤_}
 use mathlib.Core.Path.{_≡_, refl, sym, ap, ap₂, _∙_, subst}
 use mathlib.Core.List.{List}
 use mathlib.Core.Bool.{Bool, true, false, not, false≢true}
-use mathlib.Core.Logic.{_⊎_, inl, inr, ⊎-elim}
+use mathlib.Core.Logic.{_⊎_, ⊎-elim}
 use native.Mathlib.Omega.{arith}
 use native.Mathlib.Numerals.{add-one}
 use native.Mathlib.Nat.{eq-or-lt-of-le}
 use lib.Dec.{eqb}
-use lib.ListN.{length, getD, set, length-set}
+use lib.ListN.{length, set, length-set}
 use lib.Seq.{getD-set-same, getD-set-other}
 use borrow.Author.Tests.{eq-eqb, ne-eqb, eqb-true}
 use Rattle.subsumption.specs.declared.tables.Pair.{Pair}
 use Rattle.subsumption.specs.declared.tables.Row.{Row}
-use Rattle.subsumption.specs.TableRows.{rowOf, pairOf}
-use Rattle.subsumption.specs.Tables.{or, both, anyBelow, Node, topAt, nameAt, existsAt, andAt, varAt, node, decode, countOf, pairsOf, leftOf, rightOf, tree, hasVariable}
+use Rattle.subsumption.specs.Inner.Tables.{rowOf, pairOf, Rising}
+use Rattle.subsumption.specs.Tables.{or, anyBelow, Node, topAt, nameAt, existsAt, andAt, varAt, node, decode, countOf, pairsOf, leftOf, rightOf, tree, hasVariable}
 use Rattle.subsumption.specs.Atoms.{inside, occurs}
-use Rattle.subsumption.specs.Closure.{Rising}
-use Rattle.subsumption.specs.Marks.{Layered, Known, markAt, inPair, heldBy, MarkedBy, VariableMarks, Spread, inGroundRight}
+use Rattle.subsumption.specs.Inner.Atoms.{Layered, Known, markAt, inPair, heldBy, MarkedBy, VariableMarks, Spread, inGroundRight}
 use Rattle.subsumption.proofs.Bools.{or-cases, or-first, or-second, or-skip, both-none, both-skip, eq-or-ne, last-cases}
 use Rattle.subsumption.proofs.Trees.{variable-top, variable-name, variable-exists, variable-and, variable-var}
 use Rattle.subsumption.proofs.Inward.{Inward}

@@ -7,10 +7,6 @@ use lib.ListN.{getD}
 use Rattle.subsumption.specs.Tables.{topAt, nameAt, existsAt, andAt, varAt, node, decode}
 
 module _ (concepts : List ℕ) (i : ℕ) where
-  pub node-top : getD concepts (i * 3) 0 ≡ 0 → node concepts i ≡ topAt
-  unfolding node decode
-  node-top e = rw (e, decode) refl
-
   pub node-name : getD concepts (i * 3) 0 ≡ 1 → node concepts i ≡ nameAt (getD concepts (i * 3 + 1) 0)
   unfolding node decode
   node-name e = rw (e, decode) refl

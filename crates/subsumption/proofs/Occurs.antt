@@ -9,7 +9,7 @@ use lib.Dec.{eqb}
 use borrow.Author.Tests.{eqb-true, eq-eqb}
 use Rattle.subsumption.specs.Tables.{or, Node, topAt, nameAt, existsAt, andAt, varAt, node}
 use Rattle.subsumption.specs.Atoms.{inside, occursTo, occurs}
-use Rattle.subsumption.specs.Closure.{Rising}
+use Rattle.subsumption.specs.Inner.Tables.{Rising}
 use Rattle.subsumption.proofs.Bools.{or-cases, or-first, or-second}
 use Rattle.subsumption.proofs.Depth.{by-smaller, enough}
 use Rattle.subsumption.proofs.Trees.{inner-exists, inner-and}

@@ -7,7 +7,8 @@ use mathlib.Core.Logic.{⊎-elim}
 use native.Mathlib.Omega.{arith}
 use borrow.Author.Count.{below-more}
 use Rattle.subsumption.specs.Tables.{countOf}
-use Rattle.subsumption.specs.Closure.{has, Into, Flow, Sound, Pass, Takes}
+use Rattle.subsumption.specs.Inner.Columns.{has, Into, Takes}
+use Rattle.subsumption.specs.Inner.Closure.{Flow, Sound, Pass}
 use Rattle.subsumption.proofs.Columns.{any-true, any-false, not-both, falls}
 
 module _ {concepts inclusions : List ℕ} {choose : ℕ → List ℕ} where

@@ -11,11 +11,10 @@ use lib.Seq.{getD-set-same, getD-set-other}
 use borrow.Author.Tests.{eqb-true, eqb-false}
 use Rattle.subsumption.specs.Tables.{Tables, both, countOf}
 use Rattle.subsumption.specs.Atoms.{bit}
-use Rattle.subsumption.specs.Subsumption.{Subsumed}
-use Rattle.subsumption.specs.Closure.{has}
+use Rattle.subsumption.specs.Inner.Columns.{has}
 use Rattle.subsumption.specs.Table.{rowStart, marked, TableOf}
-use Rattle.subsumption.specs.Ground.{ColumnsOf}
-use Rattle.subsumption.specs.Rows.{shown, banded, BandOf, RowWritten, Written}
+use Rattle.subsumption.specs.Inner.Ground.{ColumnsOf}
+use Rattle.subsumption.specs.Inner.Rows.{shown, banded, BandOf, RowWritten, Written}
 use Rattle.subsumption.proofs.Bits.{bit-shr, bit-mod}
 use Rattle.subsumption.proofs.Blocks.{shows-below, shows-over}
 

@@ -7,7 +7,7 @@ use Rattle.subsumption.specs.Tables.{Tables, countOf, rightOf}
 use Rattle.subsumption.specs.Atoms.{chosen}
 use Rattle.subsumption.specs.Subsumption.{assigned, Subsumed}
 use Rattle.subsumption.specs.Rules.{follows}
-use Rattle.subsumption.specs.Closure.{Steps}
+use Rattle.subsumption.specs.Inner.Closure.{Steps}
 use Rattle.subsumption.proofs.WellFormed.{WellFormed}
 use Rattle.subsumption.proofs.Soundness.{subsumed-same, subsumed-trans, subsumed-steps}
 use Rattle.subsumption.proofs.Rules.{Rules, follows-elim}

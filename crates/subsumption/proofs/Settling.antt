@@ -7,7 +7,11 @@ use native.Mathlib.Omega.{arith}
 use lib.ListN.{length, getD}
 use Rattle.subsumption.specs.Tables.{Node, topAt, nameAt, andAt, varAt, node, countOf}
 use Rattle.subsumption.specs.Atoms.{pick}
-use Rattle.subsumption.specs.Closure.{has, Into, Rising, Ready, Settleable, Firsts, Settled, SettledBy, Flow, flow-same, flow-top, flow-named, flow-first, flow-second, flow-meet, flow-chooses, flow-all-chosen, Pass, SettlePass, Takes, Known, chooseFrom}
+use Rattle.subsumption.specs.Inner.Tables.{Rising}
+use Rattle.subsumption.specs.Inner.Columns.{has, Into, Takes, Known}
+use Rattle.subsumption.specs.Inner.Names.{Firsts}
+use Rattle.subsumption.specs.Inner.Settling.{Settleable, Settled, SettledBy, chooseFrom}
+use Rattle.subsumption.specs.Inner.Closure.{Ready, Flow, flow-same, flow-top, flow-named, flow-first, flow-second, flow-meet, flow-chooses, flow-all-chosen, Pass, SettlePass}
 use Rattle.subsumption.proofs.Nodes.{node-name, node-exists, node-and, node-var}
 use Rattle.subsumption.proofs.Picks.{ChosenBelow, at-picked}
 use Rattle.subsumption.proofs.Passes.{pass-as, pass-then, step-pass, flow-pass}

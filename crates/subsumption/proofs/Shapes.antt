@@ -1,13 +1,13 @@
 -- Check 2, by the kind of a row.
 use Prim.Native.Nat.{ℕ, zero, suc, _<_, _≤_}
-use mathlib.Core.Path.{_≡_, refl, sym, _∙_}
+use mathlib.Core.Path.{_≡_, refl, sym}
 use mathlib.Core.Bool.{Bool, true, false, not}
 use mathlib.Core.List.{List}
 use lib.Dec.{eqb, ltb}
 use borrow.Author.Tests.{eq-eqb, ne-eqb, lt-ltb, le-ltb}
 use Rattle.subsumption.specs.declared.tables.Row.{Row}
 use Rattle.subsumption.specs.Tables.{or}
-use Rattle.subsumption.specs.TableRows.{rowOf}
+use Rattle.subsumption.specs.Inner.Tables.{rowOf}
 use Rattle.subsumption.specs.Check.{malformedRow, malformed}
 
 module _ (v k a b : ℕ) where

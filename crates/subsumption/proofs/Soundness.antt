@@ -6,7 +6,8 @@ use mathlib.Core.Bool.{true}
 use Rattle.subsumption.specs.Tables.{Tables, countOf}
 use Rattle.subsumption.specs.Atoms.{chosen}
 use Rattle.subsumption.specs.Subsumption.{Interpretation, Reading, noVariables, assigned, SubsumedBy, Subsumed}
-use Rattle.subsumption.specs.Closure.{has, Steps, Flow, flow-given, flow-same, flow-top, flow-named, flow-first, flow-second, flow-meet, flow-included, flow-linked, flow-chooses, flow-all-chosen}
+use Rattle.subsumption.specs.Inner.Columns.{has}
+use Rattle.subsumption.specs.Inner.Closure.{Steps, Flow, flow-given, flow-same, flow-top, flow-named, flow-first, flow-second, flow-meet, flow-included, flow-linked, flow-chooses, flow-all-chosen}
 use Rattle.subsumption.proofs.WellFormed.{WellFormed}
 use Rattle.subsumption.proofs.Trees.{tree-top, tree-name, tree-exists, tree-and, tree-var}
 use Rattle.subsumption.proofs.Chosen.{chosen-ground}

@@ -4,7 +4,7 @@ use mathlib.Core.Path.{_≡_, refl, ap, ap₂, _∙_}
 use mathlib.Core.List.{List}
 use mathlib.Core.Bool.{true, false}
 use Rattle.subsumption.specs.Tables.{or, Node, topAt, nameAt, existsAt, andAt, varAt, node, Concept, top, name, exists, and, var, shape, treeTo, tree, hasVariable}
-use Rattle.subsumption.specs.Closure.{Rising}
+use Rattle.subsumption.specs.Inner.Tables.{Rising}
 use Rattle.subsumption.proofs.Depth.{enough}
 
 shape-smaller : (f g : ℕ → Concept) (i : ℕ) (m : Node) → Rising i m → ((j : ℕ) → j < i → f j ≡ g j) → shape f m ≡ shape g m

@@ -5,7 +5,7 @@ use mathlib.Core.Bool.{false}
 use lib.ListN.{length}
 use Rattle.subsumption.specs.Tables.{Tables, both, varAt, node, countOf, pairsOf, leftOf, rightOf, tree, hasVariable}
 use Rattle.subsumption.specs.Atoms.{atoms}
-use Rattle.subsumption.specs.Closure.{Rising}
+use Rattle.subsumption.specs.Inner.Tables.{Rising}
 
 pub record WellFormed (t : Tables) : Type 0 where
   pub whole : length (t .concepts) ≡ countOf (t .concepts) * 3

@@ -1,15 +1,12 @@
--- What a reader must believe, in 01's order. proofs/ has the laws.
+-- What a reader must believe, in 01's order: tables, atoms and assignments, below, rules, operations, refusals. `Inner` has the
+-- definitions of private contracts, and proofs/ the laws.
 pub mod Tables
-pub mod TableRows
 pub mod Atoms
 pub mod Subsumption
 pub mod Rules
-pub mod Refusal
-pub mod Check
-pub mod Closure
-pub mod Marks
 pub mod Listing
 pub mod Table
 pub mod Decide
-pub mod Ground
-pub mod Rows
+pub mod Refusal
+pub mod Check
+pub mod Inner

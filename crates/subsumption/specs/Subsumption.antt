@@ -1,6 +1,5 @@
 -- Below (01, "Below"): truth in all finite interpretations that obey the inclusions.
 use Prim.Native.Nat.{ℕ, _<_}
-use mathlib.Core.Path.{_≡_}
 use mathlib.Core.List.{List, List·Memᴰ}
 use Rattle.subsumption.specs.Tables.{Tables, pairsOf, leftOf, rightOf, Concept, top, name, exists, and, var, tree}
 use Rattle.subsumption.specs.Atoms.{chosen}

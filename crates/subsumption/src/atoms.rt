@@ -3,13 +3,13 @@ use crate::tables::pair_at;
 use crate::tables::row_at;
 ghost use mathlib.Core.Path.{_≡_};
 ghost use mathlib.Core.Bool.{false};
-ghost use Prim.Native.Nat.{_≤_, _<_};
+ghost use Prim.Native.Nat.{_≤_};
 ghost use lib.Dec.{eqb};
 ghost use lib.ListN.{length, replicate};
-ghost use Rattle.subsumption.specs.Tables.{tables, decode, or, both, node, countOf};
+ghost use Rattle.subsumption.specs.Tables.{decode, or, both, countOf};
 ghost use Rattle.subsumption.specs.Atoms.{inside, isAtomic};
-ghost use Rattle.subsumption.specs.Closure.{Rising};
-ghost use Rattle.subsumption.specs.Marks.{Layered, Known, markAt, heldBy, VariableMarks, MarkedBy, onSide, onGroundRight, Spread, Narrowed, AtomMarks, markedIds, inFront};
+ghost use Rattle.subsumption.specs.Inner.Tables.{Rising};
+ghost use Rattle.subsumption.specs.Inner.Atoms.{Layered, Known, markAt, heldBy, VariableMarks, MarkedBy, onSide, onGroundRight, Spread, Narrowed, AtomMarks, markedIds, inFront};
 
 fn holds_variable(marks: &[bool], kind: u16, a: u16, b: u16) -> bool
     requires { ⌜ Rising (length (now marks)) (decode kind a b) ⌝ }

@@ -4,19 +4,27 @@ use crate::atoms::count_marks;
 use crate::atoms::either;
 use crate::atoms::mark_atoms;
 use crate::atoms::mark_variables;
+use crate::limits::ATOMS;
+use crate::limits::CONCEPTS;
+use crate::limits::INCLUSIONS;
+use crate::limits::LAST_NAME;
+use crate::limits::LAST_ROLE;
+use crate::limits::QUESTIONS;
+use crate::limits::VARIABLES;
 use crate::refusal::Outcome;
 use crate::refusal::Refusal;
 use crate::tables::pair_at;
 use crate::tables::row_at;
 ghost use mathlib.Core.Path.{_≡_};
-ghost use mathlib.Core.Bool.{not, true, false};
-ghost use Prim.Native.Nat.{_+_, _%_, _/_, _<_, _≤_, _^_};
-ghost use lib.Dec.{eqb, ltb};
-ghost use lib.ListN.{length, getD, replicate};
-ghost use Rattle.subsumption.specs.Tables.{tables, or, decode, node, countOf};
-ghost use Rattle.subsumption.specs.Refusal.{replyOf, orElse, refuseIf, firstAt};
+ghost use mathlib.Core.Bool.{not, false};
+ghost use Prim.Native.Nat.{_<_, _≤_, _^_};
+ghost use lib.Dec.{ltb};
+ghost use lib.ListN.{replicate};
+ghost use Rattle.subsumption.specs.Tables.{tables, decode, countOf};
+ghost use Rattle.subsumption.specs.Refusal.{replyOf};
 ghost use Rattle.subsumption.specs.Check.{unfit, limitFault, malformedRow, malformedFault, forward, forwardFault, noConcept, pairsFault, aloneFault, bufferFault, conceptFault, idFault, inclusionFault, sidesFault, tableFault, assignmentFaultAt};
-ghost use Rattle.subsumption.specs.Marks.{VariableMarks, Known, Used};
+ghost use Rattle.subsumption.specs.Inner.Atoms.{VariableMarks, Known};
+ghost use Rattle.subsumption.specs.Inner.Check.{Used};
 ghost use Rattle.subsumption.specs.declared.refusal.Outcome.the-variants.{Done};
 
 // A table's length is no multiple of its row's width, or has too many rows.
@@ -33,16 +41,16 @@ fn is_unfit(numbers: &[u16], width: usize, limit: usize) -> bool
 fn check_limits(concepts: &[u16], inclusions: &[u16], questions: &[u16], variables: u16) -> Outcome
     ensures { λ r. ⌜ r ≡ limitFault (tables (now (concepts .entry)) (now (inclusions .entry)) (now (questions .entry)) variables) ⌝ }
 {
-    if is_unfit(concepts, 3, 192) {
+    if is_unfit(concepts, 3, CONCEPTS) {
         return Outcome::Refused(Refusal::Limit(0));
     }
-    if is_unfit(inclusions, 2, 96) {
+    if is_unfit(inclusions, 2, INCLUSIONS) {
         return Outcome::Refused(Refusal::Limit(1));
     }
-    if is_unfit(questions, 2, 32) {
+    if is_unfit(questions, 2, QUESTIONS) {
         return Outcome::Refused(Refusal::Limit(2));
     }
-    if 8 < variables {
+    if VARIABLES < variables {
         return Outcome::Refused(Refusal::Limit(3));
     }
     Outcome::Done
@@ -58,13 +66,13 @@ fn is_malformed(variables: u16, kind: u16, a: u16, b: u16) -> bool
         return b != 0;
     }
     if kind == 1 {
-        if 999 < a {
+        if LAST_NAME < a {
             return true;
         }
         return b != 0;
     }
     if kind == 2 {
-        return 99 < a;
+        return LAST_ROLE < a;
     }
     if kind == 3 {
         return false;
@@ -257,7 +265,7 @@ pub fn check_use(
     requires { ⌜ now marks ≡ replicate 192 false ⌝ }
     ensures { λ r. ⌜ Used (tables (now (concepts .entry)) (now (inclusions .entry)) (now (questions .entry)) variables) (now (marks .exit)) r ⌝ }
 {
-    let mut held = [false; 192];
+    let mut held = [false; CONCEPTS];
     mark_variables(concepts, &mut held);
     let grounds = check_inclusions(concepts, inclusions, &held);
     if let Outcome::Refused(r) = grounds {
@@ -268,7 +276,7 @@ pub fn check_use(
         return Outcome::Refused(r);
     }
     mark_atoms(concepts, inclusions, questions, &held, marks);
-    if 64 < count_marks(marks, concepts.len() / 3) {
+    if ATOMS < count_marks(marks, concepts.len() / 3) {
         return Outcome::Refused(Refusal::TooManyAtoms);
     }
     Outcome::Done
@@ -291,7 +299,7 @@ pub fn check_tables(
     if let Outcome::Refused(r) = ids {
         return Outcome::Refused(r);
     }
-    let mut marks = [false; 192];
+    let mut marks = [false; CONCEPTS];
     check_use(concepts, inclusions, questions, variables, &mut marks)
 }
 
@@ -300,7 +308,7 @@ fn is_past(choice: u64, atoms: usize) -> bool
     requires { ⌜ atoms ≤ 64 ⌝ }
     ensures { λ r. ⌜ r ≡ not (ltb choice (2 ^ atoms)) ⌝ }
 {
-    if atoms == 64 {
+    if atoms == ATOMS {
         return false;
     }
     (choice >> atoms) != 0

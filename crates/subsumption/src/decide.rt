@@ -1,15 +1,16 @@
 // Deciding one pair.
 use crate::check::check_assignment;
-use crate::closure::below;
 use crate::closure::close;
+use crate::closure::columns::below;
+use crate::limits::ATOMS;
+use crate::limits::WORDS;
 use crate::listing::Listed;
 use crate::listing::list_asked;
 use crate::refusal::Outcome;
 use crate::refusal::Refusal;
-ghost use mathlib.Core.Path.{_≡_};
 ghost use Prim.Native.Nat.{_<_};
 ghost use Rattle.subsumption.specs.Tables.{tables, countOf};
-ghost use Rattle.subsumption.specs.Ground.{ForAccepted, Prepared};
+ghost use Rattle.subsumption.specs.Inner.Listing.{ForAccepted, Prepared};
 ghost use Rattle.subsumption.specs.Decide.{decisionReply, Decides};
 
 pub enum Decision {
@@ -36,7 +37,7 @@ pub fn decide_known(
     if let Outcome::Refused(r) = choices {
         return Decision::Rejected(r);
     }
-    let mut columns = [0u64; 576];
+    let mut columns = [0u64; WORDS];
     close(concepts, inclusions, atoms, assignment, &mut columns);
     if below(&columns, left as usize, right as usize) {
         return Decision::Yes;
@@ -56,7 +57,7 @@ pub fn decide_pair(
 ) -> Decision
     ensures { λ r. ⌜ Decides (tables (now (concepts .entry)) (now (inclusions .entry)) (now (questions .entry)) variables) (now (assignment .entry)) left right (decisionReply r) ⌝ }
 {
-    let mut ids = [0u16; 64];
+    let mut ids = [0u16; ATOMS];
     let listed = list_asked(
         concepts,
         inclusions,

@@ -1,6 +1,8 @@
 // Columns for the tests of the crate above: what holds under every assignment, and the columns under one, closed from there.
 use crate::atoms::mark_variables;
 use crate::closure::close;
+use crate::limits::CONCEPTS;
+use crate::limits::WORDS;
 ghost use mathlib.Core.Path.{_≡_};
 ghost use Prim.Native.Nat.{_<_};
 ghost use lib.ListN.{length, replicate};
@@ -8,7 +10,8 @@ ghost use Rattle.subsumption.specs.declared.refusal.Outcome.the-variants
 ghost use Rattle.subsumption.specs.Tables.{tables};
 ghost use Rattle.subsumption.specs.Atoms.{atoms};
 ghost use Rattle.subsumption.specs.Check.{tableFault, assignmentFault};
-ghost use Rattle.subsumption.specs.Ground.{ForAccepted, Prepared, Grounded, ColumnsOf, Free, FreeWords, Kept, AllKept};
+ghost use Rattle.subsumption.specs.Inner.Listing.{ForAccepted, Prepared};
+ghost use Rattle.subsumption.specs.Inner.Ground.{Grounded, ColumnsOf, Free, FreeWords, Kept, AllKept};
 
 // The ids of the word `part` of a column that hold no variable.
 fn free_word(held: &[bool], part: usize) -> u64
@@ -49,7 +52,7 @@ fn keep_words(held: &[bool], free: &[u64], columns: &mut [u64])
     ensures { λ _. ⌜ AllKept (now (held .entry)) (now (columns .entry)) (now (columns .exit)) ⌝ }
 {
     let mut p = 0;
-    while p < 576 {
+    while p < WORDS {
         let word = columns[p];
         let kept = keep_word(held, free, p, word);
         columns[p] = kept;
@@ -85,7 +88,7 @@ pub fn close_ground(
     let nothing = [0u64; 8];
     let count = variables as usize;
     close(concepts, inclusions, ids, &nothing[..count], columns);
-    let mut held = [false; 192];
+    let mut held = [false; CONCEPTS];
     mark_variables(concepts, &mut held);
     keep_free(&held, columns);
 }
@@ -96,7 +99,7 @@ fn copy_columns(from: &[u64], to: &mut [u64])
     ensures { λ _. ⌜ now (to .exit) ≡ now (from .entry) ⌝ }
 {
     let mut p = 0;
-    while p < 576 {
+    while p < WORDS {
         to[p] = from[p];
         p += 1;
     }

@@ -4,6 +4,8 @@ use crate::check::check_alone;
 use crate::check::check_concepts;
 use crate::check::check_ids;
 use crate::check::check_use;
+use crate::limits::ATOMS;
+use crate::limits::CONCEPTS;
 use crate::refusal::Outcome;
 use crate::refusal::Refusal;
 ghost use mathlib.Core.Path.{_≡_};
@@ -14,7 +16,7 @@ ghost use Rattle.subsumption.specs.Atoms.{atoms};
 ghost use Rattle.subsumption.specs.Refusal.{replyWith};
 ghost use Rattle.subsumption.specs.Check.{conceptFault, idFault};
 ghost use Rattle.subsumption.specs.Listing.{listingFault, listedReply, listedIn};
-ghost use Rattle.subsumption.specs.Ground.{usedFault, askedFault};
+ghost use Rattle.subsumption.specs.Inner.Listing.{usedFault, askedFault};
 
 pub enum Listed {
     Atoms(usize),
@@ -34,13 +36,13 @@ fn list_used(
     ensures { λ r. ⌜ listedReply r ≡ replyWith (usedFault (tables (now (concepts .entry)) (now (inclusions .entry)) (now (questions .entry)) variables) (length (now (out .entry)))) (length (atoms (tables (now (concepts .entry)) (now (inclusions .entry)) (now (questions .entry)) variables))) ⌝ }
     ensures { λ r. ⌜ now (out .exit) ≡ listedIn (usedFault (tables (now (concepts .entry)) (now (inclusions .entry)) (now (questions .entry)) variables) (length (now (out .entry)))) (tables (now (concepts .entry)) (now (inclusions .entry)) (now (questions .entry)) variables) (now (out .entry)) ⌝ }
 {
-    let mut marks = [false; 192];
+    let mut marks = [false; CONCEPTS];
     let used = check_use(concepts, inclusions, questions, variables, &mut marks);
     if let Outcome::Refused(r) = used {
         return Listed::Rejected(r);
     }
-    if out.len() < 64 {
-        return Listed::Rejected(Refusal::BufferTooShort(64));
+    if out.len() < ATOMS {
+        return Listed::Rejected(Refusal::BufferTooShort(ATOMS));
     }
     Listed::Atoms(list_marks(&marks, concepts.len() / 3, out))
 }

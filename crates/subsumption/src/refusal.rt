@@ -1,4 +1,5 @@
 // Refusals: one case for each row of 01's refusal table, with its place where that varies.
+use crate::limits::ATOMS;
 ghost use mathlib.Core.Path.{_≡_};
 ghost use Rattle.subsumption.specs.Refusal.{codeOf};
 
@@ -60,7 +61,7 @@ pub fn code_of(r: Refusal) -> Code
         },
         Refusal::TooManyAtoms => Code {
             number: 7,
-            place: 64,
+            place: ATOMS,
         },
         Refusal::BufferTooShort(p) => Code {
             number: 8,

@@ -1,11 +1,13 @@
 // Writing the rows of the subsumption table out of the columns. Private to the crate.
+use crate::limits::CONCEPTS;
+use crate::limits::ROW_BYTES;
 ghost use mathlib.Core.Path.{_≡_};
 ghost use Prim.Native.Nat.{_+_, _*_, _/_, _<_, _≤_};
 ghost use lib.ListN.{length};
 ghost use Rattle.subsumption.specs.Table.{rowStart};
-ghost use Rattle.subsumption.specs.Rows.{exchanged, Transposed, BlockOf, BandOf, Banded, RowWritten, Written};
+ghost use Rattle.subsumption.specs.Inner.Rows.{exchanged, Transposed, BlockOf, BandOf, Banded, RowWritten, Written};
 
-const ROW_STARTS: [usize; 192] = [
+const ROW_STARTS: [usize; CONCEPTS] = [
     0,
     24,
     48,
@@ -269,7 +271,7 @@ fn fill_band(columns: &[u64], count: usize, m: usize, band: &mut [u64])
     ensures { λ _. ⌜ BandOf (now (columns .entry)) count m (now (band .exit)) ⌝ }
 {
     let mut a = 0;
-    while a < 24 {
+    while a < ROW_BYTES {
         let word = block(columns, count, m, a);
         let turned = transpose(word);
         band[a] = turned;
@@ -298,7 +300,7 @@ fn write_row(band: &[u64], i: usize, out: &mut [u8])
     let start = row_start(i);
     let place = i % 8 * 8;
     let mut at = 0;
-    while at < 24 {
+    while at < ROW_BYTES {
         let byte = (band[at] >> place) % 256;
         out[start + at] = byte as u8;
         at += 1;
@@ -310,7 +312,7 @@ pub fn write_rows(columns: &[u64], count: usize, out: &mut [u8])
     requires { ⌜ (count ≤ 192) × (count * 24 ≤ length (now out)) ⌝ }
     ensures { λ r. ⌜ Written (now (columns .entry)) count (now (out .entry)) (now (out .exit)) ⌝ }
 {
-    let mut band = [0u64; 24];
+    let mut band = [0u64; ROW_BYTES];
     let mut i = 0;
     while i < count {
         renew_band(columns, count, i, &mut band);

@@ -2,13 +2,16 @@
 use crate::check::check_assignment;
 use crate::check::check_buffer;
 use crate::closure::close;
+use crate::limits::ATOMS;
+use crate::limits::ROW_BYTES;
+use crate::limits::WORDS;
 use crate::listing::Listed;
 use crate::listing::list_atoms;
 use crate::refusal::Outcome;
 use crate::rows::write_rows;
 ghost use Rattle.subsumption.specs.Tables.{tables};
 ghost use Rattle.subsumption.specs.Refusal.{replyOf};
-ghost use Rattle.subsumption.specs.Ground.{ForAccepted, Prepared};
+ghost use Rattle.subsumption.specs.Inner.Listing.{ForAccepted, Prepared};
 ghost use Rattle.subsumption.specs.Table.{Wrote};
 
 // The rest of the checks, given the atoms of accepted tables, and then the table.
@@ -28,11 +31,11 @@ fn put_table(
         return Outcome::Refused(r);
     }
     let count = concepts.len() / 3;
-    let room = check_buffer(count * 24, out.len());
+    let room = check_buffer(count * ROW_BYTES, out.len());
     if let Outcome::Refused(r) = room {
         return Outcome::Refused(r);
     }
-    let mut columns = [0u64; 576];
+    let mut columns = [0u64; WORDS];
     close(concepts, inclusions, atoms, assignment, &mut columns);
     write_rows(&columns, count, out);
     Outcome::Done
@@ -49,7 +52,7 @@ pub fn write_table(
 ) -> Outcome
     ensures { λ r. ⌜ Wrote (tables (now (concepts .entry)) (now (inclusions .entry)) (now (questions .entry)) variables) (now (assignment .entry)) (now (out .entry)) (now (out .exit)) (replyOf r) ⌝ }
 {
-    let mut ids = [0u16; 64];
+    let mut ids = [0u16; ATOMS];
     let listed = list_atoms(concepts, inclusions, questions, variables, &mut ids);
     match listed {
         Listed::Rejected(r) => Outcome::Refused(r),

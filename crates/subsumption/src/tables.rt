@@ -2,7 +2,7 @@
 ghost use mathlib.Core.Path.{_≡_};
 ghost use Prim.Native.Nat.{_<_};
 ghost use Rattle.subsumption.specs.Tables.{countOf, pairsOf};
-ghost use Rattle.subsumption.specs.TableRows.{rowOf, pairOf};
+ghost use Rattle.subsumption.specs.Inner.Tables.{rowOf, pairOf};
 
 pub struct Row {
     pub kind: u16,

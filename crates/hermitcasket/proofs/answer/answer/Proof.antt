@@ -5,93 +5,67 @@ use Rattle.hermitcasket.proofs.ProgramLaws.{read-fits, text-answered, t
 use borrow.Author.Needs.{needs}
 use Rattle.hermitcasket.proofs.answer.answer.Statement.{statement}
 use Rattle.hermitcasket.proofs.answer.answer.Tie as tie
-use Rattle.hermitcasket.proofs.answer.answer.Reads as reads
-use Rattle.hermitcasket.proofs.answer.answer.Lts as lts
-use Rattle.hermitcasket.proofs.answer.answer_refused.Reads as answer-refused-reads
-use Rattle.hermitcasket.proofs.answer.answer_tables.Reads as answer-tables-reads
-use Rattle.hermitcasket.proofs.text.read_text.Reads as read-text-reads
 
--- src/answer.rt:84:32
 slice-aggregate-read-text : tie.Need-slice-aggregate-read-text
 slice-aggregate-read-text c = search needs
 
--- src/answer.rt:84:47
 slice-aggregate-read-text-2 : tie.Need-slice-aggregate-read-text-2
 slice-aggregate-read-text-2 c = search needs
 
--- src/answer.rt:84:64
 slice-aggregate-read-text-3 : tie.Need-slice-aggregate-read-text-3
 slice-aggregate-read-text-3 c = search needs
 
--- src/answer.rt:84:9
 read-text-requires : tie.Need-read-text-requires
 read-text-requires c κs = search needs
 
--- src/answer.rt:86:23
 enum-known-read : tie.Need-enum-known-read
 enum-known-read c = search needs
 
--- src/answer.rt:87:21
 mul-n : tie.Need-mul-n
 mul-n c = omega (arith, read-fits _ (c .before .before .before .before .before .before .read-text .ensures .1) _ _ _ _ (c .before .read .given .1))
 
--- src/answer.rt:88:21
 mul-m : tie.Need-mul-m
 mul-m c = omega (arith, read-fits _ (c .before .before .before .before .before .before .read-text .ensures .1) _ _ _ _ (c .before .read .given .1))
 
--- src/answer.rt:89:21
 mul-k : tie.Need-mul-k
 mul-k c = omega (arith, read-fits _ (c .before .before .before .before .before .before .read-text .ensures .1) _ _ _ _ (c .before .read .given .1))
 
--- src/answer.rt:90:27
 array-share-prefix-concepts : tie.Need-array-share-prefix-concepts
 array-share-prefix-concepts c = omega (arith, read-fits _ (c .before .before .before .before .before .before .read-text .ensures .1) _ _ _ _ (c .before .read .given .1), c .before .before .before .before .before .before .read-text .kept)
 
--- src/answer.rt:90:27
 slice-aggregate-answer-tables : tie.Need-slice-aggregate-answer-tables
 slice-aggregate-answer-tables c = sym (length-take-le _ _ (omega (arith, read-fits _ (c .before .before .before .before .before .before .before .read-text .ensures .1) _ _ _ _ (c .before .before .read .given .1), c .before .before .before .before .before .before .before .read-text .kept)))
 
--- src/answer.rt:90:43
 array-share-prefix-inclusions : tie.Need-array-share-prefix-inclusions
 array-share-prefix-inclusions c = omega (arith, read-fits _ (c .before .before .before .before .before .before .before .read-text .ensures .1) _ _ _ _ (c .before .before .read .given .1), c .before .before .before .before .before .before .before .read-text .kept)
 
--- src/answer.rt:90:43
 slice-aggregate-answer-tables-2 : tie.Need-slice-aggregate-answer-tables-2
 slice-aggregate-answer-tables-2 c = sym (length-take-le _ _ (omega (arith, read-fits _ (c .before .before .before .before .before .before .before .before .read-text .ensures .1) _ _ _ _ (c .before .before .before .read .given .1), c .before .before .before .before .before .before .before .before .read-text .kept)))
 
--- src/answer.rt:90:61
 array-share-prefix-questions : tie.Need-array-share-prefix-questions
 array-share-prefix-questions c = omega (arith, read-fits _ (c .before .before .before .before .before .before .before .before .read-text .ensures .1) _ _ _ _ (c .before .before .before .read .given .1), c .before .before .before .before .before .before .before .before .read-text .kept)
 
--- src/answer.rt:90:61
 slice-aggregate-answer-tables-3 : tie.Need-slice-aggregate-answer-tables-3
 slice-aggregate-answer-tables-3 c = sym (length-take-le _ _ (omega (arith, read-fits _ (c .before .before .before .before .before .before .before .before .before .read-text .ensures .1) _ _ _ _ (c .before .before .before .before .read .given .1), c .before .before .before .before .before .before .before .before .before .read-text .kept)))
 
--- src/answer.rt:90:13
 answer-tables-requires : tie.Need-answer-tables-requires
 answer-tables-requires c κs = (read-fits _ (c .before .before .before .before .before .before .before .before .before .before .read-text .ensures .1) _ _ _ _ (c .before .before .before .before .before .read .given .1) .0, c .before .before .before .before .before .before .before .before .before .before .before .before .before .before .before .before .pre)
 
--- src/answer.rt:92:24
 enum-known-read-2 : tie.Need-enum-known-read-2
 enum-known-read-2 c = search needs
 
--- src/answer.rt:92:30
 answer-refused-requires : tie.Need-answer-refused-requires
 answer-refused-requires c κs = search needs
 
--- src/answer.rt:77:1
 same-length : tie.Need-same-length
 same-length c = search needs
 
--- src/answer.rt:77:1
 returns : tie.Need-returns
 returns c = search text-answered
 
--- src/answer.rt:77:1
 same-length-2 : tie.Need-same-length-2
 same-length-2 c = search needs
 
--- src/answer.rt:77:1
 returns-2 : tie.Need-returns-2
 returns-2 c = search text-refused
 

@@ -4,37 +4,25 @@ use native.Mathlib.Omega.{arith}
 use borrow.Author.Needs.{needs}
 use Rattle.hermitcasket.proofs.answer.answer_refused.Statement.{statement}
 use Rattle.hermitcasket.proofs.answer.answer_refused.Tie as tie
-use Rattle.hermitcasket.proofs.answer.answer_refused.Reads as reads
-use Rattle.hermitcasket.proofs.answer.answer_refused.Lts as lts
-use Rattle.hermitcasket.proofs.print.put_none.Reads as put-none-reads
-use Rattle.hermitcasket.proofs.print.put_refused.Reads as put-refused-reads
-use Rattle.subsumption.proofs.refusal.code_of.Reads as code-of-reads
 
--- src/answer.rt:22:9
 code-of-requires : tie.Need-code-of-requires
 code-of-requires c κs = search needs
 
--- src/answer.rt:24:9
 put-none-requires : tie.Need-put-none-requires
 put-none-requires c κs = search needs
 
--- src/answer.rt:24:9
 same-length : tie.Need-same-length
 same-length c = search needs
 
--- src/answer.rt:24:9
 returns : tie.Need-returns
 returns c = wrote-none (c .before .before .before .before .before .before .before .before .args .refusal) (c .before .before .before .before .before .before .code-of .result) (c .before .before .before .before .before .before .code-of .ensures) _ _ _ (c .before .before .before .before .if1 .taken) (c .before .before .put-none .ensures)
 
--- src/answer.rt:26:5
 put-refused-requires : tie.Need-put-refused-requires
 put-refused-requires c κs = refused-room (c .before .before .before .code-of .result) (c .before .before .before .before .before .args .out .now) (omega (arith, c .before .before .before .code-of .ok)) (omega (arith, c .before .before .before .code-of .ok)) (c .before .before .before .before .before .pre)
 
--- src/answer.rt:18:1
 same-length-2 : tie.Need-same-length-2
 same-length-2 c = search needs
 
--- src/answer.rt:18:1
 returns-2 : tie.Need-returns-2
 returns-2 c = wrote-code (c .before .before .before .before .before .before .before .before .args .refusal) (c .before .before .before .before .before .before .code-of .result) (c .before .before .before .before .before .before .code-of .ensures) _ _ _ (c .before .before .before .before .if1 .left) (c .before .before .put-refused .ensures)
 

@@ -4,57 +4,40 @@ use native.Mathlib.Omega.{arith}
 use borrow.Author.Needs.{needs}
 use Rattle.hermitcasket.proofs.answer.answer_tables.Statement.{statement}
 use Rattle.hermitcasket.proofs.answer.answer_tables.Tie as tie
-use Rattle.hermitcasket.proofs.answer.answer_tables.Reads as reads
-use Rattle.hermitcasket.proofs.answer.answer_tables.Lts as lts
-use Rattle.hermitcasket.proofs.answer.answer_refused.Reads as answer-refused-reads
-use Rattle.hermitcasket.proofs.filled.put_filled.Reads as put-filled-reads
-use Rattle.matching.proofs.find_assignment.Reads as find-assignment-reads
 
--- src/answer.rt:47:9
 slice-aggregate-find-assignment : tie.Need-slice-aggregate-find-assignment
 slice-aggregate-find-assignment c = search needs
 
--- src/answer.rt:42:9
 find-assignment-requires : tie.Need-find-assignment-requires
 find-assignment-requires c κs = search needs
 
--- src/answer.rt:51:21
 enum-told : tie.Need-enum-told
 enum-told c = search needs
 
--- src/answer.rt:57:17
 array-share-prefix-assignment : tie.Need-array-share-prefix-assignment
 array-share-prefix-assignment c = search needs
 
--- src/answer.rt:57:17
 slice-aggregate-put-filled : tie.Need-slice-aggregate-put-filled
 slice-aggregate-put-filled c = filled-exact _ (c .before .before .before .before .before .before .before .before .before .before .pre .0) (replicate 8 0) _ (omega arith) (c .before .before .before .before .find-assignment .result) (c .before .before .before .before .find-assignment .ensures) (c .before .enum-told .given .1)
 
--- src/answer.rt:52:13
 put-filled-requires : tie.Need-put-filled-requires
 put-filled-requires c κs = (filled-sound _ (c .before .before .before .before .before .before .before .before .before .before .before .pre .0) (replicate 8 0) _ (omega arith) (c .before .before .before .before .before .find-assignment .result) (c .before .before .before .before .before .find-assignment .ensures) (c .before .before .enum-told .given .1), (filled-accepted _ (c .before .before .before .before .before .before .before .before .before .before .before .pre .0) (replicate 8 0) _ (omega arith) (c .before .before .before .before .before .find-assignment .result) (c .before .before .before .before .before .find-assignment .ensures) (c .before .before .enum-told .given .1), filled-fits _ (c .before .before .before .before .before .before .before .before .before .before .before .pre .0) (replicate 8 0) _ (omega arith) (c .before .before .before .before .before .find-assignment .result) (c .before .before .before .before .before .find-assignment .ensures) (c .before .before .enum-told .given .1) (c .before .before .before .before .before .before .before .before .before .before .before .args .out .now) (c .before .before .before .before .before .before .before .before .before .before .before .pre .1)))
 
--- src/answer.rt:61:25
 enum-known-found : tie.Need-enum-known-found
 enum-known-found c = search needs
 
--- src/answer.rt:61:31
 answer-refused-requires : tie.Need-answer-refused-requires
 answer-refused-requires c κs = search needs
 
--- src/answer.rt:30:1
 same-length : tie.Need-same-length
 same-length c = search needs
 
--- src/answer.rt:30:1
 returns : tie.Need-returns
 returns c = answered-filled _ (c .before .before .before .before .before .before .before .before .before .before .before .before .before .before .pre .0) (replicate 8 0) _ (omega arith) (c .before .before .before .before .before .before .before .before .find-assignment .result) (c .before .before .before .before .before .before .before .before .find-assignment .ensures) _ _ _ (c .before .before .before .before .before .enum-told .given .1) (c .before .before .put-filled .ensures)
 
--- src/answer.rt:30:1
 same-length-2 : tie.Need-same-length-2
 same-length-2 c = search needs
 
--- src/answer.rt:30:1
 returns-2 : tie.Need-returns-2
 returns-2 c = answered-refused _ (c .before .before .before .before .before .before .before .before .before .before .before .before .before .before .pre .0) (replicate 8 0) _ (omega arith) (c .before .before .before .before .before .before .before .before .find-assignment .result) (c .before .before .before .before .before .before .before .before .find-assignment .ensures) _ _ _ _ (c .before .before .before .before .before .found .given .1) (c .before .before .answer-refused .ensures)
 

@@ -2,8 +2,6 @@ use Rattle.hermitcasket.proofs.NumberLaws.{wrong-low, wrong-high, wrong
 use borrow.Author.Needs.{needs}
 use Rattle.hermitcasket.proofs.lines.is_wrong_digit.Statement.{statement}
 use Rattle.hermitcasket.proofs.lines.is_wrong_digit.Tie as tie
-use Rattle.hermitcasket.proofs.lines.is_wrong_digit.Reads as reads
-use Rattle.hermitcasket.proofs.lines.is_wrong_digit.Lts as lts
 
 returns : tie.Need-returns
 returns c = search wrong-low

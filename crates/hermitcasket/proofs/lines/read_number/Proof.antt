@@ -5,9 +5,6 @@ use mathlib.Core.Path.{sym, _∙_}
 use Rattle.hermitcasket.proofs.NumberLaws.{Numbered, digit-right, numbered-none, numbered-end, numbered-empty, numbered-stop, numbered-wrong, numbered-more}
 use Rattle.hermitcasket.proofs.lines.read_number.Statement.{statement}
 use Rattle.hermitcasket.proofs.lines.read_number.Tie as tie
-use Rattle.hermitcasket.proofs.lines.read_number.Reads as reads
-use Rattle.hermitcasket.proofs.lines.read_number.Lts as lts
-use Rattle.hermitcasket.proofs.lines.is_wrong_digit.Reads as is-wrong-digit-reads
 
 abbrev Inv-loop : tie.InvT-loop
 Inv-loop rest stop value₀ n₀ value n = Numbered stop rest value n

@@ -2,11 +2,6 @@ use Rattle.hermitcasket.proofs.RowLaws.{row-top, row-name, row-existent
 use borrow.Author.Needs.{needs}
 use Rattle.hermitcasket.proofs.lines.row_line.Statement.{statement}
 use Rattle.hermitcasket.proofs.lines.row_line.Tie as tie
-use Rattle.hermitcasket.proofs.lines.row_line.Reads as reads
-use Rattle.hermitcasket.proofs.lines.row_line.Lts as lts
-use Rattle.hermitcasket.proofs.lines.number_line.Reads as number-line-reads
-use Rattle.hermitcasket.proofs.lines.pair_line.Reads as pair-line-reads
-use Rattle.hermitcasket.proofs.lines.starts_with.Reads as starts-with-reads
 
 slice-aggregate-starts-with : tie.Need-slice-aggregate-starts-with
 slice-aggregate-starts-with c = search needs

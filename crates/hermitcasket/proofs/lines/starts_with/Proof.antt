@@ -4,8 +4,6 @@ use lib.ListN.{length}
 use Rattle.hermitcasket.proofs.NumberLaws.{Agree, agree-none, agree-short, agree-differ, agree-more, agree-done}
 use Rattle.hermitcasket.proofs.lines.starts_with.Statement.{statement}
 use Rattle.hermitcasket.proofs.lines.starts_with.Tie as tie
-use Rattle.hermitcasket.proofs.lines.starts_with.Reads as reads
-use Rattle.hermitcasket.proofs.lines.starts_with.Lts as lts
 
 abbrev Inv-loop : tie.InvT-loop
 Inv-loop rest key i₀ i = Agree key rest i

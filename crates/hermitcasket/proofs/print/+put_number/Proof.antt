@@ -2,7 +2,7 @@ use borrow.Author.Needs.{needs}
 use native.Mathlib.Omega.{arith}
 use lib.ListN.{length-set}
 use Rattle.hermitcasket.proofs.DigitLaws.{digits-some}
-use Rattle.hermitcasket.proofs.WriteLaws.{wrote-digit, wrote-digits, next-within, wrote-length, number-room}
+use Rattle.hermitcasket.proofs.WriteLaws.{wrote-digit, wrote-digits, next-within, number-room}
 use Prim.Native.Nat.{ℕ, _<_}
 use borrow.Fn.Kinds.{In}
 use borrow.Fn.PlainCycle.{Measures, is, falls, and}

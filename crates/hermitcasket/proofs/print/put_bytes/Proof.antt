@@ -7,8 +7,6 @@ use lib.Seq.{paste, paste-zero}
 use Rattle.hermitcasket.proofs.WriteLaws.{wrote-paste, paste-more}
 use Rattle.hermitcasket.proofs.print.put_bytes.Statement.{statement}
 use Rattle.hermitcasket.proofs.print.put_bytes.Tie as tie
-use Rattle.hermitcasket.proofs.print.put_bytes.Reads as reads
-use Rattle.hermitcasket.proofs.print.put_bytes.Lts as lts
 
 abbrev Inv-loop : tie.InvT-loop
 Inv-loop bytes at out₀ i₀ out i = (i ≤ length bytes) × (length out ≡ length out₀) × (out ≡ paste out₀ at bytes i)

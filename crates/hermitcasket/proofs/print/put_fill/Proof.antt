@@ -5,10 +5,6 @@ use Rattle.hermitcasket.specs.Printing.{fillKey, idsText, fillText}
 use borrow.Author.Needs.{needs}
 use Rattle.hermitcasket.proofs.print.put_fill.Statement.{statement}
 use Rattle.hermitcasket.proofs.print.put_fill.Tie as tie
-use Rattle.hermitcasket.proofs.print.put_fill.Reads as reads
-use Rattle.hermitcasket.proofs.print.put_fill.Lts as lts
-use Rattle.hermitcasket.proofs.print.put_bytes.Reads as put-bytes-reads
-use Rattle.hermitcasket.proofs.print.put_ids.Reads as put-ids-reads
 
 slice-aggregate-put-bytes : tie.Need-slice-aggregate-put-bytes
 slice-aggregate-put-bytes c = search needs

@@ -2,10 +2,6 @@ use Rattle.hermitcasket.proofs.FillLaws.{comma-room, later-room, wrote-
 use borrow.Author.Needs.{needs}
 use Rattle.hermitcasket.proofs.print.put_id.Statement.{statement}
 use Rattle.hermitcasket.proofs.print.put_id.Tie as tie
-use Rattle.hermitcasket.proofs.print.put_id.Reads as reads
-use Rattle.hermitcasket.proofs.print.put_id.Lts as lts
-use Rattle.hermitcasket.proofs.print.put_bytes.Reads as put-bytes-reads
-use Rattle.hermitcasket.proofs.print.put_number.Reads as put-number-reads
 
 slice-aggregate-put-bytes : tie.Need-slice-aggregate-put-bytes
 slice-aggregate-put-bytes c = search needs

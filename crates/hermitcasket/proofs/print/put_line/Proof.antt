@@ -5,10 +5,6 @@ use Rattle.hermitcasket.specs.Lines.{numberText}
 use borrow.Author.Needs.{needs}
 use Rattle.hermitcasket.proofs.print.put_line.Statement.{statement}
 use Rattle.hermitcasket.proofs.print.put_line.Tie as tie
-use Rattle.hermitcasket.proofs.print.put_line.Reads as reads
-use Rattle.hermitcasket.proofs.print.put_line.Lts as lts
-use Rattle.hermitcasket.proofs.print.put_bytes.Reads as put-bytes-reads
-use Rattle.hermitcasket.proofs.print.put_number.Reads as put-number-reads
 
 put-bytes-requires : tie.Need-put-bytes-requires
 unfolding numberText

@@ -4,10 +4,6 @@ use Rattle.hermitcasket.specs.Printing.{refusedLine, numberKey, placeKey
 use borrow.Author.Needs.{needs}
 use Rattle.hermitcasket.proofs.print.put_refused.Statement.{statement}
 use Rattle.hermitcasket.proofs.print.put_refused.Tie as tie
-use Rattle.hermitcasket.proofs.print.put_refused.Reads as reads
-use Rattle.hermitcasket.proofs.print.put_refused.Lts as lts
-use Rattle.hermitcasket.proofs.print.put_bytes.Reads as put-bytes-reads
-use Rattle.hermitcasket.proofs.print.put_line.Reads as put-line-reads
 
 slice-aggregate-put-bytes : tie.Need-slice-aggregate-put-bytes
 slice-aggregate-put-bytes c = search needs

@@ -2,8 +2,6 @@ use Rattle.hermitcasket.proofs.ReadLaws.{fault-through, fault-faulty}
 use borrow.Author.Needs.{needs}
 use Rattle.hermitcasket.proofs.text.fault.Statement.{statement}
 use Rattle.hermitcasket.proofs.text.fault.Tie as tie
-use Rattle.hermitcasket.proofs.text.fault.Reads as reads
-use Rattle.hermitcasket.proofs.text.fault.Lts as lts
 
 enum-known-section : tie.Need-enum-known-section
 enum-known-section c = search needs

@@ -2,12 +2,10 @@ use Prim.Native.Nat.{_-_, _≤_}
 use mathlib.Core.Path.{_≡_, _∙_, ap}
 use native.Mathlib.Omega.{arith}
 use lib.ListN.{length}
-use Rattle.subsumption.specs.Marks.{markAt, markedIds}
+use Rattle.subsumption.specs.Inner.Atoms.{markAt, markedIds}
 use Rattle.subsumption.proofs.Lists.{keep-le, count-none, count-yes, count-no}
 use Rattle.subsumption.proofs.atoms.count_marks.Statement.{statement}
 use Rattle.subsumption.proofs.atoms.count_marks.Tie as tie
-use Rattle.subsumption.proofs.atoms.count_marks.Reads as reads
-use Rattle.subsumption.proofs.atoms.count_marks.Lts as lts
 
 abbrev Inv-loop : tie.InvT-loop
 Inv-loop marks count marked₀ p₀ marked p = (p ≤ count) × (marked ≡ length (markedIds marks p))

@@ -1,9 +1,7 @@
-use Rattle.subsumption.specs.Marks.{markAt}
+use Rattle.subsumption.specs.Inner.Atoms.{markAt}
 use Rattle.subsumption.proofs.Marks.{exists-below, first-below, second-below, held-exists, held-first, held-second, held-rest}
 use Rattle.subsumption.proofs.atoms.holds_variable.Statement.{statement}
 use Rattle.subsumption.proofs.atoms.holds_variable.Tie as tie
-use Rattle.subsumption.proofs.atoms.holds_variable.Reads as reads
-use Rattle.subsumption.proofs.atoms.holds_variable.Lts as lts
 
 returns : tie.Need-returns
 returns c = held-exists (markAt (c .before .before .args .marks .now)) _ _ _ (c .before .if1 .taken)

@@ -4,8 +4,6 @@ use Rattle.subsumption.specs.Tables.{countOf}
 use Rattle.subsumption.proofs.AtomMarking.{NarrowedTo, narrowed-none, narrowed-more, narrowed-done}
 use Rattle.subsumption.proofs.atoms.keep_atomic.Statement.{statement}
 use Rattle.subsumption.proofs.atoms.keep_atomic.Tie as tie
-use Rattle.subsumption.proofs.atoms.keep_atomic.Reads as reads
-use Rattle.subsumption.proofs.atoms.keep_atomic.Lts as lts
 
 abbrev Inv-loop : tie.InvT-loop
 Inv-loop concepts marks₀ count p₀ marks p = NarrowedTo concepts marks₀ marks p

@@ -1,14 +1,11 @@
-use borrow.Author.Needs.{needs}
 use Prim.Native.Nat.{_-_, _≤_}
 use mathlib.Core.Path.{_≡_, refl, _∙_, ap}
 use native.Mathlib.Omega.{arith}
 use lib.ListN.{length, length-set}
-use Rattle.subsumption.specs.Marks.{markAt, markedIds, inFront}
+use Rattle.subsumption.specs.Inner.Atoms.{markAt, markedIds, inFront}
 use Rattle.subsumption.proofs.Lists.{ListedTo, listed-none, listed-room, listed-yes, listed-no, keep-le}
 use Rattle.subsumption.proofs.atoms.list_marks.Statement.{statement}
 use Rattle.subsumption.proofs.atoms.list_marks.Tie as tie
-use Rattle.subsumption.proofs.atoms.list_marks.Reads as reads
-use Rattle.subsumption.proofs.atoms.list_marks.Lts as lts
 
 abbrev Inv-loop : tie.InvT-loop
 Inv-loop marks count out₀ listed₀ p₀ out listed p = (p ≤ count) × (length out ≡ length out₀) × ListedTo (markAt marks) out₀ out listed p

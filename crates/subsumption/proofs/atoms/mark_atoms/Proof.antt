@@ -4,34 +4,22 @@ use Rattle.subsumption.proofs.AtomMarking.{atoms-marked}
 use borrow.Author.Needs.{needs}
 use Rattle.subsumption.proofs.atoms.mark_atoms.Statement.{statement}
 use Rattle.subsumption.proofs.atoms.mark_atoms.Tie as tie
-use Rattle.subsumption.proofs.atoms.mark_atoms.Reads as reads
-use Rattle.subsumption.proofs.atoms.mark_atoms.Lts as lts
-use Rattle.subsumption.proofs.atoms.keep_atomic.Reads as keep-atomic-reads
-use Rattle.subsumption.proofs.atoms.mark_ground_rights.Reads as mark-ground-rights-reads
-use Rattle.subsumption.proofs.atoms.mark_sides.Reads as mark-sides-reads
-use Rattle.subsumption.proofs.atoms.spread.Reads as spread-reads
 
--- src/atoms.rt:160:5
 mark-sides-requires : tie.Need-mark-sides-requires
 mark-sides-requires c κs = (c .before .before .before .before .before .before .pre .1 .0, (c .before .before .before .before .before .before .pre .0 .few, ap length (c .before .before .before .before .before .before .pre .1 .1 .1 .1)))
 
--- src/atoms.rt:161:5
 mark-ground-rights-requires : tie.Need-mark-ground-rights-requires
 mark-ground-rights-requires c κs = search needs
 
--- src/atoms.rt:162:5
 spread-requires : tie.Need-spread-requires
 spread-requires c κs = search needs
 
--- src/atoms.rt:163:5
 keep-atomic-requires : tie.Need-keep-atomic-requires
 keep-atomic-requires c κs = search needs
 
--- src/atoms.rt:151:1
 same-length : tie.Need-same-length
 same-length c = search needs
 
--- src/atoms.rt:151:1
 returns : tie.Need-returns
 returns c = search atoms-marked
 

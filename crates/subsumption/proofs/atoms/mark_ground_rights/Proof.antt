@@ -2,12 +2,10 @@ use borrow.Author.Needs.{needs}
 use Prim.Native.Nat.{_-_}
 use native.Mathlib.Omega.{arith}
 use Rattle.subsumption.specs.Tables.{pairsOf}
-use Rattle.subsumption.specs.Marks.{inGroundRight}
+use Rattle.subsumption.specs.Inner.Atoms.{inGroundRight}
 use Rattle.subsumption.proofs.Marks.{MarkedTo, marked-to-none, marked-to-done, right-below, rights-more, rights-skip}
 use Rattle.subsumption.proofs.atoms.mark_ground_rights.Statement.{statement}
 use Rattle.subsumption.proofs.atoms.mark_ground_rights.Tie as tie
-use Rattle.subsumption.proofs.atoms.mark_ground_rights.Reads as reads
-use Rattle.subsumption.proofs.atoms.mark_ground_rights.Lts as lts
 
 abbrev Inv-loop : tie.InvT-loop
 Inv-loop count questions variables marks₀ rows m₀ marks m = MarkedTo (inGroundRight questions variables) (pairsOf questions) marks₀ marks m

@@ -4,8 +4,6 @@ use lib.ListN.{length-set}
 use Rattle.subsumption.proofs.Marks.{exists-below, first-below, second-below, marked-exists, marked-and, marked-rest}
 use Rattle.subsumption.proofs.atoms.mark_inner.Statement.{statement}
 use Rattle.subsumption.proofs.atoms.mark_inner.Tie as tie
-use Rattle.subsumption.proofs.atoms.mark_inner.Reads as reads
-use Rattle.subsumption.proofs.atoms.mark_inner.Lts as lts
 
 slice-write-marks : tie.Need-slice-write-marks
 slice-write-marks c = omega (arith, exists-below 192 _ _ _ (c .if1 .taken) (c .before .pre .0))

@@ -3,12 +3,10 @@ use Prim.Native.Nat.{_-_}
 use native.Mathlib.Omega.{arith}
 use lib.ListN.{length-set}
 use Rattle.subsumption.specs.Tables.{pairsOf}
-use Rattle.subsumption.specs.Marks.{inPair}
+use Rattle.subsumption.specs.Inner.Atoms.{inPair}
 use Rattle.subsumption.proofs.Marks.{MarkedTo, marked-to-none, marked-to-done, left-below, right-below, sides-more}
 use Rattle.subsumption.proofs.atoms.mark_sides.Statement.{statement}
 use Rattle.subsumption.proofs.atoms.mark_sides.Tie as tie
-use Rattle.subsumption.proofs.atoms.mark_sides.Reads as reads
-use Rattle.subsumption.proofs.atoms.mark_sides.Lts as lts
 
 abbrev Inv-loop : tie.InvT-loop
 Inv-loop count pairs marks₀ rows m₀ marks m = MarkedTo (inPair pairs) (pairsOf pairs) marks₀ marks m

@@ -1,12 +1,9 @@
 use Prim.Native.Nat.{_-_}
-use mathlib.Core.Path.{_∙_, _≡_, sym, ap}
 use native.Mathlib.Omega.{arith}
-use Rattle.subsumption.specs.Tables.{countOf, node}
+use Rattle.subsumption.specs.Tables.{countOf}
 use Rattle.subsumption.proofs.Marks.{VariablesTo, variables-none, variables-row, variables-done, row-rising}
 use Rattle.subsumption.proofs.atoms.mark_variables.Statement.{statement}
 use Rattle.subsumption.proofs.atoms.mark_variables.Tie as tie
-use Rattle.subsumption.proofs.atoms.mark_variables.Reads as reads
-use Rattle.subsumption.proofs.atoms.mark_variables.Lts as lts
 
 abbrev Inv-loop : tie.InvT-loop
 Inv-loop concepts marks₀ count i₀ marks i = VariablesTo concepts marks i

@@ -1,10 +1,7 @@
-use borrow.Author.Needs.{needs}
 use native.Mathlib.Omega.{arith}
 use Rattle.subsumption.proofs.Marks.{Spreading, spreading-none, spreading-skip, spreading-more, spreading-done, row-rising}
 use Rattle.subsumption.proofs.atoms.spread.Statement.{statement}
 use Rattle.subsumption.proofs.atoms.spread.Tie as tie
-use Rattle.subsumption.proofs.atoms.spread.Reads as reads
-use Rattle.subsumption.proofs.atoms.spread.Lts as lts
 
 abbrev Inv-loop : tie.InvT-loop
 Inv-loop concepts marks₀ i₀ marks i = Spreading concepts marks₀ marks i

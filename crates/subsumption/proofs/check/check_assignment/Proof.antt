@@ -1,20 +1,14 @@
-use borrow.Author.Needs.{needs}
 use Prim.Native.Nat.{_-_, _^_}
-use mathlib.Core.Path.{_∙_, sym, _≡_, refl}
+use mathlib.Core.Path.{_∙_, sym, _≡_}
 use mathlib.Core.Bool.{not}
 use native.Mathlib.Omega.{arith}
-use lib.Dec.{ltb, eqb}
+use lib.Dec.{ltb}
 use lib.ListN.{length, getD}
-use borrow.Author.Tests.{eq-eqb, ne-eqb}
 use Rattle.subsumption.specs.declared.refusal.Refusal.the-variants.{BadAssignment}
-use Rattle.subsumption.specs.Check.{assignmentFaultAt}
-use Rattle.subsumption.proofs.Refusals.{stops, goes-on, refused-if, done-if}
 use Rattle.subsumption.proofs.Scans.{Scan, scan-none, scan-more, scan-found, scan-done}
 use Rattle.subsumption.proofs.Accepted.{wrong-count, right-count}
 use Rattle.subsumption.proofs.check.check_assignment.Statement.{statement}
 use Rattle.subsumption.proofs.check.check_assignment.Tie as tie
-use Rattle.subsumption.proofs.check.check_assignment.Reads as reads
-use Rattle.subsumption.proofs.check.check_assignment.Lts as lts
 
 abbrev Inv-loop : tie.InvT-loop
 Inv-loop assignment variables atoms count k₀ k =

@@ -3,11 +3,6 @@ use Rattle.subsumption.specs.Check.{conceptFault}
 use Rattle.subsumption.proofs.Refusals.{stops, goes-on}
 use Rattle.subsumption.proofs.check.check_concepts.Statement.{statement}
 use Rattle.subsumption.proofs.check.check_concepts.Tie as tie
-use Rattle.subsumption.proofs.check.check_concepts.Reads as reads
-use Rattle.subsumption.proofs.check.check_concepts.Lts as lts
-use Rattle.subsumption.proofs.check.check_inner.Reads as check-inner-reads
-use Rattle.subsumption.proofs.check.check_limits.Reads as check-limits-reads
-use Rattle.subsumption.proofs.check.check_rows.Reads as check-rows-reads
 
 returns : tie.Need-returns
 unfolding conceptFault

@@ -4,8 +4,6 @@ use Rattle.subsumption.proofs.Refusals.{stops, goes-on}
 use Rattle.subsumption.proofs.Accepted.{inclusions-few}
 use Rattle.subsumption.proofs.check.check_ids.Statement.{statement}
 use Rattle.subsumption.proofs.check.check_ids.Tie as tie
-use Rattle.subsumption.proofs.check.check_ids.Reads as reads
-use Rattle.subsumption.proofs.check.check_ids.Lts as lts
 
 returns : tie.Need-returns
 unfolding idFault

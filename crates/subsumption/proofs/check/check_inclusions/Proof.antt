@@ -10,8 +10,6 @@ use Rattle.subsumption.proofs.Marks.{left-below, right-below}
 use Rattle.subsumption.proofs.Accepted.{either-held}
 use Rattle.subsumption.proofs.check.check_inclusions.Statement.{statement}
 use Rattle.subsumption.proofs.check.check_inclusions.Tie as tie
-use Rattle.subsumption.proofs.check.check_inclusions.Reads as reads
-use Rattle.subsumption.proofs.check.check_inclusions.Lts as lts
 
 abbrev Inv-loop : tie.InvT-loop
 Inv-loop concepts inclusions held rows m₀ m =

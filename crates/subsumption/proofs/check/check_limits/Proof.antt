@@ -1,5 +1,5 @@
 use borrow.Author.Needs.{needs}
-use Rattle.subsumption.proofs.Limits.{limit-concepts, limit-inclusions, limit-questions, limit-variables, limit-none}
+use Rattle.subsumption.proofs.LimitLaws.{limit-concepts, limit-inclusions, limit-questions, limit-variables, limit-none}
 use Rattle.subsumption.proofs.check.check_limits.Statement.{statement}
 use Rattle.subsumption.proofs.check.check_limits.Tie as tie
 

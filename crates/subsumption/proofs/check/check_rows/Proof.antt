@@ -1,5 +1,5 @@
 use Prim.Native.Nat.{_-_}
-use mathlib.Core.Path.{_≡_, _∙_, sym, ap}
+use mathlib.Core.Path.{_∙_}
 use native.Mathlib.Omega.{arith}
 use Rattle.subsumption.specs.declared.refusal.Refusal.the-variants.{Malformed}
 use Rattle.subsumption.specs.Tables.{countOf}
@@ -8,10 +8,6 @@ use Rattle.subsumption.proofs.Scans.{Scan, scan-none, scan-more, scan-f
 use Rattle.subsumption.proofs.Shapes.{row-malformed}
 use Rattle.subsumption.proofs.check.check_rows.Statement.{statement}
 use Rattle.subsumption.proofs.check.check_rows.Tie as tie
-use Rattle.subsumption.proofs.check.check_rows.Reads as reads
-use Rattle.subsumption.proofs.check.check_rows.Lts as lts
-use Rattle.subsumption.proofs.check.is_malformed.Reads as is-malformed-reads
-use Rattle.subsumption.proofs.tables.row_at.Reads as row-at-reads
 
 abbrev Inv-loop : tie.InvT-loop
 Inv-loop concepts variables count i₀ i = Scan Malformed (malformed concepts variables) (countOf concepts) i

@@ -10,8 +10,6 @@ use Rattle.subsumption.proofs.Marks.{left-below, right-below}
 use Rattle.subsumption.proofs.Accepted.{both-held}
 use Rattle.subsumption.proofs.check.check_sides.Statement.{statement}
 use Rattle.subsumption.proofs.check.check_sides.Tie as tie
-use Rattle.subsumption.proofs.check.check_sides.Reads as reads
-use Rattle.subsumption.proofs.check.check_sides.Lts as lts
 
 abbrev Inv-loop : tie.InvT-loop
 Inv-loop concepts questions held rows m₀ m =

@@ -1,26 +1,17 @@
 use Rattle.subsumption.proofs.Replies.{same-reply, same-refused}
-use mathlib.Core.Path.{refl, ap}
+use mathlib.Core.Path.{refl}
 use Rattle.subsumption.proofs.Refusals.{stops, goes-on, is-done}
-use Rattle.subsumption.specs.Refusal.{replyOf}
 use Rattle.subsumption.specs.Check.{tableFault}
 use borrow.Author.Needs.{needs}
 use Rattle.subsumption.proofs.check.check_tables.Statement.{statement}
 use Rattle.subsumption.proofs.check.check_tables.Tie as tie
-use Rattle.subsumption.proofs.check.check_tables.Reads as reads
-use Rattle.subsumption.proofs.check.check_tables.Lts as lts
-use Rattle.subsumption.proofs.check.check_concepts.Reads as check-concepts-reads
-use Rattle.subsumption.proofs.check.check_ids.Reads as check-ids-reads
-use Rattle.subsumption.proofs.check.check_use.Reads as check-use-reads
 
--- src/check.rt:286:9
 check-concepts-requires : tie.Need-check-concepts-requires
 check-concepts-requires c κs = search needs
 
--- src/check.rt:287:29
 enum-known-rows : tie.Need-enum-known-rows
 enum-known-rows c = search needs
 
--- src/check.rt:288:9
 returns : tie.Need-returns
 unfolding tableFault
 returns c = same-refused _ _ (stops _ _ _ _ (c .before .before .before .check-concepts .ensures) (c .before .rows .given .1))
@@ -28,15 +19,12 @@ returns c = same-refused _ _ (stops _ _ _ _ (c .before .before .before .check-co
 enum-told : tie.Need-enum-told
 enum-told c = search needs
 
--- src/check.rt:290:9
 check-ids-requires : tie.Need-check-ids-requires
 check-ids-requires c κs = is-done _ _ (c .before .before .check-concepts .ensures) (c .enum-told .given .1)
 
--- src/check.rt:291:29
 enum-known-ids : tie.Need-enum-known-ids
 enum-known-ids c = search needs
 
--- src/check.rt:292:9
 returns-2 : tie.Need-returns-2
 unfolding tableFault
 returns-2 c = same-refused _ _ (goes-on _ _ _ _ (c .before .before .before .before .before .before .check-concepts .ensures) (c .before .before .before .before .enum-told .given .1) (stops _ _ _ _ (c .before .before .before .check-ids .ensures) (c .before .ids .given .1)))
@@ -44,15 +32,12 @@ returns-2 c = same-refused _ _ (goes-on _ _ _ _ (c .before .before .before .befo
 enum-told-2 : tie.Need-enum-told-2
 enum-told-2 c = search needs
 
--- src/check.rt:295:59
 slice-aggregate-check-use : tie.Need-slice-aggregate-check-use
 slice-aggregate-check-use c = search needs
 
--- src/check.rt:295:5
 check-use-requires : tie.Need-check-use-requires
 check-use-requires c κs = (is-done _ _ (c .before .before .before .before .before .before .check-concepts .ensures) (c .before .before .before .before .enum-told .given .1), (is-done _ _ (c .before .before .before .check-ids .ensures) (c .before .enum-told2 .given .1), refl))
 
--- src/check.rt:278:1
 returns-3 : tie.Need-returns-3
 unfolding tableFault
 returns-3 c = same-reply (c .before .check-use .result) _ (goes-on _ _ _ _ (c .before .before .before .before .before .before .before .before .check-concepts .ensures) (c .before .before .before .before .before .before .enum-told .given .1) (goes-on _ _ _ _ (c .before .before .before .before .before .check-ids .ensures) (c .before .before .before .enum-told2 .given .1) (c .before .check-use .ensures .answered)))

@@ -7,35 +7,22 @@ use Rattle.subsumption.proofs.Accepted.{concepts-layered, concepts-few,
 use borrow.Author.Needs.{needs}
 use Rattle.subsumption.proofs.check.check_use.Statement.{statement}
 use Rattle.subsumption.proofs.check.check_use.Tie as tie
-use Rattle.subsumption.proofs.check.check_use.Reads as reads
-use Rattle.subsumption.proofs.check.check_use.Lts as lts
-use Rattle.subsumption.proofs.atoms.count_marks.Reads as count-marks-reads
-use Rattle.subsumption.proofs.atoms.mark_atoms.Reads as mark-atoms-reads
-use Rattle.subsumption.proofs.atoms.mark_variables.Reads as mark-variables-reads
-use Rattle.subsumption.proofs.check.check_inclusions.Reads as check-inclusions-reads
-use Rattle.subsumption.proofs.check.check_sides.Reads as check-sides-reads
 
--- src/check.rt:261:30
 slice-aggregate-mark-variables : tie.Need-slice-aggregate-mark-variables
 slice-aggregate-mark-variables c = search needs
 
--- src/check.rt:261:5
 mark-variables-requires : tie.Need-mark-variables-requires
 mark-variables-requires c κs = (concepts-layered _ (c .before .before .before .before .before .pre .0), refl)
 
--- src/check.rt:262:58
 slice-aggregate-check-inclusions : tie.Need-slice-aggregate-check-inclusions
 slice-aggregate-check-inclusions c = search needs
 
--- src/check.rt:262:9
 check-inclusions-requires : tie.Need-check-inclusions-requires
 check-inclusions-requires c κs = (c .before .before .mark-variables .ensures, (concepts-few _ (c .before .before .before .before .before .before .before .before .pre .0), inclusions-known _ (c .before .before .before .before .before .before .before .before .pre .1 .0)))
 
--- src/check.rt:263:29
 enum-known-grounds : tie.Need-enum-known-grounds
 enum-known-grounds c = search needs
 
--- src/check.rt:264:9
 returns : tie.Need-returns
 unfolding useFault
 returns c = use-refused _ _ _ (stops _ _ _ _ (c .before .before .before .check-inclusions .ensures) (c .before .grounds .given .1))
@@ -43,19 +30,15 @@ returns c = use-refused _ _ _ (stops _ _ _ _ (c .before .before .before .check-i
 enum-told : tie.Need-enum-told
 enum-told c = search needs
 
--- src/check.rt:266:50
 slice-aggregate-check-sides : tie.Need-slice-aggregate-check-sides
 slice-aggregate-check-sides c = search needs
 
--- src/check.rt:266:9
 check-sides-requires : tie.Need-check-sides-requires
 check-sides-requires c κs = (c .before .before .before .before .before .before .mark-variables .ensures, (concepts-few _ (c .before .before .before .before .before .before .before .before .before .before .before .before .pre .0), questions-known _ (c .before .before .before .before .before .before .before .before .before .before .before .before .pre .1 .0)))
 
--- src/check.rt:267:29
 enum-known-sides : tie.Need-enum-known-sides
 enum-known-sides c = search needs
 
--- src/check.rt:268:9
 returns-2 : tie.Need-returns-2
 unfolding useFault
 returns-2 c = use-refused _ _ _ (goes-on _ _ _ _ (c .before .before .before .before .before .before .before .check-inclusions .ensures) (c .before .before .before .before .before .enum-told .given .1) (stops _ _ _ _ (c .before .before .before .check-sides .ensures) (c .before .sides .given .1)))
@@ -63,31 +46,24 @@ returns-2 c = use-refused _ _ _ (goes-on _ _ _ _ (c .before .before .before .bef
 enum-told-2 : tie.Need-enum-told-2
 enum-told-2 c = search needs
 
--- src/check.rt:270:49
 slice-aggregate-mark-atoms : tie.Need-slice-aggregate-mark-atoms
 slice-aggregate-mark-atoms c = search needs
 
--- src/check.rt:270:5
 mark-atoms-requires : tie.Need-mark-atoms-requires
 mark-atoms-requires c κs = (concepts-layered _ (c .before .before .before .before .before .before .before .before .before .before .before .before .before .before .before .before .before .pre .0), (inclusions-known _ (c .before .before .before .before .before .before .before .before .before .before .before .before .before .before .before .before .before .pre .1 .0), (questions-known _ (c .before .before .before .before .before .before .before .before .before .before .before .before .before .before .before .before .before .pre .1 .0), (c .before .before .before .before .before .before .before .before .before .before .before .mark-variables .ensures, c .before .before .before .before .before .before .before .before .before .before .before .before .before .before .before .before .before .pre .1 .1))))
 
--- src/check.rt:271:13
 count-marks-requires : tie.Need-count-marks-requires
 count-marks-requires c κs = omega (arith, concepts-few _ (c .before .before .before .before .before .before .before .before .before .before .before .before .before .before .before .before .before .before .before .before .before .pre .0), c .before .before .before .mark-atoms .ensures .long)
 
--- src/check.rt:272:9
 same-length : tie.Need-same-length
 same-length c = search needs
 
--- src/check.rt:272:9
 returns-3 : tie.Need-returns-3
 returns-3 c = use-many _ _ _ _ _ (c .before .before .before .before .before .before .before .before .before .before .before .before .before .before .check-inclusions .ensures) (c .before .before .before .before .before .before .before .before .before .before .before .before .enum-told .given .1) (c .before .before .before .before .before .before .before .before .before .before .check-sides .ensures) (c .before .before .before .before .before .before .before .before .enum-told2 .given .1) (c .before .before .before .before .before .mark-atoms .ensures) (c .before .count-marks .ensures) _ (c .if1 .taken)
 
--- src/check.rt:248:1
 same-length-2 : tie.Need-same-length-2
 same-length-2 c = search needs
 
--- src/check.rt:248:1
 returns-4 : tie.Need-returns-4
 returns-4 c = use-few _ _ _ _ _ (c .before .before .before .before .before .before .before .before .before .before .before .before .before .before .check-inclusions .ensures) (c .before .before .before .before .before .before .before .before .before .before .before .before .enum-told .given .1) (c .before .before .before .before .before .before .before .before .before .before .check-sides .ensures) (c .before .before .before .before .before .before .before .before .enum-told2 .given .1) (c .before .before .before .before .before .mark-atoms .ensures) (c .before .count-marks .ensures) (c .if1 .left)
 

@@ -1,5 +1,5 @@
 use borrow.Author.Needs.{needs}
-use Rattle.subsumption.proofs.Limits.{ragged, even-rows}
+use Rattle.subsumption.proofs.LimitLaws.{ragged, even-rows}
 use Rattle.subsumption.proofs.check.is_unfit.Statement.{statement}
 use Rattle.subsumption.proofs.check.is_unfit.Tie as tie
 

@@ -1,6 +1,9 @@
 use Prim.Native.Nat.{_+_}
 use native.Mathlib.Omega.{arith}
-use Rattle.subsumption.specs.Closure.{Firsts, Onward, chooseFrom, slack}
+use Rattle.subsumption.specs.Inner.Columns.{slack}
+use Rattle.subsumption.specs.Inner.Names.{Firsts}
+use Rattle.subsumption.specs.Inner.Settling.{chooseFrom}
+use Rattle.subsumption.specs.Inner.Links.{Onward}
 use Rattle.subsumption.proofs.Linking.{ready-nameable}
 use Rattle.subsumption.proofs.Closing.{Closing, weight, closing-first, closing-turn, closing-less, closing-done}
 use Rattle.subsumption.proofs.closure.close.Statement.{statement}

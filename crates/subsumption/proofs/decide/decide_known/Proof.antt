@@ -4,48 +4,34 @@ use native.Mathlib.Omega.{arith}
 use borrow.Author.Needs.{needs}
 use Rattle.subsumption.proofs.decide.decide_known.Statement.{statement}
 use Rattle.subsumption.proofs.decide.decide_known.Tie as tie
-use Rattle.subsumption.proofs.decide.decide_known.Reads as reads
-use Rattle.subsumption.proofs.decide.decide_known.Lts as lts
-use Rattle.subsumption.proofs.check.check_assignment.Reads as check-assignment-reads
-use Rattle.subsumption.proofs.closure.below.Reads as below-reads
-use Rattle.subsumption.proofs.closure.close.Reads as close-reads
 
--- src/decide.rt:35:9
 check-assignment-requires : tie.Need-check-assignment-requires
 check-assignment-requires c κs = few-atoms _ _ _ _ (c .before .before .before .before .pre .0)
 
--- src/decide.rt:36:29
 enum-known-choices : tie.Need-enum-known-choices
 enum-known-choices c = search needs
 
--- src/decide.rt:37:9
 returns : tie.Need-returns
 returns c = known-refused _ _ _ _ _ _ _ (c .before .before .before .before .before .before .before .before .pre .1 .0) (c .before .before .before .before .before .before .before .before .pre .1 .1) _ (c .before .before .before .check-assignment .ensures) _ (c .before .choices .given .1)
 
 enum-told : tie.Need-enum-told
 enum-told c = search needs
 
--- src/decide.rt:40:52
 slice-aggregate-close : tie.Need-slice-aggregate-close
 slice-aggregate-close c = search needs
 
--- src/decide.rt:40:5
 close-requires : tie.Need-close-requires
 close-requires c κs = (prepared-ready _ _ _ _ (c .before .before .before .before .before .before .before .before .pre .0) _ _ (c .before .before .before .check-assignment .ensures) (c .before .enum-told .given .1), refl)
 
--- src/decide.rt:41:14
 slice-aggregate-below : tie.Need-slice-aggregate-below
 slice-aggregate-below c = search needs
 
--- src/decide.rt:41:8
 below-requires : tie.Need-below-requires
 below-requires c κs = (c .before .before .close .ensures .long, (omega (arith, few-concepts _ _ _ _ (c .before .before .before .before .before .before .before .before .before .before .before .pre .0), c .before .before .before .before .before .before .before .before .before .before .before .pre .1 .0), omega (arith, few-concepts _ _ _ _ (c .before .before .before .before .before .before .before .before .before .before .before .pre .0), c .before .before .before .before .before .before .before .before .before .before .before .pre .1 .1)))
 
--- src/decide.rt:42:9
 returns-2 : tie.Need-returns-2
 returns-2 c = known-yes _ _ _ _ _ _ _ (c .before .before .before .before .before .before .before .before .before .before .before .before .before .pre .1 .0) (c .before .before .before .before .before .before .before .before .before .before .before .before .before .pre .1 .1) _ (c .before .before .before .before .before .before .before .before .check-assignment .ensures) (c .before .before .before .before .before .before .enum-told .given .1) _ (c .before .before .before .before .close .ensures) _ (c .before .below .ensures) (c .if1 .taken)
 
--- src/decide.rt:22:1
 returns-3 : tie.Need-returns-3
 returns-3 c = known-no _ _ _ _ _ _ _ (c .before .before .before .before .before .before .before .before .before .before .before .before .before .pre .1 .0) (c .before .before .before .before .before .before .before .before .before .before .before .before .before .pre .1 .1) _ (c .before .before .before .before .before .before .before .before .check-assignment .ensures) (c .before .before .before .before .before .before .enum-told .given .1) _ (c .before .before .before .before .close .ensures) _ (c .before .below .ensures) (c .if1 .left)
 

@@ -5,45 +5,31 @@ use mathlib.Core.Path.{refl, sym, ap}
 use borrow.Author.Needs.{needs}
 use Rattle.subsumption.proofs.ground.close_ground.Statement.{statement}
 use Rattle.subsumption.proofs.ground.close_ground.Tie as tie
-use Rattle.subsumption.proofs.ground.close_ground.Reads as reads
-use Rattle.subsumption.proofs.ground.close_ground.Lts as lts
-use Rattle.subsumption.proofs.atoms.mark_variables.Reads as mark-variables-reads
-use Rattle.subsumption.proofs.closure.close.Reads as close-reads
-use Rattle.subsumption.proofs.ground.keep_free.Reads as keep-free-reads
 
--- src/ground.rt:87:38
 array-share-prefix-nothing : tie.Need-array-share-prefix-nothing
 array-share-prefix-nothing c = few-variables _ _ _ _ (c .before .before .before .before .pre .0)
 
--- src/ground.rt:87:38
 slice-aggregate-close : tie.Need-slice-aggregate-close
 slice-aggregate-close c = sym (length-take-le _ zeros (few-variables _ _ _ _ (c .before .before .before .before .before .pre .0)))
 
--- src/ground.rt:87:5
 close-requires : tie.Need-close-requires
 close-requires c κs = (nothing-ready _ _ _ _ (c .before .before .before .before .before .before .pre .0), ap length (c .before .before .before .before .before .before .pre .1))
 
--- src/ground.rt:89:30
 slice-aggregate-mark-variables : tie.Need-slice-aggregate-mark-variables
 slice-aggregate-mark-variables c = search needs
 
--- src/ground.rt:89:5
 mark-variables-requires : tie.Need-mark-variables-requires
 mark-variables-requires c κs = (layered _ _ _ _ (c .before .before .before .before .before .before .before .before .before .before .pre .0), refl)
 
--- src/ground.rt:90:15
 slice-aggregate-keep-free : tie.Need-slice-aggregate-keep-free
 slice-aggregate-keep-free c = search needs
 
--- src/ground.rt:90:5
 keep-free-requires : tie.Need-keep-free-requires
 keep-free-requires c κs = search needs
 
--- src/ground.rt:74:1
 same-length : tie.Need-same-length
 same-length c = search needs
 
--- src/ground.rt:74:1
 returns : tie.Need-returns
 returns c = grounded-for _ _ _ _ _ _ _ _ (c .before .before .before .before .before .before .before .before .before .before .before .before .before .before .before .before .before .pre .1) (c .before .before .before .before .before .before .before .before .before .before .close .ensures) (c .before .before .before .before .before .before .mark-variables .ensures) (c .before .before .keep-free .ensures)
 

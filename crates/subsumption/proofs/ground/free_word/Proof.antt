@@ -1,6 +1,6 @@
 use Prim.Native.Nat.{_≤_, _-_}
 use native.Mathlib.Omega.{arith}
-use Rattle.subsumption.specs.Ground.{Free}
+use Rattle.subsumption.specs.Inner.Ground.{Free}
 use Rattle.subsumption.proofs.GroundLaws.{free-none, free-more}
 use Rattle.subsumption.proofs.ground.free_word.Statement.{statement}
 use Rattle.subsumption.proofs.ground.free_word.Tie as tie

@@ -1,6 +1,5 @@
 use native.Mathlib.Omega.{arith}
 use Rattle.subsumption.proofs.GroundLaws.{kept-none, kept-free}
-use borrow.Author.Needs.{needs}
 use Rattle.subsumption.proofs.ground.keep_word.Statement.{statement}
 use Rattle.subsumption.proofs.ground.keep_word.Tie as tie
 

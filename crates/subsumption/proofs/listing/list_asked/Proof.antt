@@ -3,67 +3,49 @@ use Rattle.subsumption.proofs.Refusals.{is-done}
 use borrow.Author.Needs.{needs}
 use Rattle.subsumption.proofs.listing.list_asked.Statement.{statement}
 use Rattle.subsumption.proofs.listing.list_asked.Tie as tie
-use Rattle.subsumption.proofs.listing.list_asked.Reads as reads
-use Rattle.subsumption.proofs.listing.list_asked.Lts as lts
-use Rattle.subsumption.proofs.check.check_alone.Reads as check-alone-reads
-use Rattle.subsumption.proofs.check.check_concepts.Reads as check-concepts-reads
-use Rattle.subsumption.proofs.check.check_ids.Reads as check-ids-reads
-use Rattle.subsumption.proofs.listing.list_used.Reads as list-used-reads
 
--- src/listing.rt:83:9
 check-concepts-requires : tie.Need-check-concepts-requires
 check-concepts-requires c κs = search needs
 
--- src/listing.rt:84:29
 enum-known-rows : tie.Need-enum-known-rows
 enum-known-rows c = search needs
 
--- src/listing.rt:85:9
 returns : tie.Need-returns
 returns c = let h = asked-concepts _ _ _ (c .before .before .before .check-concepts .ensures) _ _ _ (c .before .rows .given .1) in (h .replied, h .written)
 
 enum-told : tie.Need-enum-told
 enum-told c = search needs
 
--- src/listing.rt:87:9
 check-alone-requires : tie.Need-check-alone-requires
 check-alone-requires c κs = search needs
 
--- src/listing.rt:88:29
 enum-known-alone : tie.Need-enum-known-alone
 enum-known-alone c = search needs
 
--- src/listing.rt:89:9
 returns-2 : tie.Need-returns-2
 returns-2 c = let h = asked-alone _ _ _ (c .before .before .before .before .before .before .check-concepts .ensures) _ _ (c .before .before .before .before .enum-told .given .1) _ (c .before .before .before .check-alone .ensures) _ (c .before .alone .given .1) in (h .replied, h .written)
 
 enum-told-2 : tie.Need-enum-told-2
 enum-told-2 c = search needs
 
--- src/listing.rt:91:9
 check-ids-requires : tie.Need-check-ids-requires
 check-ids-requires c κs = is-done _ _ (c .before .before .before .before .before .check-concepts .ensures) (c .before .before .before .enum-told .given .1)
 
--- src/listing.rt:92:29
 enum-known-ids : tie.Need-enum-known-ids
 enum-known-ids c = search needs
 
--- src/listing.rt:93:9
 returns-3 : tie.Need-returns-3
 returns-3 c = let h = asked-ids _ _ _ (c .before .before .before .before .before .before .before .before .before .check-concepts .ensures) _ _ (c .before .before .before .before .before .before .before .enum-told .given .1) _ (c .before .before .before .before .before .before .check-alone .ensures) (c .before .before .before .before .enum-told2 .given .1) _ (c .before .before .before .check-ids .ensures) _ (c .before .ids .given .1) in (h .replied, h .written)
 
 enum-told-3 : tie.Need-enum-told-3
 enum-told-3 c = search needs
 
--- src/listing.rt:95:5
 list-used-requires : tie.Need-list-used-requires
 list-used-requires c κs = (is-done _ _ (c .before .before .before .before .before .before .before .before .before .check-concepts .ensures) (c .before .before .before .before .before .before .before .enum-told .given .1), is-done _ _ (c .before .before .before .check-ids .ensures) (c .before .enum-told3 .given .1))
 
--- src/listing.rt:71:1
 same-length : tie.Need-same-length
 same-length c = search needs
 
--- src/listing.rt:71:1
 returns-4 : tie.Need-returns-4
 returns-4 c = let h = asked-used _ (c .before .before .before .before .before .before .before .before .before .before .before .before .before .before .before .before .before .args .out .now) _ (c .before .before .before .before .before .before .before .before .before .before .before .before .check-concepts .ensures) _ _ (c .before .before .before .before .before .before .before .before .before .before .enum-told .given .1) _ (c .before .before .before .before .before .before .before .before .before .check-alone .ensures) (c .before .before .before .before .before .before .before .enum-told2 .given .1) _ (c .before .before .before .before .before .before .check-ids .ensures) _ (c .before .before .list-used .result) (c .before .before .before .before .enum-told3 .given .1) (record { replied = c .before .before .list-used .ensures .0; written = c .before .before .list-used .ensures .1 }) in (h .replied, h .written)
 

@@ -3,51 +3,37 @@ use Rattle.subsumption.proofs.Refusals.{is-done}
 use borrow.Author.Needs.{needs}
 use Rattle.subsumption.proofs.listing.list_atoms.Statement.{statement}
 use Rattle.subsumption.proofs.listing.list_atoms.Tie as tie
-use Rattle.subsumption.proofs.listing.list_atoms.Reads as reads
-use Rattle.subsumption.proofs.listing.list_atoms.Lts as lts
-use Rattle.subsumption.proofs.check.check_concepts.Reads as check-concepts-reads
-use Rattle.subsumption.proofs.check.check_ids.Reads as check-ids-reads
-use Rattle.subsumption.proofs.listing.list_used.Reads as list-used-reads
 
--- src/listing.rt:59:9
 check-concepts-requires : tie.Need-check-concepts-requires
 check-concepts-requires c κs = search needs
 
--- src/listing.rt:60:29
 enum-known-rows : tie.Need-enum-known-rows
 enum-known-rows c = search needs
 
--- src/listing.rt:61:9
 returns : tie.Need-returns
 returns c = let h = listing-concepts _ _ _ (c .before .before .before .check-concepts .ensures) _ (c .before .rows .given .1) in (h .replied, h .written)
 
 enum-told : tie.Need-enum-told
 enum-told c = search needs
 
--- src/listing.rt:63:9
 check-ids-requires : tie.Need-check-ids-requires
 check-ids-requires c κs = is-done _ _ (c .before .before .check-concepts .ensures) (c .enum-told .given .1)
 
--- src/listing.rt:64:29
 enum-known-ids : tie.Need-enum-known-ids
 enum-known-ids c = search needs
 
--- src/listing.rt:65:9
 returns-2 : tie.Need-returns-2
 returns-2 c = let h = listing-ids _ _ _ (c .before .before .before .before .before .before .check-concepts .ensures) (c .before .before .before .before .enum-told .given .1) _ (c .before .before .before .check-ids .ensures) _ (c .before .ids .given .1) in (h .replied, h .written)
 
 enum-told-2 : tie.Need-enum-told-2
 enum-told-2 c = search needs
 
--- src/listing.rt:67:5
 list-used-requires : tie.Need-list-used-requires
 list-used-requires c κs = (is-done _ _ (c .before .before .before .before .before .before .check-concepts .ensures) (c .before .before .before .before .enum-told .given .1), is-done _ _ (c .before .before .before .check-ids .ensures) (c .before .enum-told2 .given .1))
 
--- src/listing.rt:49:1
 same-length : tie.Need-same-length
 same-length c = search needs
 
--- src/listing.rt:49:1
 returns-3 : tie.Need-returns-3
 returns-3 c = let h = listing-used _ (c .before .before .before .before .before .before .before .before .before .before .before .before .before .before .args .out .now) _ (c .before .before .before .before .before .before .before .before .before .check-concepts .ensures) (c .before .before .before .before .before .before .before .enum-told .given .1) _ (c .before .before .before .before .before .before .check-ids .ensures) _ (c .before .before .list-used .result) (c .before .before .before .before .enum-told2 .given .1) (record { replied = c .before .before .list-used .ensures .0; written = c .before .before .list-used .ensures .1 }) in (h .replied, h .written)
 

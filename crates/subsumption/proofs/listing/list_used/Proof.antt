@@ -4,47 +4,34 @@ use Rattle.subsumption.proofs.ListingLaws.{used-refused, used-short, us
 use borrow.Author.Needs.{needs}
 use Rattle.subsumption.proofs.listing.list_used.Statement.{statement}
 use Rattle.subsumption.proofs.listing.list_used.Tie as tie
-use Rattle.subsumption.proofs.listing.list_used.Reads as reads
-use Rattle.subsumption.proofs.listing.list_used.Lts as lts
-use Rattle.subsumption.proofs.atoms.list_marks.Reads as list-marks-reads
-use Rattle.subsumption.proofs.check.check_use.Reads as check-use-reads
 
--- src/listing.rt:38:70
 slice-aggregate-check-use : tie.Need-slice-aggregate-check-use
 slice-aggregate-check-use c = search needs
 
--- src/listing.rt:38:9
 check-use-requires : tie.Need-check-use-requires
 check-use-requires c κs = search needs
 
--- src/listing.rt:39:29
 enum-known-used : tie.Need-enum-known-used
 enum-known-used c = search needs
 
--- src/listing.rt:40:9
 returns : tie.Need-returns
 returns c = let h = used-refused _ _ _ _ (c .before .before .before .before .check-use .ensures) _ (c .before .used .given .1) in (h .replied, h .written)
 
 enum-told : tie.Need-enum-told
 enum-told c = search needs
 
--- src/listing.rt:43:9
 returns-2 : tie.Need-returns-2
 returns-2 c = let h = used-short _ _ _ _ (c .before .before .before .before .check-use .ensures) (c .before .enum-told .given .1) (c .if1 .taken) in (h .replied, h .written)
 
--- src/listing.rt:45:30
 slice-aggregate-list-marks : tie.Need-slice-aggregate-list-marks
 slice-aggregate-list-marks c = search needs
 
--- src/listing.rt:45:19
 list-marks-requires : tie.Need-list-marks-requires
 list-marks-requires c κs = (concepts-few _ (c .before .before .before .before .before .before .before .before .before .before .before .before .pre .0), (omega (arith, concepts-few _ (c .before .before .before .before .before .before .before .before .before .before .before .before .pre .0), c .before .before .before .before .before .before .check-use .ensures .marked (c .before .before .before .enum-told .given .1) .long), used-room _ (c .before .before .before .before .before .before .before .before .before .before .before .before .args .out .now) _ _ (c .before .before .before .before .before .before .check-use .ensures) (c .before .before .before .enum-told .given .1) (c .before .before .if1 .left)))
 
--- src/listing.rt:25:1
 same-length : tie.Need-same-length
 same-length c = search needs
 
--- src/listing.rt:25:1
 returns-3 : tie.Need-returns-3
 returns-3 c = let h = used-listed _ _ _ _ (c .before .before .before .before .before .before .before .before .before .check-use .ensures) _ _ (c .before .before .before .before .before .before .enum-told .given .1) (c .before .before .before .before .before .if1 .left) (c .before .before .list-marks .ensures .0) (c .before .before .list-marks .ensures .1) in (h .replied, h .written)
 

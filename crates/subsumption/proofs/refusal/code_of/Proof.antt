@@ -1,110 +1,82 @@
 use borrow.Author.Needs.{needs}
 use Rattle.subsumption.proofs.refusal.code_of.Statement.{statement}
 use Rattle.subsumption.proofs.refusal.code_of.Tie as tie
-use Rattle.subsumption.proofs.refusal.code_of.Reads as reads
-use Rattle.subsumption.proofs.refusal.code_of.Lts as lts
 
--- src/refusal.rt:37:24
 enum-known-r : tie.Need-enum-known-r
 enum-known-r c = search needs
 
--- src/refusal.rt:38:28
 enum-known-r-2 : tie.Need-enum-known-r-2
 enum-known-r-2 c = search needs
 
--- src/refusal.rt:39:28
 enum-known-r-3 : tie.Need-enum-known-r-3
 enum-known-r-3 c = search needs
 
--- src/refusal.rt:40:28
 enum-known-r-4 : tie.Need-enum-known-r-4
 enum-known-r-4 c = search needs
 
--- src/refusal.rt:41:38
 enum-known-r-5 : tie.Need-enum-known-r-5
 enum-known-r-5 c = search needs
 
--- src/refusal.rt:42:39
 enum-known-r-6 : tie.Need-enum-known-r-6
 enum-known-r-6 c = search needs
 
--- src/refusal.rt:43:34
 enum-told : tie.Need-enum-told
 enum-told c = search needs
 
--- src/refusal.rt:44:33
 enum-known-r-7 : tie.Need-enum-known-r-7
 enum-known-r-7 c = search needs
 
--- src/refusal.rt:45:32
 enum-known-r-8 : tie.Need-enum-known-r-8
 enum-known-r-8 c = search needs
 
--- src/refusal.rt:46:34
 enum-told-2 : tie.Need-enum-told-2
 enum-told-2 c = search needs
 
--- src/refusal.rt:47:33
 enum-told-3 : tie.Need-enum-told-3
 enum-told-3 c = search needs
 
--- src/refusal.rt:48:32
 enum-known-r-9 : tie.Need-enum-known-r-9
 enum-known-r-9 c = search needs
 
--- src/refusal.rt:49:26
 enum-known-r-10 : tie.Need-enum-known-r-10
 enum-known-r-10 c = search needs
 
--- src/refusal.rt:33:1
 returns : tie.Need-returns
 returns c = cc
 
--- src/refusal.rt:33:1
 returns-2 : tie.Need-returns-2
 returns-2 c = cc
 
--- src/refusal.rt:33:1
 returns-3 : tie.Need-returns-3
 returns-3 c = cc
 
--- src/refusal.rt:33:1
 returns-4 : tie.Need-returns-4
 returns-4 c = cc
 
--- src/refusal.rt:33:1
 returns-5 : tie.Need-returns-5
 returns-5 c = cc
 
--- src/refusal.rt:33:1
 returns-6 : tie.Need-returns-6
 returns-6 c = cc
 
--- src/refusal.rt:33:1
 returns-7 : tie.Need-returns-7
 returns-7 c = cc
 
--- src/refusal.rt:33:1
 returns-8 : tie.Need-returns-8
 returns-8 c = cc
 
--- src/refusal.rt:33:1
 returns-9 : tie.Need-returns-9
 returns-9 c = cc
 
--- src/refusal.rt:33:1
 returns-10 : tie.Need-returns-10
 returns-10 c = cc
 
--- src/refusal.rt:33:1
 returns-11 : tie.Need-returns-11
 returns-11 c = cc
 
--- src/refusal.rt:33:1
 returns-12 : tie.Need-returns-12
 returns-12 c = cc
 
--- src/refusal.rt:33:1
 returns-13 : tie.Need-returns-13
 returns-13 c = cc
 

@@ -1,6 +1,5 @@
 use native.Mathlib.Omega.{arith}
 use Rattle.subsumption.proofs.Blocks.{transposed}
-use borrow.Author.Needs.{needs}
 use Rattle.subsumption.proofs.rows.transpose.Statement.{statement}
 use Rattle.subsumption.proofs.rows.transpose.Tie as tie
 

@@ -2,7 +2,7 @@ use Prim.Native.Nat.{_-_}
 use mathlib.Core.Path.{refl}
 use native.Mathlib.Omega.{arith}
 use borrow.Author.Needs.{needs}
-use Rattle.subsumption.specs.Rows.{Banded}
+use Rattle.subsumption.specs.Inner.Rows.{Banded}
 use Rattle.subsumption.proofs.Blocks.{banded-first, banded-next}
 use Rattle.subsumption.proofs.RowLaws.{RowsTo, rows-first, rows-more, rows-done}
 use Rattle.subsumption.proofs.rows.write_rows.Statement.{statement}

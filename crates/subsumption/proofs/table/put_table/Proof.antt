@@ -5,68 +5,49 @@ use native.Mathlib.Omega.{arith}
 use borrow.Author.Needs.{needs}
 use Rattle.subsumption.proofs.table.put_table.Statement.{statement}
 use Rattle.subsumption.proofs.table.put_table.Tie as tie
-use Rattle.subsumption.proofs.table.put_table.Reads as reads
-use Rattle.subsumption.proofs.table.put_table.Lts as lts
-use Rattle.subsumption.proofs.check.check_assignment.Reads as check-assignment-reads
-use Rattle.subsumption.proofs.check.check_buffer.Reads as check-buffer-reads
-use Rattle.subsumption.proofs.closure.close.Reads as close-reads
-use Rattle.subsumption.proofs.rows.write_rows.Reads as write-rows-reads
 
--- src/table.rt:26:9
 check-assignment-requires : tie.Need-check-assignment-requires
 check-assignment-requires c κs = few-atoms _ _ _ _ (c .before .before .before .before .before .pre)
 
--- src/table.rt:27:29
 enum-known-choices : tie.Need-enum-known-choices
 enum-known-choices c = search needs
 
--- src/table.rt:28:9
 returns : tie.Need-returns
 returns c = put-choices _ _ _ _ _ _ _ (c .before .before .before .check-assignment .ensures) _ (c .before .choices .given .1)
 
 enum-told : tie.Need-enum-told
 enum-told c = search needs
 
--- src/table.rt:31:29
 mul-check-buffer : tie.Need-mul-check-buffer
 mul-check-buffer c = omega (arith, few-concepts _ _ _ _ (c .before .before .before .before .before .before .before .before .pre))
 
--- src/table.rt:31:9
 check-buffer-requires : tie.Need-check-buffer-requires
 check-buffer-requires c κs = search needs
 
--- src/table.rt:32:29
 enum-known-room : tie.Need-enum-known-room
 enum-known-room c = search needs
 
--- src/table.rt:33:9
 returns-2 : tie.Need-returns-2
 returns-2 c = put-room _ _ _ _ _ _ _ (c .before .before .before .before .before .before .check-assignment .ensures) (c .before .before .before .before .enum-told .given .1) _ (c .before .before .before .check-buffer .ensures) _ (c .before .room .given .1)
 
 enum-told-2 : tie.Need-enum-told-2
 enum-told-2 c = search needs
 
--- src/table.rt:36:52
 slice-aggregate-close : tie.Need-slice-aggregate-close
 slice-aggregate-close c = search needs
 
--- src/table.rt:36:5
 close-requires : tie.Need-close-requires
 close-requires c κs = (prepared-ready _ _ _ _ (c .before .before .before .before .before .before .before .before .before .before .before .before .pre) _ _ (c .before .before .before .before .before .before .check-assignment .ensures) (c .before .before .before .before .enum-told .given .1), refl)
 
--- src/table.rt:37:16
 slice-aggregate-write-rows : tie.Need-slice-aggregate-write-rows
 slice-aggregate-write-rows c = search needs
 
--- src/table.rt:37:5
 write-rows-requires : tie.Need-write-rows-requires
 write-rows-requires c κs = (c .before .before .before .close .ensures .long, (few-concepts _ _ _ _ (c .before .before .before .before .before .before .before .before .before .before .before .before .before .before .before .before .pre), buffer-fits _ _ (is-done _ _ (c .before .before .before .before .before .before .before .check-buffer .ensures) (c .before .before .before .before .before .enum-told2 .given .1))))
 
--- src/table.rt:15:1
 same-length : tie.Need-same-length
 same-length c = search needs
 
--- src/table.rt:15:1
 returns-3 : tie.Need-returns-3
 returns-3 c = put-done _ _ _ _ _ _ _ (c .before .before .before .before .before .before .before .before .before .before .before .before .before .check-assignment .ensures) (c .before .before .before .before .before .before .before .before .before .before .before .enum-told .given .1) _ (c .before .before .before .before .before .before .before .before .before .before .check-buffer .ensures) _ _ (c .before .before .before .before .before .before .before .before .enum-told2 .given .1) (c .before .before .before .before .before .before .close .ensures) (c .before .before .write-rows .ensures)
 

@@ -7,48 +7,34 @@ use native.Mathlib.Omega.{arith}
 use borrow.Author.Needs.{needs}
 use Rattle.subsumption.proofs.table.write_table.Statement.{statement}
 use Rattle.subsumption.proofs.table.write_table.Tie as tie
-use Rattle.subsumption.proofs.table.write_table.Reads as reads
-use Rattle.subsumption.proofs.table.write_table.Lts as lts
-use Rattle.subsumption.proofs.listing.list_atoms.Reads as list-atoms-reads
-use Rattle.subsumption.proofs.table.put_table.Reads as put-table-reads
 
--- src/table.rt:53:73
 slice-aggregate-list-atoms : tie.Need-slice-aggregate-list-atoms
 slice-aggregate-list-atoms c = search needs
 
--- src/table.rt:53:9
 list-atoms-requires : tie.Need-list-atoms-requires
 list-atoms-requires c κs = search needs
 
--- src/table.rt:55:26
 enum-known-listed : tie.Need-enum-known-listed
 enum-known-listed c = search needs
 
--- src/table.rt:56:23
 enum-known-listed-2 : tie.Need-enum-known-listed-2
 enum-known-listed-2 c = search needs
 
--- src/table.rt:59:13
 array-share-prefix-ids : tie.Need-array-share-prefix-ids
 array-share-prefix-ids c = omega (arith, tables-few _ (replicate 64 0) _ (c .before .before .before .before .list-atoms .result) refl (c .before .before .before .before .list-atoms .ensures .0) (c .before .before .before .before .list-atoms .ensures .1) _ (c .before .listed2 .given .1), c .before .before .before .before .list-atoms .kept .1 .1 .1 .1 .0)
 
--- src/table.rt:59:13
 slice-aggregate-put-table : tie.Need-slice-aggregate-put-table
 slice-aggregate-put-table c = sym (length-take-le _ _ (omega (arith, tables-few _ (replicate 64 0) _ (c .before .before .before .before .before .list-atoms .result) refl (c .before .before .before .before .before .list-atoms .ensures .0) (c .before .before .before .before .before .list-atoms .ensures .1) _ (c .before .before .listed2 .given .1), c .before .before .before .before .before .list-atoms .kept .1 .1 .1 .1 .0)))
 
--- src/table.rt:56:33
 put-table-requires : tie.Need-put-table-requires
 put-table-requires c κs = prepared _ _ _ _ _ (tables-listed _ (replicate 64 0) _ (c .before .before .before .before .before .before .list-atoms .result) refl (c .before .before .before .before .before .before .list-atoms .ensures .0) (c .before .before .before .before .before .before .list-atoms .ensures .1) _ (c .before .before .before .listed2 .given .1))
 
--- src/table.rt:42:1
 returns : tie.Need-returns
 returns c = table-refused _ _ _ _ (tables-rejected _ (replicate 64 0) _ (c .before .before .before .before .list-atoms .result) refl (c .before .before .before .before .list-atoms .ensures .0) (c .before .before .before .before .list-atoms .ensures .1) _ (c .before .listed .given .1))
 
--- src/table.rt:42:1
 same-length : tie.Need-same-length
 same-length c = search needs
 
--- src/table.rt:42:1
 returns-2 : tie.Need-returns-2
 returns-2 c = c .before .before .put-table .ensures _ (tables-listed _ (replicate 64 0) _ (c .before .before .before .before .before .before .before .before .before .list-atoms .result) refl (c .before .before .before .before .before .before .before .before .before .list-atoms .ensures .0) (c .before .before .before .before .before .before .before .before .before .list-atoms .ensures .1) _ (c .before .before .before .before .before .before .listed2 .given .1))
 

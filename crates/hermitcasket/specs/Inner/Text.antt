@@ -1,0 +1,68 @@
+-- What the readers of the tables answer and leave in the lent arrays (src/text.rt).
+use Prim.Native.Nat.{ℕ, _+_, _*_, _≤_}
+use mathlib.Core.Path.{_≡_}
+use mathlib.Core.List.{List}
+use lib.ListN.{length, take, drop}
+use Rattle.subsumption.specs.declared.refusal.Refusal.{Refusal}
+use Rattle.subsumption.specs.declared.refusal.Refusal.the-variants.{BadText}
+use Rattle.hermitcasket.specs.declared.text.Lines.{Lines}
+use Rattle.hermitcasket.specs.declared.text.Lines.the-variants.{Upto, Off}
+use Rattle.hermitcasket.specs.declared.text.Section.{Section}
+use Rattle.hermitcasket.specs.declared.text.Section.the-variants.{Through, Faulty}
+use Rattle.hermitcasket.specs.declared.text.Read.{Read}
+use Rattle.hermitcasket.specs.declared.text.Read.the-variants.{Problem, Rejected}
+use Rattle.subsumption.specs.Tables.{Tables, tables}
+use Rattle.hermitcasket.specs.Lines.{questionsKey}
+use Rattle.hermitcasket.specs.Text.{Line, pairAt, Part, part, faulty, Judged, accepted, refused, Onward, countAt, sectionAt, judgeEnd}
+
+-- The numbers read stand in front, and so many bytes are used.
+unfoldable pub partOf : Lines → ℕ → List ℕ → ℕ → List ℕ → Part
+partOf (Upto used) at rest size out = part (take size out) (at + used) (drop used rest)
+partOf (Off place) at rest size out = faulty place
+
+abbrev pub PartFits : Lines → ℕ → Type 0
+PartFits (Upto used) size = used ≤ size
+PartFits (Off place) size = Unit
+
+-- A count, or a section's count of lines, and the bytes used: the judgement goes on behind them.
+unfoldable pub countedThen : Section → (ℕ → Onward) → Onward
+countedThen (Through count used) go at rest = go count (at + used) (drop used rest)
+countedThen (Faulty r) go at rest = refused r
+
+unfoldable pub sectionThen : Section → ℕ → List ℕ → (List ℕ → Onward) → Onward
+sectionThen (Through count used) width out go at rest = go (take (count * width) out) (at + used) (drop used rest)
+sectionThen (Faulty r) width out go at rest = refused r
+
+-- The last section: nothing follows it.
+unfoldable pub lastThen : Section → List ℕ → (List ℕ → Tables) → Judged
+lastThen (Through count used) out t = accepted (t (take (count * 2) out))
+lastThen (Faulty r) out t = refused r
+
+abbrev pub SectionFits : Section → ℕ → ℕ → Type 0
+SectionFits (Through count used) limit size = (count ≤ limit) × (used ≤ size)
+SectionFits (Faulty r) limit size = Unit
+
+pub record Counts (key : List ℕ) (limit table at : ℕ) (rest : List ℕ) (r : Section) : Type 0 where
+  pub judged : (go : ℕ → Onward) → countAt key limit table go at rest ≡ countedThen r go at rest
+  pub fits : SectionFits r limit (length rest)
+
+pub record Sectioned (key : List ℕ) (limit table : ℕ) (line : List ℕ → Line) (width at : ℕ) (rest : List ℕ) (r : Section) (out : List ℕ) : Type 0 where
+  pub judged : (go : List ℕ → Onward) → sectionAt key limit table line go at rest ≡ sectionThen r width out go at rest
+  pub fits : SectionFits r limit (length rest)
+
+pub record Last (at : ℕ) (rest : List ℕ) (r : Section) (out : List ℕ) : Type 0 where
+  pub judged : (t : List ℕ → Tables) → sectionAt questionsKey 32 2 pairAt (λ questions. judgeEnd (t questions)) at rest ≡ lastThen r out t
+  pub fits : SectionFits r 32 (length rest)
+
+unfoldable pub faultOf : Section → Refusal
+faultOf (Through count used) = BadText used
+faultOf (Faulty r) = r
+
+-- The tables stand in front of the arrays.
+unfoldable pub judgedBy : Read → List ℕ → List ℕ → List ℕ → Judged
+judgedBy (Problem variables c i q) concepts inclusions questions = accepted (tables (take (c * 3) concepts) (take (i * 2) inclusions) (take (q * 2) questions) variables)
+judgedBy (Rejected r) concepts inclusions questions = refused r
+
+abbrev pub ReadFits : Read → Type 0
+ReadFits (Problem variables c i q) = (variables ≤ 8) × (c ≤ 192) × (i ≤ 96) × (q ≤ 32)
+ReadFits (Rejected r) = Unit

@@ -1,0 +1,12 @@
+-- Definitions of private contracts: no operation's contract reaches them.
+pub mod Tables
+pub mod Atoms
+pub mod Check
+pub mod Listing
+pub mod Columns
+pub mod Names
+pub mod Settling
+pub mod Links
+pub mod Closure
+pub mod Rows
+pub mod Ground
