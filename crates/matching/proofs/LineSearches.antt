@@ -16,10 +16,10 @@ use Rattle.subsumption.proofs.Chosen.{chosen-known}
 use Rattle.subsumption.proofs.RuleTests.{onVariable-elim, contains-elim}
 use Rattle.subsumption.proofs.Nodes.{var-node}
 use Rattle.matching.specs.LineMarks.{seen, Of, ByRule}
-use Rattle.matching.specs.declared.search.Extra.{Extra}
-use Rattle.matching.specs.declared.search.Extra.the-variants.{At, None}
-use Rattle.matching.specs.declared.search.Why.{Why}
-use Rattle.matching.specs.declared.search.Why.the-variants.{By, Unknown}
+use Rattle.matching.specs.declared.writer.explain.Extra.{Extra}
+use Rattle.matching.specs.declared.writer.explain.Extra.the-variants.{At, None}
+use Rattle.matching.specs.declared.writer.explain.Why.{Why}
+use Rattle.matching.specs.declared.writer.explain.Why.the-variants.{By, Unknown}
 use Rattle.matching.specs.LineSearch.{ExtraBound, NoExtra, NoRule, Gives, Quiet, QuietFrom, New, Tried, Explained}
 use Rattle.matching.proofs.Cells.{cell-row, cell-column}
 

@@ -14,8 +14,8 @@ use Rattle.subsumption.specs.Rules.{follows}
 use Rattle.subsumption.proofs.Bools.{both-true, last-cases, or-skip}
 use Rattle.subsumption.proofs.Accepted.{wellFormed}
 use Rattle.subsumption.proofs.RuleCompleteness.{follows-complete}
-use Rattle.matching.specs.declared.search.Next.{Next}
-use Rattle.matching.specs.declared.search.Next.the-variants.{Line, Nothing}
+use Rattle.matching.specs.declared.writer.explain.Next.{Next}
+use Rattle.matching.specs.declared.writer.explain.Next.the-variants.{Line, Nothing}
 use Rattle.matching.specs.Derivation.{leftAt, rightAt, pairAt, provedBy, lineFollows}
 use Rattle.matching.specs.LineMarks.{seen, MarksOf, LineTest}
 use Rattle.matching.specs.LineSearch.{QuietFrom, New, Found}

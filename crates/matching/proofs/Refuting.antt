@@ -16,8 +16,8 @@ use Rattle.subsumption.proofs.Bits.{bit-of-zero}
 use Rattle.subsumption.proofs.Accepted.{wellFormed}
 use Rattle.matching.specs.Solving.{takes}
 use Rattle.matching.specs.Search.{Decided, Hold, Within, Between, Changed, IntervalOf, undecided, SolutionIn, NoSolution, Picked}
-use Rattle.matching.specs.declared.interval.Pick.{Pick}
-use Rattle.matching.specs.declared.interval.Pick.the-variants.{At, Nothing}
+use Rattle.matching.specs.declared.search.interval.Pick.{Pick}
+use Rattle.matching.specs.declared.search.interval.Pick.the-variants.{At, Nothing}
 use Rattle.matching.specs.Pairs.{Joined, Met, Contained}
 use Rattle.matching.specs.Nogoods.{used, lowAt, highAt, Nogoods}
 use Rattle.matching.specs.Widen.{Mixed, Widened}

@@ -18,8 +18,8 @@ use Rattle.subsumption.proofs.Accepted.{wellFormed}
 use Rattle.matching.specs.Solving.{takes, Solves}
 use Rattle.matching.specs.Search.{Decided, Hold, Within, Between, Changed, IntervalOf, undecided, one, counted, openPairs, SolutionIn, NoSolution, Picked}
 use Rattle.matching.specs.Solve.{Refuted}
-use Rattle.matching.specs.declared.interval.Pick.{Pick}
-use Rattle.matching.specs.declared.interval.Pick.the-variants.{At, Nothing}
+use Rattle.matching.specs.declared.search.interval.Pick.{Pick}
+use Rattle.matching.specs.declared.search.interval.Pick.the-variants.{At, Nothing}
 use Rattle.matching.proofs.Fronts.{front-known, front-takes, front-within, accepted-bits, within-accepted}
 use Rattle.matching.proofs.Monotone.{monotone, antitone}
 

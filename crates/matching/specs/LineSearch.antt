@@ -6,12 +6,12 @@ use mathlib.Core.Bool.{Bool, true, false}
 use Rattle.subsumption.specs.Tables.{Tables, countOf, pairsOf}
 use Rattle.subsumption.specs.Closure.{Ready}
 use Rattle.subsumption.specs.Rules.{byRule}
-use Rattle.matching.specs.declared.search.Extra.{Extra}
-use Rattle.matching.specs.declared.search.Extra.the-variants.{At, None}
-use Rattle.matching.specs.declared.search.Why.{Why}
-use Rattle.matching.specs.declared.search.Why.the-variants.{By, Unknown}
-use Rattle.matching.specs.declared.search.Next.{Next}
-use Rattle.matching.specs.declared.search.Next.the-variants.{Line, Nothing}
+use Rattle.matching.specs.declared.writer.explain.Extra.{Extra}
+use Rattle.matching.specs.declared.writer.explain.Extra.the-variants.{At, None}
+use Rattle.matching.specs.declared.writer.explain.Why.{Why}
+use Rattle.matching.specs.declared.writer.explain.Why.the-variants.{By, Unknown}
+use Rattle.matching.specs.declared.writer.explain.Next.{Next}
+use Rattle.matching.specs.declared.writer.explain.Next.the-variants.{Line, Nothing}
 use Rattle.matching.specs.LineMarks.{seen, Of, ByRule}
 
 -- what the search asks: the checks have passed, and the atoms are at hand

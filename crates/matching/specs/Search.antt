@@ -13,8 +13,8 @@ use Rattle.subsumption.specs.Marks.{markAt}
 use Rattle.subsumption.specs.Atoms.{atoms}
 use Rattle.subsumption.specs.Check.{tableFault, assignmentFault}
 use Rattle.subsumption.specs.Ground.{Grounded}
-use Rattle.matching.specs.declared.interval.Pick.{Pick}
-use Rattle.matching.specs.declared.interval.Pick.the-variants.{At, Nothing}
+use Rattle.matching.specs.declared.search.interval.Pick.{Pick}
+use Rattle.matching.specs.declared.search.interval.Pick.the-variants.{At, Nothing}
 use Rattle.matching.specs.Solving.{takes, Solves, Earlier, First}
 
 -- A truth value tells whether a statement holds.

@@ -1,6 +1,10 @@
 // Checking a derivation. The pairs of the lines passed are marked, so that a premise is one look.
-use crate::rules::by_rule;
-use crate::rules::number_at;
+pub mod marks;
+pub mod rules;
+
+use crate::derivation::marks::mark_pair;
+use crate::derivation::marks::number_at;
+use crate::derivation::rules::by_rule;
 use subsumption::Listed;
 use subsumption::helpers::check_assignment;
 use subsumption::helpers::list_asked;
@@ -18,14 +22,6 @@ ghost use Rattle.subsumption.specs.Closure.{Ready};
 ghost use Rattle.subsumption.specs.Ground.{Prepared, ForAccepted};
 ghost use Rattle.matching.specs.Derivation.{linesOf, noLines, lastFault, checkingFault};
 ghost use Rattle.matching.specs.LineMarks.{Square, MarksOf, LineTest, RulesTest};
-
-pub fn mark_pair(marks: &mut [bool], count: usize, i: usize, j: usize)
-    requires { ⌜ Square count (now marks) ⌝ }
-    requires { ⌜ (i < count) × (j < count) ⌝ }
-    ensures { λ _. ⌜ now (marks .exit) ≡ set (now (marks .entry)) (i * count + j) true ⌝ }
-{
-    marks[i * count + j] = true;
-}
 
 fn line_follows(
     concepts: &[u16],

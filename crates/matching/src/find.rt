@@ -1,8 +1,8 @@
 // Finding the first assignment that makes every question hold.
-use crate::interval::Interval;
-use crate::interval::ones;
-use crate::order::first_solution;
-use crate::solve::some_solution;
+use crate::search::interval::Interval;
+use crate::search::interval::ones;
+use crate::search::order::first_solution;
+use crate::search::solve::some_solution;
 use subsumption::Listed;
 use subsumption::helpers::close_ground;
 use subsumption::list_atoms;

@@ -1,9 +1,12 @@
 // Writing a derivation: lines are noted until the asked pair is found; of them, those that it needs are written.
-use crate::derivation::mark_pair;
-use crate::needed::need_lines;
-use crate::rules::has_mark;
-use crate::search::Next;
-use crate::search::next_line;
+pub mod explain;
+pub mod needed;
+
+use crate::derivation::marks::has_mark;
+use crate::derivation::marks::mark_pair;
+use crate::writer::explain::Next;
+use crate::writer::explain::next_line;
+use crate::writer::needed::need_lines;
 use subsumption::Decision;
 use subsumption::Listed;
 use subsumption::helpers::check_assignment;

@@ -6,7 +6,7 @@ use Rattle.matching.proofs.find.all_atoms.Statement.{statement}
 use Rattle.matching.proofs.find.all_atoms.Tie as tie
 use Rattle.matching.proofs.find.all_atoms.Reads as reads
 use Rattle.matching.proofs.find.all_atoms.Lts as lts
-use Rattle.matching.proofs.interval.ones.Reads as ones-reads
+use Rattle.matching.proofs.search.interval.ones.Reads as ones-reads
 
 abbrev Inv-loop : tie.InvT-loop
 Inv-loop variables count full choice₀ k₀ choice k = FullTo variables full choice k

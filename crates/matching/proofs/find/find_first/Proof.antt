@@ -11,8 +11,8 @@ use Rattle.matching.proofs.find.find_first.Tie as tie
 use Rattle.matching.proofs.find.find_first.Reads as reads
 use Rattle.matching.proofs.find.find_first.Lts as lts
 use Rattle.matching.proofs.find.all_atoms.Reads as all-atoms-reads
-use Rattle.matching.proofs.order.first_solution.Reads as first-solution-reads
-use Rattle.matching.proofs.solve.some_solution.Reads as some-solution-reads
+use Rattle.matching.proofs.search.order.first_solution.Reads as first-solution-reads
+use Rattle.matching.proofs.search.solve.some_solution.Reads as some-solution-reads
 
 -- src/find.rt:58:56
 slice-aggregate-close-ground : tie.Need-slice-aggregate-close-ground
