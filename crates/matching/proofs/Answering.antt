@@ -25,9 +25,12 @@ use Rattle.subsumption.proofs.Bits.{bit-and, bit-pow, bit-of-zero}
 use Rattle.subsumption.proofs.Refusals.{stops, goes-on, done-le, refused-lt}
 use Rattle.subsumption.proofs.Accepted.{wellFormed}
 use Rattle.matching.specs.Solving.{takes, Solves, First}
-use Rattle.matching.specs.Search.{Within, Between, IntervalOf, SolutionIn, NoSolution, FirstIn, Full, Found, FoundBy, Copied}
+use Rattle.matching.specs.Inner.Search.{Within, Between, SolutionIn, NoSolution}
+use Rattle.matching.specs.Inner.Search.Interval.{IntervalOf}
+use Rattle.matching.specs.Inner.Search.Order.{FirstIn}
+use Rattle.matching.specs.Inner.Find.{Full, Found, FoundBy, Copied}
 use Rattle.matching.specs.declared.find.Match.the-variants.{Filled}
-use Rattle.matching.specs.Finding.{findingFault, matchReply, FindsAfter, Finds}
+use Rattle.matching.specs.Find.{findingFault, matchReply, FindsAfter, Finds}
 use Rattle.matching.proofs.Choices.{one-bit}
 use Rattle.matching.proofs.Conjoined.{some-solves}
 use Rattle.matching.proofs.Locality.{none-by-substitution}

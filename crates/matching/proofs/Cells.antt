@@ -7,7 +7,7 @@ use native.Mathlib.Omega.{arith}
 use native.Mathlib.Nat.{mul-le-mul, mul-le-mul-right, suc-mul, mul-add-div-right, mul-add-mod-self-right, div-eq-of-lt, mod-eq-of-lt}
 use lib.ListN.{length, set, length-set}
 use lib.Seq.{getD-set-same, getD-set-other}
-use Rattle.matching.specs.LineMarks.{Square, seen}
+use Rattle.matching.specs.Inner.Derivation.{Square, seen}
 
 pub cell-below : (count i j : ℕ) → i < count → j < count → i * count + j < count * count
 cell-below count i j h l = omega (arith, mul-le-mul-right {m = suc i} {n = count} count (omega arith), suc-mul i count)

@@ -17,7 +17,8 @@ use Rattle.subsumption.specs.Atoms.{bit}
 use Rattle.subsumption.proofs.Bools.{eq-or-ne, le-or-lt, same-bool, both-none, both-skip}
 use Rattle.subsumption.proofs.Bits.{bit-or-left, bit-or-right, bit-or-cases, bit-pow, bit-pow-other, bit-half, bit-of-zero}
 use Rattle.matching.specs.Solving.{takes}
-use Rattle.matching.specs.Search.{Changed, undecided}
+use Rattle.matching.specs.Inner.Search.Pairs.{Changed}
+use Rattle.matching.specs.Inner.Search.Interval.{undecided}
 
 -- ---- one bit of a number
 pub one-bit : (q : ℕ) → q < 64 → 1 * 2 ^ q % 18446744073709551616 ≡ 2 ^ q

@@ -27,7 +27,7 @@ use Rattle.matching.specs.declared.chosen.Chosen.the-variants.{Ids, Reje
 use Rattle.matching.specs.declared.chosen.Told.{Told}
 use Rattle.matching.specs.Chosen.{variableFault, choosingFault, chosenReply, chosenIn, handedBack}
 use Rattle.matching.proofs.Choosing.{pick-length}
-use Rattle.matching.specs.Listing.{knownFault, earlierOf, toldOf}
+use Rattle.matching.specs.Inner.Chosen.{knownFault, earlierOf, toldOf}
 
 -- ---- only check 1 refuses with number 1
 abbrev Refuses : (Refusal → Type 0) → Outcome → Type 0

@@ -10,7 +10,7 @@ use Rattle.subsumption.proofs.WellFormed.{WellFormed}
 use Rattle.subsumption.proofs.Inward.{Ground}
 use Rattle.subsumption.proofs.Chosen.{chosen-ground}
 use Rattle.matching.specs.Solving.{Solves, Substitution, substituted, SolvesBy}
-use Rattle.matching.specs.Finding.{SomeSolves}
+use Rattle.matching.specs.Find.{SomeSolves}
 use Rattle.matching.proofs.Readings.{member-reads}
 
 unfoldable pub conjoined : List ℕ → List ℕ → Concept

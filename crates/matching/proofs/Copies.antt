@@ -18,9 +18,10 @@ use Rattle.subsumption.specs.Rules.{follows}
 use Rattle.subsumption.proofs.Bools.{both-true, both-intro, both-none, both-skip, or-first, or-skip, last-cases, anyBelow-intro, anyBelow-elim}
 use Rattle.subsumption.proofs.Refusals.{both-done, done-if}
 use Rattle.matching.specs.Derivation.{linesOf, ruleAt, leftAt, rightAt, extraAt, pairAt, provedBy, lineFollows, ruleFault, derivationFault}
-use Rattle.matching.specs.LineMarks.{seen, Of}
-use Rattle.matching.specs.Deriving.{DerivationOf}
-use Rattle.matching.specs.Noting.{LineWritten, NotedTo, Enough, Copy, Copied}
+use Rattle.matching.specs.Inner.Derivation.{seen, Of}
+use Rattle.matching.specs.Writer.{DerivationOf}
+use Rattle.matching.specs.Inner.Writer.{LineWritten, NotedTo, Copy, Copied}
+use Rattle.matching.specs.Inner.Writer.Needed.{Enough}
 use Rattle.matching.proofs.LineChecks.{proved-none, proved-more, shape-whole, last-both}
 use Rattle.matching.proofs.RuleMonotone.{Reads, of-reads, follows-same}
 use Rattle.matching.proofs.LinesWritten.{Agree, proved-agree, line-agree}

@@ -25,7 +25,7 @@ use Rattle.subsumption.proofs.Refusals.{passed-first, passed-second, passed-if,
 use Rattle.subsumption.proofs.Accepted.{right-count}
 use Rattle.subsumption.proofs.Scans.{Scan, scan-none, scan-more, scan-done}
 use Rattle.matching.specs.Solving.{takes}
-use Rattle.matching.specs.Search.{Within, Between}
+use Rattle.matching.specs.Inner.Search.{Within, Between}
 use Rattle.matching.proofs.Choices.{same-bits}
 
 -- ---- bits and bounds

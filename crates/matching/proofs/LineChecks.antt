@@ -26,7 +26,7 @@ use Rattle.subsumption.proofs.Bools.{both-intro, both-none, both-skip, or-first
 use Rattle.subsumption.proofs.Refusals.{stops, goes-on, refused-if, done-if, passed-if}
 use Rattle.subsumption.proofs.Scans.{Scan, scan-none, scan-more, scan-found, scan-done}
 use Rattle.matching.specs.Derivation.{linesOf, ruleAt, leftAt, rightAt, extraAt, pairAt, provedBy, lineFollows, noLines, ruleFault, lastFault, derivationFault, checkingFault}
-use Rattle.matching.specs.LineMarks.{Square, seen, Of, ByRule, MarksOf, LineTest, RulesTest}
+use Rattle.matching.specs.Inner.Derivation.{Square, seen, Of, ByRule, MarksOf, LineTest, RulesTest}
 use Rattle.matching.proofs.Cells.{seen-set-same, seen-set-row, seen-set-column, square-set, cell-below, square-small}
 use Rattle.matching.proofs.RuleMonotone.{of-reads, follows-same}
 

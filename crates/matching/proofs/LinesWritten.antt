@@ -13,7 +13,7 @@ use Rattle.subsumption.specs.Tables.{Tables, or, both, anyBelow}
 use Rattle.subsumption.specs.Rules.{follows}
 use Rattle.subsumption.proofs.Bools.{both-none, both-skip}
 use Rattle.matching.specs.Derivation.{ruleAt, leftAt, rightAt, extraAt, pairAt, provedBy, lineFollows}
-use Rattle.matching.specs.Noting.{inFront, LineWritten}
+use Rattle.matching.specs.Inner.Writer.{inFront, LineWritten}
 use Rattle.matching.proofs.RuleMonotone.{Reads, follows-same}
 
 pub put-front :

@@ -10,9 +10,9 @@ use Rattle.subsumption.specs.Closure.{Ready}
 use Rattle.subsumption.specs.Rules.{byRule, follows}
 use Rattle.subsumption.proofs.Bools.{both-true, both-intro, eq-or-ne}
 use Rattle.matching.specs.Derivation.{ruleAt, leftAt, rightAt, extraAt, provedBy, lineFollows}
-use Rattle.matching.specs.LineMarks.{seen, Of}
-use Rattle.matching.specs.Noting.{Noted, Enough}
-use Rattle.matching.specs.Needing.{Needs}
+use Rattle.matching.specs.Inner.Derivation.{seen, Of}
+use Rattle.matching.specs.Inner.Writer.{Noted}
+use Rattle.matching.specs.Inner.Writer.Needed.{Enough, Needs}
 use Rattle.matching.proofs.RuleMonotone.{of-reads, follows-mono}
 use Rattle.matching.proofs.Copies.{proved-later}
 

@@ -8,8 +8,8 @@ use lib.ListN.{length, getD, set, take, drop, length-set, length-drop}
 use lib.Seq.{getD-set-same, getD-set-other, getD-take, getD-drop, length-take-le, ext-getD}
 use Rattle.subsumption.specs.Tables.{Tables}
 use Rattle.subsumption.proofs.Bools.{last-cases, le-or-lt}
-use Rattle.matching.specs.Search.{NoSolution}
-use Rattle.matching.specs.Nogoods.{words, used, lowAt, highAt, Room, Nogoods, Put, Kept, Added}
+use Rattle.matching.specs.Inner.Search.{NoSolution}
+use Rattle.matching.specs.Inner.Search.Nogoods.{words, used, lowAt, highAt, Room, Nogoods, Put, Kept, Added}
 
 pub words-at : (store : List ℕ) (at k : ℕ) → k < 8 → getD (words store at) k 0 ≡ getD store (at + k) 0
 words-at store at k l = getD-take 8 (drop at store) k 0 l ∙ getD-drop at store k 0

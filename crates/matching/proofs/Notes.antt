@@ -17,9 +17,9 @@ use Rattle.subsumption.proofs.RuleCompleteness.{follows-complete}
 use Rattle.matching.specs.declared.writer.explain.Next.{Next}
 use Rattle.matching.specs.declared.writer.explain.Next.the-variants.{Line, Nothing}
 use Rattle.matching.specs.Derivation.{leftAt, rightAt, pairAt, provedBy, lineFollows}
-use Rattle.matching.specs.LineMarks.{seen, MarksOf, LineTest}
-use Rattle.matching.specs.LineSearch.{QuietFrom, New, Found}
-use Rattle.matching.specs.Noting.{LineWritten, unset, Blank, Asked, Noted, NotedTo}
+use Rattle.matching.specs.Inner.Derivation.{seen, MarksOf, LineTest}
+use Rattle.matching.specs.Inner.Writer.Explain.{QuietFrom, New, Found}
+use Rattle.matching.specs.Inner.Writer.{LineWritten, unset, Blank, Asked, Noted, NotedTo}
 use Rattle.matching.proofs.Cells.{cell-room, cell-below, square-small}
 use Rattle.matching.proofs.LineChecks.{marks-none, marks-more, line-rule, proved-more, empty-square, empty-seen}
 use Rattle.matching.proofs.RuleMonotone.{of-reads}

@@ -13,9 +13,9 @@ use Rattle.subsumption.specs.Atoms.{bit}
 use Rattle.subsumption.proofs.Bools.{last-cases, le-or-lt, both-true, both-intro}
 use Rattle.subsumption.proofs.Bits.{bit-or, bit-and, bit-or-left, bit-or-right, bit-or-cases, bit-of-zero}
 use Rattle.matching.specs.Solving.{takes}
-use Rattle.matching.specs.Search.{Within}
-use Rattle.matching.specs.Pairs.{Joined, Met, Contained}
-use Rattle.matching.specs.Widen.{Mixed}
+use Rattle.matching.specs.Inner.Search.{Within}
+use Rattle.matching.specs.Inner.Search.Pairs.{Joined, Met, Contained}
+use Rattle.matching.specs.Inner.Search.Widen.{Mixed}
 
 -- past the eight numbers nothing is taken
 pub past-none : (a : List ℕ) (k q : ℕ) → length a ≡ 8 → 8 ≤ k → getD a k 0 ≡ 0

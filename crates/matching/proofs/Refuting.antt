@@ -15,13 +15,14 @@ use Rattle.subsumption.proofs.Bools.{or-cases, or-first, or-second, both-true, 
 use Rattle.subsumption.proofs.Bits.{bit-of-zero}
 use Rattle.subsumption.proofs.Accepted.{wellFormed}
 use Rattle.matching.specs.Solving.{takes}
-use Rattle.matching.specs.Search.{Decided, Hold, Within, Between, Changed, IntervalOf, undecided, SolutionIn, NoSolution, Picked}
+use Rattle.matching.specs.Inner.Search.{Decided, Hold, Within, Between, SolutionIn, NoSolution}
+use Rattle.matching.specs.Inner.Search.Pairs.{Changed, Joined, Met, Contained}
+use Rattle.matching.specs.Inner.Search.Interval.{IntervalOf, undecided, Picked}
 use Rattle.matching.specs.declared.search.interval.Pick.{Pick}
 use Rattle.matching.specs.declared.search.interval.Pick.the-variants.{At, Nothing}
-use Rattle.matching.specs.Pairs.{Joined, Met, Contained}
-use Rattle.matching.specs.Nogoods.{used, lowAt, highAt, Nogoods}
-use Rattle.matching.specs.Widen.{Mixed, Widened}
-use Rattle.matching.specs.Solve.{Refuted, Answers, CanSplit, Stepped, Known, Recalled, Merged}
+use Rattle.matching.specs.Inner.Search.Nogoods.{used, lowAt, highAt, Nogoods}
+use Rattle.matching.specs.Inner.Search.Widen.{Mixed, Widened}
+use Rattle.matching.specs.Inner.Search.Solve.{Refuted, Answers, CanSplit, Stepped, Known, Recalled, Merged}
 use Rattle.matching.proofs.Fronts.{front-known, front-takes, front-within, within-accepted}
 use Rattle.matching.proofs.PairLaws.{mixed-same, mixed-again, mixed-within}
 use Rattle.matching.proofs.NogoodLaws.{words-long}

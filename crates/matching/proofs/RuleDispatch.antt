@@ -14,7 +14,7 @@ use Rattle.subsumption.specs.Atoms.{atoms, chosen, pick}
 use Rattle.subsumption.specs.Closure.{Rising, Ready}
 use Rattle.subsumption.specs.Marks.{Known}
 use Rattle.subsumption.specs.Rules.{every, contains, sameName, isTop, onPicked, onBoth, onInner, onVariable, byRule}
-use Rattle.matching.specs.LineMarks.{seen, nodeOf, KnownAtoms, Numbered, ByRule}
+use Rattle.matching.specs.Inner.Derivation.{seen, nodeOf, KnownAtoms, Numbered, ByRule}
 
 row-node : (concepts : List ℕ) (i : ℕ) (row : Row) → row ≡ rowOf concepts i → nodeOf row ≡ node concepts i
 unfolding node

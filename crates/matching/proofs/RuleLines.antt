@@ -18,7 +18,7 @@ use Rattle.subsumption.specs.Rules.{every, contains, sameName, isTop, onPicked,
 use Rattle.subsumption.proofs.Bools.{both-none, both-skip, last-cases}
 use Rattle.subsumption.proofs.Chosen.{pick-member, pick-intro}
 use Rattle.subsumption.proofs.RuleTests.{every-elim, every-intro, contains-elim, contains-intro}
-use Rattle.matching.specs.LineMarks.{KnownAtoms, Numbered}
+use Rattle.matching.specs.Inner.Derivation.{KnownAtoms, Numbered}
 
 -- ---- rule 1
 module _ (left right lk la lb rk ra rb : ℕ) where

@@ -12,7 +12,7 @@ use Rattle.subsumption.specs.Rules.{every, contains, onPicked, onBoth, onInner,
 use Rattle.subsumption.proofs.Bools.{both-true, both-intro, same-bool}
 use Rattle.subsumption.proofs.Chosen.{chosen-known}
 use Rattle.subsumption.proofs.RuleTests.{every-elim, every-intro, contains-elim, onBoth-elim, onInner-elim, onVariable-elim}
-use Rattle.matching.specs.LineMarks.{Of}
+use Rattle.matching.specs.Inner.Derivation.{Of}
 
 picked-mono :
     (extra : ℕ) (p q : ℕ → Bool) (m : Node) → ((i j : ℕ) → m ≡ andAt i j → (p i ≡ true → q i ≡ true) × (p j ≡ true → q j ≡ true))

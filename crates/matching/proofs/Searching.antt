@@ -16,8 +16,10 @@ use Rattle.subsumption.proofs.WellFormed.{WellFormed}
 use Rattle.subsumption.proofs.Bools.{both-true, both-intro, eq-or-ne, last-cases}
 use Rattle.subsumption.proofs.Accepted.{wellFormed}
 use Rattle.matching.specs.Solving.{takes, Solves}
-use Rattle.matching.specs.Search.{Decided, Hold, Within, Between, Changed, IntervalOf, undecided, one, counted, openPairs, SolutionIn, NoSolution, Picked}
-use Rattle.matching.specs.Solve.{Refuted}
+use Rattle.matching.specs.Inner.Search.{Decided, Hold, Within, Between, SolutionIn, NoSolution}
+use Rattle.matching.specs.Inner.Search.Pairs.{Changed}
+use Rattle.matching.specs.Inner.Search.Interval.{IntervalOf, undecided, one, counted, openPairs, Picked}
+use Rattle.matching.specs.Inner.Search.Solve.{Refuted}
 use Rattle.matching.specs.declared.search.interval.Pick.{Pick}
 use Rattle.matching.specs.declared.search.interval.Pick.the-variants.{At, Nothing}
 use Rattle.matching.proofs.Fronts.{front-known, front-takes, front-within, accepted-bits, within-accepted}

@@ -19,7 +19,8 @@ use Rattle.subsumption.specs.Marks.{Layered, Known, VariableMarks, markAt}
 use Rattle.subsumption.proofs.WellFormed.{WellFormed}
 use Rattle.subsumption.proofs.Bools.{last-cases}
 use Rattle.subsumption.proofs.Accepted.{wellFormed, table-concepts, concepts-layered}
-use Rattle.matching.specs.Search.{Decided, Seen, Hold}
+use Rattle.matching.specs.Inner.Search.{Decided, Hold}
+use Rattle.matching.specs.Inner.Search.Questions.{Seen}
 
 unequal : (a b : Bool) → not (Bool·beq a b) ≡ true → a ≡ b → ⊥
 unequal true true f e = false≢true f

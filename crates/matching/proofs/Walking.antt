@@ -15,7 +15,10 @@ use Rattle.subsumption.proofs.WellFormed.{WellFormed}
 use Rattle.subsumption.proofs.Bools.{same-bool, last-cases}
 use Rattle.subsumption.proofs.Accepted.{wellFormed}
 use Rattle.matching.specs.Solving.{takes, Solves, Earlier}
-use Rattle.matching.specs.Search.{Within, Between, Changed, IntervalOf, undecided, SolutionIn, NoSolution, FirstIn}
+use Rattle.matching.specs.Inner.Search.{Within, Between, SolutionIn, NoSolution}
+use Rattle.matching.specs.Inner.Search.Pairs.{Changed}
+use Rattle.matching.specs.Inner.Search.Interval.{IntervalOf, undecided}
+use Rattle.matching.specs.Inner.Search.Order.{FirstIn}
 use Rattle.matching.proofs.Fronts.{front-known, front-takes, front-within, accepted-bits, within-accepted, same-taken}
 use Rattle.matching.proofs.Searching.{open-high, open-low, open-intro, at-pair, grown, grown-cases, shrunk, shrunk-cases, take-keeps, leave-keeps}
 

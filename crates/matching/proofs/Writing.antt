@@ -23,10 +23,10 @@ use Rattle.subsumption.proofs.Refusals.{stops, goes-on, refused-lt, done-le}
 use Rattle.subsumption.proofs.Accepted.{wellFormed}
 use Rattle.subsumption.proofs.Replies.{not-done}
 use Rattle.subsumption.proofs.Deciding.{prepared-ready, known-fault}
-use Rattle.matching.specs.Deriving.{roomFor, derivingFault, DerivationOf, DerivesAfter, Derives}
-use Rattle.matching.specs.LineMarks.{seen}
-use Rattle.matching.specs.LineSearch.{Grounds}
-use Rattle.matching.specs.Noting.{Asked, NotedTo, Enough, Copied, WrittenFor}
+use Rattle.matching.specs.Writer.{roomFor, derivingFault, DerivationOf, DerivesAfter, Derives}
+use Rattle.matching.specs.Inner.Derivation.{seen}
+use Rattle.matching.specs.Inner.Writer.{Grounds, Asked, NotedTo, Copied, WrittenFor}
+use Rattle.matching.specs.Inner.Writer.Needed.{Enough}
 use Rattle.matching.proofs.Cells.{square-small}
 use Rattle.matching.proofs.LineChecks.{accepted-of}
 use Rattle.matching.proofs.Copies.{derivation-written}

@@ -16,7 +16,7 @@ ghost use Rattle.subsumption.specs.Refusal.{replyWith, replyOf};
 ghost use Rattle.subsumption.specs.Check.{assignmentFaultAt};
 ghost use Rattle.subsumption.specs.Marks.{inFront};
 ghost use Rattle.matching.specs.Chosen.{choosingFault, chosenReply, chosenIn, handedBack};
-ghost use Rattle.matching.specs.Listing.{knownFault, earlierOf, toldOf};
+ghost use Rattle.matching.specs.Inner.Chosen.{knownFault, earlierOf, toldOf};
 
 pub enum Chosen {
     Ids(usize),

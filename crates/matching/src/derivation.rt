@@ -21,7 +21,7 @@ ghost use Rattle.subsumption.specs.Refusal.{replyOf, refuseIf};
 ghost use Rattle.subsumption.specs.Closure.{Ready};
 ghost use Rattle.subsumption.specs.Ground.{Prepared, ForAccepted};
 ghost use Rattle.matching.specs.Derivation.{linesOf, noLines, lastFault, checkingFault};
-ghost use Rattle.matching.specs.LineMarks.{Square, MarksOf, LineTest, RulesTest};
+ghost use Rattle.matching.specs.Inner.Derivation.{Square, MarksOf, LineTest, RulesTest};
 
 fn line_follows(
     concepts: &[u16],

@@ -12,8 +12,8 @@ ghost use Prim.Native.Nat.{_≤_};
 ghost use lib.ListN.{length};
 ghost use Rattle.subsumption.specs.Tables.{tables};
 ghost use Rattle.subsumption.specs.Ground.{Accepted};
-ghost use Rattle.matching.specs.Search.{Full, FoundBy, Copied};
-ghost use Rattle.matching.specs.Finding.{matchReply, Finds};
+ghost use Rattle.matching.specs.Inner.Find.{Full, FoundBy, Copied};
+ghost use Rattle.matching.specs.Find.{matchReply, Finds};
 
 pub enum Match {
     Filled,

@@ -21,10 +21,9 @@ ghost use lib.ListN.{length};
 ghost use Rattle.subsumption.specs.Tables.{tables, both, countOf};
 ghost use Rattle.subsumption.specs.Ground.{Prepared, ForAccepted};
 ghost use Rattle.matching.specs.Derivation.{leftAt, rightAt};
-ghost use Rattle.matching.specs.Deriving.{derivedReply, Derives};
-ghost use Rattle.matching.specs.LineMarks.{Square};
-ghost use Rattle.matching.specs.LineSearch.{Grounds};
-ghost use Rattle.matching.specs.Noting.{inFront, LineWritten, Blank, Asked, NotedTo, Copied, WrittenFor};
+ghost use Rattle.matching.specs.Writer.{derivedReply, Derives};
+ghost use Rattle.matching.specs.Inner.Derivation.{Square};
+ghost use Rattle.matching.specs.Inner.Writer.{Grounds, inFront, LineWritten, Blank, Asked, NotedTo, Copied, WrittenFor};
 
 pub enum Derived {
     Lines(usize),

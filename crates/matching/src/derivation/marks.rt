@@ -3,7 +3,7 @@ ghost use mathlib.Core.Path.{_≡_};
 ghost use mathlib.Core.Bool.{true};
 ghost use Prim.Native.Nat.{_+_, _*_, _<_};
 ghost use lib.ListN.{length, getD, set};
-ghost use Rattle.matching.specs.LineMarks.{Square, seen};
+ghost use Rattle.matching.specs.Inner.Derivation.{Square, seen};
 
 pub fn number_at(numbers: &[u16], at: usize) -> usize
     requires { ⌜ at < length (now numbers) ⌝ }

@@ -13,7 +13,7 @@ ghost use Rattle.subsumption.specs.Atoms.{pick};
 ghost use Rattle.subsumption.specs.Marks.{Known};
 ghost use Rattle.subsumption.specs.Closure.{Rising, Ready};
 ghost use Rattle.subsumption.specs.Rules.{every, contains, sameName, isTop, onPicked, onBoth, onInner, onVariable};
-ghost use Rattle.matching.specs.LineMarks.{Square, seen, nodeOf, KnownAtoms, Numbered, ByRule};
+ghost use Rattle.matching.specs.Inner.Derivation.{Square, seen, nodeOf, KnownAtoms, Numbered, ByRule};
 
 // Rule 1.
 fn by_name(left: usize, right: usize, l: Row, r: Row) -> bool

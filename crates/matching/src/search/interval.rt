@@ -8,7 +8,8 @@ ghost use Prim.Native.Nat.{_-_, _<_, _≤_, _/_, _%_, _^_};
 ghost use lib.ListN.{length};
 ghost use Rattle.subsumption.specs.Atoms.{bit};
 ghost use Rattle.matching.specs.Solving.{takes};
-ghost use Rattle.matching.specs.Search.{Changed, undecided, Picked};
+ghost use Rattle.matching.specs.Inner.Search.Pairs.{Changed};
+ghost use Rattle.matching.specs.Inner.Search.Interval.{undecided, Picked};
 
 pub struct Interval {
     pub low: [u64; 8],

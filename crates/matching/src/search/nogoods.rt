@@ -4,7 +4,7 @@ use crate::search::interval::Interval;
 ghost use mathlib.Core.Path.{_≡_};
 ghost use Prim.Native.Nat.{_+_, _<_, _≤_};
 ghost use lib.ListN.{length};
-ghost use Rattle.matching.specs.Nogoods.{words, used, lowAt, highAt, Room, Put, Added};
+ghost use Rattle.matching.specs.Inner.Search.Nogoods.{words, used, lowAt, highAt, Room, Put, Added};
 
 const ALL: u64 = 18446744073709551615;
 // Past every number of open pairs.

@@ -4,8 +4,10 @@ use crate::search::interval::has_bit;
 use crate::search::solve::some_solution;
 ghost use mathlib.Core.Path.{_≡_};
 ghost use Rattle.subsumption.specs.Tables.{tables};
-ghost use Rattle.matching.specs.Search.{IntervalOf, Prepared, SolutionIn, FirstIn};
-ghost use Rattle.matching.specs.Nogoods.{Nogoods};
+ghost use Rattle.matching.specs.Inner.Search.Interval.{IntervalOf};
+ghost use Rattle.matching.specs.Inner.Search.{Prepared, SolutionIn};
+ghost use Rattle.matching.specs.Inner.Search.Order.{FirstIn};
+ghost use Rattle.matching.specs.Inner.Search.Nogoods.{Nogoods};
 
 // `known` is any solution; the last one found is kept, so that a pair it leaves out costs nothing.
 pub fn first_solution(

@@ -4,8 +4,7 @@ ghost use mathlib.Core.Bool.{true, false};
 ghost use Prim.Native.Nat.{_<_};
 ghost use lib.ListN.{length};
 ghost use Rattle.matching.specs.Solving.{takes};
-ghost use Rattle.matching.specs.Search.{Changed};
-ghost use Rattle.matching.specs.Pairs.{Joined, Met, Contained};
+ghost use Rattle.matching.specs.Inner.Search.Pairs.{Changed, Joined, Met, Contained};
 
 pub fn with_pair(set: [u64; 8], k: usize, q: usize) -> [u64; 8]
     requires { ⌜ length set ≡ 8 ⌝ }

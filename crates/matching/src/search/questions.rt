@@ -12,7 +12,8 @@ ghost use Rattle.subsumption.specs.declared.refusal.Outcome.the-variants.{Done}
 ghost use Rattle.subsumption.specs.Tables.{tables};
 ghost use Rattle.subsumption.specs.Check.{assignmentFault};
 ghost use Rattle.subsumption.specs.Marks.{Known};
-ghost use Rattle.matching.specs.Search.{Decided, Seen, Hold, Prepared};
+ghost use Rattle.matching.specs.Inner.Search.{Decided, Hold, Prepared};
+ghost use Rattle.matching.specs.Inner.Search.Questions.{Seen};
 
 // The questions whose right side holds a variable just where `right` says so are in the columns.
 fn all_below(columns: &[u64], held: &[bool], questions: &[u16], right: bool) -> bool

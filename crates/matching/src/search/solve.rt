@@ -23,9 +23,10 @@ ghost use Prim.Native.Nat.{_<_};
 ghost use lib.ListN.{length};
 ghost use Rattle.subsumption.specs.Tables.{tables};
 ghost use Rattle.matching.specs.Solving.{takes};
-ghost use Rattle.matching.specs.Search.{IntervalOf, Prepared};
-ghost use Rattle.matching.specs.Nogoods.{Room, Nogoods};
-ghost use Rattle.matching.specs.Solve.{Answers, CanSplit, Stepped, Recalled, Merged};
+ghost use Rattle.matching.specs.Inner.Search.Interval.{IntervalOf};
+ghost use Rattle.matching.specs.Inner.Search.{Prepared};
+ghost use Rattle.matching.specs.Inner.Search.Nogoods.{Room, Nogoods};
+ghost use Rattle.matching.specs.Inner.Search.Solve.{Answers, CanSplit, Stepped, Recalled, Merged};
 
 const ALL: u64 = 18446744073709551615;
 // How many nogoods are kept: of those that tests cost all, of those that come by merging only while there is much room.

@@ -7,8 +7,9 @@ ghost use mathlib.Core.Bool.{false};
 ghost use Prim.Native.Nat.{_≤_, _<_};
 ghost use lib.ListN.{length, take};
 ghost use Rattle.subsumption.specs.Tables.{tables};
-ghost use Rattle.matching.specs.Search.{Decided, Hold, IntervalOf, Prepared};
-ghost use Rattle.matching.specs.Widen.{Mixed, Widened};
+ghost use Rattle.matching.specs.Inner.Search.{Decided, Hold, Prepared};
+ghost use Rattle.matching.specs.Inner.Search.Interval.{IntervalOf};
+ghost use Rattle.matching.specs.Inner.Search.Widen.{Mixed, Widened};
 
 const ALL: u64 = 18446744073709551615;
 

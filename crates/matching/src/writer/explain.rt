@@ -4,8 +4,9 @@ use crate::derivation::rules::by_rule;
 use subsumption::helpers::row_at;
 ghost use Prim.Native.Nat.{_<_, _≤_};
 ghost use Rattle.subsumption.specs.Tables.{countOf, pairsOf};
-ghost use Rattle.matching.specs.LineMarks.{Square};
-ghost use Rattle.matching.specs.LineSearch.{Grounds, ExtraBound, Tried, Explained, Found};
+ghost use Rattle.matching.specs.Inner.Derivation.{Square};
+ghost use Rattle.matching.specs.Inner.Writer.{Grounds};
+ghost use Rattle.matching.specs.Inner.Writer.Explain.{ExtraBound, Tried, Explained, Found};
 
 pub enum Extra {
     At(usize),

@@ -13,10 +13,9 @@ ghost use Rattle.subsumption.specs.Tables.{countOf, pairsOf, leftOf, rightOf};
 ghost use Rattle.subsumption.specs.Marks.{Known};
 ghost use Rattle.subsumption.specs.Closure.{Rising};
 ghost use Rattle.matching.specs.Derivation.{leftAt, rightAt};
-ghost use Rattle.matching.specs.LineMarks.{Square, seen, nodeOf, KnownAtoms, Numbered};
-ghost use Rattle.matching.specs.LineSearch.{Grounds};
-ghost use Rattle.matching.specs.Noting.{Noted, Enough};
-ghost use Rattle.matching.specs.Needing.{Grown, TwoMarked, AllMarked, innerAt, MarkedIf, AllMarkedIf, Needs};
+ghost use Rattle.matching.specs.Inner.Derivation.{Square, seen, nodeOf, KnownAtoms, Numbered};
+ghost use Rattle.matching.specs.Inner.Writer.{Grounds, Noted};
+ghost use Rattle.matching.specs.Inner.Writer.Needed.{Enough, Grown, TwoMarked, AllMarked, innerAt, MarkedIf, AllMarkedIf, Needs};
 
 fn mark_two(needed: &mut [bool], count: usize, a: usize, b: usize, c: usize, d: usize)
     requires { ⌜ Square count (now needed) ⌝ }

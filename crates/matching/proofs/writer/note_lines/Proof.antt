@@ -6,8 +6,8 @@ use mathlib.Core.Path.{_≡_, refl, _∙_, ap}
 use mathlib.Core.Bool.{false}
 use lib.ListN.{length}
 use Rattle.subsumption.specs.Tables.{countOf}
-use Rattle.matching.specs.LineMarks.{seen}
-use Rattle.matching.specs.Noting.{Noted, unset}
+use Rattle.matching.specs.Inner.Derivation.{seen}
+use Rattle.matching.specs.Inner.Writer.{Noted, unset}
 use Rattle.matching.proofs.Cells.{cell-small, square-small}
 use Rattle.matching.proofs.Notes.{started, started-some, noted-none, unset-less, noted-room, noted-more, noted-last, noted-other, found-line, scan-stops}
 use Rattle.matching.proofs.writer.note_lines.Statement.{statement}

@@ -1,5 +1,5 @@
 use native.Mathlib.Omega.{arith}
-use Rattle.matching.specs.LineMarks.{seen}
+use Rattle.matching.specs.Inner.Derivation.{seen}
 use Rattle.matching.proofs.RuleLines.{choice-none, choice-past, choice-unmarked, choice-chosen, variable-numbered}
 use borrow.Author.Needs.{needs}
 use Rattle.matching.proofs.derivation.rules.by_choice.Statement.{statement}

@@ -3,7 +3,7 @@ use mathlib.Core.Path.{_≡_, _∙_, sym}
 use mathlib.Core.Bool.{false}
 use native.Mathlib.Omega.{arith}
 use borrow.Author.Count.{below-more}
-use Rattle.matching.specs.Search.{undecided}
+use Rattle.matching.specs.Inner.Search.Interval.{undecided}
 use Rattle.matching.proofs.search.interval.first_undecided.Statement.{statement}
 use Rattle.matching.proofs.search.interval.first_undecided.Tie as tie
 use Rattle.matching.proofs.search.interval.first_undecided.Reads as reads

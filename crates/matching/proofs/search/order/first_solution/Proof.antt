@@ -1,8 +1,8 @@
 use Rattle.matching.proofs.Walking.{Walk, walk-start, walk-skip, walk-leave, walk-witness, walk-take, walk-done}
 use Rattle.matching.proofs.Refuting.{full-interval, same-high, less-high, answers-found, answers-none, refuted-none}
 use Rattle.matching.proofs.Searching.{open-high, leave-keeps}
-use Rattle.matching.specs.Nogoods.{Nogoods}
-use Rattle.matching.specs.Search.{IntervalOf}
+use Rattle.matching.specs.Inner.Search.Nogoods.{Nogoods}
+use Rattle.matching.specs.Inner.Search.Interval.{IntervalOf}
 use Rattle.subsumption.specs.Tables.{tables}
 use borrow.Author.Tests.{not-true, not-false}
 use native.Mathlib.Omega.{arith}

@@ -1,5 +1,5 @@
 use Rattle.matching.proofs.Refuting.{widened-none, widened-more, next-fits, next-accepted}
-use Rattle.matching.specs.Widen.{Widened}
+use Rattle.matching.specs.Inner.Search.Widen.{Widened}
 use Rattle.subsumption.specs.Tables.{tables}
 use borrow.Author.Tests.{not-true}
 use lib.Seq.{length-take-le}

@@ -1,10 +1,9 @@
--- What the private search for lines promises (no operation's contract cites this).
+-- What the search for a line promises: a pair that follows from marked pairs, with its rule and extra.
 use Prim.Native.Nat.{ℕ, _+_, _*_, _<_, _≤_}
 use mathlib.Core.Path.{_≡_}
 use mathlib.Core.List.{List}
 use mathlib.Core.Bool.{Bool, true, false}
-use Rattle.subsumption.specs.Tables.{Tables, countOf, pairsOf}
-use Rattle.subsumption.specs.Closure.{Ready}
+use Rattle.subsumption.specs.Tables.{Tables, countOf}
 use Rattle.subsumption.specs.Rules.{byRule}
 use Rattle.matching.specs.declared.writer.explain.Extra.{Extra}
 use Rattle.matching.specs.declared.writer.explain.Extra.the-variants.{At, None}
@@ -12,12 +11,7 @@ use Rattle.matching.specs.declared.writer.explain.Why.{Why}
 use Rattle.matching.specs.declared.writer.explain.Why.the-variants.{By, Unknown}
 use Rattle.matching.specs.declared.writer.explain.Next.{Next}
 use Rattle.matching.specs.declared.writer.explain.Next.the-variants.{Line, Nothing}
-use Rattle.matching.specs.LineMarks.{seen, Of, ByRule}
-
--- what the search asks: the checks have passed, and the atoms are at hand
-pub record Grounds (concepts inclusions ids assignment : List ℕ) : Type 0 where
-  pub ready : Ready concepts inclusions ids assignment
-  pub few-pairs : pairsOf inclusions ≤ 192
+use Rattle.matching.specs.Inner.Derivation.{seen, Of, ByRule}
 
 -- the rule takes no extra from the bound on
 pub record ExtraBound (concepts inclusions : List ℕ) (rule left bound : ℕ) : Type 0 where

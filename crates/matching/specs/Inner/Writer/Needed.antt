@@ -1,13 +1,14 @@
--- What the private marking of needed pairs promises (no operation's contract cites this).
-use Prim.Native.Nat.{ℕ, zero, suc, _<_}
+-- What marking the needed pairs promises.
+use Prim.Native.Nat.{ℕ, zero, suc, _<_, _≤_}
 use mathlib.Core.Path.{_≡_}
 use mathlib.Core.List.{List, List·Memᴰ}
 use mathlib.Core.Bool.{Bool, true}
 use mathlib.Core.Logic.{_⊎_}
 use Rattle.subsumption.specs.Tables.{Tables, both, countOf}
 use Rattle.subsumption.specs.Atoms.{pick}
-use Rattle.subsumption.specs.Rules.{byRule}
-use Rattle.matching.specs.LineMarks.{Square, seen, Of}
+use Rattle.subsumption.specs.Rules.{byRule, follows}
+use Rattle.matching.specs.Inner.Derivation.{Square, seen, Of}
+use Rattle.matching.specs.Derivation.{ruleAt, leftAt, rightAt, extraAt, provedBy}
 
 -- no mark is taken back
 pub record Grown (count : ℕ) (before after : List Bool) : Type 0 where
@@ -55,3 +56,9 @@ pub record Needs (concepts inclusions ids assignment : List ℕ) (rule left righ
       (t : Tables) → Of t concepts inclusions ids → (p : ℕ → ℕ → Bool) → byRule t assignment p rule left right extra ≡ true
       → (i j : ℕ) → i < countOf concepts → j < countOf concepts → seen (countOf concepts) after i j ≡ true
       → (seen (countOf concepts) before i j ≡ true) ⊎ (p i j ≡ true)
+
+-- the needed pairs on earlier lines are enough for every needed line
+pub record Enough (concepts inclusions ids assignment : List ℕ) (needed : List Bool) (notes : List ℕ) (from n : ℕ) : Type 0 where
+  pub each :
+      (k : ℕ) → from ≤ k → k < n → seen (countOf concepts) needed (leftAt notes k) (rightAt notes k) ≡ true → (t : Tables) → Of t concepts inclusions ids
+      → follows t assignment (λ i j. both (provedBy notes k i j) (seen (countOf concepts) needed i j)) (ruleAt notes k) (leftAt notes k) (rightAt notes k) (extraAt notes k) ≡ true

@@ -1,13 +1,14 @@
--- What the steps of the search promise (no operation's contract cites this).
+-- What the steps of the search promise.
 use Prim.Native.Nat.{ℕ, _<_}
 use mathlib.Core.Path.{_≡_}
 use mathlib.Core.List.{List}
 use mathlib.Core.Bool.{Bool, true, false}
 use lib.ListN.{length}
 use Rattle.subsumption.specs.Tables.{Tables}
-use Rattle.matching.specs.Search.{Within, Changed, undecided, SolutionIn, NoSolution}
-use Rattle.matching.specs.Pairs.{Joined, Met}
-use Rattle.matching.specs.Nogoods.{used, lowAt, highAt}
+use Rattle.matching.specs.Inner.Search.{Within, SolutionIn, NoSolution}
+use Rattle.matching.specs.Inner.Search.Pairs.{Changed, Joined, Met}
+use Rattle.matching.specs.Inner.Search.Interval.{undecided}
+use Rattle.matching.specs.Inner.Search.Nogoods.{used, lowAt, highAt}
 
 -- An interval around another that holds no solution.
 pub record Refuted (t : Tables) (low high low₁ high₁ : List ℕ) : Type 0 where

@@ -1,4 +1,4 @@
--- What the private functions on marks of pairs promise (no operation's contract cites this).
+-- What checking a derivation, its rules and the marks of pairs promise.
 use Prim.Native.Nat.{ℕ, _+_, _*_, _<_, _≤_}
 use mathlib.Core.Path.{_≡_}
 use mathlib.Core.List.{List}

@@ -1,4 +1,4 @@
--- What carrying a failed test on promises (no operation's contract cites this).
+-- What carrying a failed test on promises.
 use Prim.Native.Nat.{ℕ}
 use mathlib.Core.Path.{_≡_}
 use mathlib.Core.List.{List}
@@ -7,7 +7,7 @@ use mathlib.Core.Logic.{_⊎_}
 use lib.ListN.{length, take}
 use Rattle.subsumption.specs.Tables.{Tables}
 use Rattle.matching.specs.Solving.{takes}
-use Rattle.matching.specs.Search.{Hold}
+use Rattle.matching.specs.Inner.Search.{Hold}
 
 -- Every pair is as in one of the two.
 pub record Mixed (a b mix : List ℕ) : Type 0 where

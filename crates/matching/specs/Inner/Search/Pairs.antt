@@ -1,4 +1,4 @@
--- What the private functions on sets of pairs promise (no operation's contract cites this).
+-- What changing, joining, meeting and comparing sets of pairs promises.
 use Prim.Native.Nat.{ℕ}
 use mathlib.Core.Path.{_≡_}
 use mathlib.Core.List.{List}
@@ -6,7 +6,13 @@ use mathlib.Core.Bool.{Bool, true, false}
 use lib.ListN.{length}
 use Rattle.subsumption.specs.Tables.{or, both}
 use Rattle.matching.specs.Solving.{takes}
-use Rattle.matching.specs.Search.{Within}
+use Rattle.matching.specs.Inner.Search.{Within}
+
+-- One bit is as said, every other as before.
+pub record Changed (before after : List ℕ) (k q : ℕ) (b : Bool) : Type 0 where
+  pub long : length after ≡ 8
+  pub here : takes after k q ≡ b
+  pub elsewhere : (l r : ℕ) → ((l ≡ k) × (r ≡ q) → ⊥) → takes after l r ≡ takes before l r
 
 pub record Joined (a b sum : List ℕ) : Type 0 where
   pub long : length sum ≡ 8

@@ -1,11 +1,11 @@
--- Intervals that hold no solution, kept in one list of numbers: how many, then the low and the high side of each (no operation's contract cites this).
+-- Intervals that hold no solution, kept in one list of numbers: how many, then the low and the high side of each.
 use Prim.Native.Nat.{ℕ, _+_, _*_, _<_, _≤_}
 use mathlib.Core.Path.{_≡_}
 use mathlib.Core.List.{List}
 use mathlib.Core.Logic.{_⊎_}
 use lib.ListN.{length, take, drop, getD}
 use Rattle.subsumption.specs.Tables.{Tables}
-use Rattle.matching.specs.Search.{NoSolution}
+use Rattle.matching.specs.Inner.Search.{NoSolution}
 
 abbrev pub words : List ℕ → ℕ → List ℕ
 words store at = take 8 (drop at store)

@@ -1,17 +1,25 @@
--- What the private functions that note and write lines promise (no operation's contract cites this).
+-- What noting and writing the lines of a derivation promise.
+pub mod Explain
+pub mod Needed
+
 use Prim.Native.Nat.{ℕ, _+_, _-_, _*_, _<_, _≤_}
 use mathlib.Core.Path.{_≡_}
 use mathlib.Core.List.{List, [], _∷_}
 use mathlib.Core.Bool.{Bool, true, false}
 use lib.ListN.{length, getD, drop}
 use Rattle.subsumption.specs.declared.refusal.Outcome.the-variants.{Done}
-use Rattle.subsumption.specs.Tables.{Tables, both, countOf}
+use Rattle.subsumption.specs.Tables.{Tables, both, countOf, pairsOf}
 use Rattle.subsumption.specs.Subsumption.{Subsumed}
 use Rattle.subsumption.specs.Check.{tableFault}
-use Rattle.subsumption.specs.Rules.{follows}
+use Rattle.subsumption.specs.Closure.{Ready}
 use Rattle.matching.specs.Derivation.{ruleAt, leftAt, rightAt, extraAt, pairAt, provedBy, lineFollows}
-use Rattle.matching.specs.Deriving.{DerivationOf}
-use Rattle.matching.specs.LineMarks.{Square, seen, Of, MarksOf}
+use Rattle.matching.specs.Writer.{DerivationOf}
+use Rattle.matching.specs.Inner.Derivation.{Square, seen, Of, MarksOf}
+
+-- what the search asks: the checks have passed, and the atoms are at hand
+pub record Grounds (concepts inclusions ids assignment : List ℕ) : Type 0 where
+  pub ready : Ready concepts inclusions ids assignment
+  pub few-pairs : pairsOf inclusions ≤ 192
 
 -- four numbers in front of what follows them
 abbrev pub inFront : ℕ → ℕ → ℕ → ℕ → List ℕ → List ℕ
@@ -62,12 +70,6 @@ pub record NotedTo (concepts inclusions ids assignment : List ℕ) (left right :
   pub noted : Noted concepts inclusions ids assignment marks notes n
   pub some : 0 < n
   pub last : pairAt notes left right (n - 1) ≡ true
-
--- the needed pairs on earlier lines are enough for every needed line
-pub record Enough (concepts inclusions ids assignment : List ℕ) (needed : List Bool) (notes : List ℕ) (from n : ℕ) : Type 0 where
-  pub each :
-      (k : ℕ) → from ≤ k → k < n → seen (countOf concepts) needed (leftAt notes k) (rightAt notes k) ≡ true → (t : Tables) → Of t concepts inclusions ids
-      → follows t assignment (λ i j. both (provedBy notes k i j) (seen (countOf concepts) needed i j)) (ruleAt notes k) (leftAt notes k) (rightAt notes k) (extraAt notes k) ≡ true
 
 -- line m is the noted line q, and before it stand the needed lines before q
 pub record Copy (count : ℕ) (needed : List Bool) (notes after : List ℕ) (k m : ℕ) : Type 0 where

@@ -1,4 +1,4 @@
--- What the parts of listing a variable's chosen ids promise (private to the crate: no operation's contract cites it).
+-- What the parts of listing a variable's chosen ids promise.
 use Prim.Native.Nat.{ℕ}
 use mathlib.Core.List.{List}
 use mathlib.Core.Bool.{Bool, true, false}
