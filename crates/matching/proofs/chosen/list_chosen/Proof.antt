@@ -1,5 +1,5 @@
 use borrow.Author.Needs.{needs}
-use Rattle.matching.proofs.ChoosingFaults.{handed}
+use Rattle.matching.proofs.ChosenLaws.Faults.{handed}
 use Rattle.matching.proofs.chosen.list_chosen.Statement.{statement}
 use Rattle.matching.proofs.chosen.list_chosen.Tie as tie
 use Rattle.matching.proofs.chosen.list_chosen.Reads as reads

@@ -5,7 +5,7 @@ use Rattle.subsumption.specs.Tables.{tables}
 use lib.ListN.{replicate}
 use Rattle.subsumption.proofs.ListingLaws.{tables-rejected, tables-listed, tables-few, prepared}
 use Rattle.subsumption.proofs.Deciding.{few-atoms}
-use Rattle.matching.proofs.ChoosingFaults.{choosing-rejected, choosing-found}
+use Rattle.matching.proofs.ChosenLaws.Faults.{choosing-rejected, choosing-found}
 use Rattle.matching.proofs.chosen.put_chosen.Statement.{statement}
 use Rattle.matching.proofs.chosen.put_chosen.Tie as tie
 use Rattle.matching.proofs.chosen.put_chosen.Reads as reads

@@ -1,7 +1,7 @@
 use Prim.Native.Nat.{_<_}
 use native.Mathlib.Omega.{arith}
 use Rattle.subsumption.proofs.Refusals.{is-done}
-use Rattle.matching.proofs.ChoosingFaults.{choices-length, choices-low, known-unknown, known-choices, known-short, known-done, chosen-refused, chosen-done}
+use Rattle.matching.proofs.ChosenLaws.Faults.{choices-length, choices-low, known-unknown, known-choices, known-short, known-done, chosen-refused, chosen-done}
 use Rattle.matching.proofs.chosen.put_known.Statement.{statement}
 use Rattle.matching.proofs.chosen.put_known.Tie as tie
 use Rattle.matching.proofs.chosen.put_known.Reads as reads

@@ -4,7 +4,7 @@ use native.Mathlib.Omega.{arith}
 use lib.ListN.{length, length-set}
 use lib.Count.{ones-le, trailing-le}
 use borrow.Author.Needs.{needs}
-use Rattle.matching.proofs.Choosing.{pick-length, pick-few, Writing, writing-none, writing-rest, writing-known, writing-more, writing-done}
+use Rattle.matching.proofs.ChosenLaws.Picked.{pick-length, pick-few, Writing, writing-none, writing-rest, writing-known, writing-more, writing-done}
 use Rattle.matching.proofs.chosen.put_picked.Statement.{statement}
 use Rattle.matching.proofs.chosen.put_picked.Tie as tie
 use Rattle.matching.proofs.chosen.put_picked.Reads as reads

@@ -1,5 +1,5 @@
 use borrow.Author.Needs.{needs}
-use Rattle.matching.proofs.ChoosingFaults.{earlier-kept, earlier-other}
+use Rattle.matching.proofs.ChosenLaws.Faults.{earlier-kept, earlier-other}
 use Rattle.matching.proofs.chosen.refused_with.Statement.{statement}
 use Rattle.matching.proofs.chosen.refused_with.Tie as tie
 use Rattle.matching.proofs.chosen.refused_with.Reads as reads

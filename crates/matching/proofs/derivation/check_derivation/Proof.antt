@@ -1,4 +1,4 @@
-use Rattle.matching.proofs.LineChecks.{pair-stops}
+use Rattle.matching.proofs.DerivationLaws.Lines.{pair-stops}
 use Rattle.subsumption.proofs.Deciding.{pair-left, pair-right}
 use Rattle.subsumption.proofs.Replies.{same-reply, same-refused}
 use Rattle.subsumption.proofs.ListingLaws.{asked-rejected, asked-passed, asked-listed, asked-few, prepared}

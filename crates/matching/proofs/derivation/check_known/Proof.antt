@@ -1,7 +1,7 @@
 use Rattle.subsumption.specs.declared.refusal.Outcome.the-variants.{Done}
 use Rattle.subsumption.proofs.Refusals.{is-done}
 use Rattle.subsumption.proofs.Deciding.{few-atoms, prepared-ready, known-fault}
-use Rattle.matching.proofs.LineChecks.{accepted-of, asked-stops, shape-stops, rules-stops, last-decides}
+use Rattle.matching.proofs.DerivationLaws.Lines.{accepted-of, asked-stops, shape-stops, rules-stops, last-decides}
 use borrow.Author.Needs.{needs}
 use Rattle.matching.proofs.derivation.check_known.Statement.{statement}
 use Rattle.matching.proofs.derivation.check_known.Tie as tie

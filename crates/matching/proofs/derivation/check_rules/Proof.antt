@@ -1,5 +1,5 @@
-use Rattle.matching.proofs.LineChecks.{marks-none, empty-square, empty-seen}
-use Rattle.matching.proofs.Cells.{square-small}
+use Rattle.matching.proofs.DerivationLaws.Lines.{marks-none, empty-square, empty-seen}
+use Rattle.matching.proofs.DerivationLaws.Cells.{square-small}
 use mathlib.Core.Path.{sym}
 use native.Mathlib.Omega.{arith}
 use borrow.Author.Needs.{needs}

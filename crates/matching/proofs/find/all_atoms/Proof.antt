@@ -1,7 +1,7 @@
 use Prim.Native.Nat.{_-_}
 use mathlib.Core.Path.{refl}
 use native.Mathlib.Omega.{arith}
-use Rattle.matching.proofs.Answering.{FullTo, full-none, full-more, full-done}
+use Rattle.matching.proofs.FindLaws.{FullTo, full-none, full-more, full-done}
 use Rattle.matching.proofs.find.all_atoms.Statement.{statement}
 use Rattle.matching.proofs.find.all_atoms.Tie as tie
 use Rattle.matching.proofs.find.all_atoms.Reads as reads

@@ -1,4 +1,4 @@
-use Rattle.matching.proofs.Answering.{tables-refuse}
+use Rattle.matching.proofs.FindLaws.{tables-refuse}
 use Rattle.subsumption.proofs.ListingLaws.{tables-rejected, tables-listed, tables-few}
 use lib.Seq.{length-take-le}
 use lib.ListN.{replicate}

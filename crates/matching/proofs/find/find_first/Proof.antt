@@ -1,6 +1,6 @@
-use Rattle.matching.proofs.Refuting.{answers-found, answers-none, refuted-none}
-use Rattle.matching.proofs.NogoodLaws.{nogoods-none}
-use Rattle.matching.proofs.Answering.{whole, every-atom, all-zeros, full-atoms, first-found, nothing-found}
+use Rattle.matching.proofs.SearchLaws.Solve.{answers-found, answers-none, refuted-none}
+use Rattle.matching.proofs.SearchLaws.Nogoods.{nogoods-none}
+use Rattle.matching.proofs.FindLaws.{whole, every-atom, all-zeros, full-atoms, first-found, nothing-found}
 use Rattle.subsumption.proofs.Deciding.{few-atoms}
 use Rattle.subsumption.proofs.ListingLaws.{prepared}
 use Rattle.subsumption.proofs.Accepted.{wellFormed}

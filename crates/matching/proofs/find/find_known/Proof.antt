@@ -1,4 +1,4 @@
-use Rattle.matching.proofs.Answering.{buffer-refuses, finds-filled, finds-nothing}
+use Rattle.matching.proofs.FindLaws.{buffer-refuses, finds-filled, finds-nothing}
 use Rattle.subsumption.proofs.Accepted.{wellFormed}
 use native.Mathlib.Omega.{arith}
 use mathlib.Core.Path.{refl}

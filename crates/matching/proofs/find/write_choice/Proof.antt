@@ -2,7 +2,7 @@ use Prim.Native.Nat.{_-_, _≤_}
 use mathlib.Core.Path.{refl}
 use native.Mathlib.Omega.{arith}
 use Rattle.matching.specs.Inner.Find.{Copied}
-use Rattle.matching.proofs.Answering.{copied-none, copied-more, copied-all}
+use Rattle.matching.proofs.FindLaws.{copied-none, copied-more, copied-all}
 use Rattle.matching.proofs.find.write_choice.Statement.{statement}
 use Rattle.matching.proofs.find.write_choice.Tie as tie
 use Rattle.matching.proofs.find.write_choice.Reads as reads

@@ -1,4 +1,4 @@
-use Rattle.matching.proofs.Writing.{derive-refused}
+use Rattle.matching.proofs.WriterLaws.Writing.{derive-refused}
 use Rattle.subsumption.proofs.Deciding.{pair-left, pair-right}
 use Rattle.subsumption.proofs.ListingLaws.{asked-rejected, asked-passed, asked-listed, asked-few, prepared}
 use lib.Seq.{length-take-le}

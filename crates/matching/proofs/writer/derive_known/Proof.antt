@@ -1,5 +1,5 @@
-use Rattle.matching.proofs.Writing.{known-grounds, known-asked, known-stops, known-short, known-subsumed, known-lines, known-not, known-never}
-use Rattle.matching.proofs.Cells.{square-small}
+use Rattle.matching.proofs.WriterLaws.Writing.{known-grounds, known-asked, known-stops, known-short, known-subsumed, known-lines, known-not, known-never}
+use Rattle.matching.proofs.DerivationLaws.Cells.{square-small}
 use Rattle.subsumption.proofs.Deciding.{few-atoms, few-concepts}
 use native.Mathlib.Omega.{arith}
 use borrow.Author.Needs.{needs}

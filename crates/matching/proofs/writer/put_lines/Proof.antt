@@ -1,6 +1,6 @@
-use Rattle.matching.proofs.Writing.{notes-long}
-use Rattle.matching.proofs.Notes.{blank-marks}
-use Rattle.matching.proofs.Cells.{square-small}
+use Rattle.matching.proofs.WriterLaws.Writing.{notes-long}
+use Rattle.matching.proofs.WriterLaws.Notes.{blank-marks}
+use Rattle.matching.proofs.DerivationLaws.Cells.{square-small}
 use mathlib.Core.Path.{sym}
 use native.Mathlib.Omega.{arith}
 use borrow.Author.Needs.{needs}

@@ -1,7 +1,7 @@
 use native.Mathlib.Omega.{arith}
 use mathlib.Core.Path.{refl}
 use Rattle.matching.specs.Inner.Derivation.{seen}
-use Rattle.matching.proofs.Cells.{cell-room, cell-small}
+use Rattle.matching.proofs.DerivationLaws.Cells.{cell-room, cell-small}
 use Rattle.matching.proofs.derivation.marks.has_mark.Statement.{statement}
 use Rattle.matching.proofs.derivation.marks.has_mark.Tie as tie
 

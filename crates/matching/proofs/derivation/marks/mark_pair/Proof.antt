@@ -1,5 +1,5 @@
 use native.Mathlib.Omega.{arith}
-use Rattle.matching.proofs.Cells.{cell-room, cell-small}
+use Rattle.matching.proofs.DerivationLaws.Cells.{cell-room, cell-small}
 use borrow.Author.Needs.{needs}
 use Rattle.matching.proofs.derivation.marks.mark_pair.Statement.{statement}
 use Rattle.matching.proofs.derivation.marks.mark_pair.Tie as tie

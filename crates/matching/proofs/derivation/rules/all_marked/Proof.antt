@@ -4,7 +4,7 @@ use mathlib.Core.Path.{_≡_, _∙_, sym}
 use lib.ListN.{length}
 use mathlib.Core.Bool.{true}
 use Rattle.matching.specs.Inner.Derivation.{seen}
-use Rattle.matching.proofs.RuleLines.{AllBelow, all-none, all-skip, all-more, marked-all, marked-not}
+use Rattle.matching.proofs.DerivationLaws.Rules.{AllBelow, all-none, all-skip, all-more, marked-all, marked-not}
 use Rattle.matching.proofs.derivation.rules.all_marked.Statement.{statement}
 use Rattle.matching.proofs.derivation.rules.all_marked.Tie as tie
 

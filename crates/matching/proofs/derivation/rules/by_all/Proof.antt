@@ -1,5 +1,5 @@
 use native.Mathlib.Omega.{arith}
-use Rattle.matching.proofs.RuleLines.{variable-none, variable-test, variable-numbered}
+use Rattle.matching.proofs.DerivationLaws.Rules.{variable-none, variable-test, variable-numbered}
 use borrow.Author.Needs.{needs}
 use Rattle.matching.proofs.derivation.rules.by_all.Statement.{statement}
 use Rattle.matching.proofs.derivation.rules.by_all.Tie as tie

@@ -1,6 +1,6 @@
 use native.Mathlib.Omega.{arith}
-use Rattle.matching.proofs.RuleLines.{and-rising}
-use Rattle.matching.proofs.RuleLines.{both-kind, both-first, both-second}
+use Rattle.matching.proofs.DerivationLaws.Rules.{and-rising}
+use Rattle.matching.proofs.DerivationLaws.Rules.{both-kind, both-first, both-second}
 use Rattle.matching.proofs.derivation.rules.by_both.Statement.{statement}
 use Rattle.matching.proofs.derivation.rules.by_both.Tie as tie
 

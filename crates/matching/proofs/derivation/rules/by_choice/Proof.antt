@@ -1,6 +1,6 @@
 use native.Mathlib.Omega.{arith}
 use Rattle.matching.specs.Inner.Derivation.{seen}
-use Rattle.matching.proofs.RuleLines.{choice-none, choice-past, choice-unmarked, choice-chosen, variable-numbered}
+use Rattle.matching.proofs.DerivationLaws.Rules.{choice-none, choice-past, choice-unmarked, choice-chosen, variable-numbered}
 use borrow.Author.Needs.{needs}
 use Rattle.matching.proofs.derivation.rules.by_choice.Statement.{statement}
 use Rattle.matching.proofs.derivation.rules.by_choice.Tie as tie

@@ -1,6 +1,6 @@
 use Rattle.matching.specs.Inner.Derivation.{seen}
 use native.Mathlib.Omega.{arith}
-use Rattle.matching.proofs.RuleLines.{inclusion-past, inclusion-first, inclusion-second, pair-left, pair-right}
+use Rattle.matching.proofs.DerivationLaws.Rules.{inclusion-past, inclusion-first, inclusion-second, pair-left, pair-right}
 use Rattle.matching.proofs.derivation.rules.by_inclusion.Statement.{statement}
 use Rattle.matching.proofs.derivation.rules.by_inclusion.Tie as tie
 

@@ -1,5 +1,5 @@
 use native.Mathlib.Omega.{arith}
-use Rattle.matching.proofs.RuleLines.{inner-left, inner-right, inner-role, inner-mark, exists-rising}
+use Rattle.matching.proofs.DerivationLaws.Rules.{inner-left, inner-right, inner-role, inner-mark, exists-rising}
 use borrow.Author.Needs.{needs}
 use Rattle.matching.proofs.derivation.rules.by_inner.Statement.{statement}
 use Rattle.matching.proofs.derivation.rules.by_inner.Tie as tie

@@ -1,6 +1,6 @@
 use native.Mathlib.Omega.{arith}
-use Rattle.matching.proofs.RuleLines.{and-rising}
-use Rattle.matching.proofs.RuleLines.{member-none, member-first, member-second, member-past}
+use Rattle.matching.proofs.DerivationLaws.Rules.{and-rising}
+use Rattle.matching.proofs.DerivationLaws.Rules.{member-none, member-first, member-second, member-past}
 use Rattle.matching.proofs.derivation.rules.by_member.Statement.{statement}
 use Rattle.matching.proofs.derivation.rules.by_member.Tie as tie
 

@@ -1,4 +1,4 @@
-use Rattle.matching.proofs.RuleLines.{name-same, name-left, name-right, name-both}
+use Rattle.matching.proofs.DerivationLaws.Rules.{name-same, name-left, name-right, name-both}
 use Rattle.matching.proofs.derivation.rules.by_name.Statement.{statement}
 use Rattle.matching.proofs.derivation.rules.by_name.Tie as tie
 

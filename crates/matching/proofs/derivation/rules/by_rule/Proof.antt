@@ -1,4 +1,4 @@
-use Rattle.matching.proofs.RuleDispatch.{row-rising, row-numbered, atoms-in, inclusions-in, rule-member, rule-inclusion, rule-choice, rule-name, rule-top, rule-both, rule-inner, rule-all, rule-extra, rule-unknown}
+use Rattle.matching.proofs.DerivationLaws.Dispatch.{row-rising, row-numbered, atoms-in, inclusions-in, rule-member, rule-inclusion, rule-choice, rule-name, rule-top, rule-both, rule-inner, rule-all, rule-extra, rule-unknown}
 use borrow.Author.Needs.{needs}
 use Rattle.matching.proofs.derivation.rules.by_rule.Statement.{statement}
 use Rattle.matching.proofs.derivation.rules.by_rule.Tie as tie

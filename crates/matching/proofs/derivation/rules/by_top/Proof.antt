@@ -1,4 +1,4 @@
-use Rattle.matching.proofs.RuleLines.{top-zero, top-other}
+use Rattle.matching.proofs.DerivationLaws.Rules.{top-zero, top-other}
 use Rattle.matching.proofs.derivation.rules.by_top.Statement.{statement}
 use Rattle.matching.proofs.derivation.rules.by_top.Tie as tie
 

@@ -2,7 +2,7 @@ use native.Mathlib.Omega.{arith}
 use Prim.Native.Nat.{_≤_, _-_}
 use mathlib.Core.Path.{_≡_}
 use lib.ListN.{length}
-use Rattle.matching.proofs.RuleLines.{AllBelow, all-none, all-skip, all-more, chosen-found, chosen-none}
+use Rattle.matching.proofs.DerivationLaws.Rules.{AllBelow, all-none, all-skip, all-more, chosen-found, chosen-none}
 use Rattle.matching.proofs.derivation.rules.is_chosen.Statement.{statement}
 use Rattle.matching.proofs.derivation.rules.is_chosen.Tie as tie
 

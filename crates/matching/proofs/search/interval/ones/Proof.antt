@@ -1,5 +1,5 @@
 use native.Mathlib.Omega.{arith}
-use Rattle.matching.proofs.Answering.{ones-all, ones-room, ones-some}
+use Rattle.matching.proofs.FindLaws.{ones-all, ones-room, ones-some}
 use borrow.Author.Needs.{needs}
 use Rattle.matching.proofs.search.interval.ones.Statement.{statement}
 use Rattle.matching.proofs.search.interval.ones.Tie as tie

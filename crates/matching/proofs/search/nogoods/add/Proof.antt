@@ -1,4 +1,4 @@
-use Rattle.matching.proofs.NogoodLaws.{added-none, added-one}
+use Rattle.matching.proofs.SearchLaws.Nogoods.{added-none, added-one}
 use lib.ListN.{length-set}
 use mathlib.Core.Path.{_∙_}
 use native.Mathlib.Omega.{arith}

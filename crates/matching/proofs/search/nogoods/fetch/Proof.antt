@@ -1,7 +1,7 @@
 use Prim.Native.Nat.{_+_, _-_, _*_, _≤_}
 use native.Mathlib.Omega.{arith}
 use mathlib.Core.Path.{refl, sym, _∙_}
-use Rattle.matching.proofs.NogoodLaws.{Fetching, fetching-none, fetching-more, fetching-done}
+use Rattle.matching.proofs.SearchLaws.Nogoods.{Fetching, fetching-none, fetching-more, fetching-done}
 use Rattle.matching.proofs.search.nogoods.fetch.Statement.{statement}
 use Rattle.matching.proofs.search.nogoods.fetch.Tie as tie
 use Rattle.matching.proofs.search.nogoods.fetch.Reads as reads

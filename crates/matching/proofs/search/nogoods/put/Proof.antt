@@ -1,7 +1,7 @@
 use Prim.Native.Nat.{_+_, _-_, _*_, _≤_}
 use native.Mathlib.Omega.{arith}
 use mathlib.Core.Path.{refl, sym, _∙_}
-use Rattle.matching.proofs.NogoodLaws.{Putting, putting-none, putting-more, putting-done}
+use Rattle.matching.proofs.SearchLaws.Nogoods.{Putting, putting-none, putting-more, putting-done}
 use Rattle.matching.proofs.search.nogoods.put.Statement.{statement}
 use Rattle.matching.proofs.search.nogoods.put.Tie as tie
 use Rattle.matching.proofs.search.nogoods.put.Reads as reads

@@ -1,6 +1,6 @@
-use Rattle.matching.proofs.Walking.{Walk, walk-start, walk-skip, walk-leave, walk-witness, walk-take, walk-done}
-use Rattle.matching.proofs.Refuting.{full-interval, same-high, less-high, answers-found, answers-none, refuted-none}
-use Rattle.matching.proofs.Searching.{open-high, leave-keeps}
+use Rattle.matching.proofs.SearchLaws.Order.{Walk, walk-start, walk-skip, walk-leave, walk-witness, walk-take, walk-done}
+use Rattle.matching.proofs.SearchLaws.Solve.{full-interval, same-high, less-high, answers-found, answers-none, refuted-none}
+use Rattle.matching.proofs.SearchLaws.Interval.{open-high, leave-keeps}
 use Rattle.matching.specs.Inner.Search.Nogoods.{Nogoods}
 use Rattle.matching.specs.Inner.Search.Interval.{IntervalOf}
 use Rattle.subsumption.specs.Tables.{tables}

@@ -1,6 +1,6 @@
 use Prim.Native.Nat.{_+_, _-_, _*_, _≤_}
 use native.Mathlib.Omega.{arith}
-use Rattle.matching.proofs.PairLaws.{WithinTo, within-none, within-more, within-all}
+use Rattle.matching.proofs.SearchLaws.Pairs.{WithinTo, within-none, within-more, within-all}
 use Rattle.matching.proofs.search.pairs.is_within.Statement.{statement}
 use Rattle.matching.proofs.search.pairs.is_within.Tie as tie
 use Rattle.matching.proofs.search.pairs.is_within.Reads as reads

@@ -3,7 +3,7 @@ use native.Mathlib.Omega.{arith}
 use lib.ListN.{getD}
 use mathlib.Core.Path.{ap}
 use lib.Bits.{bitOr}
-use Rattle.matching.proofs.PairLaws.{Combined, combined-none, combined-more, joined-all}
+use Rattle.matching.proofs.SearchLaws.Pairs.{Combined, combined-none, combined-more, joined-all}
 use Rattle.matching.proofs.search.pairs.join.Statement.{statement}
 use Rattle.matching.proofs.search.pairs.join.Tie as tie
 use Rattle.matching.proofs.search.pairs.join.Reads as reads

@@ -3,7 +3,7 @@ use native.Mathlib.Omega.{arith}
 use lib.ListN.{getD}
 use mathlib.Core.Path.{ap}
 use lib.Bits.{bitAnd}
-use Rattle.matching.proofs.PairLaws.{Combined, combined-none, combined-more, met-all}
+use Rattle.matching.proofs.SearchLaws.Pairs.{Combined, combined-none, combined-more, met-all}
 use Rattle.matching.proofs.search.pairs.meet.Statement.{statement}
 use Rattle.matching.proofs.search.pairs.meet.Tie as tie
 use Rattle.matching.proofs.search.pairs.meet.Reads as reads

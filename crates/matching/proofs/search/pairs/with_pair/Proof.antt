@@ -1,4 +1,4 @@
-use Rattle.matching.proofs.Choices.{taken}
+use Rattle.matching.proofs.SearchLaws.Choices.{taken}
 use borrow.Author.Needs.{needs}
 use Rattle.matching.proofs.search.pairs.with_pair.Statement.{statement}
 use Rattle.matching.proofs.search.pairs.with_pair.Tie as tie

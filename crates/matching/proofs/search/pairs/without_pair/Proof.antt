@@ -1,4 +1,4 @@
-use Rattle.matching.proofs.Choices.{left-out}
+use Rattle.matching.proofs.SearchLaws.Choices.{left-out}
 use borrow.Author.Needs.{needs}
 use Rattle.matching.proofs.search.pairs.without_pair.Statement.{statement}
 use Rattle.matching.proofs.search.pairs.without_pair.Tie as tie

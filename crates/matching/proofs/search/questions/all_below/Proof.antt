@@ -3,7 +3,7 @@ use Prim.Native.Nat.{_-_}
 use native.Mathlib.Omega.{arith}
 use borrow.Author.Needs.{needs}
 use Rattle.subsumption.specs.Tables.{pairsOf}
-use Rattle.matching.proofs.Tests.{SeenTo, seen-none, seen-skip, seen-more, unseen, seen-all}
+use Rattle.matching.proofs.SearchLaws.Questions.{SeenTo, seen-none, seen-skip, seen-more, unseen, seen-all}
 use Rattle.matching.proofs.search.questions.all_below.Statement.{statement}
 use Rattle.matching.proofs.search.questions.all_below.Tie as tie
 use Rattle.matching.proofs.search.questions.all_below.Reads as reads

@@ -1,4 +1,4 @@
-use Rattle.matching.proofs.Tests.{layered, questions-listed, tested}
+use Rattle.matching.proofs.SearchLaws.Questions.{layered, questions-listed, tested}
 use mathlib.Core.Path.{refl}
 use borrow.Author.Needs.{needs}
 use Rattle.matching.proofs.search.questions.questions_hold.Statement.{statement}

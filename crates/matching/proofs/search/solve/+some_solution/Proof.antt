@@ -1,7 +1,7 @@
 use mathlib.Core.Bool.{not}
-use Rattle.matching.proofs.Refuting.{or-none, answers-none, stepped-done, stepped-split, with-answers, without-answers, merged-refutes, same-high, less-high}
-use Rattle.matching.proofs.NogoodLaws.{nogoods-added}
-use Rattle.matching.proofs.Searching.{take-keeps, take-less, leave-keeps, leave-less, open-high}
+use Rattle.matching.proofs.SearchLaws.Solve.{or-none, answers-none, stepped-done, stepped-split, with-answers, without-answers, merged-refutes, same-high, less-high}
+use Rattle.matching.proofs.SearchLaws.Nogoods.{nogoods-added}
+use Rattle.matching.proofs.SearchLaws.Interval.{take-keeps, take-less, leave-keeps, leave-less, open-high}
 use Rattle.matching.specs.Inner.Search.Interval.{openPairs}
 use borrow.Author.Tests.{not-true, not-false}
 use borrow.Author.Needs.{needs}

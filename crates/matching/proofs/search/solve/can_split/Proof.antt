@@ -1,5 +1,5 @@
 use native.Mathlib.Omega.{arith}
-use Rattle.matching.proofs.Refuting.{split-as}
+use Rattle.matching.proofs.SearchLaws.Solve.{split-as}
 use borrow.Author.Needs.{needs}
 use Rattle.matching.proofs.search.solve.can_split.Statement.{statement}
 use Rattle.matching.proofs.search.solve.can_split.Tie as tie

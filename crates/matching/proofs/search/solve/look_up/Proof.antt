@@ -1,4 +1,4 @@
-use Rattle.matching.proofs.Refuting.{recalled-known}
+use Rattle.matching.proofs.SearchLaws.Solve.{recalled-known}
 use native.Mathlib.Omega.{arith}
 use borrow.Author.Needs.{needs}
 use Rattle.matching.proofs.search.solve.look_up.Statement.{statement}

@@ -1,5 +1,5 @@
 use native.Mathlib.Omega.{arith}
-use Rattle.matching.proofs.Refuting.{known-refuted, can-split}
+use Rattle.matching.proofs.SearchLaws.Solve.{known-refuted, can-split}
 use borrow.Author.Needs.{needs}
 use Rattle.matching.proofs.search.solve.next_step.Statement.{statement}
 use Rattle.matching.proofs.search.solve.next_step.Tie as tie

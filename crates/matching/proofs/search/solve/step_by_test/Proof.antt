@@ -1,6 +1,6 @@
 use native.Mathlib.Omega.{arith}
-use Rattle.matching.proofs.Refuting.{through, tried-done, tried-all}
-use Rattle.matching.proofs.Searching.{picked-at}
+use Rattle.matching.proofs.SearchLaws.Solve.{through, tried-done, tried-all}
+use Rattle.matching.proofs.SearchLaws.Interval.{picked-at}
 use borrow.Author.Needs.{needs}
 use Rattle.matching.proofs.search.solve.step_by_test.Statement.{statement}
 use Rattle.matching.proofs.search.solve.step_by_test.Tie as tie

@@ -1,8 +1,8 @@
 use native.Mathlib.Omega.{arith}
-use Rattle.matching.proofs.Refuting.{empty-interval, full-interval, low-refuted, high-refuted, low-solves}
-use Rattle.matching.proofs.NogoodLaws.{nogoods-added}
-use Rattle.matching.proofs.Searching.{low-fits, low-accepted, decided-true, decided-false}
-use Rattle.matching.proofs.Answering.{all-zeros}
+use Rattle.matching.proofs.SearchLaws.Solve.{empty-interval, full-interval, low-refuted, high-refuted, low-solves}
+use Rattle.matching.proofs.SearchLaws.Nogoods.{nogoods-added}
+use Rattle.matching.proofs.SearchLaws.Interval.{low-fits, low-accepted, decided-true, decided-false}
+use Rattle.matching.proofs.FindLaws.{all-zeros}
 use borrow.Author.Tests.{not-true, not-false}
 use lib.Seq.{length-take-le}
 use mathlib.Core.Path.{refl, sym}

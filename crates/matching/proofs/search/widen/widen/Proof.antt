@@ -1,4 +1,4 @@
-use Rattle.matching.proofs.Refuting.{widened-none, widened-more, next-fits, next-accepted}
+use Rattle.matching.proofs.SearchLaws.Solve.{widened-none, widened-more, next-fits, next-accepted}
 use Rattle.matching.specs.Inner.Search.Widen.{Widened}
 use Rattle.subsumption.specs.Tables.{tables}
 use borrow.Author.Tests.{not-true}

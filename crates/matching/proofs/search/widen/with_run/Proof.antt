@@ -1,6 +1,6 @@
 use Prim.Native.Nat.{_+_, _-_, _*_, _≤_}
 use native.Mathlib.Omega.{arith}
-use Rattle.matching.proofs.PairLaws.{MixedTo, mixWord, mixed-none, mixed-more, mixed-all}
+use Rattle.matching.proofs.SearchLaws.Pairs.{MixedTo, mixWord, mixed-none, mixed-more, mixed-all}
 use Rattle.matching.proofs.search.widen.with_run.Statement.{statement}
 use Rattle.matching.proofs.search.widen.with_run.Tie as tie
 use Rattle.matching.proofs.search.widen.with_run.Reads as reads

@@ -2,7 +2,7 @@ use native.Mathlib.Omega.{arith}
 use Prim.Native.Nat.{_≤_, _-_}
 use borrow.Author.Needs.{needs}
 use Rattle.matching.specs.Inner.Writer.Explain.{NoRule}
-use Rattle.matching.proofs.LineSearches.{rule-none, rule-more, rule-done, tried-at, tried-none}
+use Rattle.matching.proofs.WriterLaws.Explain.{rule-none, rule-more, rule-done, tried-at, tried-none}
 use Rattle.matching.proofs.writer.explain.explain.Statement.{statement}
 use Rattle.matching.proofs.writer.explain.explain.Tie as tie
 

@@ -1,4 +1,4 @@
-use Rattle.matching.proofs.LineSearches.{member-bound, inclusion-bound, choice-bound, variable-bound, zero-bound}
+use Rattle.matching.proofs.WriterLaws.Explain.{member-bound, inclusion-bound, choice-bound, variable-bound, zero-bound}
 use Rattle.matching.proofs.writer.explain.extras.Statement.{statement}
 use Rattle.matching.proofs.writer.explain.extras.Tie as tie
 

@@ -2,8 +2,8 @@ use native.Mathlib.Omega.{arith}
 use Prim.Native.Nat.{_-_}
 use borrow.Author.Needs.{needs}
 use Rattle.matching.specs.Inner.Writer.Explain.{QuietFrom}
-use Rattle.matching.proofs.LineSearches.{quiet-none, quiet-marked, quiet-unknown, quiet-done, positive, cell-left, cell-right, explained-new, explained-not}
-use Rattle.matching.proofs.Cells.{square-small}
+use Rattle.matching.proofs.WriterLaws.Explain.{quiet-none, quiet-marked, quiet-unknown, quiet-done, positive, cell-left, cell-right, explained-new, explained-not}
+use Rattle.matching.proofs.DerivationLaws.Cells.{square-small}
 use Rattle.matching.proofs.writer.explain.next_line.Statement.{statement}
 use Rattle.matching.proofs.writer.explain.next_line.Tie as tie
 

@@ -1,7 +1,7 @@
 use native.Mathlib.Omega.{arith}
 use Prim.Native.Nat.{_-_}
 use Rattle.matching.specs.Inner.Writer.Explain.{NoExtra}
-use Rattle.matching.proofs.LineSearches.{extra-none, extra-more, extra-found, extra-done}
+use Rattle.matching.proofs.WriterLaws.Explain.{extra-none, extra-more, extra-found, extra-done}
 use Rattle.matching.proofs.writer.explain.try_rule.Statement.{statement}
 use Rattle.matching.proofs.writer.explain.try_rule.Tie as tie
 

@@ -2,7 +2,7 @@ use native.Mathlib.Omega.{arith}
 use Prim.Native.Nat.{_≤_, _-_}
 use mathlib.Core.Path.{_≡_, refl, _∙_}
 use lib.ListN.{length}
-use Rattle.matching.proofs.Premises.{MarkedBelow, below-none, below-skip, below-more, below-done}
+use Rattle.matching.proofs.WriterLaws.Premises.{MarkedBelow, below-none, below-skip, below-more, below-done}
 use Rattle.matching.proofs.writer.needed.mark_all.Statement.{statement}
 use Rattle.matching.proofs.writer.needed.mark_all.Tie as tie
 

@@ -1,5 +1,5 @@
 use native.Mathlib.Omega.{arith}
-use Rattle.matching.proofs.Premises.{two-marked, grown-set}
+use Rattle.matching.proofs.WriterLaws.Premises.{two-marked, grown-set}
 use Rattle.matching.proofs.writer.needed.mark_two.Statement.{statement}
 use Rattle.matching.proofs.writer.needed.mark_two.Tie as tie
 

@@ -1,6 +1,6 @@
 use native.Mathlib.Omega.{arith}
-use Rattle.matching.proofs.Premises.{all-hit, all-miss}
-use Rattle.matching.proofs.RuleLines.{variable-numbered}
+use Rattle.matching.proofs.WriterLaws.Premises.{all-hit, all-miss}
+use Rattle.matching.proofs.DerivationLaws.Rules.{variable-numbered}
 use Rattle.matching.proofs.writer.needed.need_all.Statement.{statement}
 use Rattle.matching.proofs.writer.needed.need_all.Tie as tie
 

@@ -1,6 +1,6 @@
 use native.Mathlib.Omega.{arith}
-use Rattle.matching.proofs.Premises.{marked-hit, marked-miss}
-use Rattle.matching.proofs.RuleLines.{and-rising}
+use Rattle.matching.proofs.WriterLaws.Premises.{marked-hit, marked-miss}
+use Rattle.matching.proofs.DerivationLaws.Rules.{and-rising}
 use Rattle.matching.proofs.writer.needed.need_both.Statement.{statement}
 use Rattle.matching.proofs.writer.needed.need_both.Tie as tie
 

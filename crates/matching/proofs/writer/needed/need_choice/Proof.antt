@@ -1,5 +1,5 @@
 use native.Mathlib.Omega.{arith}
-use Rattle.matching.proofs.Premises.{marked-hit, marked-miss}
+use Rattle.matching.proofs.WriterLaws.Premises.{marked-hit, marked-miss}
 use Rattle.matching.proofs.writer.needed.need_choice.Statement.{statement}
 use Rattle.matching.proofs.writer.needed.need_choice.Tie as tie
 

@@ -1,6 +1,6 @@
 use native.Mathlib.Omega.{arith}
-use Rattle.matching.proofs.Premises.{marked-miss, pair-marked}
-use Rattle.matching.proofs.RuleLines.{pair-left, pair-right}
+use Rattle.matching.proofs.WriterLaws.Premises.{marked-miss, pair-marked}
+use Rattle.matching.proofs.DerivationLaws.Rules.{pair-left, pair-right}
 use Rattle.matching.proofs.writer.needed.need_inclusion.Statement.{statement}
 use Rattle.matching.proofs.writer.needed.need_inclusion.Tie as tie
 

@@ -1,6 +1,6 @@
 use native.Mathlib.Omega.{arith}
-use Rattle.matching.proofs.Premises.{marked-hit, marked-miss}
-use Rattle.matching.proofs.RuleLines.{exists-rising}
+use Rattle.matching.proofs.WriterLaws.Premises.{marked-hit, marked-miss}
+use Rattle.matching.proofs.DerivationLaws.Rules.{exists-rising}
 use Rattle.matching.proofs.writer.needed.need_inner.Statement.{statement}
 use Rattle.matching.proofs.writer.needed.need_inner.Tie as tie
 

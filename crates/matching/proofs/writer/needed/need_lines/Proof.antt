@@ -4,8 +4,8 @@ use mathlib.Core.Path.{_≡_, refl, _∙_}
 use lib.ListN.{length}
 use Rattle.subsumption.specs.Tables.{countOf}
 use Rattle.matching.specs.Inner.Writer.Needed.{Enough, Grown}
-use Rattle.matching.proofs.NeededLines.{enough-none, enough-skip, enough-more, enough-done}
-use Rattle.matching.proofs.Premises.{grown-same, grown-more}
+use Rattle.matching.proofs.WriterLaws.Needed.{enough-none, enough-skip, enough-more, enough-done}
+use Rattle.matching.proofs.WriterLaws.Premises.{grown-same, grown-more}
 use Rattle.matching.proofs.writer.needed.need_lines.Statement.{statement}
 use Rattle.matching.proofs.writer.needed.need_lines.Tie as tie
 

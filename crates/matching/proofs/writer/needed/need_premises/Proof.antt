@@ -1,5 +1,5 @@
-use Rattle.matching.proofs.Premises.{member-needs, both-needs, inner-needs, inclusion-needs, choice-needs, all-needs, none-needs}
-use Rattle.matching.proofs.RuleDispatch.{row-rising, row-numbered, atoms-in, inclusions-in}
+use Rattle.matching.proofs.WriterLaws.Premises.{member-needs, both-needs, inner-needs, inclusion-needs, choice-needs, all-needs, none-needs}
+use Rattle.matching.proofs.DerivationLaws.Dispatch.{row-rising, row-numbered, atoms-in, inclusions-in}
 use Rattle.matching.proofs.writer.needed.need_premises.Statement.{statement}
 use Rattle.matching.proofs.writer.needed.need_premises.Tie as tie
 

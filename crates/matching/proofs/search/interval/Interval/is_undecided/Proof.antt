@@ -1,4 +1,4 @@
-use Rattle.matching.proofs.Choices.{is-open, is-shut}
+use Rattle.matching.proofs.SearchLaws.Choices.{is-open, is-shut}
 use borrow.Author.Needs.{needs}
 use Rattle.matching.proofs.search.interval.Interval.is_undecided.Statement.{statement}
 use Rattle.matching.proofs.search.interval.Interval.is_undecided.Tie as tie

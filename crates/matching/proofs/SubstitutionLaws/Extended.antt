@@ -11,7 +11,7 @@ use Rattle.subsumption.specs.Tables.{both, Concept, top, name, exists, and, var
 use Rattle.subsumption.specs.Subsumption.{Named, Linked, Interpretation}
 use Rattle.subsumption.proofs.Bools.{both-true, both-intro}
 use Rattle.subsumption.proofs.ModelRows.{gather, gather-in, gather-out, onlyIf, onlyIf-in, onlyIf-out}
-use Rattle.matching.proofs.Parts.{conceptAt}
+use Rattle.matching.proofs.SubstitutionLaws.Parts.{conceptAt}
 
 module _ {A : Type 0} (test : A → Bool) where
   unfoldable pub sift : List A → List A

@@ -22,8 +22,8 @@ use Rattle.matching.specs.Inner.Search.Interval.{IntervalOf, undecided, 
 use Rattle.matching.specs.Inner.Search.Solve.{Refuted}
 use Rattle.matching.specs.declared.search.interval.Pick.{Pick}
 use Rattle.matching.specs.declared.search.interval.Pick.the-variants.{At, Nothing}
-use Rattle.matching.proofs.Fronts.{front-known, front-takes, front-within, accepted-bits, within-accepted}
-use Rattle.matching.proofs.Monotone.{monotone, antitone}
+use Rattle.matching.proofs.SearchLaws.Fronts.{front-known, front-takes, front-within, accepted-bits, within-accepted}
+use Rattle.matching.proofs.SearchLaws.Monotone.{monotone, antitone}
 
 -- ---- how many pairs are undecided
 module _ (f g : ℕ → Bool) where

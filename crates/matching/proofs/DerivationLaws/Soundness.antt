@@ -16,7 +16,7 @@ use Rattle.subsumption.proofs.Accepted.{wellFormed}
 use Rattle.subsumption.proofs.Deciding.{asked-tables}
 use Rattle.subsumption.proofs.RuleSoundness.{follows-sound}
 use Rattle.matching.specs.Derivation.{linesOf, leftAt, rightAt, pairAt, provedBy, lineFollows, ruleFault, lastFault, derivationFault, checkingFault}
-use Rattle.matching.proofs.LineChecks.{some-lines}
+use Rattle.matching.proofs.DerivationLaws.Lines.{some-lines}
 
 module _ (t : Tables) (assignment lines : List ℕ) (wf : WellFormed t) (n : ℕ) (h : (k : ℕ) → k < n → lineFollows t assignment lines k ≡ true) where
   -- the pair of each right line is subsumed

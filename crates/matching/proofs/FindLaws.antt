@@ -31,10 +31,10 @@ use Rattle.matching.specs.Inner.Search.Order.{FirstIn}
 use Rattle.matching.specs.Inner.Find.{Full, Found, FoundBy, Copied}
 use Rattle.matching.specs.declared.find.Match.the-variants.{Filled}
 use Rattle.matching.specs.Find.{findingFault, matchReply, FindsAfter, Finds}
-use Rattle.matching.proofs.Choices.{one-bit}
-use Rattle.matching.proofs.Conjoined.{some-solves}
-use Rattle.matching.proofs.Locality.{none-by-substitution}
-use Rattle.matching.proofs.Fronts.{front-known, front-within, accepted-bits, accept, within-accepted}
+use Rattle.matching.proofs.SearchLaws.Choices.{one-bit}
+use Rattle.matching.proofs.SubstitutionLaws.Conjoined.{some-solves}
+use Rattle.matching.proofs.SubstitutionLaws.Locality.{none-by-substitution}
+use Rattle.matching.proofs.SearchLaws.Fronts.{front-known, front-within, accepted-bits, accept, within-accepted}
 
 -- ---- all ones
 pub ones-all : (count : ℕ) → count ≡ 64 → 18446744073709551615 ≡ 2 ^ count - 1

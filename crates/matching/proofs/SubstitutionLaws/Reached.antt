@@ -10,9 +10,9 @@ use lib.ListN.{length}
 use Rattle.subsumption.specs.Tables.{Tables, Concept, top, name, exists, and, var}
 use Rattle.subsumption.specs.Subsumption.{Interpretation, Reading, Member, Included, noVariables, Obeys}
 use Rattle.subsumption.proofs.Bools.{le-or-lt}
-use Rattle.matching.proofs.Decided.{Decides}
-use Rattle.matching.proofs.Parts.{Closed, conceptAt, place}
-use Rattle.matching.proofs.Extended.{extended, name-old, name-new, link-old, link-new, name-cases, NewLink, link-cases}
+use Rattle.matching.proofs.SubstitutionLaws.Decided.{Decides}
+use Rattle.matching.proofs.SubstitutionLaws.Parts.{Closed, conceptAt, place}
+use Rattle.matching.proofs.SubstitutionLaws.Extended.{extended, name-old, name-new, link-old, link-new, name-cases, NewLink, link-cases}
 
 -- One concept is below another in all that obeys the inclusions.
 abbrev pub Below : Tables → Concept → Concept → Type 0

@@ -20,9 +20,9 @@ use Rattle.subsumption.proofs.Chosen.{chosen-known}
 use Rattle.subsumption.proofs.RuleTests.{every-elim, every-intro, contains-elim, onPicked-elim, onBoth-elim, onInner-elim, onVariable-elim}
 use Rattle.matching.specs.Inner.Derivation.{Square, seen, Of}
 use Rattle.matching.specs.Inner.Writer.Needed.{Grown, TwoMarked, AllMarked, innerAt, MarkedIf, AllMarkedIf, Needs}
-use Rattle.matching.proofs.Cells.{seen-set-same, seen-set-row, seen-set-column, square-set}
-use Rattle.matching.proofs.RuleMonotone.{onBoth-intro, onInner-intro, onVariable-intro}
-use Rattle.matching.proofs.RuleLines.{AllBelow, all-none, all-skip, all-more, all-done, picked-member}
+use Rattle.matching.proofs.DerivationLaws.Cells.{seen-set-same, seen-set-row, seen-set-column, square-set}
+use Rattle.matching.proofs.DerivationLaws.Monotone.{onBoth-intro, onInner-intro, onVariable-intro}
+use Rattle.matching.proofs.DerivationLaws.Rules.{AllBelow, all-none, all-skip, all-more, all-done, picked-member}
 
 -- ---- marks that grow
 pub grown-same : (count : ℕ) (marks : List Bool) → Square count marks → Grown count marks marks

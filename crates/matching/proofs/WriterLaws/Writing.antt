@@ -27,9 +27,9 @@ use Rattle.matching.specs.Writer.{roomFor, derivingFault, DerivationOf, 
 use Rattle.matching.specs.Inner.Derivation.{seen}
 use Rattle.matching.specs.Inner.Writer.{Grounds, Asked, NotedTo, Copied, WrittenFor}
 use Rattle.matching.specs.Inner.Writer.Needed.{Enough}
-use Rattle.matching.proofs.Cells.{square-small}
-use Rattle.matching.proofs.LineChecks.{accepted-of}
-use Rattle.matching.proofs.Copies.{derivation-written}
+use Rattle.matching.proofs.DerivationLaws.Cells.{square-small}
+use Rattle.matching.proofs.DerivationLaws.Lines.{accepted-of}
+use Rattle.matching.proofs.WriterLaws.Copies.{derivation-written}
 
 pub noted-few : (concepts inclusions ids assignment : List ℕ) (left right : ℕ) (marks : List Bool) (notes : List ℕ) (n : ℕ) → NotedTo concepts inclusions ids assignment left right marks notes n → n ≤ countOf concepts * countOf concepts
 noted-few concepts inclusions ids assignment left right marks notes n d = omega (arith, d .noted .room)

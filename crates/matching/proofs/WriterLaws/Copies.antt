@@ -22,9 +22,9 @@ use Rattle.matching.specs.Inner.Derivation.{seen, Of}
 use Rattle.matching.specs.Writer.{DerivationOf}
 use Rattle.matching.specs.Inner.Writer.{LineWritten, NotedTo, Copy, Copied}
 use Rattle.matching.specs.Inner.Writer.Needed.{Enough}
-use Rattle.matching.proofs.LineChecks.{proved-none, proved-more, shape-whole, last-both}
-use Rattle.matching.proofs.RuleMonotone.{Reads, of-reads, follows-same}
-use Rattle.matching.proofs.LinesWritten.{Agree, proved-agree, line-agree}
+use Rattle.matching.proofs.DerivationLaws.Lines.{proved-none, proved-more, shape-whole, last-both}
+use Rattle.matching.proofs.DerivationLaws.Monotone.{Reads, of-reads, follows-same}
+use Rattle.matching.proofs.WriterLaws.Lines.{Agree, proved-agree, line-agree}
 
 pair-known : (lines : List ℕ) (i j k : ℕ) → pairAt lines i j k ≡ true → (i ≡ leftAt lines k) × (j ≡ rightAt lines k)
 unfolding pairAt

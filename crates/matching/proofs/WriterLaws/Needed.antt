@@ -13,8 +13,8 @@ use Rattle.matching.specs.Derivation.{ruleAt, leftAt, rightAt, extraAt, 
 use Rattle.matching.specs.Inner.Derivation.{seen, Of}
 use Rattle.matching.specs.Inner.Writer.{Noted}
 use Rattle.matching.specs.Inner.Writer.Needed.{Enough, Needs}
-use Rattle.matching.proofs.RuleMonotone.{of-reads, follows-mono}
-use Rattle.matching.proofs.Copies.{proved-later}
+use Rattle.matching.proofs.DerivationLaws.Monotone.{of-reads, follows-mono}
+use Rattle.matching.proofs.WriterLaws.Copies.{proved-later}
 
 module _ (concepts inclusions ids assignment : List ℕ) (notes : List ℕ) (n : ℕ) where
   pub enough-none : (needed : List Bool) → Enough concepts inclusions ids assignment needed notes n n

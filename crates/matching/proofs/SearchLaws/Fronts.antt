@@ -26,7 +26,7 @@ use Rattle.subsumption.proofs.Accepted.{right-count}
 use Rattle.subsumption.proofs.Scans.{Scan, scan-none, scan-more, scan-done}
 use Rattle.matching.specs.Solving.{takes}
 use Rattle.matching.specs.Inner.Search.{Within, Between}
-use Rattle.matching.proofs.Choices.{same-bits}
+use Rattle.matching.proofs.SearchLaws.Choices.{same-bits}
 
 -- ---- bits and bounds
 bit-shifted : (x n q : ℕ) → bit (x / 2 ^ n) q ≡ bit x (n + q)

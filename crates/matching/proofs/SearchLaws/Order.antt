@@ -19,8 +19,8 @@ use Rattle.matching.specs.Inner.Search.{Within, Between, SolutionIn, NoS
 use Rattle.matching.specs.Inner.Search.Pairs.{Changed}
 use Rattle.matching.specs.Inner.Search.Interval.{IntervalOf, undecided}
 use Rattle.matching.specs.Inner.Search.Order.{FirstIn}
-use Rattle.matching.proofs.Fronts.{front-known, front-takes, front-within, accepted-bits, within-accepted, same-taken}
-use Rattle.matching.proofs.Searching.{open-high, open-low, open-intro, at-pair, grown, grown-cases, shrunk, shrunk-cases, take-keeps, leave-keeps}
+use Rattle.matching.proofs.SearchLaws.Fronts.{front-known, front-takes, front-within, accepted-bits, within-accepted, same-taken}
+use Rattle.matching.proofs.SearchLaws.Interval.{open-high, open-low, open-intro, at-pair, grown, grown-cases, shrunk, shrunk-cases, take-keeps, leave-keeps}
 
 abbrev at : List ℕ → ℕ → Bool
 at a p = takes a (p / 64) (p % 64)

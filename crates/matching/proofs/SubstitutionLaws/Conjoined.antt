@@ -11,7 +11,7 @@ use Rattle.subsumption.proofs.Inward.{Ground}
 use Rattle.subsumption.proofs.Chosen.{chosen-ground}
 use Rattle.matching.specs.Solving.{Solves, Substitution, substituted, SolvesBy}
 use Rattle.matching.specs.Find.{SomeSolves}
-use Rattle.matching.proofs.Readings.{member-reads}
+use Rattle.matching.proofs.SubstitutionLaws.Readings.{member-reads}
 
 unfoldable pub conjoined : List ℕ → List ℕ → Concept
 conjoined concepts [] = top

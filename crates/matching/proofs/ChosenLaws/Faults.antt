@@ -26,7 +26,7 @@ use Rattle.matching.specs.declared.chosen.Chosen.{Chosen}
 use Rattle.matching.specs.declared.chosen.Chosen.the-variants.{Ids, Rejected}
 use Rattle.matching.specs.declared.chosen.Told.{Told}
 use Rattle.matching.specs.Chosen.{variableFault, choosingFault, chosenReply, chosenIn, handedBack}
-use Rattle.matching.proofs.Choosing.{pick-length}
+use Rattle.matching.proofs.ChosenLaws.Picked.{pick-length}
 use Rattle.matching.specs.Inner.Chosen.{knownFault, earlierOf, toldOf}
 
 -- ---- only check 1 refuses with number 1

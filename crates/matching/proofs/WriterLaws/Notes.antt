@@ -20,10 +20,10 @@ use Rattle.matching.specs.Derivation.{leftAt, rightAt, pairAt, provedBy,
 use Rattle.matching.specs.Inner.Derivation.{seen, MarksOf, LineTest}
 use Rattle.matching.specs.Inner.Writer.Explain.{QuietFrom, New, Found}
 use Rattle.matching.specs.Inner.Writer.{LineWritten, unset, Blank, Asked, Noted, NotedTo}
-use Rattle.matching.proofs.Cells.{cell-room, cell-below, square-small}
-use Rattle.matching.proofs.LineChecks.{marks-none, marks-more, line-rule, proved-more, empty-square, empty-seen}
-use Rattle.matching.proofs.RuleMonotone.{of-reads}
-use Rattle.matching.proofs.LinesWritten.{Agree, proved-agree, line-agree}
+use Rattle.matching.proofs.DerivationLaws.Cells.{cell-room, cell-below, square-small}
+use Rattle.matching.proofs.DerivationLaws.Lines.{marks-none, marks-more, line-rule, proved-more, empty-square, empty-seen}
+use Rattle.matching.proofs.DerivationLaws.Monotone.{of-reads}
+use Rattle.matching.proofs.WriterLaws.Lines.{Agree, proved-agree, line-agree}
 
 -- ---- how many marks are not set
 pub unset-set : (marks : List Bool) (p : ℕ) → p < length marks → getD marks p false ≡ false → unset (set marks p true) + 1 ≡ unset marks

@@ -14,7 +14,7 @@ use Rattle.subsumption.specs.Rules.{follows}
 use Rattle.subsumption.proofs.Bools.{both-none, both-skip}
 use Rattle.matching.specs.Derivation.{ruleAt, leftAt, rightAt, extraAt, pairAt, provedBy, lineFollows}
 use Rattle.matching.specs.Inner.Writer.{inFront, LineWritten}
-use Rattle.matching.proofs.RuleMonotone.{Reads, follows-same}
+use Rattle.matching.proofs.DerivationLaws.Monotone.{Reads, follows-same}
 
 pub put-front :
     (rest : List ℕ) (rule left right extra : ℕ) → 4 ≤ length rest → set (set (set (set rest 0 rule) 1 left) 2 right) 3 extra ≡ inFront rule left right extra rest

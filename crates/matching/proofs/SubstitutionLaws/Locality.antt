@@ -28,14 +28,14 @@ use Rattle.subsumption.proofs.Membership.{member-ground}
 use Rattle.subsumption.proofs.ModelRows.{gather, gather-in}
 use Rattle.subsumption.proofs.RuleTests.{every-elim, every-intro}
 use Rattle.matching.specs.Solving.{Solves, Substitution, substituted, SolvesBy}
-use Rattle.matching.proofs.Readings.{member-reads}
-use Rattle.matching.proofs.Decided.{Decides, branch, decided-pairs}
-use Rattle.matching.proofs.Members.{isMember, member-test, test-member}
-use Rattle.matching.proofs.Assigning.{assignmentOf, assignmentOf-length, assignmentOf-accepted, assignmentOf-bit}
-use Rattle.matching.proofs.Parts.{Closed, parts, parts-self, append-closed, gather-closed, place, conceptAt}
-use Rattle.matching.proofs.Conjoined.{asSubstitution, solves-by-substitution}
-use Rattle.matching.proofs.Extended.{extended}
-use Rattle.matching.proofs.Reached.{Below, innerOf, Each, Numbered, old-in, reached-in, Holds, old-out, included-still}
+use Rattle.matching.proofs.SubstitutionLaws.Readings.{member-reads}
+use Rattle.matching.proofs.SubstitutionLaws.Decided.{Decides, branch, decided-pairs}
+use Rattle.matching.proofs.SubstitutionLaws.Members.{isMember, member-test, test-member}
+use Rattle.matching.proofs.SubstitutionLaws.Assigning.{assignmentOf, assignmentOf-length, assignmentOf-accepted, assignmentOf-bit}
+use Rattle.matching.proofs.SubstitutionLaws.Parts.{Closed, parts, parts-self, append-closed, gather-closed, place, conceptAt}
+use Rattle.matching.proofs.SubstitutionLaws.Conjoined.{asSubstitution, solves-by-substitution}
+use Rattle.matching.proofs.SubstitutionLaws.Extended.{extended}
+use Rattle.matching.proofs.SubstitutionLaws.Reached.{Below, innerOf, Each, Numbered, old-in, reached-in, Holds, old-out, included-still}
 
 module _ (t : Tables) (wf : WellFormed t) where
   numbered : (i : ℕ) → Numbered (t .variables) (tree (t .concepts) i)

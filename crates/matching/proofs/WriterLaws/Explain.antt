@@ -21,7 +21,7 @@ use Rattle.matching.specs.declared.writer.explain.Extra.the-variants.{At
 use Rattle.matching.specs.declared.writer.explain.Why.{Why}
 use Rattle.matching.specs.declared.writer.explain.Why.the-variants.{By, Unknown}
 use Rattle.matching.specs.Inner.Writer.Explain.{ExtraBound, NoExtra, NoRule, Gives, Quiet, QuietFrom, New, Tried, Explained}
-use Rattle.matching.proofs.Cells.{cell-row, cell-column}
+use Rattle.matching.proofs.DerivationLaws.Cells.{cell-row, cell-column}
 
 refuted : (x : Bool) → (x ≡ true → ⊥) → x ≡ false
 refuted true h = absurd (h refl)

@@ -12,7 +12,7 @@ use Rattle.subsumption.proofs.Inward.{Ground}
 use Rattle.subsumption.proofs.Chosen.{pick-member, pick-intro}
 use Rattle.subsumption.proofs.Membership.{member-ground}
 use Rattle.matching.specs.Solving.{takes}
-use Rattle.matching.proofs.Readings.{member-reads}
+use Rattle.matching.proofs.SubstitutionLaws.Readings.{member-reads}
 
 -- β takes every atom that α takes
 abbrev pub Larger : List ℕ → List ℕ → Type 0

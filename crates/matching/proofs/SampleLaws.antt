@@ -25,9 +25,9 @@ use Rattle.subsumption.proofs.RuleCompleteness.{rules-complete}
 use Rattle.subsumption.proofs.Chosen.{chosen-known}
 use Rattle.matching.specs.Solving.{Solves, takes, Earlier}
 use Rattle.matching.specs.Samples.{Saying, alwaysBelow, neverBelow, below, notBelow, parts, filling, noFilling, Says, Card, Holds}
-use Rattle.matching.proofs.Locality.{none-by-substitution}
-use Rattle.matching.proofs.ChoosingFaults.{choices-length, choices-low}
-use Rattle.matching.proofs.Members.{anyIn, anyIn-intro, anyIn-elim}
+use Rattle.matching.proofs.SubstitutionLaws.Locality.{none-by-substitution}
+use Rattle.matching.proofs.ChosenLaws.Faults.{choices-length, choices-low}
+use Rattle.matching.proofs.SubstitutionLaws.Members.{anyIn, anyIn-intro, anyIn-elim}
 
 -- ---- all numbers below n pass
 unfoldable pub allBelow : ℕ → (ℕ → Bool) → Bool

@@ -23,10 +23,10 @@ use Rattle.matching.specs.declared.search.interval.Pick.the-variants.{At
 use Rattle.matching.specs.Inner.Search.Nogoods.{used, lowAt, highAt, Nogoods}
 use Rattle.matching.specs.Inner.Search.Widen.{Mixed, Widened}
 use Rattle.matching.specs.Inner.Search.Solve.{Refuted, Answers, CanSplit, Stepped, Known, Recalled, Merged}
-use Rattle.matching.proofs.Fronts.{front-known, front-takes, front-within, within-accepted}
-use Rattle.matching.proofs.PairLaws.{mixed-same, mixed-again, mixed-within}
-use Rattle.matching.proofs.NogoodLaws.{words-long}
-use Rattle.matching.proofs.Searching.{at-pair, grown, grown-cases, shrunk, shrunk-cases, holds-solve, low-shuts, high-shuts, decided-shut, picked-at, picked-none, take-found, leave-found, open-high, open-low}
+use Rattle.matching.proofs.SearchLaws.Fronts.{front-known, front-takes, front-within, within-accepted}
+use Rattle.matching.proofs.SearchLaws.Pairs.{mixed-same, mixed-again, mixed-within}
+use Rattle.matching.proofs.SearchLaws.Nogoods.{words-long}
+use Rattle.matching.proofs.SearchLaws.Interval.{at-pair, grown, grown-cases, shrunk, shrunk-cases, holds-solve, low-shuts, high-shuts, decided-shut, picked-at, picked-none, take-found, leave-found, open-high, open-low}
 
 -- ---- carrying a failed test on
 module _ (t : Tables) (h : tableFault t ≡ Done) (full choice target : List ℕ) (i : IntervalOf t choice full) (j : IntervalOf t target full) where

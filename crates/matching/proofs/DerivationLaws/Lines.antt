@@ -27,8 +27,8 @@ use Rattle.subsumption.proofs.Refusals.{stops, goes-on, refused-if, done-if, pa
 use Rattle.subsumption.proofs.Scans.{Scan, scan-none, scan-more, scan-found, scan-done}
 use Rattle.matching.specs.Derivation.{linesOf, ruleAt, leftAt, rightAt, extraAt, pairAt, provedBy, lineFollows, noLines, ruleFault, lastFault, derivationFault, checkingFault}
 use Rattle.matching.specs.Inner.Derivation.{Square, seen, Of, ByRule, MarksOf, LineTest, RulesTest}
-use Rattle.matching.proofs.Cells.{seen-set-same, seen-set-row, seen-set-column, square-set, cell-below, square-small}
-use Rattle.matching.proofs.RuleMonotone.{of-reads, follows-same}
+use Rattle.matching.proofs.DerivationLaws.Cells.{seen-set-same, seen-set-row, seen-set-column, square-set, cell-below, square-small}
+use Rattle.matching.proofs.DerivationLaws.Monotone.{of-reads, follows-same}
 
 -- ---- one line
 pair-same : (lines : List ℕ) (i j k : ℕ) → i ≡ leftAt lines k → j ≡ rightAt lines k → pairAt lines i j k ≡ true
