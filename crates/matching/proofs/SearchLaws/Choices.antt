@@ -24,13 +24,6 @@ use Rattle.matching.specs.Inner.Search.Interval.{undecided}
 pub one-bit : (q : ℕ) → q < 64 → 1 * 2 ^ q % 18446744073709551616 ≡ 2 ^ q
 one-bit q h = let e : 1 * 2 ^ q ≡ 2 ^ q = omega arith in ap (λ (z : ℕ). z % 18446744073709551616) e ∙ mod-eq-of-lt (pow-lt h)
 
-not-bit : (x q : ℕ) → (bit x q ≡ true → ⊥) → bit x q ≡ false
-not-bit x q h = go (bit x q) refl
-  where
-    go : (b : Bool) → bit x q ≡ b → bit x q ≡ false
-    go true e = absurd (h e)
-    go false e = e
-
 set-same : (x q : ℕ) → bit (bitOr x (2 ^ q)) q ≡ true
 set-same x q = bit-or-right x (2 ^ q) q (bit-pow q)
 
@@ -93,9 +86,6 @@ unfolding undecided
 is-shut low high p a e h = sym (both-none _ _ (sym e ∙ h))
 
 -- ---- numbers with the same bits are equal
-halves : (x : ℕ) → x ≡ x / 2 * 2 + x % 2
-halves x = omega arith
-
 same-parity : (x y : ℕ) → bit x 0 ≡ bit y 0 → x % 2 ≡ y % 2
 unfolding bit
 same-parity x y e =

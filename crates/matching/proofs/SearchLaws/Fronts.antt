@@ -20,7 +20,7 @@ use Rattle.subsumption.specs.Tables.{Tables}
 use Rattle.subsumption.specs.Atoms.{atoms, bit}
 use Rattle.subsumption.specs.Check.{assignmentFaultAt, assignmentFault}
 use Rattle.subsumption.proofs.Bools.{le-or-lt}
-use Rattle.subsumption.proofs.Bits.{bit-of-zero}
+use Rattle.subsumption.proofs.Bits.{bit-of-zero, bit-shr}
 use Rattle.subsumption.proofs.Refusals.{passed-first, passed-second, passed-if, passed-at}
 use Rattle.subsumption.proofs.Accepted.{right-count}
 use Rattle.subsumption.proofs.Scans.{Scan, scan-none, scan-more, scan-done}
@@ -29,10 +29,6 @@ use Rattle.matching.specs.Inner.Search.{Within, Between}
 use Rattle.matching.proofs.SearchLaws.Choices.{same-bits}
 
 -- ---- bits and bounds
-bit-shifted : (x n q : ℕ) → bit (x / 2 ^ n) q ≡ bit x (n + q)
-unfolding bit
-bit-shifted x n q = ap (λ (z : ℕ). eqb (z % 2) 1) (shr-shr x n q)
-
 pub bit-below : (x n q : ℕ) → x < 2 ^ n → bit x q ≡ true → q < n
 bit-below x n q h e =
     ⊎-elim
@@ -44,7 +40,7 @@ bit-below x n q h e =
     lower l = omega (arith, pow-mono l)
 
     moved : bit x q ≡ true → bit (x / 2 ^ q) 0 ≡ true
-    moved e = bit-shifted x q 0 ∙ ap (bit x) (add-zero q) ∙ e
+    moved e = bit-shr x q 0 ∙ ap (bit x) (add-zero q) ∙ e
 
 pub below-bits : (x n : ℕ) → ((q : ℕ) → bit x q ≡ true → q < n) → x < 2 ^ n
 below-bits x n h =
@@ -54,7 +50,7 @@ below-bits x n h =
     none q = go (bit (x / 2 ^ n) q) refl (bit 0 q) refl
       where
         go : (a : Bool) → bit (x / 2 ^ n) q ≡ a → (b : Bool) → bit 0 q ≡ b → bit (x / 2 ^ n) q ≡ bit 0 q
-        go true e b f = absurd (omega (arith, h (n + q) (sym (bit-shifted x n q) ∙ e)))
+        go true e b f = absurd (omega (arith, h (n + q) (sym (bit-shr x n q) ∙ e)))
         go false e true f = absurd (bit-of-zero q f)
         go false e false f = e ∙ sym f
 

@@ -89,9 +89,6 @@ module _ (before after : List ℕ) (k q : ℕ) where
   pub shrunk-cases : Changed before after k q false → (l r : ℕ) → takes before l r ≡ true → ((l ≡ k) × (r ≡ q)) ⊎ (takes after l r ≡ true)
   shrunk-cases c l r e = ⊎-elim (λ x. inl x) (λ n. inr (c .elsewhere l r n ∙ e)) (same-or-not l r k q)
 
-same-place : (p r : ℕ) → (r / 64 ≡ p / 64) × (r % 64 ≡ p % 64) → r ≡ p
-same-place p r (e, f) = omega arith
-
 -- ---- tests of an interval
 module _ (t : Tables) (h : tableFault t ≡ Done) where
   hold-up : (a b : List ℕ) → Within a b → Hold t a false → Hold t b false
@@ -124,9 +121,6 @@ module _ (t : Tables) (h : tableFault t ≡ Done) where
     module _ (i : IntervalOf t low high) where
       pub low-fits : t .variables ≤ length low
       low-fits = omega (arith, i .low-long, wellFormed t h .few-variables)
-
-      pub high-fits : t .variables ≤ length high
-      high-fits = omega (arith, i .high-long, wellFormed t h .few-variables)
 
       pub low-accepted : assignmentFault t (take (t .variables) low) ≡ Done
       low-accepted = within-accepted t _ _ (i .accepted) (length-take-le _ low low-fits) (front-within (t .variables) low high (i .ordered))

@@ -45,9 +45,6 @@ seen-none columns held questions right = record { within = omega arith; seen = �
 
 module _ (columns : List ℕ) (held : List Bool) (questions : List ℕ) (right : Bool) (m : ℕ) (pair : Pair) (s : SeenTo columns held questions right m)
     (h : m < pairsOf questions) (e : pair ≡ pairOf questions m) where
-  at-left : pair .left ≡ leftOf questions m
-  at-left = cc
-
   at-right : pair .right ≡ rightOf questions m
   at-right = cc
 

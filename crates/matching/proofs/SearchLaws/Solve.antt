@@ -14,6 +14,7 @@ use Rattle.subsumption.specs.Check.{tableFault, assignmentFault}
 use Rattle.subsumption.proofs.Bools.{or-cases, or-first, or-second, both-true, both-intro}
 use Rattle.subsumption.proofs.Bits.{bit-of-zero}
 use Rattle.subsumption.proofs.Accepted.{wellFormed}
+use Rattle.subsumption.proofs.Columns.{any-false}
 use Rattle.matching.specs.Solving.{takes}
 use Rattle.matching.specs.Inner.Search.{Decided, Hold, Within, Between, SolutionIn, NoSolution}
 use Rattle.matching.specs.Inner.Search.Pairs.{Changed, Joined, Met, Contained}
@@ -84,18 +85,6 @@ module _ (t : Tables) (h : tableFault t ≡ Done) (low full : List ℕ) (i : Int
       record { long = i .low-long; between = record { above = λ k q e. e; below = λ k q e. e }; solves = holds-solve t h _ x y }
 
 -- ---- one step
-or-true : (a b : Bool) → (a || b) ≡ true → (a ≡ true) ⊎ (b ≡ true)
-or-true true b e = inl refl
-or-true false b e = inr e
-
-pub or-none : (a b : Bool) → (a || b) ≡ false → (a ≡ false) × (b ≡ false)
-or-none true b e = absurd (true≢false e)
-or-none false b e = (refl, e)
-
-pub and-both : (a b : Bool) → (a && b) ≡ true → (a ≡ true) × (b ≡ true)
-and-both true b e = (refl, e)
-and-both false b e = absurd (false≢true e)
-
 pub answers-found : (t : Tables) (low high : List ℕ) (b : Bool) (low₁ high₁ : List ℕ) → Answers t low high b low₁ high₁ → b ≡ true → SolutionIn t low high low₁
 answers-found t low high b low₁ high₁ x e = subst (λ (z : Bool). Answers t low high z low₁ high₁) e x
 
@@ -133,7 +122,7 @@ module _ (t : Tables) (h : tableFault t ≡ Done) (low high : List ℕ) (i : Int
         high-long = i .high-long;
         above = λ k q x. x;
         below = λ k q x. x;
-        none = decided-shut t h low high i low₁ high₁ (answers-none t low low b low₁ high₁ s (or-none b w e .0)) (picked-none low high r p f);
+        none = decided-shut t h low high i low₁ high₁ (answers-none t low low b low₁ high₁ s (any-false b w e .0)) (picked-none low high r p f);
       }
 
 pub recalled-known :

@@ -32,9 +32,6 @@ pair-second left i right j h = sym (both-skip _ _ (eq-eqb left i h))
 
 -- the buffer with a line in front of its part from `at` on
 module _ (before : List ℕ) (n rule left right extra : ℕ) (h : (n + 1) * 4 ≤ length before) where
-  abbrev line : List ℕ
-  line = rule ∷ left ∷ right ∷ extra ∷ []
-
   front : length (take (n * 4) before) ≡ n * 4
   front = length-take-le (n * 4) before (omega arith)
 

@@ -1,5 +1,6 @@
+use Rattle.subsumption.proofs.Columns.{any-false}
 use mathlib.Core.Bool.{not}
-use Rattle.matching.proofs.SearchLaws.Solve.{or-none, answers-none, stepped-done, stepped-split, with-answers, without-answers, merged-refutes, same-high, less-high}
+use Rattle.matching.proofs.SearchLaws.Solve.{answers-none, stepped-done, stepped-split, with-answers, without-answers, merged-refutes, same-high, less-high}
 use Rattle.matching.proofs.SearchLaws.Nogoods.{nogoods-added}
 use Rattle.matching.proofs.SearchLaws.Interval.{take-keeps, take-less, leave-keeps, leave-less, open-high}
 use Rattle.matching.specs.Inner.Search.Interval.{openPairs}
@@ -377,7 +378,7 @@ some-solution-merge-requires : (t : ℕ) → some-solution-lts.Need-merge-requir
   add-reads.Asked,
   add-reads.Learnt,
 ) (some-solution-at t) some-solution.Post
-some-solution-merge-requires t c κs = let u = (stepped-split _ _ _ (c .before .before .before .before .before .before .before .before .before .before .before .before .before .before .before .before .before .before .before .before .before .before .before .next-step .result .done) (c .before .before .before .before .before .before .before .before .before .before .before .before .before .before .before .before .before .before .before .before .before .before .before .next-step .result .found) _ _ _ (c .before .before .before .before .before .before .before .before .before .before .before .before .before .before .before .before .before .before .before .before .before .before .before .next-step .ensures .0) (c .before .before .before .before .before .before .before .before .before .before .before .before .before .before .before .before .before .before .before .before .if1 .left)) in let a = (answers-none _ _ _ (c .before .before .before .before .before .before .before .before .before .before .before .before .before .before .before .some-solution .result .found) _ _ (c .before .before .before .before .before .before .before .before .before .before .before .before .before .before .before .some-solution .ensures .0) (or-none _ _ (c .before .before .before .before .before .before .before .before .before .if2 .left) .0)) in let b = (answers-none _ _ _ (c .before .before .before .before .before .before .some-solution2 .result .found) _ _ (c .before .before .before .before .before .before .some-solution2 .ensures .0) (or-none _ _ (c .if3 .left) .0)) in ((a .low-long, a .high-long), ((b .low-long, b .high-long), ((omega (arith, u .0), omega arith), sym (c .before .before .before .before .before .before .before .before .before .before .before .has-bit .ensures) ∙ not-false (c .before .before .before .before .before .before .before .before .before .before .before .has-bit .result) (or-none (c .before .before .before .before .before .before .before .before .before .before .before .before .before .before .before .some-solution .result .found) (not (c .before .before .before .before .before .before .before .before .before .before .before .has-bit .result)) (c .before .before .before .before .before .before .before .before .before .if2 .left) .1))))
+some-solution-merge-requires t c κs = let u = (stepped-split _ _ _ (c .before .before .before .before .before .before .before .before .before .before .before .before .before .before .before .before .before .before .before .before .before .before .before .next-step .result .done) (c .before .before .before .before .before .before .before .before .before .before .before .before .before .before .before .before .before .before .before .before .before .before .before .next-step .result .found) _ _ _ (c .before .before .before .before .before .before .before .before .before .before .before .before .before .before .before .before .before .before .before .before .before .before .before .next-step .ensures .0) (c .before .before .before .before .before .before .before .before .before .before .before .before .before .before .before .before .before .before .before .before .if1 .left)) in let a = (answers-none _ _ _ (c .before .before .before .before .before .before .before .before .before .before .before .before .before .before .before .some-solution .result .found) _ _ (c .before .before .before .before .before .before .before .before .before .before .before .before .before .before .before .some-solution .ensures .0) (any-false _ _ (c .before .before .before .before .before .before .before .before .before .if2 .left) .0)) in let b = (answers-none _ _ _ (c .before .before .before .before .before .before .some-solution2 .result .found) _ _ (c .before .before .before .before .before .before .some-solution2 .ensures .0) (any-false _ _ (c .if3 .left) .0)) in ((a .low-long, a .high-long), ((b .low-long, b .high-long), ((omega (arith, u .0), omega arith), sym (c .before .before .before .before .before .before .before .before .before .before .before .has-bit .ensures) ∙ not-false (c .before .before .before .before .before .before .before .before .before .before .before .has-bit .result) (any-false (c .before .before .before .before .before .before .before .before .before .before .before .before .before .before .before .some-solution .result .found) (not (c .before .before .before .before .before .before .before .before .before .before .before .has-bit .result)) (c .before .before .before .before .before .before .before .before .before .if2 .left) .1))))
 
 -- src/solve.rt:339:5
 some-solution-add-requires : (t : ℕ) → some-solution-lts.Need-add-requires (
@@ -434,7 +435,7 @@ some-solution-returns-4 : (t : ℕ) → some-solution-lts.Need-returns-4 (
   add-reads.Asked,
   add-reads.Learnt,
 ) (some-solution-at t) some-solution.Post
-some-solution-returns-4 t c = let u = (stepped-split _ _ _ (c .before .before .before .before .before .before .before .before .before .before .before .before .before .before .before .before .before .before .before .before .before .before .before .before .before .before .before .before .before .before .next-step .result .done) (c .before .before .before .before .before .before .before .before .before .before .before .before .before .before .before .before .before .before .before .before .before .before .before .before .before .before .before .before .before .before .next-step .result .found) _ _ _ (c .before .before .before .before .before .before .before .before .before .before .before .before .before .before .before .before .before .before .before .before .before .before .before .before .before .before .before .before .before .before .next-step .ensures .0) (c .before .before .before .before .before .before .before .before .before .before .before .before .before .before .before .before .before .before .before .before .before .before .before .before .before .before .before .if1 .left)) in (merged-refutes _ (c .before .before .before .before .before .before .before .before .before .before .before .before .before .before .before .before .before .before .before .before .before .before .before .before .before .before .before .before .before .before .before .before .before .before .before .before .before .before .pre .1 .0 .passed) _ _ (c .before .before .before .before .before .before .before .before .before .before .before .before .before .before .before .before .before .before .before .before .before .before .before .before .before .before .before .before .before .before .before .before .before .before .before .before .before .before .pre .1 .1 .0) _ (u .1) _ _ (c .before .before .before .before .before .before .before .before .before .before .before .before .before .before .before .before .before .before .before .before .before .before .before .before .take .ensures .0) (c .before .before .before .before .before .before .before .before .before .before .before .before .before .before .before .before .before .before .before .before .before .before .before .before .take .ensures .1) _ _ (c .before .before .before .before .before .before .before .before .before .before .before .before .before .before .before .leave .ensures .0) (c .before .before .before .before .before .before .before .before .before .before .before .before .before .before .before .leave .ensures .1) _ _ _ _ (answers-none _ _ _ (c .before .before .before .before .before .before .before .before .before .before .before .before .before .before .before .before .before .before .before .before .before .before .some-solution .result .found) _ _ (c .before .before .before .before .before .before .before .before .before .before .before .before .before .before .before .before .before .before .before .before .before .before .some-solution .ensures .0) (or-none _ _ (c .before .before .before .before .before .before .before .before .before .before .before .before .before .before .before .before .if2 .left) .0)) (answers-none _ _ _ (c .before .before .before .before .before .before .before .before .before .before .before .before .before .some-solution2 .result .found) _ _ (c .before .before .before .before .before .before .before .before .before .before .before .before .before .some-solution2 .ensures .0) (or-none _ _ (c .before .before .before .before .before .before .before .if3 .left) .0)) _ _ (c .before .before .before .before .before .before .merge .ensures), nogoods-added _ _ _ _ _ (c .before .before .before .before .before .before .before .before .before .before .before .before .before .some-solution2 .ensures .1) ((merged-refutes _ (c .before .before .before .before .before .before .before .before .before .before .before .before .before .before .before .before .before .before .before .before .before .before .before .before .before .before .before .before .before .before .before .before .before .before .before .before .before .before .pre .1 .0 .passed) _ _ (c .before .before .before .before .before .before .before .before .before .before .before .before .before .before .before .before .before .before .before .before .before .before .before .before .before .before .before .before .before .before .before .before .before .before .before .before .before .before .pre .1 .1 .0) _ (u .1) _ _ (c .before .before .before .before .before .before .before .before .before .before .before .before .before .before .before .before .before .before .before .before .before .before .before .before .take .ensures .0) (c .before .before .before .before .before .before .before .before .before .before .before .before .before .before .before .before .before .before .before .before .before .before .before .before .take .ensures .1) _ _ (c .before .before .before .before .before .before .before .before .before .before .before .before .before .before .before .leave .ensures .0) (c .before .before .before .before .before .before .before .before .before .before .before .before .before .before .before .leave .ensures .1) _ _ _ _ (answers-none _ _ _ (c .before .before .before .before .before .before .before .before .before .before .before .before .before .before .before .before .before .before .before .before .before .before .some-solution .result .found) _ _ (c .before .before .before .before .before .before .before .before .before .before .before .before .before .before .before .before .before .before .before .before .before .before .some-solution .ensures .0) (or-none _ _ (c .before .before .before .before .before .before .before .before .before .before .before .before .before .before .before .before .if2 .left) .0)) (answers-none _ _ _ (c .before .before .before .before .before .before .before .before .before .before .before .before .before .some-solution2 .result .found) _ _ (c .before .before .before .before .before .before .before .before .before .before .before .before .before .some-solution2 .ensures .0) (or-none _ _ (c .before .before .before .before .before .before .before .if3 .left) .0)) _ _ (c .before .before .before .before .before .before .merge .ensures)) .none) (c .before .before .add .ensures))
+some-solution-returns-4 t c = let u = (stepped-split _ _ _ (c .before .before .before .before .before .before .before .before .before .before .before .before .before .before .before .before .before .before .before .before .before .before .before .before .before .before .before .before .before .before .next-step .result .done) (c .before .before .before .before .before .before .before .before .before .before .before .before .before .before .before .before .before .before .before .before .before .before .before .before .before .before .before .before .before .before .next-step .result .found) _ _ _ (c .before .before .before .before .before .before .before .before .before .before .before .before .before .before .before .before .before .before .before .before .before .before .before .before .before .before .before .before .before .before .next-step .ensures .0) (c .before .before .before .before .before .before .before .before .before .before .before .before .before .before .before .before .before .before .before .before .before .before .before .before .before .before .before .if1 .left)) in (merged-refutes _ (c .before .before .before .before .before .before .before .before .before .before .before .before .before .before .before .before .before .before .before .before .before .before .before .before .before .before .before .before .before .before .before .before .before .before .before .before .before .before .pre .1 .0 .passed) _ _ (c .before .before .before .before .before .before .before .before .before .before .before .before .before .before .before .before .before .before .before .before .before .before .before .before .before .before .before .before .before .before .before .before .before .before .before .before .before .before .pre .1 .1 .0) _ (u .1) _ _ (c .before .before .before .before .before .before .before .before .before .before .before .before .before .before .before .before .before .before .before .before .before .before .before .before .take .ensures .0) (c .before .before .before .before .before .before .before .before .before .before .before .before .before .before .before .before .before .before .before .before .before .before .before .before .take .ensures .1) _ _ (c .before .before .before .before .before .before .before .before .before .before .before .before .before .before .before .leave .ensures .0) (c .before .before .before .before .before .before .before .before .before .before .before .before .before .before .before .leave .ensures .1) _ _ _ _ (answers-none _ _ _ (c .before .before .before .before .before .before .before .before .before .before .before .before .before .before .before .before .before .before .before .before .before .before .some-solution .result .found) _ _ (c .before .before .before .before .before .before .before .before .before .before .before .before .before .before .before .before .before .before .before .before .before .before .some-solution .ensures .0) (any-false _ _ (c .before .before .before .before .before .before .before .before .before .before .before .before .before .before .before .before .if2 .left) .0)) (answers-none _ _ _ (c .before .before .before .before .before .before .before .before .before .before .before .before .before .some-solution2 .result .found) _ _ (c .before .before .before .before .before .before .before .before .before .before .before .before .before .some-solution2 .ensures .0) (any-false _ _ (c .before .before .before .before .before .before .before .if3 .left) .0)) _ _ (c .before .before .before .before .before .before .merge .ensures), nogoods-added _ _ _ _ _ (c .before .before .before .before .before .before .before .before .before .before .before .before .before .some-solution2 .ensures .1) ((merged-refutes _ (c .before .before .before .before .before .before .before .before .before .before .before .before .before .before .before .before .before .before .before .before .before .before .before .before .before .before .before .before .before .before .before .before .before .before .before .before .before .before .pre .1 .0 .passed) _ _ (c .before .before .before .before .before .before .before .before .before .before .before .before .before .before .before .before .before .before .before .before .before .before .before .before .before .before .before .before .before .before .before .before .before .before .before .before .before .before .pre .1 .1 .0) _ (u .1) _ _ (c .before .before .before .before .before .before .before .before .before .before .before .before .before .before .before .before .before .before .before .before .before .before .before .before .take .ensures .0) (c .before .before .before .before .before .before .before .before .before .before .before .before .before .before .before .before .before .before .before .before .before .before .before .before .take .ensures .1) _ _ (c .before .before .before .before .before .before .before .before .before .before .before .before .before .before .before .leave .ensures .0) (c .before .before .before .before .before .before .before .before .before .before .before .before .before .before .before .leave .ensures .1) _ _ _ _ (answers-none _ _ _ (c .before .before .before .before .before .before .before .before .before .before .before .before .before .before .before .before .before .before .before .before .before .before .some-solution .result .found) _ _ (c .before .before .before .before .before .before .before .before .before .before .before .before .before .before .before .before .before .before .before .before .before .before .some-solution .ensures .0) (any-false _ _ (c .before .before .before .before .before .before .before .before .before .before .before .before .before .before .before .before .if2 .left) .0)) (answers-none _ _ _ (c .before .before .before .before .before .before .before .before .before .before .before .before .before .some-solution2 .result .found) _ _ (c .before .before .before .before .before .before .before .before .before .before .before .before .before .some-solution2 .ensures .0) (any-false _ _ (c .before .before .before .before .before .before .before .if3 .left) .0)) _ _ (c .before .before .before .before .before .before .merge .ensures)) .none) (c .before .before .add .ensures))
 
 pub +some-solution-spec : {M : Type 1} → statement M
 +some-solution-spec = close μ-some-solution λ t. some-solution-lts.spec (
