@@ -1,31 +1,30 @@
 -- From the search to the answer: where it starts, and what is written.
-use Prim.Native.Nat.{ℕ, zero, suc, _+_, _*_, _-_, _/_, _%_, _^_, _<_, _≤_}
+use Prim.Native.Nat.{ℕ, zero, suc, _+_, _*_, _-_, _%_, _^_, _<_, _≤_}
 use mathlib.Core.Path.{_≡_, refl, sym, ap, _∙_, subst}
 use mathlib.Core.List.{List, [], _∷_}
 use mathlib.Core.Bool.{Bool, true, false}
-use mathlib.Core.Logic.{_⊎_, inl, inr, ⊎-elim}
+use mathlib.Core.Logic.{inl, inr, ⊎-elim}
 use native.Mathlib.Omega.{arith}
 use native.Mathlib.Nat.{mod-eq-of-lt}
 use lib.Pow.{pow-pos, pow-lt, ones-lt}
-use lib.Bits.{bitAnd, and-mask}
-use lib.ListN.{length, getD, take, drop, set, length-set, length-take, length-drop}
+use lib.Bits.{and-mask}
+use lib.ListN.{length, getD, take, drop, set, length-set, length-drop}
 use lib.Seq.{getD-set-same, getD-set-other, getD-take, getD-drop, length-take-le, ext-getD}
 use Rattle.subsumption.specs.declared.refusal.Outcome.{Outcome}
 use Rattle.subsumption.specs.declared.refusal.Outcome.the-variants.{Done, Refused}
 use Rattle.subsumption.specs.declared.refusal.Refusal.{Refusal}
 use Rattle.subsumption.specs.declared.refusal.Refusal.the-variants.{BufferTooShort, NoAssignment}
-use Rattle.subsumption.specs.Tables.{Tables, both}
+use Rattle.subsumption.specs.Tables.{Tables}
 use Rattle.subsumption.specs.Atoms.{atoms, bit}
 use Rattle.subsumption.specs.Check.{tableFault, assignmentFault, bufferFault}
 use Rattle.subsumption.specs.Refusal.{replyRefused}
 use Rattle.subsumption.specs.Ground.{Accepted}
-use Rattle.subsumption.proofs.WellFormed.{WellFormed}
 use Rattle.subsumption.proofs.Bools.{last-cases, both-true}
 use Rattle.subsumption.proofs.Bits.{bit-and, bit-pow, bit-of-zero}
 use Rattle.subsumption.proofs.Refusals.{stops, goes-on, done-le, refused-lt}
 use Rattle.subsumption.proofs.Accepted.{wellFormed}
 use Rattle.matching.specs.Solving.{takes, Solves, First}
-use Rattle.matching.specs.Inner.Search.{Within, Between, SolutionIn, NoSolution}
+use Rattle.matching.specs.Inner.Search.{Between, NoSolution}
 use Rattle.matching.specs.Inner.Search.Interval.{IntervalOf}
 use Rattle.matching.specs.Inner.Search.Order.{FirstIn}
 use Rattle.matching.specs.Inner.Find.{Full, Found, FoundBy, Copied}

@@ -11,9 +11,7 @@ use subsumption::helpers::list_asked;
 use subsumption::refusal::Outcome;
 use subsumption::refusal::Refusal;
 ghost use mathlib.Core.Path.{_≡_};
-ghost use mathlib.Core.Bool.{true};
-ghost use Prim.Native.Nat.{_+_, _*_, _<_, _≤_};
-ghost use lib.ListN.{length, set};
+ghost use Prim.Native.Nat.{_<_};
 ghost use Rattle.subsumption.specs.declared.refusal.Refusal.the-variants.{BadDerivation};
 ghost use Rattle.subsumption.specs.declared.refusal.Outcome.the-variants.{Done};
 ghost use Rattle.subsumption.specs.Tables.{tables, countOf};
@@ -21,7 +19,7 @@ ghost use Rattle.subsumption.specs.Refusal.{replyOf, refuseIf};
 ghost use Rattle.subsumption.specs.Closure.{Ready};
 ghost use Rattle.subsumption.specs.Ground.{Prepared, ForAccepted};
 ghost use Rattle.matching.specs.Derivation.{linesOf, noLines, lastFault, checkingFault};
-ghost use Rattle.matching.specs.Inner.Derivation.{Square, MarksOf, LineTest, RulesTest};
+ghost use Rattle.matching.specs.Inner.Derivation.{MarksOf, LineTest, RulesTest};
 
 fn line_follows(
     concepts: &[u16],

@@ -7,7 +7,6 @@ use subsumption::Listed;
 use subsumption::helpers::close_ground;
 use subsumption::list_atoms;
 use subsumption::refusal::Refusal;
-ghost use mathlib.Core.Path.{_≡_};
 ghost use Prim.Native.Nat.{_≤_};
 ghost use lib.ListN.{length};
 ghost use Rattle.subsumption.specs.Tables.{tables};

@@ -1,21 +1,20 @@
 -- Checking lines one after the other, the pairs passed marked.
 use Prim.Native.Nat.{ℕ, _+_, _-_, _*_, _%_, _<_, _≤_}
 use mathlib.Core.Path.{_≡_, refl, sym, ap, _∙_, subst}
-use mathlib.Core.List.{List, _++_}
+use mathlib.Core.List.{List}
 use mathlib.Core.Bool.{Bool, true, false, not, false≢true}
 use mathlib.Core.Logic.{⊎-elim}
 use native.Mathlib.Omega.{arith}
 use native.Mathlib.Numerals.{add-one}
 use lib.Dec.{eqb, ltb}
-use lib.ListN.{length, set, take, drop, replicate, length-replicate, getD-replicate}
-use lib.Seq.{take-append-seam, getD-take, length-take-le}
+use lib.ListN.{length, set, take, replicate, length-replicate, getD-replicate}
+use lib.Seq.{getD-take, length-take-le}
 use borrow.Author.Tests.{eq-eqb, ne-eqb, lt-ltb, le-ltb, eqb-true, eqb-false, not-false}
 use Rattle.subsumption.specs.declared.refusal.Refusal.{Refusal}
 use Rattle.subsumption.specs.declared.refusal.Refusal.the-variants.{BadDerivation}
 use Rattle.subsumption.specs.declared.refusal.Outcome.{Outcome}
 use Rattle.subsumption.specs.declared.refusal.Outcome.the-variants.{Done, Refused}
 use Rattle.subsumption.specs.Tables.{Tables, or, both, anyBelow, countOf}
-use Rattle.subsumption.specs.Atoms.{atoms}
 use Rattle.subsumption.specs.Closure.{Ready}
 use Rattle.subsumption.specs.Refusal.{refuseIf}
 use Rattle.subsumption.specs.Check.{pairFault}

@@ -1,21 +1,20 @@
 -- Bits of choices: setting and clearing one, and choices that agree in every bit.
-use Prim.Native.Nat.{ℕ, zero, suc, _+_, _*_, _-_, _/_, _%_, _^_, _<_, _≤_}
-use mathlib.Core.Path.{_≡_, refl, sym, ap, _∙_, subst}
+use Prim.Native.Nat.{ℕ, zero, suc, _+_, _*_, _/_, _%_, _^_, _<_, _≤_}
+use mathlib.Core.Path.{_≡_, sym, ap, _∙_, subst}
 use mathlib.Core.List.{List}
-use mathlib.Core.Bool.{Bool, true, false, not, false≢true, true≢false}
-use mathlib.Core.Logic.{_⊎_, inl, inr, ⊎-elim}
+use mathlib.Core.Bool.{Bool, true, false, not}
+use mathlib.Core.Logic.{⊎-elim}
 use native.Mathlib.Omega.{arith}
-use native.Mathlib.Nat.{div-eq-of-lt, mod-eq-of-lt, pow-suc, div-div-eq-div-mul}
-use lib.Pow.{pow-pos, pow-lt, pow-add}
+use native.Mathlib.Nat.{mod-eq-of-lt}
+use lib.Pow.{pow-lt}
 use lib.Dec.{eqb}
-use lib.Bits.{bitAnd, bitOr, bitXor, xor-shr, xor-add-and}
-use lib.ListN.{length, getD, set, length-set, take}
+use lib.Bits.{bitOr, bitXor, xor-shr, xor-add-and}
+use lib.ListN.{length, getD, set, length-set}
 use lib.Seq.{getD-set-same, getD-set-other}
-use borrow.Author.Tests.{eqb-true, eqb-false, eq-eqb, ne-eqb}
-use Rattle.subsumption.specs.Tables.{both}
+use borrow.Author.Tests.{eqb-true, eq-eqb, ne-eqb}
 use Rattle.subsumption.specs.Atoms.{bit}
 use Rattle.subsumption.proofs.Bools.{eq-or-ne, le-or-lt, same-bool, both-none, both-skip}
-use Rattle.subsumption.proofs.Bits.{bit-or-left, bit-or-right, bit-or-cases, bit-pow, bit-pow-other, bit-half, bit-of-zero}
+use Rattle.subsumption.proofs.Bits.{bit-or-left, bit-or-right, bit-or-cases, bit-pow, bit-pow-other, bit-half}
 use Rattle.matching.specs.Solving.{takes}
 use Rattle.matching.specs.Inner.Search.Pairs.{Changed}
 use Rattle.matching.specs.Inner.Search.Interval.{undecided}

@@ -1,21 +1,19 @@
 -- The choices of the variables: the front of a list of eight numbers.
-use Prim.Native.Nat.{ℕ, zero, suc, _+_, _*_, _-_, _/_, _%_, _^_, _<_, _≤_}
+use Prim.Native.Nat.{ℕ, zero, suc, _+_, _*_, _/_, _%_, _^_, _<_, _≤_}
 use mathlib.Core.Path.{_≡_, refl, sym, ap, _∙_, subst}
 use mathlib.Core.List.{List}
-use mathlib.Core.Bool.{Bool, true, false, not, false≢true, true≢false}
-use mathlib.Core.Logic.{_⊎_, inl, inr, ⊎-elim}
+use mathlib.Core.Bool.{Bool, true, false, not}
+use mathlib.Core.Logic.{⊎-elim}
 use native.Mathlib.Omega.{arith}
 use native.Mathlib.Nat.{div-eq-of-lt, add-zero, mod-lt}
 use native.Mathlib.Numerals.{add-one}
-use lib.Pow.{pow-pos, pow-lt, pow-mono, shr-shr, split}
-use lib.Dec.{eqb, ltb}
+use lib.Pow.{pow-pos, pow-mono, split}
+use lib.Dec.{ltb}
 use lib.ListN.{length, getD, take, length-take, List·getD-eq-default}
-use lib.Seq.{getD-take, length-take-le, ext-getD}
-use borrow.Author.Tests.{eqb-true, eqb-false, eq-eqb, ne-eqb, ltb-true, lt-ltb, not-false}
-use Rattle.subsumption.specs.declared.refusal.Outcome.{Outcome}
+use lib.Seq.{getD-take, ext-getD}
+use borrow.Author.Tests.{eqb-true, ltb-true, lt-ltb, not-false}
 use Rattle.subsumption.specs.declared.refusal.Outcome.the-variants.{Done}
 use Rattle.subsumption.specs.declared.refusal.Refusal.the-variants.{BadAssignment}
-use Rattle.subsumption.specs.Refusal.{firstAt}
 use Rattle.subsumption.specs.Tables.{Tables}
 use Rattle.subsumption.specs.Atoms.{atoms, bit}
 use Rattle.subsumption.specs.Check.{assignmentFaultAt, assignmentFault}
@@ -25,7 +23,7 @@ use Rattle.subsumption.proofs.Refusals.{passed-first, passed-second, passed-if,
 use Rattle.subsumption.proofs.Accepted.{right-count}
 use Rattle.subsumption.proofs.Scans.{Scan, scan-none, scan-more, scan-done}
 use Rattle.matching.specs.Solving.{takes}
-use Rattle.matching.specs.Inner.Search.{Within, Between}
+use Rattle.matching.specs.Inner.Search.{Within}
 use Rattle.matching.proofs.SearchLaws.Choices.{same-bits}
 
 -- ---- bits and bounds

@@ -8,15 +8,13 @@ use native.Mathlib.Omega.{arith}
 use lib.ListN.{length, take}
 use lib.Seq.{length-take-le}
 use Rattle.subsumption.specs.declared.refusal.Outcome.the-variants.{Done}
-use Rattle.subsumption.specs.Tables.{Tables, both, pairsOf, leftOf, rightOf, tree, hasVariable}
-use Rattle.subsumption.specs.Atoms.{atoms}
+use Rattle.subsumption.specs.Tables.{Tables, pairsOf, leftOf, rightOf, tree, hasVariable}
 use Rattle.subsumption.specs.Subsumption.{Subsumed}
 use Rattle.subsumption.specs.Check.{tableFault, assignmentFault}
-use Rattle.subsumption.proofs.WellFormed.{WellFormed}
 use Rattle.subsumption.proofs.Bools.{both-true, both-intro, eq-or-ne, last-cases}
 use Rattle.subsumption.proofs.Accepted.{wellFormed}
 use Rattle.matching.specs.Solving.{takes, Solves}
-use Rattle.matching.specs.Inner.Search.{Decided, Hold, Within, Between, SolutionIn, NoSolution}
+use Rattle.matching.specs.Inner.Search.{Decided, Hold, Within, SolutionIn, NoSolution}
 use Rattle.matching.specs.Inner.Search.Pairs.{Changed}
 use Rattle.matching.specs.Inner.Search.Interval.{IntervalOf, undecided, one, counted, openPairs, Picked}
 use Rattle.matching.specs.Inner.Search.Solve.{Refuted}

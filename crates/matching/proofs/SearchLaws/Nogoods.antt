@@ -1,13 +1,13 @@
 -- Nogoods in their list.
-use Prim.Native.Nat.{ℕ, _+_, _*_, _-_, _<_, _≤_}
+use Prim.Native.Nat.{ℕ, _+_, _*_, _<_, _≤_}
 use mathlib.Core.Path.{_≡_, refl, sym, ap, _∙_, subst}
 use mathlib.Core.List.{List}
 use mathlib.Core.Logic.{_⊎_, inl, inr, ⊎-elim}
 use native.Mathlib.Omega.{arith}
-use lib.ListN.{length, getD, set, take, drop, length-set, length-drop}
+use lib.ListN.{length, getD, set, drop, length-set, length-drop}
 use lib.Seq.{getD-set-same, getD-set-other, getD-take, getD-drop, length-take-le, ext-getD}
 use Rattle.subsumption.specs.Tables.{Tables}
-use Rattle.subsumption.proofs.Bools.{last-cases, le-or-lt}
+use Rattle.subsumption.proofs.Bools.{last-cases}
 use Rattle.matching.specs.Inner.Search.{NoSolution}
 use Rattle.matching.specs.Inner.Search.Nogoods.{words, used, lowAt, highAt, Room, Nogoods, Put, Kept, Added}
 

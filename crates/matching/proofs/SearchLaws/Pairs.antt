@@ -2,7 +2,7 @@
 use Prim.Native.Nat.{ℕ, _+_, _<_, _≤_}
 use mathlib.Core.Path.{_≡_, refl, sym, ap, ap₂, _∙_, subst}
 use mathlib.Core.List.{List}
-use mathlib.Core.Bool.{Bool, true, false, not, true≢false}
+use mathlib.Core.Bool.{Bool, true, false}
 use mathlib.Core.Logic.{_⊎_, inl, inr, ⊎-elim}
 use native.Mathlib.Omega.{arith}
 use lib.Bits.{bitAnd, bitOr}
@@ -11,10 +11,10 @@ use lib.Seq.{getD-set-same, getD-set-other}
 use Rattle.subsumption.specs.Tables.{or, both}
 use Rattle.subsumption.specs.Atoms.{bit}
 use Rattle.subsumption.proofs.Bools.{last-cases, le-or-lt, both-true, both-intro}
-use Rattle.subsumption.proofs.Bits.{bit-or, bit-and, bit-or-left, bit-or-right, bit-or-cases, bit-of-zero}
+use Rattle.subsumption.proofs.Bits.{bit-or, bit-and, bit-or-left, bit-or-cases, bit-of-zero}
 use Rattle.matching.specs.Solving.{takes}
 use Rattle.matching.specs.Inner.Search.{Within}
-use Rattle.matching.specs.Inner.Search.Pairs.{Joined, Met, Contained}
+use Rattle.matching.specs.Inner.Search.Pairs.{Joined, Met}
 use Rattle.matching.specs.Inner.Search.Widen.{Mixed}
 
 -- past the eight numbers nothing is taken

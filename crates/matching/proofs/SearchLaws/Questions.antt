@@ -1,22 +1,18 @@
 -- A look at the questions, and what closed columns tell of them.
-use Prim.Native.Nat.{ℕ, _+_, _*_, _<_, _≤_}
+use Prim.Native.Nat.{ℕ, _+_, _<_, _≤_}
 use mathlib.Core.Path.{_≡_, refl, sym, ap, _∙_, subst}
 use mathlib.Core.List.{List}
 use mathlib.Core.Bool.{Bool, true, false, not, Bool·beq, false≢true, true≢false}
-use mathlib.Core.Logic.{_⊎_, inl, inr, ⊎-elim}
+use mathlib.Core.Logic.{⊎-elim}
 use native.Mathlib.Omega.{arith}
-use lib.Dec.{eqb}
-use lib.ListN.{length, getD}
 use Rattle.subsumption.specs.declared.refusal.Outcome.the-variants.{Done}
 use Rattle.subsumption.specs.declared.tables.Pair.{Pair}
 use Rattle.subsumption.specs.TableRows.{pairOf}
-use Rattle.subsumption.specs.Tables.{Tables, countOf, pairsOf, leftOf, rightOf, tree, hasVariable}
-use Rattle.subsumption.specs.Subsumption.{Subsumed}
+use Rattle.subsumption.specs.Tables.{Tables, pairsOf, leftOf, rightOf}
 use Rattle.subsumption.specs.Check.{tableFault}
 use Rattle.subsumption.specs.Closure.{has}
 use Rattle.subsumption.specs.Ground.{ColumnsOf}
 use Rattle.subsumption.specs.Marks.{Layered, Known, VariableMarks, markAt}
-use Rattle.subsumption.proofs.WellFormed.{WellFormed}
 use Rattle.subsumption.proofs.Bools.{last-cases}
 use Rattle.subsumption.proofs.Accepted.{wellFormed, table-concepts, concepts-layered}
 use Rattle.matching.specs.Inner.Search.{Decided, Hold}

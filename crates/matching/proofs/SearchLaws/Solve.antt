@@ -3,12 +3,12 @@ use Prim.Native.Nat.{ℕ, _+_, _*_, _/_, _%_, _<_, _≤_}
 use mathlib.Core.Path.{_≡_, refl, sym, ap, _∙_, subst}
 use mathlib.Core.List.{List}
 use mathlib.Core.Bool.{Bool, true, false, not, _||_, _&&_, false≢true, true≢false}
-use mathlib.Core.Logic.{_⊎_, inl, inr, ⊎-elim}
+use mathlib.Core.Logic.{⊎-elim}
 use native.Mathlib.Omega.{arith}
 use lib.ListN.{length, take, getD}
 use lib.Seq.{length-take-le}
 use Rattle.subsumption.specs.declared.refusal.Outcome.the-variants.{Done}
-use Rattle.subsumption.specs.Tables.{Tables, or, both}
+use Rattle.subsumption.specs.Tables.{Tables}
 use Rattle.subsumption.specs.Atoms.{bit}
 use Rattle.subsumption.specs.Check.{tableFault, assignmentFault}
 use Rattle.subsumption.proofs.Bools.{or-cases, or-first, or-second, both-true, both-intro}
@@ -16,18 +16,18 @@ use Rattle.subsumption.proofs.Bits.{bit-of-zero}
 use Rattle.subsumption.proofs.Accepted.{wellFormed}
 use Rattle.subsumption.proofs.Columns.{any-false}
 use Rattle.matching.specs.Solving.{takes}
-use Rattle.matching.specs.Inner.Search.{Decided, Hold, Within, Between, SolutionIn, NoSolution}
-use Rattle.matching.specs.Inner.Search.Pairs.{Changed, Joined, Met, Contained}
+use Rattle.matching.specs.Inner.Search.{Decided, Hold, Within, SolutionIn, NoSolution}
+use Rattle.matching.specs.Inner.Search.Pairs.{Changed, Contained}
 use Rattle.matching.specs.Inner.Search.Interval.{IntervalOf, undecided, Picked}
 use Rattle.matching.specs.declared.search.interval.Pick.{Pick}
-use Rattle.matching.specs.declared.search.interval.Pick.the-variants.{At, Nothing}
+use Rattle.matching.specs.declared.search.interval.Pick.the-variants.{Nothing}
 use Rattle.matching.specs.Inner.Search.Nogoods.{used, lowAt, highAt, Nogoods}
 use Rattle.matching.specs.Inner.Search.Widen.{Mixed, Widened}
 use Rattle.matching.specs.Inner.Search.Solve.{Refuted, Answers, CanSplit, Stepped, Known, Recalled, Merged}
 use Rattle.matching.proofs.SearchLaws.Fronts.{front-known, front-takes, front-within, within-accepted}
 use Rattle.matching.proofs.SearchLaws.Pairs.{mixed-same, mixed-again, mixed-within}
 use Rattle.matching.proofs.SearchLaws.Nogoods.{words-long}
-use Rattle.matching.proofs.SearchLaws.Interval.{at-pair, grown, grown-cases, shrunk, shrunk-cases, holds-solve, low-shuts, high-shuts, decided-shut, picked-at, picked-none, take-found, leave-found, open-high, open-low}
+use Rattle.matching.proofs.SearchLaws.Interval.{at-pair, grown, grown-cases, shrunk, shrunk-cases, holds-solve, low-shuts, high-shuts, decided-shut, picked-none, take-found, leave-found}
 
 -- ---- carrying a failed test on
 module _ (t : Tables) (h : tableFault t ≡ Done) (full choice target : List ℕ) (i : IntervalOf t choice full) (j : IntervalOf t target full) where

@@ -8,7 +8,7 @@ use native.Mathlib.Omega.{arith}
 use lib.Dec.{eqb}
 use lib.ListN.{length, getD, set, take, replicate}
 use borrow.Author.Tests.{ltb-true}
-use Rattle.subsumption.specs.Tables.{or, both, countOf}
+use Rattle.subsumption.specs.Tables.{both, countOf}
 use Rattle.subsumption.specs.Closure.{Ready}
 use Rattle.subsumption.specs.Rules.{follows}
 use Rattle.subsumption.proofs.Bools.{both-true, last-cases, or-skip}

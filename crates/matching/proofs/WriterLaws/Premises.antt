@@ -10,7 +10,7 @@ use lib.Dec.{ltb}
 use borrow.Author.Tests.{ltb-true, lt-ltb}
 use Rattle.subsumption.specs.declared.tables.Row.{Row}
 use Rattle.subsumption.specs.declared.tables.Pair.{Pair}
-use Rattle.subsumption.specs.Tables.{Tables, or, both, Node, topAt, nameAt, existsAt, andAt, varAt, node, countOf, pairsOf, leftOf, rightOf}
+use Rattle.subsumption.specs.Tables.{Tables, both, Node, topAt, nameAt, existsAt, andAt, varAt, node, countOf, pairsOf, leftOf, rightOf}
 use Rattle.subsumption.specs.TableRows.{rowOf, pairOf}
 use Rattle.subsumption.specs.Atoms.{chosen, pick}
 use Rattle.subsumption.specs.Rules.{every, contains, onPicked, byRule}

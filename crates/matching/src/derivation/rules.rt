@@ -5,7 +5,7 @@ use subsumption::helpers::Row;
 use subsumption::helpers::pair_at;
 use subsumption::helpers::row_at;
 ghost use mathlib.Core.Path.{_≡_};
-ghost use Prim.Native.Nat.{ℕ, _<_, _≤_};
+ghost use Prim.Native.Nat.{_<_, _≤_};
 ghost use lib.Dec.{eqb, ltb};
 ghost use lib.ListN.{length, getD};
 ghost use Rattle.subsumption.specs.Tables.{or, both, countOf, pairsOf, leftOf, rightOf};

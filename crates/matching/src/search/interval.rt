@@ -4,7 +4,7 @@ use crate::search::pairs::with_pair;
 use crate::search::pairs::without_pair;
 ghost use mathlib.Core.Path.{_≡_};
 ghost use mathlib.Core.Bool.{true, false};
-ghost use Prim.Native.Nat.{_-_, _<_, _≤_, _/_, _%_, _^_};
+ghost use Prim.Native.Nat.{_-_, _<_, _≤_, _^_};
 ghost use lib.ListN.{length};
 ghost use Rattle.subsumption.specs.Atoms.{bit};
 ghost use Rattle.matching.specs.Solving.{takes};

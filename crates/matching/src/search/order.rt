@@ -2,7 +2,6 @@
 use crate::search::interval::Interval;
 use crate::search::interval::has_bit;
 use crate::search::solve::some_solution;
-ghost use mathlib.Core.Path.{_≡_};
 ghost use Rattle.subsumption.specs.Tables.{tables};
 ghost use Rattle.matching.specs.Inner.Search.Interval.{IntervalOf};
 ghost use Rattle.matching.specs.Inner.Search.{Prepared, SolutionIn};

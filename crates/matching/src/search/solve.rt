@@ -18,7 +18,7 @@ use crate::search::pairs::without_pair;
 use crate::search::questions::questions_hold;
 use crate::search::widen::widen;
 ghost use mathlib.Core.Path.{_≡_};
-ghost use mathlib.Core.Bool.{true, false};
+ghost use mathlib.Core.Bool.{true};
 ghost use Prim.Native.Nat.{_<_};
 ghost use lib.ListN.{length};
 ghost use Rattle.subsumption.specs.Tables.{tables};

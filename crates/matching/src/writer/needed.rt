@@ -6,14 +6,12 @@ use subsumption::helpers::Row;
 use subsumption::helpers::pair_at;
 use subsumption::helpers::row_at;
 ghost use mathlib.Core.Path.{_≡_};
-ghost use mathlib.Core.Bool.{true};
-ghost use Prim.Native.Nat.{ℕ, _*_, _<_, _≤_};
+ghost use Prim.Native.Nat.{_*_, _<_, _≤_};
 ghost use lib.ListN.{length, getD};
 ghost use Rattle.subsumption.specs.Tables.{countOf, pairsOf, leftOf, rightOf};
 ghost use Rattle.subsumption.specs.Marks.{Known};
 ghost use Rattle.subsumption.specs.Closure.{Rising};
-ghost use Rattle.matching.specs.Derivation.{leftAt, rightAt};
-ghost use Rattle.matching.specs.Inner.Derivation.{Square, seen, nodeOf, KnownAtoms, Numbered};
+ghost use Rattle.matching.specs.Inner.Derivation.{Square, nodeOf, KnownAtoms, Numbered};
 ghost use Rattle.matching.specs.Inner.Writer.{Grounds, Noted};
 ghost use Rattle.matching.specs.Inner.Writer.Needed.{Enough, Grown, TwoMarked, AllMarked, innerAt, MarkedIf, AllMarkedIf, Needs};
 

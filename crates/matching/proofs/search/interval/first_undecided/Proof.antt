@@ -6,9 +6,6 @@ use borrow.Author.Count.{below-more}
 use Rattle.matching.specs.Inner.Search.Interval.{undecided}
 use Rattle.matching.proofs.search.interval.first_undecided.Statement.{statement}
 use Rattle.matching.proofs.search.interval.first_undecided.Tie as tie
-use Rattle.matching.proofs.search.interval.first_undecided.Reads as reads
-use Rattle.matching.proofs.search.interval.first_undecided.Lts as lts
-use Rattle.matching.proofs.search.interval.Interval.is_undecided.Reads as is-undecided-reads
 
 abbrev Inv-loop : tie.InvT-loop
 Inv-loop interval p₀ p = (j : ℕ) → j < p → undecided (interval .low) (interval .high) j ≡ false
@@ -16,31 +13,24 @@ Inv-loop interval p₀ p = (j : ℕ) → j < p → undecided (interval .low) (in
 abbrev μ-loop : tie.MeasureT-loop
 μ-loop interval p₀ p = 512 - p
 
--- src/interval.rt:72:5
 loop-holds : tie.Need-loop-holds Inv-loop μ-loop
 loop-holds c = λ j l. absurd (omega arith)
 
--- src/interval.rt:73:12
 is-undecided-requires : tie.Need-is-undecided-requires Inv-loop μ-loop
 is-undecided-requires c κs = omega arith
 
--- src/interval.rt:74:13
 returns : tie.Need-returns Inv-loop μ-loop
 returns c = (omega arith, sym (c .before .is-undecided .ensures) ∙ c .if1 .taken)
 
--- src/interval.rt:76:9
 add-p : tie.Need-add-p Inv-loop μ-loop
 add-p c = omega arith
 
--- src/interval.rt:72:5
 loop-less : tie.Need-loop-less Inv-loop μ-loop
 loop-less c = omega arith
 
--- src/interval.rt:72:5
 loop-again : tie.Need-loop-again Inv-loop μ-loop
 loop-again c = below-more _ _ (c .before .before .before .loop .inv) (sym (c .before .is-undecided .ensures) ∙ c .if1 .left)
 
--- src/interval.rt:68:1
 returns-2 : tie.Need-returns-2 Inv-loop μ-loop
 returns-2 c = λ p l. c .before .loop .inv p (omega arith)
 

@@ -3,14 +3,10 @@ use Rattle.subsumption.specs.Atoms.{bit}
 use borrow.Author.Needs.{needs}
 use Rattle.matching.proofs.search.interval.has_bit.Statement.{statement}
 use Rattle.matching.proofs.search.interval.has_bit.Tie as tie
-use Rattle.matching.proofs.search.interval.has_bit.Reads as reads
-use Rattle.matching.proofs.search.interval.has_bit.Lts as lts
 
--- src/interval.rt:20:6
 shr-result : tie.Need-shr-result
 shr-result c = search needs
 
--- src/interval.rt:16:1
 returns : tie.Need-returns
 unfolding bit
 returns c = refl

@@ -3,22 +3,16 @@ use Rattle.matching.proofs.FindLaws.{ones-all, ones-room, ones-some}
 use borrow.Author.Needs.{needs}
 use Rattle.matching.proofs.search.interval.ones.Statement.{statement}
 use Rattle.matching.proofs.search.interval.ones.Tie as tie
-use Rattle.matching.proofs.search.interval.ones.Reads as reads
-use Rattle.matching.proofs.search.interval.ones.Lts as lts
 
--- src/find.rt:42:9
 returns : tie.Need-returns
 returns c = ones-all _ (c .if1 .taken)
 
--- src/find.rt:44:6
 shl-result : tie.Need-shl-result
 shl-result c = search needs
 
--- src/find.rt:44:5
 sub-result : tie.Need-sub-result
 sub-result c = ones-room _ (omega arith)
 
--- src/find.rt:37:1
 returns-2 : tie.Need-returns-2
 returns-2 c = ones-some _ (omega arith)
 

@@ -4,51 +4,37 @@ use mathlib.Core.Path.{_∙_}
 use native.Mathlib.Omega.{arith}
 use Rattle.matching.proofs.search.nogoods.add.Statement.{statement}
 use Rattle.matching.proofs.search.nogoods.add.Tie as tie
-use Rattle.matching.proofs.search.nogoods.add.Reads as reads
-use Rattle.matching.proofs.search.nogoods.add.Lts as lts
-use Rattle.matching.proofs.search.nogoods.put.Reads as put-reads
 
--- src/nogoods.rt:43:18
 slice-read-filled : tie.Need-slice-read-filled
 slice-read-filled c = omega arith
 
--- src/nogoods.rt:45:9
 returns : tie.Need-returns
 returns c = added-none _ _ _ (c .before .before .before .pre .0)
 
--- src/nogoods.rt:47:14
 mul-at : tie.Need-mul-at
 mul-at c = omega arith
 
--- src/nogoods.rt:48:16
 add-put : tie.Need-add-put
 add-put c = omega arith
 
--- src/nogoods.rt:48:5
 put-requires : tie.Need-put-requires
 put-requires c κs = omega arith
 
--- src/nogoods.rt:49:16
 add-put-2 : tie.Need-add-put-2
 add-put-2 c = omega arith
 
--- src/nogoods.rt:49:5
 put-requires-2 : tie.Need-put-requires-2
 put-requires-2 c κs = omega arith
 
--- src/nogoods.rt:50:16
 add-store : tie.Need-add-store
 add-store c = omega arith
 
--- src/nogoods.rt:50:5
 slice-write-store : tie.Need-slice-write-store
 slice-write-store c = omega arith
 
--- src/nogoods.rt:38:1
 same-length : tie.Need-same-length
 same-length c = simp length-set (c .before .before .put2 .ensures .size ∙ c .before .before .before .before .before .before .put .ensures .size)
 
--- src/nogoods.rt:38:1
 returns-2 : tie.Need-returns-2
 returns-2 c = added-one _ _ _ _ _ (c .before .before .before .before .before .before .before .before .before .before .before .pre .0) (omega arith) (c .before .before .before .before .before .before .before .before .before .before .before .pre .1 .1 .0) (c .before .before .before .before .before .before .before .before .before .before .before .pre .1 .1 .1) (c .before .before .before .before .before .before .put .ensures) (c .before .before .put2 .ensures)
 

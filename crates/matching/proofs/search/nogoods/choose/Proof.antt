@@ -1,10 +1,7 @@
-use Prim.Native.Nat.{_+_, _-_, _*_, _≤_}
+use Prim.Native.Nat.{_-_, _≤_}
 use native.Mathlib.Omega.{arith}
 use Rattle.matching.proofs.search.nogoods.choose.Statement.{statement}
 use Rattle.matching.proofs.search.nogoods.choose.Tie as tie
-use Rattle.matching.proofs.search.nogoods.choose.Reads as reads
-use Rattle.matching.proofs.search.nogoods.choose.Lts as lts
-use Rattle.matching.proofs.search.nogoods.weigh.Reads as weigh-reads
 
 abbrev Inv-loop : tie.InvT-loop
 Inv-loop store interval count fewest₀ pair₀ c₀ fewest pair c = c ≤ count
@@ -12,51 +9,39 @@ Inv-loop store interval count fewest₀ pair₀ c₀ fewest pair c = c ≤ count
 abbrev μ-loop : tie.MeasureT-loop
 μ-loop store interval count fewest₀ pair₀ c₀ fewest pair c = count - c
 
--- src/nogoods.rt:133:17
 shared-slice-read-count : tie.Need-shared-slice-read-count Inv-loop μ-loop
 shared-slice-read-count c = omega (arith, c .before .before .pre .long)
 
--- src/nogoods.rt:137:5
 loop-holds : tie.Need-loop-holds Inv-loop μ-loop
 loop-holds c = omega arith
 
--- src/nogoods.rt:138:35
 mul-weigh : tie.Need-mul-weigh Inv-loop μ-loop
 mul-weigh c = omega (arith, c .before .before .before .before .pre .few)
 
--- src/nogoods.rt:138:35
 add-weigh : tie.Need-add-weigh Inv-loop μ-loop
 add-weigh c = omega (arith, c .before .before .before .before .pre .few)
 
--- src/nogoods.rt:138:13
 weigh-requires : tie.Need-weigh-requires Inv-loop μ-loop
 weigh-requires c κs = omega (arith, c .before .before .before .before .pre .few, c .before .before .before .before .pre .long)
 
--- src/nogoods.rt:141:9
 add-c : tie.Need-add-c Inv-loop μ-loop
 add-c c = omega arith
 
--- src/nogoods.rt:143:13
 returns : tie.Need-returns Inv-loop μ-loop
 returns c = omega arith
 
--- src/nogoods.rt:137:5
 loop-less : tie.Need-loop-less Inv-loop μ-loop
 loop-less c = omega arith
 
--- src/nogoods.rt:137:5
 loop-again : tie.Need-loop-again Inv-loop μ-loop
 loop-again c = omega arith
 
--- src/nogoods.rt:137:5
 loop-less-2 : tie.Need-loop-less-2 Inv-loop μ-loop
 loop-less-2 c = omega arith
 
--- src/nogoods.rt:137:5
 loop-again-2 : tie.Need-loop-again-2 Inv-loop μ-loop
 loop-again-2 c = omega arith
 
--- src/nogoods.rt:129:1
 returns-2 : tie.Need-returns-2 Inv-loop μ-loop
 returns-2 c = omega arith
 

@@ -1,11 +1,8 @@
-use Prim.Native.Nat.{_+_, _-_, _*_, _≤_}
+use Prim.Native.Nat.{_-_}
 use native.Mathlib.Omega.{arith}
-use mathlib.Core.Path.{refl, sym, _∙_}
 use Rattle.matching.proofs.SearchLaws.Nogoods.{Putting, putting-none, putting-more, putting-done}
 use Rattle.matching.proofs.search.nogoods.put.Statement.{statement}
 use Rattle.matching.proofs.search.nogoods.put.Tie as tie
-use Rattle.matching.proofs.search.nogoods.put.Reads as reads
-use Rattle.matching.proofs.search.nogoods.put.Lts as lts
 
 abbrev Inv-loop : tie.InvT-loop
 Inv-loop store₀ at set k₀ store k = Putting at set store₀ store k
@@ -13,47 +10,36 @@ Inv-loop store₀ at set k₀ store k = Putting at set store₀ store k
 abbrev μ-loop : tie.MeasureT-loop
 μ-loop store₀ at set k₀ store k = 8 - k
 
--- src/nogoods.rt:31:5
 loop-holds : tie.Need-loop-holds Inv-loop μ-loop
 loop-holds c = putting-none _ _ _
 
--- src/nogoods.rt:32:25
 mul-store : tie.Need-mul-store Inv-loop μ-loop
 mul-store c = omega arith
 
--- src/nogoods.rt:32:25
 array-read-store : tie.Need-array-read-store Inv-loop μ-loop
 array-read-store c = omega arith
 
--- src/nogoods.rt:32:15
 add-store : tie.Need-add-store Inv-loop μ-loop
 add-store c = omega arith
 
--- src/nogoods.rt:32:9
 mul-store-2 : tie.Need-mul-store-2 Inv-loop μ-loop
 mul-store-2 c = omega arith
 
--- src/nogoods.rt:32:9
 slice-write-store : tie.Need-slice-write-store Inv-loop μ-loop
 slice-write-store c = omega arith
 
--- src/nogoods.rt:33:9
 add-k : tie.Need-add-k Inv-loop μ-loop
 add-k c = omega arith
 
--- src/nogoods.rt:31:5
 loop-less : tie.Need-loop-less Inv-loop μ-loop
 loop-less c = omega arith
 
--- src/nogoods.rt:31:5
 loop-again : tie.Need-loop-again Inv-loop μ-loop
 loop-again c = putting-more _ _ _ _ _ (omega arith) (c .before .before .pre) (c .before .loop .inv)
 
--- src/nogoods.rt:26:1
 same-length : tie.Need-same-length Inv-loop μ-loop
 same-length c = c .before .loop .inv .size
 
--- src/nogoods.rt:26:1
 returns : tie.Need-returns Inv-loop μ-loop
 returns c = putting-done _ _ _ _ _ (omega arith) (c .before .loop .inv)
 

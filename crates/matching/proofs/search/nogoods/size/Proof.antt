@@ -2,14 +2,10 @@ use native.Mathlib.Omega.{arith}
 use lib.Count.{ones-le}
 use Rattle.matching.proofs.search.nogoods.size.Statement.{statement}
 use Rattle.matching.proofs.search.nogoods.size.Tie as tie
-use Rattle.matching.proofs.search.nogoods.size.Reads as reads
-use Rattle.matching.proofs.search.nogoods.size.Lts as lts
 
--- src/nogoods.rt:71:5
 cast-result : tie.Need-cast-result
 cast-result c = omega (arith, ones-le 64 _ (c .good .0 .1))
 
--- src/nogoods.rt:68:1
 returns : tie.Need-returns
 returns c = ones-le 64 _ (c .good .0 .1)
 

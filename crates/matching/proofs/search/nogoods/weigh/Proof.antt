@@ -1,11 +1,7 @@
-use Prim.Native.Nat.{_+_, _-_, _*_, _≤_}
+use Prim.Native.Nat.{_-_, _*_, _≤_}
 use native.Mathlib.Omega.{arith}
 use Rattle.matching.proofs.search.nogoods.weigh.Statement.{statement}
 use Rattle.matching.proofs.search.nogoods.weigh.Tie as tie
-use Rattle.matching.proofs.search.nogoods.weigh.Reads as reads
-use Rattle.matching.proofs.search.nogoods.weigh.Lts as lts
-use Rattle.matching.proofs.search.nogoods.size.Reads as size-reads
-use Rattle.matching.proofs.search.nogoods.some_pair.Reads as some-pair-reads
 
 abbrev Inv-loop : tie.InvT-loop
 Inv-loop store at low high leaving₀ taking₀ pair₀ k₀ leaving taking pair k = (leaving ≤ 64 * k) × (taking ≤ 64 * k) × (k ≤ 8)
@@ -13,119 +9,90 @@ Inv-loop store at low high leaving₀ taking₀ pair₀ k₀ leaving taking pair
 abbrev μ-loop : tie.MeasureT-loop
 μ-loop store at low high leaving₀ taking₀ pair₀ k₀ leaving taking pair k = 8 - k
 
--- src/nogoods.rt:95:5
 loop-holds : tie.Need-loop-holds Inv-loop μ-loop
 loop-holds c = (omega arith, omega arith, omega arith)
 
--- src/nogoods.rt:96:27
 add-leave : tie.Need-add-leave Inv-loop μ-loop
 add-leave c = omega arith
 
--- src/nogoods.rt:96:21
 mul-leave : tie.Need-mul-leave Inv-loop μ-loop
 mul-leave c = omega arith
 
--- src/nogoods.rt:96:21
 shared-slice-read-leave : tie.Need-shared-slice-read-leave Inv-loop μ-loop
 shared-slice-read-leave c = omega arith
 
--- src/nogoods.rt:96:44
 mul-leave-2 : tie.Need-mul-leave-2 Inv-loop μ-loop
 mul-leave-2 c = omega arith
 
--- src/nogoods.rt:96:44
 array-read-leave : tie.Need-array-read-leave Inv-loop μ-loop
 array-read-leave c = omega arith
 
--- src/nogoods.rt:97:20
 mul-take : tie.Need-mul-take Inv-loop μ-loop
 mul-take c = omega arith
 
--- src/nogoods.rt:97:20
 array-read-take : tie.Need-array-read-take Inv-loop μ-loop
 array-read-take c = omega arith
 
--- src/nogoods.rt:97:43
 add-take : tie.Need-add-take Inv-loop μ-loop
 add-take c = omega arith
 
--- src/nogoods.rt:97:43
 add-take-2 : tie.Need-add-take-2 Inv-loop μ-loop
 add-take-2 c = omega arith
 
--- src/nogoods.rt:97:37
 mul-take-2 : tie.Need-mul-take-2 Inv-loop μ-loop
 mul-take-2 c = omega arith
 
--- src/nogoods.rt:97:37
 shared-slice-read-take : tie.Need-shared-slice-read-take Inv-loop μ-loop
 shared-slice-read-take c = omega arith
 
--- src/nogoods.rt:98:28
 mul-if1 : tie.Need-mul-if1 Inv-loop μ-loop
 mul-if1 c = omega arith
 
--- src/nogoods.rt:98:28
 array-read-if1 : tie.Need-array-read-if1 Inv-loop μ-loop
 array-read-if1 c = omega arith
 
--- src/nogoods.rt:98:48
 mul-if1-2 : tie.Need-mul-if1-2 Inv-loop μ-loop
 mul-if1-2 c = omega arith
 
--- src/nogoods.rt:98:48
 array-read-if1-2 : tie.Need-array-read-if1-2 Inv-loop μ-loop
 array-read-if1-2 c = omega arith
 
--- src/nogoods.rt:99:13
 returns : tie.Need-returns Inv-loop μ-loop
 returns c = tt
 
--- src/nogoods.rt:104:20
 size-requires : tie.Need-size-requires Inv-loop μ-loop
 size-requires c κs = tt
 
--- src/nogoods.rt:104:9
 add-leaving : tie.Need-add-leaving Inv-loop μ-loop
 add-leaving c = omega arith
 
--- src/nogoods.rt:105:19
 size-requires-2 : tie.Need-size-requires-2 Inv-loop μ-loop
 size-requires-2 c κs = tt
 
--- src/nogoods.rt:105:9
 add-taking : tie.Need-add-taking Inv-loop μ-loop
 add-taking c = omega arith
 
--- src/nogoods.rt:106:9
 some-pair-requires : tie.Need-some-pair-requires Inv-loop μ-loop
 some-pair-requires c κs = omega arith
 
--- src/nogoods.rt:107:9
 add-k : tie.Need-add-k Inv-loop μ-loop
 add-k c = omega arith
 
--- src/nogoods.rt:95:5
 loop-less : tie.Need-loop-less Inv-loop μ-loop
 loop-less c = omega arith
 
--- src/nogoods.rt:95:5
 loop-again : tie.Need-loop-again Inv-loop μ-loop
 loop-again c = (omega (arith, c .before .before .size .ensures, c .before .size2 .ensures), omega (arith, c .before .before .size .ensures, c .before .size2 .ensures), omega arith)
 
--- src/nogoods.rt:109:16
 add-open : tie.Need-add-open Inv-loop μ-loop
 add-open c = omega arith
 
--- src/nogoods.rt:111:9
 returns-2 : tie.Need-returns-2 Inv-loop μ-loop
 returns-2 c = tt
 
--- src/nogoods.rt:114:9
 returns-3 : tie.Need-returns-3 Inv-loop μ-loop
 returns-3 c = tt
 
--- src/nogoods.rt:86:1
 returns-4 : tie.Need-returns-4 Inv-loop μ-loop
 returns-4 c = tt
 

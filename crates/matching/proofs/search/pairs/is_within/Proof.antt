@@ -1,10 +1,8 @@
-use Prim.Native.Nat.{_+_, _-_, _*_, _≤_}
+use Prim.Native.Nat.{_-_}
 use native.Mathlib.Omega.{arith}
 use Rattle.matching.proofs.SearchLaws.Pairs.{WithinTo, within-none, within-more, within-all}
 use Rattle.matching.proofs.search.pairs.is_within.Statement.{statement}
 use Rattle.matching.proofs.search.pairs.is_within.Tie as tie
-use Rattle.matching.proofs.search.pairs.is_within.Reads as reads
-use Rattle.matching.proofs.search.pairs.is_within.Lts as lts
 
 abbrev Inv-loop : tie.InvT-loop
 Inv-loop a b k₀ k = WithinTo a b k
@@ -12,51 +10,39 @@ Inv-loop a b k₀ k = WithinTo a b k
 abbrev μ-loop : tie.MeasureT-loop
 μ-loop a b k₀ k = 8 - k
 
--- src/pairs.rt:63:5
 loop-holds : tie.Need-loop-holds Inv-loop μ-loop
 loop-holds c = within-none _ _
 
--- src/pairs.rt:64:13
 mul-if1 : tie.Need-mul-if1 Inv-loop μ-loop
 mul-if1 c = omega arith
 
--- src/pairs.rt:64:13
 array-read-if1 : tie.Need-array-read-if1 Inv-loop μ-loop
 array-read-if1 c = omega arith
 
--- src/pairs.rt:64:20
 mul-if1-2 : tie.Need-mul-if1-2 Inv-loop μ-loop
 mul-if1-2 c = omega arith
 
--- src/pairs.rt:64:20
 array-read-if1-2 : tie.Need-array-read-if1-2 Inv-loop μ-loop
 array-read-if1-2 c = omega arith
 
--- src/pairs.rt:64:29
 mul-if1-3 : tie.Need-mul-if1-3 Inv-loop μ-loop
 mul-if1-3 c = omega arith
 
--- src/pairs.rt:64:29
 array-read-if1-3 : tie.Need-array-read-if1-3 Inv-loop μ-loop
 array-read-if1-3 c = omega arith
 
--- src/pairs.rt:65:13
 returns : tie.Need-returns Inv-loop μ-loop
 returns c = tt
 
--- src/pairs.rt:67:9
 add-k : tie.Need-add-k Inv-loop μ-loop
 add-k c = omega arith
 
--- src/pairs.rt:63:5
 loop-less : tie.Need-loop-less Inv-loop μ-loop
 loop-less c = omega arith
 
--- src/pairs.rt:63:5
 loop-again : tie.Need-loop-again Inv-loop μ-loop
 loop-again c = within-more _ _ _ (c .if1 .left) (c .before .before .loop .inv)
 
--- src/pairs.rt:58:1
 returns-2 : tie.Need-returns-2 Inv-loop μ-loop
 returns-2 c = within-all _ _ _ (c .before .before .pre .0) (omega arith) (c .before .loop .inv)
 

@@ -6,8 +6,6 @@ use lib.Bits.{bitAnd}
 use Rattle.matching.proofs.SearchLaws.Pairs.{Combined, combined-none, combined-more, met-all}
 use Rattle.matching.proofs.search.pairs.meet.Statement.{statement}
 use Rattle.matching.proofs.search.pairs.meet.Tie as tie
-use Rattle.matching.proofs.search.pairs.meet.Reads as reads
-use Rattle.matching.proofs.search.pairs.meet.Lts as lts
 
 abbrev Inv-loop : tie.InvT-loop
 Inv-loop b common₀ k₀ common k = Combined bitAnd common₀ b common k
@@ -15,47 +13,36 @@ Inv-loop b common₀ k₀ common k = Combined bitAnd common₀ b common k
 abbrev μ-loop : tie.MeasureT-loop
 μ-loop b common₀ k₀ common k = 8 - k
 
--- src/pairs.rt:50:5
 loop-holds : tie.Need-loop-holds Inv-loop μ-loop
 loop-holds c = combined-none _ _ _ (c .pre .0)
 
--- src/pairs.rt:51:21
 mul-common : tie.Need-mul-common Inv-loop μ-loop
 mul-common c = omega arith
 
--- src/pairs.rt:51:21
 array-read-common : tie.Need-array-read-common Inv-loop μ-loop
 array-read-common c = omega arith
 
--- src/pairs.rt:51:33
 mul-common-2 : tie.Need-mul-common-2 Inv-loop μ-loop
 mul-common-2 c = omega arith
 
--- src/pairs.rt:51:33
 array-read-common-2 : tie.Need-array-read-common-2 Inv-loop μ-loop
 array-read-common-2 c = omega arith
 
--- src/pairs.rt:51:9
 mul-common-3 : tie.Need-mul-common-3 Inv-loop μ-loop
 mul-common-3 c = omega arith
 
--- src/pairs.rt:51:9
 array-write-common : tie.Need-array-write-common Inv-loop μ-loop
 array-write-common c = omega arith
 
--- src/pairs.rt:52:9
 add-k : tie.Need-add-k Inv-loop μ-loop
 add-k c = omega arith
 
--- src/pairs.rt:50:5
 loop-less : tie.Need-loop-less Inv-loop μ-loop
 loop-less c = omega arith
 
--- src/pairs.rt:50:5
 loop-again : tie.Need-loop-again Inv-loop μ-loop
 loop-again c = combined-more bitAnd _ (c .before .before .args .t2) _ _ _ (omega arith) (ap (λ (z : ℕ). bitAnd z (getD (c .before .before .args .t2) (c .before .loop .k) 0)) (c .before .loop .inv .rest _ (omega arith))) (c .before .loop .inv)
 
--- src/pairs.rt:44:1
 returns : tie.Need-returns Inv-loop μ-loop
 returns c = met-all _ _ _ _ (c .before .before .pre .0) (c .before .before .pre .1) (omega arith) (c .before .loop .inv)
 

@@ -2,30 +2,22 @@ use Rattle.matching.proofs.SearchLaws.Choices.{taken}
 use borrow.Author.Needs.{needs}
 use Rattle.matching.proofs.search.pairs.with_pair.Statement.{statement}
 use Rattle.matching.proofs.search.pairs.with_pair.Tie as tie
-use Rattle.matching.proofs.search.pairs.with_pair.Reads as reads
-use Rattle.matching.proofs.search.pairs.with_pair.Lts as lts
 
--- src/pairs.rt:16:15
 mul-more : tie.Need-mul-more
 mul-more c = search needs
 
--- src/pairs.rt:16:15
 array-read-more : tie.Need-array-read-more
 array-read-more c = search needs
 
--- src/pairs.rt:16:26
 shl-more : tie.Need-shl-more
 shl-more c = search needs
 
--- src/pairs.rt:16:5
 mul-more-2 : tie.Need-mul-more-2
 mul-more-2 c = search needs
 
--- src/pairs.rt:16:5
 array-write-more : tie.Need-array-write-more
 array-write-more c = search needs
 
--- src/pairs.rt:10:1
 returns : tie.Need-returns
 returns c = taken _ _ _ (c .pre .0) (c .pre .1 .0) (c .pre .1 .1)
 

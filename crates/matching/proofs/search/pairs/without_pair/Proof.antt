@@ -2,30 +2,22 @@ use Rattle.matching.proofs.SearchLaws.Choices.{left-out}
 use borrow.Author.Needs.{needs}
 use Rattle.matching.proofs.search.pairs.without_pair.Statement.{statement}
 use Rattle.matching.proofs.search.pairs.without_pair.Tie as tie
-use Rattle.matching.proofs.search.pairs.without_pair.Reads as reads
-use Rattle.matching.proofs.search.pairs.without_pair.Lts as lts
 
--- src/pairs.rt:27:16
 mul-fewer : tie.Need-mul-fewer
 mul-fewer c = search needs
 
--- src/pairs.rt:27:16
 array-read-fewer : tie.Need-array-read-fewer
 array-read-fewer c = search needs
 
--- src/pairs.rt:27:28
 shl-fewer : tie.Need-shl-fewer
 shl-fewer c = search needs
 
--- src/pairs.rt:27:5
 mul-fewer-2 : tie.Need-mul-fewer-2
 mul-fewer-2 c = search needs
 
--- src/pairs.rt:27:5
 array-write-fewer : tie.Need-array-write-fewer
 array-write-fewer c = search needs
 
--- src/pairs.rt:20:1
 returns : tie.Need-returns
 returns c = left-out _ _ _ (c .pre .0) (c .pre .1 .0 .0) (c .pre .1 .0 .1) (c .pre .1 .1)
 

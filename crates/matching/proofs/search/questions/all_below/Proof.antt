@@ -6,8 +6,6 @@ use Rattle.subsumption.specs.Tables.{pairsOf}
 use Rattle.matching.proofs.SearchLaws.Questions.{SeenTo, seen-none, seen-skip, seen-more, unseen, seen-all}
 use Rattle.matching.proofs.search.questions.all_below.Statement.{statement}
 use Rattle.matching.proofs.search.questions.all_below.Tie as tie
-use Rattle.matching.proofs.search.questions.all_below.Reads as reads
-use Rattle.matching.proofs.search.questions.all_below.Lts as lts
 
 abbrev Inv-loop : tie.InvT-loop
 Inv-loop columns held questions right rows m₀ m = SeenTo columns held questions right m
@@ -15,55 +13,42 @@ Inv-loop columns held questions right rows m₀ m = SeenTo columns held question
 abbrev μ-loop : tie.MeasureT-loop
 μ-loop columns held questions right rows m₀ m = pairsOf questions - m
 
--- src/questions.rt:33:5
 loop-holds : tie.Need-loop-holds Inv-loop μ-loop
 loop-holds c = seen-none _ _ _ _
 
--- src/questions.rt:34:13
 pair-at-requires : tie.Need-pair-at-requires Inv-loop μ-loop
 pair-at-requires c κs = omega arith
 
--- src/questions.rt:35:17
 cast-i : tie.Need-cast-i Inv-loop μ-loop
 cast-i c = search needs
 
--- src/questions.rt:36:17
 cast-j : tie.Need-cast-j Inv-loop μ-loop
 cast-j c = search needs
 
--- src/questions.rt:37:9
 add-m : tie.Need-add-m Inv-loop μ-loop
 add-m c = omega arith
 
--- src/questions.rt:38:12
 shared-slice-read-if1 : tie.Need-shared-slice-read-if1 Inv-loop μ-loop
 shared-slice-read-if1 c = omega (arith, right-below _ _ _ _ (c .before .before .before .before .before .before .before .before .before .pre .1 .1) (omega arith) (omega arith) (c .before .before .before .pair-at .ensures), c .before .before .before .before .before .before .before .before .before .pre .1 .0)
 
--- src/questions.rt:33:5
 loop-less : tie.Need-loop-less Inv-loop μ-loop
 loop-less c = omega arith
 
--- src/questions.rt:33:5
 loop-again : tie.Need-loop-again Inv-loop μ-loop
 loop-again c = seen-skip _ _ _ _ _ _ (c .before .before .before .before .before .before .loop .inv) (omega arith) (c .before .before .before .before .pair-at .ensures) (c .if1 .taken)
 
--- src/questions.rt:41:12
 below-requires : tie.Need-below-requires Inv-loop μ-loop
 below-requires c κs = (c .before .before .before .before .before .before .before .before .before .before .pre .0, (left-below _ _ _ _ (c .before .before .before .before .before .before .before .before .before .before .pre .1 .1) (omega arith) (omega arith) (c .before .before .before .before .pair-at .ensures), right-below _ _ _ _ (c .before .before .before .before .before .before .before .before .before .before .pre .1 .1) (omega arith) (omega arith) (c .before .before .before .before .pair-at .ensures)))
 
--- src/questions.rt:33:5
 loop-less-2 : tie.Need-loop-less-2 Inv-loop μ-loop
 loop-less-2 c = omega arith
 
--- src/questions.rt:33:5
 loop-again-2 : tie.Need-loop-again-2 Inv-loop μ-loop
 loop-again-2 c = seen-more _ _ _ _ _ _ (c .before .before .before .before .before .before .before .before .loop .inv) (omega arith) (c .before .before .before .before .before .before .pair-at .ensures) _ (c .before .below .ensures) (c .if2 .taken)
 
--- src/questions.rt:44:9
 returns : tie.Need-returns Inv-loop μ-loop
 returns c = unseen _ _ _ _ _ _ (c .before .before .before .before .before .before .before .before .loop .inv) (omega arith) (c .before .before .before .before .before .before .pair-at .ensures) _ (c .before .before .if1 .left) (c .before .below .ensures) (c .if2 .left)
 
--- src/questions.rt:25:1
 returns-2 : tie.Need-returns-2 Inv-loop μ-loop
 returns-2 c = seen-all _ _ _ _ _ (c .before .loop .inv) (omega arith)
 

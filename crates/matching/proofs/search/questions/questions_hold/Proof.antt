@@ -3,39 +3,28 @@ use mathlib.Core.Path.{refl}
 use borrow.Author.Needs.{needs}
 use Rattle.matching.proofs.search.questions.questions_hold.Statement.{statement}
 use Rattle.matching.proofs.search.questions.questions_hold.Tie as tie
-use Rattle.matching.proofs.search.questions.questions_hold.Reads as reads
-use Rattle.matching.proofs.search.questions.questions_hold.Lts as lts
-use Rattle.matching.proofs.search.questions.all_below.Reads as all-below-reads
 
--- src/questions.rt:66:9
 slice-aggregate-close-over : tie.Need-slice-aggregate-close-over
 slice-aggregate-close-over c = search needs
 
--- src/questions.rt:58:5
 close-over-requires : tie.Need-close-over-requires
 close-over-requires c κs = (c .before .before .before .before .before .before .before .pre .0 .passed, (c .before .before .before .before .before .before .before .pre .1, (c .before .before .before .before .before .before .before .pre .0 .listed, (c .before .before .before .before .before .before .before .pre .0 .grounded, refl))))
 
--- src/questions.rt:69:30
 slice-aggregate-mark-variables : tie.Need-slice-aggregate-mark-variables
 slice-aggregate-mark-variables c = search needs
 
--- src/questions.rt:69:5
 mark-variables-requires : tie.Need-mark-variables-requires
 mark-variables-requires c κs = (layered _ (c .before .before .before .before .before .before .before .before .before .before .pre .0 .passed), refl)
 
--- src/questions.rt:70:15
 slice-aggregate-all-below : tie.Need-slice-aggregate-all-below
 slice-aggregate-all-below c = search needs
 
--- src/questions.rt:70:25
 slice-aggregate-all-below-2 : tie.Need-slice-aggregate-all-below-2
 slice-aggregate-all-below-2 c = search needs
 
--- src/questions.rt:70:5
 all-below-requires : tie.Need-all-below-requires
 all-below-requires c κs = (c .before .before .before .before .before .before .close-over .ensures .long, (c .before .before .before .mark-variables .ensures .long, questions-listed _ (c .before .before .before .before .before .before .before .before .before .before .before .before .before .before .pre .0 .passed)))
 
--- src/questions.rt:43:1
 returns : tie.Need-returns
 returns c = tested _ (c .before .before .before .before .before .before .before .before .before .before .before .before .before .before .before .pre .0 .passed) _ _ _ (c .before .before .before .before .before .before .before .before .before .before .before .before .before .before .before .args .right) (c .before .before .before .before .before .before .before .close-over .ensures) (c .before .before .before .before .mark-variables .ensures) (c .all-below .result) (c .all-below .ensures)
 

@@ -4,8 +4,7 @@ use Rattle.matching.proofs.SearchLaws.Solve.{answers-none, stepped-done
 use Rattle.matching.proofs.SearchLaws.Nogoods.{nogoods-added}
 use Rattle.matching.proofs.SearchLaws.Interval.{take-keeps, take-less, leave-keeps, leave-less, open-high}
 use Rattle.matching.specs.Inner.Search.Interval.{openPairs}
-use borrow.Author.Tests.{not-true, not-false}
-use borrow.Author.Needs.{needs}
+use borrow.Author.Tests.{not-false}
 use native.Mathlib.Omega.{arith}
 use mathlib.Core.Path.{subst, sym, _∙_}
 use Prim.Native.Nat.{ℕ, _<_}
@@ -38,7 +37,6 @@ some-solution-below t =
     (falls 6 some-solution-kinds.ps _<_ μ-some-solution t)
     some-solution.Pre
 
--- src/solve.rt:309:9
 some-solution-next-step-requires : (t : ℕ) → some-solution-lts.Need-next-step-requires (
   next-step-reads.Asked,
   next-step-reads.Learnt,
@@ -57,7 +55,6 @@ some-solution-next-step-requires : (t : ℕ) → some-solution-lts.Need-next-ste
 ) (some-solution-at t) some-solution.Post
 some-solution-next-step-requires t c κs = c .before .before .before .before .before .before .before .pre .1
 
--- src/solve.rt:316:9
 some-solution-same-length : (t : ℕ) → some-solution-lts.Need-same-length (
   next-step-reads.Asked,
   next-step-reads.Learnt,
@@ -76,7 +73,6 @@ some-solution-same-length : (t : ℕ) → some-solution-lts.Need-same-length (
 ) (some-solution-at t) some-solution.Post
 some-solution-same-length t c = c .before .before .before .before .before .next-step .ensures .1 .room .long ∙ sym (c .before .before .before .before .before .before .before .before .before .before .before .before .before .pre .1 .1 .1 .1 .room .long)
 
--- src/solve.rt:316:9
 some-solution-returns : (t : ℕ) → some-solution-lts.Need-returns (
   next-step-reads.Asked,
   next-step-reads.Learnt,
@@ -95,7 +91,6 @@ some-solution-returns : (t : ℕ) → some-solution-lts.Need-returns (
 ) (some-solution-at t) some-solution.Post
 some-solution-returns t c = (stepped-done _ _ _ (c .before .before .before .before .before .next-step .result .done) (c .before .before .before .before .before .next-step .result .found) _ _ (c .before .before .before .before .before .next-step .result .pair) (c .before .before .before .before .before .next-step .ensures .0) (c .before .before .if1 .taken), c .before .before .before .before .before .next-step .ensures .1)
 
--- src/solve.rt:320:9
 some-solution-take-requires : (t : ℕ) → some-solution-lts.Need-take-requires (
   next-step-reads.Asked,
   next-step-reads.Learnt,
@@ -114,7 +109,6 @@ some-solution-take-requires : (t : ℕ) → some-solution-lts.Need-take-requires
 ) (some-solution-at t) some-solution.Post
 some-solution-take-requires t c κs = let u = (stepped-split _ _ _ (c .before .before .before .before .before .next-step .result .done) (c .before .before .before .before .before .next-step .result .found) _ _ _ (c .before .before .before .before .before .next-step .ensures .0) (c .before .before .if1 .left)) in (c .before .before .before .before .before .before .before .before .before .before .before .before .before .pre .1 .1 .0 .low-long, (omega (arith, u .0), omega arith))
 
--- src/solve.rt:321:9
 some-solution-some-solution-requires : (t : ℕ) → some-solution-lts.Need-some-solution-requires (
   next-step-reads.Asked,
   next-step-reads.Learnt,
@@ -133,7 +127,6 @@ some-solution-some-solution-requires : (t : ℕ) → some-solution-lts.Need-some
 ) (some-solution-at t) some-solution.Post
 some-solution-some-solution-requires t c κs = let u = (stepped-split _ _ _ (c .before .before .before .before .before .before .before .next-step .result .done) (c .before .before .before .before .before .before .before .next-step .result .found) _ _ _ (c .before .before .before .before .before .before .before .next-step .ensures .0) (c .before .before .before .before .if1 .left)) in (subst (λ (z : ℕ). openPairs (c .before .take .result .low) (c .before .take .result .high) < z) (c .before .before .before .before .before .before .before .before .before .before .before .before .before .before .before .pre .0) (take-less _ (c .before .before .before .before .before .before .before .before .before .before .before .before .before .before .before .pre .1 .0 .passed) _ _ (c .before .before .before .before .before .before .before .before .before .before .before .before .before .before .before .pre .1 .1 .0) _ (u .1) _ _ (c .before .take .ensures .0) (c .before .take .ensures .1) (u .0)), (c .before .before .before .before .before .before .before .before .before .before .before .before .before .before .before .pre .1 .0, (take-keeps _ (c .before .before .before .before .before .before .before .before .before .before .before .before .before .before .before .pre .1 .0 .passed) _ _ (c .before .before .before .before .before .before .before .before .before .before .before .before .before .before .before .pre .1 .1 .0) _ (u .1) _ _ (c .before .take .ensures .0) (c .before .take .ensures .1), (same-high _ _ _ _ (c .before .take .ensures .0) (c .before .before .before .before .before .before .before .before .before .before .before .before .before .before .before .pre .1 .1 .1 .0), c .before .before .before .before .before .before .before .next-step .ensures .1))))
 
--- src/solve.rt:325:30
 some-solution-mul-has-bit : (t : ℕ) → some-solution-lts.Need-mul-has-bit (
   next-step-reads.Asked,
   next-step-reads.Learnt,
@@ -152,7 +145,6 @@ some-solution-mul-has-bit : (t : ℕ) → some-solution-lts.Need-mul-has-bit (
 ) (some-solution-at t) some-solution.Post
 some-solution-mul-has-bit t c = let u = (stepped-split _ _ _ (c .before .before .before .before .before .before .before .before .before .before .before .next-step .result .done) (c .before .before .before .before .before .before .before .before .before .before .before .next-step .result .found) _ _ _ (c .before .before .before .before .before .before .before .before .before .before .before .next-step .ensures .0) (c .before .before .before .before .before .before .before .before .if1 .left)) in omega (arith, u .0)
 
--- src/solve.rt:325:30
 some-solution-array-read-has-bit : (t : ℕ) → some-solution-lts.Need-array-read-has-bit (
   next-step-reads.Asked,
   next-step-reads.Learnt,
@@ -171,7 +163,6 @@ some-solution-array-read-has-bit : (t : ℕ) → some-solution-lts.Need-array-re
 ) (some-solution-at t) some-solution.Post
 some-solution-array-read-has-bit t c = let u = (stepped-split _ _ _ (c .before .before .before .before .before .before .before .before .before .before .before .next-step .result .done) (c .before .before .before .before .before .before .before .before .before .before .before .next-step .result .found) _ _ _ (c .before .before .before .before .before .before .before .before .before .before .before .next-step .ensures .0) (c .before .before .before .before .before .before .before .before .if1 .left)) in omega (arith, u .0)
 
--- src/solve.rt:325:22
 some-solution-has-bit-requires : (t : ℕ) → some-solution-lts.Need-has-bit-requires (
   next-step-reads.Asked,
   next-step-reads.Learnt,
@@ -190,7 +181,6 @@ some-solution-has-bit-requires : (t : ℕ) → some-solution-lts.Need-has-bit-re
 ) (some-solution-at t) some-solution.Post
 some-solution-has-bit-requires t c κs = omega arith
 
--- src/solve.rt:326:9
 some-solution-same-length-2 : (t : ℕ) → some-solution-lts.Need-same-length-2 (
   next-step-reads.Asked,
   next-step-reads.Learnt,
@@ -209,7 +199,6 @@ some-solution-same-length-2 : (t : ℕ) → some-solution-lts.Need-same-length-2
 ) (some-solution-at t) some-solution.Post
 some-solution-same-length-2 t c = c .before .before .before .before .before .before .some-solution .ensures .1 .room .long ∙ sym (c .before .before .before .before .before .before .before .before .before .before .before .before .before .before .before .before .before .before .before .before .before .before .pre .1 .1 .1 .1 .room .long)
 
--- src/solve.rt:326:9
 some-solution-returns-2 : (t : ℕ) → some-solution-lts.Need-returns-2 (
   next-step-reads.Asked,
   next-step-reads.Learnt,
@@ -228,7 +217,6 @@ some-solution-returns-2 : (t : ℕ) → some-solution-lts.Need-returns-2 (
 ) (some-solution-at t) some-solution.Post
 some-solution-returns-2 t c = let u = (stepped-split _ _ _ (c .before .before .before .before .before .before .before .before .before .before .before .before .before .before .next-step .result .done) (c .before .before .before .before .before .before .before .before .before .before .before .before .before .before .next-step .result .found) _ _ _ (c .before .before .before .before .before .before .before .before .before .before .before .before .before .before .next-step .ensures .0) (c .before .before .before .before .before .before .before .before .before .before .before .if1 .left)) in (with-answers _ (c .before .before .before .before .before .before .before .before .before .before .before .before .before .before .before .before .before .before .before .before .before .before .pre .1 .0 .passed) _ _ (c .before .before .before .before .before .before .before .before .before .before .before .before .before .before .before .before .before .before .before .before .before .before .pre .1 .1 .0) _ (u .1) _ _ (c .before .before .before .before .before .before .before .before .take .ensures .0) (c .before .before .before .before .before .before .before .before .take .ensures .1) (c .before .before .before .before .before .before .some-solution .result .found) (c .before .before .has-bit .result) _ _ (c .before .before .before .before .before .before .some-solution .ensures .0) (c .before .before .has-bit .ensures) (c .if2 .taken), c .before .before .before .before .before .before .some-solution .ensures .1)
 
--- src/solve.rt:328:9
 some-solution-leave-requires : (t : ℕ) → some-solution-lts.Need-leave-requires (
   next-step-reads.Asked,
   next-step-reads.Learnt,
@@ -247,7 +235,6 @@ some-solution-leave-requires : (t : ℕ) → some-solution-lts.Need-leave-requir
 ) (some-solution-at t) some-solution.Post
 some-solution-leave-requires t c κs = let u = (stepped-split _ _ _ (c .before .before .before .before .before .before .before .before .before .before .before .before .before .before .next-step .result .done) (c .before .before .before .before .before .before .before .before .before .before .before .before .before .before .next-step .result .found) _ _ _ (c .before .before .before .before .before .before .before .before .before .before .before .before .before .before .next-step .ensures .0) (c .before .before .before .before .before .before .before .before .before .before .before .if1 .left)) in (c .before .before .before .before .before .before .before .before .before .before .before .before .before .before .before .before .before .before .before .before .before .before .pre .1 .1 .0 .high-long, ((omega (arith, u .0), omega arith), open-high _ _ _ (u .1)))
 
--- src/solve.rt:329:9
 some-solution-some-solution-requires-2 : (t : ℕ) → some-solution-lts.Need-some-solution-requires-2 (
   next-step-reads.Asked,
   next-step-reads.Learnt,
@@ -266,7 +253,6 @@ some-solution-some-solution-requires-2 : (t : ℕ) → some-solution-lts.Need-so
 ) (some-solution-at t) some-solution.Post
 some-solution-some-solution-requires-2 t c κs = let u = (stepped-split _ _ _ (c .before .before .before .before .before .before .before .before .before .before .before .before .before .before .before .before .next-step .result .done) (c .before .before .before .before .before .before .before .before .before .before .before .before .before .before .before .before .next-step .result .found) _ _ _ (c .before .before .before .before .before .before .before .before .before .before .before .before .before .before .before .before .next-step .ensures .0) (c .before .before .before .before .before .before .before .before .before .before .before .before .before .if1 .left)) in (subst (λ (z : ℕ). openPairs (c .before .leave .result .low) (c .before .leave .result .high) < z) (c .before .before .before .before .before .before .before .before .before .before .before .before .before .before .before .before .before .before .before .before .before .before .before .before .pre .0) (leave-less _ (c .before .before .before .before .before .before .before .before .before .before .before .before .before .before .before .before .before .before .before .before .before .before .before .before .pre .1 .0 .passed) _ _ (c .before .before .before .before .before .before .before .before .before .before .before .before .before .before .before .before .before .before .before .before .before .before .before .before .pre .1 .1 .0) _ (u .1) _ _ (c .before .leave .ensures .0) (c .before .leave .ensures .1) (u .0)), (c .before .before .before .before .before .before .before .before .before .before .before .before .before .before .before .before .before .before .before .before .before .before .before .before .pre .1 .0, (leave-keeps _ (c .before .before .before .before .before .before .before .before .before .before .before .before .before .before .before .before .before .before .before .before .before .before .before .before .pre .1 .0 .passed) _ _ (c .before .before .before .before .before .before .before .before .before .before .before .before .before .before .before .before .before .before .before .before .before .before .before .before .pre .1 .1 .0) _ (u .1) _ _ (c .before .leave .ensures .0) (c .before .leave .ensures .1), (less-high _ _ _ _ _ _ (c .before .leave .ensures .1) (c .before .before .before .before .before .before .before .before .before .before .before .before .before .before .before .before .before .before .before .before .before .before .before .before .pre .1 .1 .1 .0), c .before .before .before .before .before .before .before .before .some-solution .ensures .1))))
 
--- src/solve.rt:333:32
 some-solution-mul-has-bit-2 : (t : ℕ) → some-solution-lts.Need-mul-has-bit-2 (
   next-step-reads.Asked,
   next-step-reads.Learnt,
@@ -285,7 +271,6 @@ some-solution-mul-has-bit-2 : (t : ℕ) → some-solution-lts.Need-mul-has-bit-2
 ) (some-solution-at t) some-solution.Post
 some-solution-mul-has-bit-2 t c = let u = (stepped-split _ _ _ (c .before .before .before .before .before .before .before .before .before .before .before .before .before .before .before .before .before .before .before .before .next-step .result .done) (c .before .before .before .before .before .before .before .before .before .before .before .before .before .before .before .before .before .before .before .before .next-step .result .found) _ _ _ (c .before .before .before .before .before .before .before .before .before .before .before .before .before .before .before .before .before .before .before .before .next-step .ensures .0) (c .before .before .before .before .before .before .before .before .before .before .before .before .before .before .before .before .before .if1 .left)) in omega (arith, u .0)
 
--- src/solve.rt:333:32
 some-solution-array-read-has-bit-2 : (t : ℕ) → some-solution-lts.Need-array-read-has-bit-2 (
   next-step-reads.Asked,
   next-step-reads.Learnt,
@@ -304,7 +289,6 @@ some-solution-array-read-has-bit-2 : (t : ℕ) → some-solution-lts.Need-array-
 ) (some-solution-at t) some-solution.Post
 some-solution-array-read-has-bit-2 t c = let u = (stepped-split _ _ _ (c .before .before .before .before .before .before .before .before .before .before .before .before .before .before .before .before .before .before .before .before .next-step .result .done) (c .before .before .before .before .before .before .before .before .before .before .before .before .before .before .before .before .before .before .before .before .next-step .result .found) _ _ _ (c .before .before .before .before .before .before .before .before .before .before .before .before .before .before .before .before .before .before .before .before .next-step .ensures .0) (c .before .before .before .before .before .before .before .before .before .before .before .before .before .before .before .before .before .if1 .left)) in omega (arith, u .0)
 
--- src/solve.rt:333:24
 some-solution-has-bit-requires-2 : (t : ℕ) → some-solution-lts.Need-has-bit-requires-2 (
   next-step-reads.Asked,
   next-step-reads.Learnt,
@@ -323,7 +307,6 @@ some-solution-has-bit-requires-2 : (t : ℕ) → some-solution-lts.Need-has-bit-
 ) (some-solution-at t) some-solution.Post
 some-solution-has-bit-requires-2 t c κs = omega arith
 
--- src/solve.rt:334:9
 some-solution-same-length-3 : (t : ℕ) → some-solution-lts.Need-same-length-3 (
   next-step-reads.Asked,
   next-step-reads.Learnt,
@@ -342,7 +325,6 @@ some-solution-same-length-3 : (t : ℕ) → some-solution-lts.Need-same-length-3
 ) (some-solution-at t) some-solution.Post
 some-solution-same-length-3 t c = c .before .before .before .before .before .before .some-solution2 .ensures .1 .room .long ∙ sym (c .before .before .before .before .before .before .before .before .before .before .before .before .before .before .before .before .before .before .before .before .before .before .before .before .before .before .before .before .before .before .before .pre .1 .1 .1 .1 .room .long)
 
--- src/solve.rt:334:9
 some-solution-returns-3 : (t : ℕ) → some-solution-lts.Need-returns-3 (
   next-step-reads.Asked,
   next-step-reads.Learnt,
@@ -361,7 +343,6 @@ some-solution-returns-3 : (t : ℕ) → some-solution-lts.Need-returns-3 (
 ) (some-solution-at t) some-solution.Post
 some-solution-returns-3 t c = let u = (stepped-split _ _ _ (c .before .before .before .before .before .before .before .before .before .before .before .before .before .before .before .before .before .before .before .before .before .before .before .next-step .result .done) (c .before .before .before .before .before .before .before .before .before .before .before .before .before .before .before .before .before .before .before .before .before .before .before .next-step .result .found) _ _ _ (c .before .before .before .before .before .before .before .before .before .before .before .before .before .before .before .before .before .before .before .before .before .before .before .next-step .ensures .0) (c .before .before .before .before .before .before .before .before .before .before .before .before .before .before .before .before .before .before .before .before .if1 .left)) in (without-answers _ (c .before .before .before .before .before .before .before .before .before .before .before .before .before .before .before .before .before .before .before .before .before .before .before .before .before .before .before .before .before .before .before .pre .1 .0 .passed) _ _ (c .before .before .before .before .before .before .before .before .before .before .before .before .before .before .before .before .before .before .before .before .before .before .before .before .before .before .before .before .before .before .before .pre .1 .1 .0) _ (u .1) _ _ (c .before .before .before .before .before .before .before .before .leave .ensures .0) (c .before .before .before .before .before .before .before .before .leave .ensures .1) (c .before .before .before .before .before .before .some-solution2 .result .found) (c .before .before .has-bit2 .result) _ _ (c .before .before .before .before .before .before .some-solution2 .ensures .0) (c .before .before .has-bit2 .ensures) (c .if3 .taken), c .before .before .before .before .before .before .some-solution2 .ensures .1)
 
--- src/solve.rt:336:9
 some-solution-merge-requires : (t : ℕ) → some-solution-lts.Need-merge-requires (
   next-step-reads.Asked,
   next-step-reads.Learnt,
@@ -380,7 +361,6 @@ some-solution-merge-requires : (t : ℕ) → some-solution-lts.Need-merge-requir
 ) (some-solution-at t) some-solution.Post
 some-solution-merge-requires t c κs = let u = (stepped-split _ _ _ (c .before .before .before .before .before .before .before .before .before .before .before .before .before .before .before .before .before .before .before .before .before .before .before .next-step .result .done) (c .before .before .before .before .before .before .before .before .before .before .before .before .before .before .before .before .before .before .before .before .before .before .before .next-step .result .found) _ _ _ (c .before .before .before .before .before .before .before .before .before .before .before .before .before .before .before .before .before .before .before .before .before .before .before .next-step .ensures .0) (c .before .before .before .before .before .before .before .before .before .before .before .before .before .before .before .before .before .before .before .before .if1 .left)) in let a = (answers-none _ _ _ (c .before .before .before .before .before .before .before .before .before .before .before .before .before .before .before .some-solution .result .found) _ _ (c .before .before .before .before .before .before .before .before .before .before .before .before .before .before .before .some-solution .ensures .0) (any-false _ _ (c .before .before .before .before .before .before .before .before .before .if2 .left) .0)) in let b = (answers-none _ _ _ (c .before .before .before .before .before .before .some-solution2 .result .found) _ _ (c .before .before .before .before .before .before .some-solution2 .ensures .0) (any-false _ _ (c .if3 .left) .0)) in ((a .low-long, a .high-long), ((b .low-long, b .high-long), ((omega (arith, u .0), omega arith), sym (c .before .before .before .before .before .before .before .before .before .before .before .has-bit .ensures) ∙ not-false (c .before .before .before .before .before .before .before .before .before .before .before .has-bit .result) (any-false (c .before .before .before .before .before .before .before .before .before .before .before .before .before .before .before .some-solution .result .found) (not (c .before .before .before .before .before .before .before .before .before .before .before .has-bit .result)) (c .before .before .before .before .before .before .before .before .before .if2 .left) .1))))
 
--- src/solve.rt:339:5
 some-solution-add-requires : (t : ℕ) → some-solution-lts.Need-add-requires (
   next-step-reads.Asked,
   next-step-reads.Learnt,
@@ -399,7 +379,6 @@ some-solution-add-requires : (t : ℕ) → some-solution-lts.Need-add-requires (
 ) (some-solution-at t) some-solution.Post
 some-solution-add-requires t c κs = (c .before .before .before .before .before .before .before .before .before .before .some-solution2 .ensures .1 .room, (omega arith, (c .before .before .before .merge .ensures .joined .long, c .before .before .before .merge .ensures .met .long)))
 
--- src/solve.rt:291:1
 some-solution-same-length-4 : (t : ℕ) → some-solution-lts.Need-same-length-4 (
   next-step-reads.Asked,
   next-step-reads.Learnt,
@@ -418,7 +397,6 @@ some-solution-same-length-4 : (t : ℕ) → some-solution-lts.Need-same-length-4
 ) (some-solution-at t) some-solution.Post
 some-solution-same-length-4 t c = c .before .before .add .ensures .room .long ∙ sym (c .before .before .before .before .before .before .before .before .before .before .before .before .before .before .before .before .before .before .before .before .before .before .before .before .before .before .before .before .before .before .before .before .before .before .before .before .before .before .pre .1 .1 .1 .1 .room .long)
 
--- src/solve.rt:291:1
 some-solution-returns-4 : (t : ℕ) → some-solution-lts.Need-returns-4 (
   next-step-reads.Asked,
   next-step-reads.Learnt,

@@ -1,34 +1,23 @@
 use Rattle.matching.proofs.SearchLaws.Solve.{recalled-known}
-use native.Mathlib.Omega.{arith}
 use borrow.Author.Needs.{needs}
 use Rattle.matching.proofs.search.solve.look_up.Statement.{statement}
 use Rattle.matching.proofs.search.solve.look_up.Tie as tie
-use Rattle.matching.proofs.search.solve.look_up.Reads as reads
-use Rattle.matching.proofs.search.solve.look_up.Lts as lts
-use Rattle.matching.proofs.search.nogoods.nogood_at.Reads as nogood-at-reads
-use Rattle.matching.proofs.search.pairs.is_within.Reads as is-within-reads
 
--- src/solve.rt:196:16
 shared-slice-read-if1 : tie.Need-shared-slice-read-if1
 shared-slice-read-if1 c = search needs
 
--- src/solve.rt:197:13
 nogood-at-requires : tie.Need-nogood-at-requires
 nogood-at-requires c κs = search needs
 
--- src/solve.rt:200:20
 is-within-requires : tie.Need-is-within-requires
 is-within-requires c κs = search needs
 
--- src/solve.rt:200:44
 is-within-requires-2 : tie.Need-is-within-requires-2
 is-within-requires-2 c κs = search needs
 
--- src/solve.rt:201:9
 returns : tie.Need-returns
 returns c = recalled-known _ (c .before .before .before .before .before .before .before .before .before .before .args .interval .low) (c .before .before .before .before .before .before .before .before .before .before .args .interval .high) _ _ _ (c .before .is-within .result) (c .is-within2 .result) (c .before .before .before .before .before .if1 .taken) (c .before .before .before .before .nogood-at .ensures .0) (c .before .before .before .before .nogood-at .ensures .1) (c .before .is-within .ensures) (c .is-within2 .ensures)
 
--- src/solve.rt:189:1
 returns-2 : tie.Need-returns-2
 returns-2 c = search needs
 

@@ -4,58 +4,40 @@ use Rattle.matching.proofs.SearchLaws.Interval.{picked-at}
 use borrow.Author.Needs.{needs}
 use Rattle.matching.proofs.search.solve.step_by_test.Statement.{statement}
 use Rattle.matching.proofs.search.solve.step_by_test.Tie as tie
-use Rattle.matching.proofs.search.solve.step_by_test.Reads as reads
-use Rattle.matching.proofs.search.solve.step_by_test.Lts as lts
-use Rattle.matching.proofs.search.interval.pick_undecided.Reads as pick-undecided-reads
-use Rattle.matching.proofs.search.pairs.is_within.Reads as is-within-reads
-use Rattle.matching.proofs.search.solve.pair_outside.Reads as pair-outside-reads
-use Rattle.matching.proofs.search.solve.try_low.Reads as try-low-reads
 
--- src/solve.rt:149:9
 try-low-requires : tie.Need-try-low-requires
 try-low-requires c κs = (c .before .before .before .before .before .before .before .before .before .pre .0, (through _ _ _ _ (c .before .before .before .before .before .before .before .before .before .pre .1 .0) (c .before .before .before .before .before .before .before .before .before .pre .1 .1 .0), c .before .before .before .before .before .before .before .before .before .pre .1 .1 .1))
 
--- src/solve.rt:155:16
 is-within-requires : tie.Need-is-within-requires
 is-within-requires c κs = search needs
 
--- src/solve.rt:156:9
 same-length : tie.Need-same-length
 same-length c = omega arith
 
--- src/solve.rt:156:9
 returns : tie.Need-returns
 returns c = (tried-done _ (c .before .before .before .before .before .before .before .before .before .before .before .before .before .before .before .before .pre .0 .passed) _ _ (c .before .before .before .before .before .before .before .before .before .before .before .before .before .before .before .before .pre .1 .0) _ _ (c .before .before .before .before .before .before .try-low .result .found) (c .before .is-within .result) (c .before .before .before .before .before .before .try-low .ensures .0) (c .before .is-within .ensures) (c .if1 .taken), c .before .before .before .before .before .before .try-low .ensures .1)
 
--- src/solve.rt:164:41
 pair-outside-requires : tie.Need-pair-outside-requires
 pair-outside-requires c κs = omega arith
 
--- src/solve.rt:164:9
 pick-undecided-requires : tie.Need-pick-undecided-requires
 pick-undecided-requires c κs = omega arith
 
--- src/solve.rt:166:18
 enum-known-pick : tie.Need-enum-known-pick
 enum-known-pick c = omega arith
 
--- src/solve.rt:173:26
 enum-told : tie.Need-enum-told
 enum-told c = omega arith
 
--- src/solve.rt:129:1
 same-length-2 : tie.Need-same-length-2
 same-length-2 c = omega arith
 
--- src/solve.rt:129:1
 returns-2 : tie.Need-returns-2
 returns-2 c = (picked-at _ _ _ _ (c .before .before .before .pick-undecided .ensures) (c .before .pick .given .1), c .before .before .before .before .before .before .before .before .before .before .before .try-low .ensures .1)
 
--- src/solve.rt:129:1
 same-length-3 : tie.Need-same-length-3
 same-length-3 c = omega arith
 
--- src/solve.rt:129:1
 returns-3 : tie.Need-returns-3
 returns-3 c = (tried-all _ (c .before .before .before .before .before .before .before .before .before .before .before .before .before .before .before .before .before .before .before .before .pre .0 .passed) _ _ (c .before .before .before .before .before .before .before .before .before .before .before .before .before .before .before .before .before .before .before .before .pre .1 .0) _ _ (c .before .before .before .before .before .before .before .before .before .before .try-low .result .found) (c .before .before .before .before .before .is-within .result) (c .before .before .before .before .before .before .before .before .before .before .try-low .ensures .0) (c .before .before .before .before .if1 .left) _ (c .before .before .pick-undecided .ensures) (c .enum-told .given .1), c .before .before .before .before .before .before .before .before .before .before .try-low .ensures .1)
 

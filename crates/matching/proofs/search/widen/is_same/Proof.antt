@@ -2,8 +2,6 @@ use Prim.Native.Nat.{_-_}
 use native.Mathlib.Omega.{arith}
 use Rattle.matching.proofs.search.widen.is_same.Statement.{statement}
 use Rattle.matching.proofs.search.widen.is_same.Tie as tie
-use Rattle.matching.proofs.search.widen.is_same.Reads as reads
-use Rattle.matching.proofs.search.widen.is_same.Lts as lts
 
 abbrev Inv-loop : tie.InvT-loop
 Inv-loop a b k₀ k = Unit {0}
@@ -11,43 +9,33 @@ Inv-loop a b k₀ k = Unit {0}
 abbrev μ-loop : tie.MeasureT-loop
 μ-loop a b k₀ k = 8 - k
 
--- src/widen.rt:59:5
 loop-holds : tie.Need-loop-holds Inv-loop μ-loop
 loop-holds c = tt
 
--- src/widen.rt:60:12
 mul-if1 : tie.Need-mul-if1 Inv-loop μ-loop
 mul-if1 c = omega arith
 
--- src/widen.rt:60:12
 array-read-if1 : tie.Need-array-read-if1 Inv-loop μ-loop
 array-read-if1 c = omega arith
 
--- src/widen.rt:60:20
 mul-if1-2 : tie.Need-mul-if1-2 Inv-loop μ-loop
 mul-if1-2 c = omega arith
 
--- src/widen.rt:60:20
 array-read-if1-2 : tie.Need-array-read-if1-2 Inv-loop μ-loop
 array-read-if1-2 c = omega arith
 
--- src/widen.rt:61:13
 returns : tie.Need-returns Inv-loop μ-loop
 returns c = tt
 
--- src/widen.rt:63:9
 add-k : tie.Need-add-k Inv-loop μ-loop
 add-k c = omega arith
 
--- src/widen.rt:59:5
 loop-less : tie.Need-loop-less Inv-loop μ-loop
 loop-less c = omega arith
 
--- src/widen.rt:59:5
 loop-again : tie.Need-loop-again Inv-loop μ-loop
 loop-again c = tt
 
--- src/widen.rt:56:1
 returns-2 : tie.Need-returns-2 Inv-loop μ-loop
 returns-2 c = tt
 

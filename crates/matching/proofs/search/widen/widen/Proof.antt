@@ -8,12 +8,6 @@ use mathlib.Core.Path.{sym}
 use Prim.Native.Nat.{_+_, _-_, _*_, _≤_}
 use Rattle.matching.proofs.search.widen.widen.Statement.{statement}
 use Rattle.matching.proofs.search.widen.widen.Tie as tie
-use Rattle.matching.proofs.search.widen.widen.Reads as reads
-use Rattle.matching.proofs.search.widen.widen.Lts as lts
-use Rattle.matching.proofs.search.questions.questions_hold.Reads as questions-hold-reads
-use Rattle.matching.proofs.search.widen.is_same.Reads as is-same-reads
-use Rattle.matching.proofs.search.widen.twice.Reads as twice-reads
-use Rattle.matching.proofs.search.widen.with_run.Reads as with-run-reads
 
 abbrev Inv-loop : tie.InvT-loop
 Inv-loop concepts inclusions questions variables atoms ground target right n failing₀ from₀ size₀ failing from size = Widened (tables concepts inclusions questions variables) failing₀ target right failing × (1 ≤ size) × (size ≤ 512)
@@ -21,7 +15,6 @@ Inv-loop concepts inclusions questions variables atoms ground target right n fai
 abbrev μ-loop : tie.MeasureT-loop
 μ-loop concepts inclusions questions variables atoms ground target right n failing₀ from₀ size₀ failing from size = (512 - from) * 1024 + size
 
--- src/widen.rt:100:5
 loop-holds : tie.Need-loop-holds Inv-loop μ-loop
 loop-holds c = (widened-none _ (c .before .before .before .before .before .pre .0 .passed) _ _ _ (c .before .before .before .before .before .pre .1 .0) (c .before .before .before .before .before .pre .1 .1 .0) _ (c .before .before .before .before .before .pre .1 .1 .1), omega arith, omega arith)
 
@@ -37,75 +30,57 @@ sub-with-run c = omega (arith, c .start-of .ensures)
 with-run-requires : tie.Need-with-run-requires Inv-loop μ-loop
 with-run-requires c κs = ((omega (arith, c .start-of .ensures), omega (arith, c .start-of .ensures)), (c .before .before .loop .inv .0 .mixed .long, c .before .before .before .before .before .before .before .before .pre .1 .1 .0 .low-long))
 
--- src/widen.rt:102:12
 is-same-requires : tie.Need-is-same-requires Inv-loop μ-loop
 is-same-requires c κs = tt
 
--- src/widen.rt:103:13
 add-from : tie.Need-add-from Inv-loop μ-loop
 add-from c = omega arith
 
--- src/widen.rt:104:13
 twice-requires : tie.Need-twice-requires Inv-loop μ-loop
 twice-requires c κs = tt
 
--- src/widen.rt:100:5
 loop-less : tie.Need-loop-less Inv-loop μ-loop
 loop-less c = omega (arith, c .twice .ensures)
 
--- src/widen.rt:100:5
 loop-again : tie.Need-loop-again Inv-loop μ-loop
 loop-again c = (c .before .before .before .before .before .before .loop .inv .0, c .twice .ensures .0, c .twice .ensures .1)
 
--- src/widen.rt:114:13
 array-share-prefix-next : tie.Need-array-share-prefix-next Inv-loop μ-loop
 array-share-prefix-next c = next-fits _ (c .before .before .before .before .before .before .before .before .before .before .before .pre .0 .passed) _ _ _ (c .before .before .before .before .before .before .before .before .before .before .before .pre .1 .0) (c .before .before .before .before .before .before .before .before .before .before .before .pre .1 .1 .0) _ _ _ (c .before .before .before .before .before .loop .inv .0) (c .before .before .with-run .ensures)
 
--- src/widen.rt:114:13
 slice-aggregate-questions-hold : tie.Need-slice-aggregate-questions-hold Inv-loop μ-loop
 slice-aggregate-questions-hold c = sym (length-take-le _ _ (next-fits _ (c .before .before .before .before .before .before .before .before .before .before .before .before .pre .0 .passed) _ _ _ (c .before .before .before .before .before .before .before .before .before .before .before .before .pre .1 .0) (c .before .before .before .before .before .before .before .before .before .before .before .before .pre .1 .1 .0) _ _ _ (c .before .before .before .before .before .before .loop .inv .0) (c .before .before .before .with-run .ensures)))
 
--- src/widen.rt:107:13
 questions-hold-requires : tie.Need-questions-hold-requires Inv-loop μ-loop
 questions-hold-requires c κs = (c .before .before .before .before .before .before .before .before .before .before .before .before .pre .0, next-accepted _ (c .before .before .before .before .before .before .before .before .before .before .before .before .pre .0 .passed) _ _ _ (c .before .before .before .before .before .before .before .before .before .before .before .before .pre .1 .0) (c .before .before .before .before .before .before .before .before .before .before .before .before .pre .1 .1 .0) _ _ _ (c .before .before .before .before .before .before .loop .inv .0) (c .before .before .before .with-run .ensures))
 
--- src/widen.rt:118:13
 add-from-2 : tie.Need-add-from-2 Inv-loop μ-loop
 add-from-2 c = omega arith
 
--- src/widen.rt:119:13
 twice-requires-2 : tie.Need-twice-requires-2 Inv-loop μ-loop
 twice-requires-2 c κs = tt
 
--- src/widen.rt:100:5
 loop-less-2 : tie.Need-loop-less-2 Inv-loop μ-loop
 loop-less-2 c = omega (arith, c .twice2 .ensures)
 
--- src/widen.rt:100:5
 loop-again-2 : tie.Need-loop-again-2 Inv-loop μ-loop
 loop-again-2 c = (widened-more _ (c .before .before .before .before .before .before .before .before .before .before .before .before .before .before .before .pre .0 .passed) _ _ _ (c .before .before .before .before .before .before .before .before .before .before .before .before .before .before .before .pre .1 .0) (c .before .before .before .before .before .before .before .before .before .before .before .before .before .before .before .pre .1 .1 .0) _ _ _ (c .before .before .before .before .before .before .before .before .before .loop .inv .0) (c .before .before .before .before .before .before .with-run .ensures) (c .before .before .questions-hold .result) (c .before .before .questions-hold .ensures) (not-true _ (c .before .if2 .taken)), c .twice2 .ensures .0, c .twice2 .ensures .1)
 
--- src/widen.rt:123:13
 add-from-3 : tie.Need-add-from-3 Inv-loop μ-loop
 add-from-3 c = omega arith
 
--- src/widen.rt:100:5
 loop-less-3 : tie.Need-loop-less-3 Inv-loop μ-loop
 loop-less-3 c = omega arith
 
--- src/widen.rt:100:5
 loop-again-3 : tie.Need-loop-again-3 Inv-loop μ-loop
 loop-again-3 c = (c .before .before .before .before .before .before .before .before .before .loop .inv .0, omega arith, omega arith)
 
--- src/widen.rt:100:5
 loop-less-4 : tie.Need-loop-less-4 Inv-loop μ-loop
 loop-less-4 c = omega arith
 
--- src/widen.rt:100:5
 loop-again-4 : tie.Need-loop-again-4 Inv-loop μ-loop
 loop-again-4 c = (c .before .before .before .before .before .before .before .before .before .loop .inv .0, omega arith, omega arith)
 
--- src/widen.rt:78:1
 returns : tie.Need-returns Inv-loop μ-loop
 returns c = c .before .loop .inv .0
 

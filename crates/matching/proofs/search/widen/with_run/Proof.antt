@@ -1,11 +1,8 @@
-use Prim.Native.Nat.{_+_, _-_, _*_, _≤_}
+use Prim.Native.Nat.{_-_}
 use native.Mathlib.Omega.{arith}
-use Rattle.matching.proofs.SearchLaws.Pairs.{MixedTo, mixWord, mixed-none, mixed-more, mixed-all}
+use Rattle.matching.proofs.SearchLaws.Pairs.{MixedTo, mixed-none, mixed-more, mixed-all}
 use Rattle.matching.proofs.search.widen.with_run.Statement.{statement}
 use Rattle.matching.proofs.search.widen.with_run.Tie as tie
-use Rattle.matching.proofs.search.widen.with_run.Reads as reads
-use Rattle.matching.proofs.search.widen.with_run.Lts as lts
-use Rattle.matching.proofs.search.widen.outside.Reads as outside-reads
 
 abbrev Inv-loop : tie.InvT-loop
 Inv-loop from size choice target mix₀ k₀ mix k = MixedTo choice target mix k
@@ -13,59 +10,45 @@ Inv-loop from size choice target mix₀ k₀ mix k = MixedTo choice target mix k
 abbrev μ-loop : tie.MeasureT-loop
 μ-loop from size choice target mix₀ k₀ mix k = 8 - k
 
--- src/widen.rt:46:5
 loop-holds : tie.Need-loop-holds Inv-loop μ-loop
 loop-holds c = mixed-none _ _ (c .pre .1 .0)
 
--- src/widen.rt:47:13
 outside-requires : tie.Need-outside-requires Inv-loop μ-loop
 outside-requires c κs = (omega arith, c .before .before .pre .0 .0, c .before .before .pre .0 .1)
 
--- src/widen.rt:48:19
 mul-mix : tie.Need-mul-mix Inv-loop μ-loop
 mul-mix c = omega arith
 
--- src/widen.rt:48:19
 array-read-mix : tie.Need-array-read-mix Inv-loop μ-loop
 array-read-mix c = omega arith
 
--- src/widen.rt:48:32
 mul-mix-2 : tie.Need-mul-mix-2 Inv-loop μ-loop
 mul-mix-2 c = omega arith
 
--- src/widen.rt:48:32
 array-read-mix-2 : tie.Need-array-read-mix-2 Inv-loop μ-loop
 array-read-mix-2 c = omega arith
 
--- src/widen.rt:48:61
 mul-mix-3 : tie.Need-mul-mix-3 Inv-loop μ-loop
 mul-mix-3 c = omega arith
 
--- src/widen.rt:48:61
 array-read-mix-3 : tie.Need-array-read-mix-3 Inv-loop μ-loop
 array-read-mix-3 c = omega arith
 
--- src/widen.rt:48:9
 mul-mix-4 : tie.Need-mul-mix-4 Inv-loop μ-loop
 mul-mix-4 c = omega arith
 
--- src/widen.rt:48:9
 array-write-mix : tie.Need-array-write-mix Inv-loop μ-loop
 array-write-mix c = omega arith
 
--- src/widen.rt:49:9
 add-k : tie.Need-add-k Inv-loop μ-loop
 add-k c = omega arith
 
--- src/widen.rt:46:5
 loop-less : tie.Need-loop-less Inv-loop μ-loop
 loop-less c = omega arith
 
--- src/widen.rt:46:5
 loop-again : tie.Need-loop-again Inv-loop μ-loop
 loop-again c = mixed-more _ _ _ _ _ _ (omega arith) (c .before .before .loop .inv)
 
--- src/widen.rt:39:1
 returns : tie.Need-returns Inv-loop μ-loop
 returns c = mixed-all _ _ _ _ (c .before .before .pre .1 .0) (omega arith) (c .before .loop .inv)
 
