@@ -6,7 +6,6 @@ pub mod Pairs
 pub mod Questions
 pub mod Solve
 pub mod Widen
-
 use Prim.Native.Nat.{ℕ, _<_}
 use mathlib.Core.Path.{_≡_}
 use mathlib.Core.List.{List}

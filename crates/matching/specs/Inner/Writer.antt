@@ -1,7 +1,6 @@
 -- What noting and writing the lines of a derivation promise.
 pub mod Explain
 pub mod Needed
-
 use Prim.Native.Nat.{ℕ, _+_, _-_, _*_, _<_, _≤_}
 use mathlib.Core.Path.{_≡_}
 use mathlib.Core.List.{List, [], _∷_}
