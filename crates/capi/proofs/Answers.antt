@@ -13,8 +13,8 @@ use Rattle.subsumption.specs.Tables.{Tables}
 use Rattle.subsumption.specs.Refusal.{codeOf, Reply, replyDone, replyWith, replyOf}
 use Rattle.subsumption.specs.Table.{Wrote}
 use Rattle.subsumption.specs.Decide.{decisionReply, Decides}
-use Rattle.matching.specs.Finding.{matchReply, Finds}
-use Rattle.matching.specs.Deriving.{derivedReply, Derives}
+use Rattle.matching.specs.Find.{matchReply, Finds}
+use Rattle.matching.specs.Writer.{derivedReply, Derives}
 use Rattle.capi.specs.declared.Answer.{Answer}
 use Rattle.capi.specs.Answer.{replied}
 

@@ -16,9 +16,9 @@ ghost use Rattle.subsumption.specs.Listing.{listingFault, listedIn};
 ghost use Rattle.subsumption.specs.Table.{Wrote};
 ghost use Rattle.subsumption.specs.Decide.{Decides};
 ghost use Rattle.matching.specs.Derivation.{checkingFault};
-ghost use Rattle.matching.specs.Finding.{Finds};
+ghost use Rattle.matching.specs.Find.{Finds};
 ghost use Rattle.matching.specs.Chosen.{choosingFault, chosenIn};
-ghost use Rattle.matching.specs.Deriving.{Derives};
+ghost use Rattle.matching.specs.Writer.{Derives};
 ghost use Rattle.capi.specs.Answer.{replied};
 
 // number 0: done; else the refusal's number, with its place and value 0.

@@ -14,7 +14,7 @@ use Rattle.subsumption.specs.Tables.{Tables}
 use Rattle.subsumption.specs.Atoms.{atoms, chosen}
 use Rattle.subsumption.specs.Check.{tableFault, assignmentFault}
 use Rattle.matching.specs.Chosen.{choosingFault, handedBack}
-use Rattle.matching.proofs.ChoosingFaults.{choices-length, choosing-done}
+use Rattle.matching.proofs.ChosenLaws.Faults.{choices-length, choosing-done}
 use Rattle.hermitcasket.specs.Digits.{digits}
 use Rattle.hermitcasket.specs.Printing.{idText, idsText, fillText, fillsText}
 use Rattle.hermitcasket.specs.Inner.Print.{Wrote}

@@ -19,7 +19,7 @@ use Rattle.subsumption.specs.Check.{tableFault, assignmentFault, bufferFault}
 use Rattle.subsumption.proofs.Replies.{same-refusal, not-done}
 use Rattle.matching.specs.declared.find.Match.{Match}
 use Rattle.matching.specs.declared.find.Match.the-variants.{Filled, Rejected as NotFound}
-use Rattle.matching.specs.Finding.{findingFault, FilledBy, matchReply, FindsAfter, Finds}
+use Rattle.matching.specs.Find.{findingFault, FilledBy, matchReply, FindsAfter, Finds}
 use Rattle.hermitcasket.specs.declared.text.Read.{Read}
 use Rattle.hermitcasket.specs.declared.text.Read.the-variants.{Problem, Rejected}
 use Rattle.hermitcasket.specs.Text.{Judged, accepted, judge}

@@ -1,17 +1,8 @@
--- What a reader must believe of matching and derivations. proofs/ has the laws.
+-- What a reader must believe of matching and derivations, in 01's order; Inner has the definitions of private contracts. proofs/ has the laws.
 pub mod Solving
-pub mod Finding
+pub mod Find
 pub mod Chosen
-pub mod Listing
-pub mod Samples
-pub mod Search
-pub mod Pairs
-pub mod Nogoods
-pub mod Widen
-pub mod Solve
 pub mod Derivation
-pub mod LineMarks
-pub mod LineSearch
-pub mod Deriving
-pub mod Noting
-pub mod Needing
+pub mod Writer
+pub mod Samples
+pub mod Inner

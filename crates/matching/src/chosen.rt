@@ -7,16 +7,13 @@ use subsumption::refusal::Refusal;
 use subsumption::refusal::code_of;
 ghost use mathlib.Core.Path.{_≡_};
 ghost use Prim.Native.Nat.{_<_, _≤_, _^_};
-ghost use mathlib.Core.Bool.{not};
-ghost use lib.Dec.{ltb};
 ghost use lib.ListN.{length, getD};
 ghost use Rattle.subsumption.specs.Tables.{tables};
 ghost use Rattle.subsumption.specs.Atoms.{pick, chosen};
 ghost use Rattle.subsumption.specs.Refusal.{replyWith, replyOf};
-ghost use Rattle.subsumption.specs.Check.{assignmentFaultAt};
 ghost use Rattle.subsumption.specs.Inner.Atoms.{inFront};
 ghost use Rattle.matching.specs.Chosen.{choosingFault, chosenReply, chosenIn, handedBack};
-ghost use Rattle.matching.specs.Listing.{knownFault, earlierOf, toldOf};
+ghost use Rattle.matching.specs.Inner.Chosen.{knownFault, earlierOf, toldOf};
 
 pub enum Chosen {
     Ids(usize),

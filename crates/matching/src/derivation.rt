@@ -1,15 +1,17 @@
 // Checking a derivation. The pairs of the lines passed are marked, so that a premise is one look.
-use crate::rules::by_rule;
-use crate::rules::number_at;
+pub mod marks;
+pub mod rules;
+
+use crate::derivation::marks::mark_pair;
+use crate::derivation::marks::number_at;
+use crate::derivation::rules::by_rule;
 use subsumption::Listed;
 use subsumption::helpers::check_assignment;
 use subsumption::helpers::list_asked;
 use subsumption::refusal::Outcome;
 use subsumption::refusal::Refusal;
 ghost use mathlib.Core.Path.{_≡_};
-ghost use mathlib.Core.Bool.{true};
-ghost use Prim.Native.Nat.{_+_, _*_, _<_, _≤_};
-ghost use lib.ListN.{length, set};
+ghost use Prim.Native.Nat.{_<_};
 ghost use Rattle.subsumption.specs.declared.refusal.Refusal.the-variants.{BadDerivation};
 ghost use Rattle.subsumption.specs.declared.refusal.Outcome.the-variants.{Done};
 ghost use Rattle.subsumption.specs.Tables.{tables, countOf};
@@ -17,15 +19,7 @@ ghost use Rattle.subsumption.specs.Refusal.{replyOf, refuseIf};
 ghost use Rattle.subsumption.specs.Inner.Closure.{Ready};
 ghost use Rattle.subsumption.specs.Inner.Listing.{Prepared, ForAccepted};
 ghost use Rattle.matching.specs.Derivation.{linesOf, noLines, lastFault, checkingFault};
-ghost use Rattle.matching.specs.LineMarks.{Square, MarksOf, LineTest, RulesTest};
-
-pub fn mark_pair(marks: &mut [bool], count: usize, i: usize, j: usize)
-    requires { ⌜ Square count (now marks) ⌝ }
-    requires { ⌜ (i < count) × (j < count) ⌝ }
-    ensures { λ _. ⌜ now (marks .exit) ≡ set (now (marks .entry)) (i * count + j) true ⌝ }
-{
-    marks[i * count + j] = true;
-}
+ghost use Rattle.matching.specs.Inner.Derivation.{MarksOf, LineTest, RulesTest};
 
 fn line_follows(
     concepts: &[u16],

@@ -1,19 +1,18 @@
 // Finding the first assignment that makes every question hold.
-use crate::interval::Interval;
-use crate::interval::ones;
-use crate::order::first_solution;
-use crate::solve::some_solution;
+use crate::search::interval::Interval;
+use crate::search::interval::ones;
+use crate::search::order::first_solution;
+use crate::search::solve::some_solution;
 use subsumption::Listed;
 use subsumption::helpers::close_ground;
 use subsumption::list_atoms;
 use subsumption::refusal::Refusal;
-ghost use mathlib.Core.Path.{_≡_};
 ghost use Prim.Native.Nat.{_≤_};
 ghost use lib.ListN.{length};
 ghost use Rattle.subsumption.specs.Tables.{tables};
 ghost use Rattle.subsumption.specs.Inner.Listing.{Accepted};
-ghost use Rattle.matching.specs.Search.{Full, FoundBy, Copied};
-ghost use Rattle.matching.specs.Finding.{matchReply, Finds};
+ghost use Rattle.matching.specs.Inner.Find.{Full, FoundBy, Copied};
+ghost use Rattle.matching.specs.Find.{matchReply, Finds};
 
 pub enum Match {
     Filled,

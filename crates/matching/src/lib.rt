@@ -3,16 +3,7 @@
 mod chosen;
 mod derivation;
 mod find;
-mod interval;
-mod needed;
-mod nogoods;
-mod order;
-mod pairs;
-mod questions;
-mod rules;
 mod search;
-mod solve;
-mod widen;
 mod writer;
 
 pub use chosen::Chosen;

@@ -1,9 +1,12 @@
 // Writing a derivation: lines are noted until the asked pair is found; of them, those that it needs are written.
-use crate::derivation::mark_pair;
-use crate::needed::need_lines;
-use crate::rules::has_mark;
-use crate::search::Next;
-use crate::search::next_line;
+pub mod explain;
+pub mod needed;
+
+use crate::derivation::marks::has_mark;
+use crate::derivation::marks::mark_pair;
+use crate::writer::explain::Next;
+use crate::writer::explain::next_line;
+use crate::writer::needed::need_lines;
 use subsumption::Decision;
 use subsumption::Listed;
 use subsumption::helpers::check_assignment;
@@ -18,10 +21,9 @@ ghost use lib.ListN.{length};
 ghost use Rattle.subsumption.specs.Tables.{tables, both, countOf};
 ghost use Rattle.subsumption.specs.Inner.Listing.{Prepared, ForAccepted};
 ghost use Rattle.matching.specs.Derivation.{leftAt, rightAt};
-ghost use Rattle.matching.specs.Deriving.{derivedReply, Derives};
-ghost use Rattle.matching.specs.LineMarks.{Square};
-ghost use Rattle.matching.specs.LineSearch.{Grounds};
-ghost use Rattle.matching.specs.Noting.{inFront, LineWritten, Blank, Asked, NotedTo, Copied, WrittenFor};
+ghost use Rattle.matching.specs.Writer.{derivedReply, Derives};
+ghost use Rattle.matching.specs.Inner.Derivation.{Square};
+ghost use Rattle.matching.specs.Inner.Writer.{Grounds, inFront, LineWritten, Blank, Asked, NotedTo, Copied, WrittenFor};
 
 pub enum Derived {
     Lines(usize),

@@ -1,25 +1,17 @@
 use borrow.Author.Needs.{needs}
-use Rattle.matching.proofs.ChoosingFaults.{handed}
+use Rattle.matching.proofs.ChosenLaws.Faults.{handed}
 use Rattle.matching.proofs.chosen.list_chosen.Statement.{statement}
 use Rattle.matching.proofs.chosen.list_chosen.Tie as tie
-use Rattle.matching.proofs.chosen.list_chosen.Reads as reads
-use Rattle.matching.proofs.chosen.list_chosen.Lts as lts
-use Rattle.matching.proofs.chosen.put_chosen.Reads as put-chosen-reads
-use Rattle.matching.proofs.chosen.tell.Reads as tell-reads
 
--- src/chosen.rt:178:9
 put-chosen-requires : tie.Need-put-chosen-requires
 put-chosen-requires c κs = search needs
 
--- src/chosen.rt:187:9
 tell-requires : tie.Need-tell-requires
 tell-requires c κs = search needs
 
--- src/chosen.rt:191:5
 slice-aggregate-result : tie.Need-slice-aggregate-result
 slice-aggregate-result c = handed _ _ _ _ (c .before .before .before .before .put-chosen .result) _ (c .before .before .before .before .put-chosen .ensures .0) (c .before .before .before .before .put-chosen .ensures .1) (c .before .tell .ensures) .long
 
--- src/chosen.rt:163:1
 returns : tie.Need-returns
 returns c = let h = handed _ _ _ _ (c .before .before .before .before .put-chosen .result) _ (c .before .before .before .before .put-chosen .ensures .0) (c .before .before .before .before .put-chosen .ensures .1) (c .before .tell .ensures) in (h .back, (h .number, h .place))
 

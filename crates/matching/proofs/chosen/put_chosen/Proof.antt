@@ -1,59 +1,43 @@
 use mathlib.Core.Path.{refl, sym}
 use lib.Seq.{length-take-le}
 use native.Mathlib.Omega.{arith}
-use Rattle.subsumption.specs.Tables.{tables}
 use lib.ListN.{replicate}
 use Rattle.subsumption.proofs.ListingLaws.{tables-rejected, tables-listed, tables-few, prepared}
 use Rattle.subsumption.proofs.Deciding.{few-atoms}
-use Rattle.matching.proofs.ChoosingFaults.{choosing-rejected, choosing-found}
+use Rattle.matching.proofs.ChosenLaws.Faults.{choosing-rejected, choosing-found}
 use Rattle.matching.proofs.chosen.put_chosen.Statement.{statement}
 use Rattle.matching.proofs.chosen.put_chosen.Tie as tie
-use Rattle.matching.proofs.chosen.put_chosen.Reads as reads
-use Rattle.matching.proofs.chosen.put_chosen.Lts as lts
-use Rattle.matching.proofs.chosen.put_known.Reads as put-known-reads
-use Rattle.matching.proofs.chosen.refused_with.Reads as refused-with-reads
 
--- src/chosen.rt:134:72
 slice-aggregate-list-atoms : tie.Need-slice-aggregate-list-atoms
 slice-aggregate-list-atoms c = omega arith
 
--- src/chosen.rt:134:9
 list-atoms-requires : tie.Need-list-atoms-requires
 list-atoms-requires c κs = omega arith
 
--- src/chosen.rt:136:26
 enum-known-atoms : tie.Need-enum-known-atoms
 enum-known-atoms c = omega arith
 
--- src/chosen.rt:136:49
 refused-with-requires : tie.Need-refused-with-requires
 refused-with-requires c κs = omega arith
 
--- src/chosen.rt:137:23
 enum-known-atoms-2 : tie.Need-enum-known-atoms-2
 enum-known-atoms-2 c = omega arith
 
--- src/chosen.rt:137:43
 array-share-prefix-ids : tie.Need-array-share-prefix-ids
 array-share-prefix-ids c = omega (arith, tables-few _ (replicate 64 0) _ (c .before .before .before .before .list-atoms .result) refl (c .before .before .before .before .list-atoms .ensures .0) (c .before .before .before .before .list-atoms .ensures .1) _ (c .before .atoms2 .given .1), c .before .before .before .before .list-atoms .kept .1 .1 .1 .1 .0)
 
--- src/chosen.rt:137:43
 slice-aggregate-put-known : tie.Need-slice-aggregate-put-known
 slice-aggregate-put-known c = sym (length-take-le _ _ (omega (arith, tables-few _ (replicate 64 0) _ (c .before .before .before .before .before .list-atoms .result) refl (c .before .before .before .before .before .list-atoms .ensures .0) (c .before .before .before .before .before .list-atoms .ensures .1) _ (c .before .before .atoms2 .given .1), c .before .before .before .before .before .list-atoms .kept .1 .1 .1 .1 .0)))
 
--- src/chosen.rt:137:33
 put-known-requires : tie.Need-put-known-requires
 put-known-requires c κs = few-atoms _ _ _ _ (prepared _ _ _ _ _ (tables-listed _ (replicate 64 0) _ (c .before .before .before .before .before .before .list-atoms .result) refl (c .before .before .before .before .before .before .list-atoms .ensures .0) (c .before .before .before .before .before .before .list-atoms .ensures .1) _ (c .before .before .before .atoms2 .given .1)))
 
--- src/chosen.rt:121:1
 returns : tie.Need-returns
 returns c = choosing-rejected _ _ _ _ _ _ (tables-rejected _ (replicate 64 0) _ (c .before .before .before .before .before .list-atoms .result) refl (c .before .before .before .before .before .list-atoms .ensures .0) (c .before .before .before .before .before .list-atoms .ensures .1) _ (c .before .before .atoms .given .1)) (c .refused-with .ensures)
 
--- src/chosen.rt:121:1
 same-length : tie.Need-same-length
 same-length c = omega arith
 
--- src/chosen.rt:121:1
 returns-2 : tie.Need-returns-2
 returns-2 c = choosing-found _ _ (c .before .before .before .before .before .before .before .before .before .before .before .before .before .before .before .before .args .out .now) _ _ _ (c .before .before .put-known .result) (tables-listed _ (replicate 64 0) _ (c .before .before .before .before .before .before .before .before .before .list-atoms .result) refl (c .before .before .before .before .before .before .before .before .before .list-atoms .ensures .0) (c .before .before .before .before .before .before .before .before .before .list-atoms .ensures .1) _ (c .before .before .before .before .before .before .atoms2 .given .1)) (c .before .before .put-known .ensures .0) (c .before .before .put-known .ensures .1)
 

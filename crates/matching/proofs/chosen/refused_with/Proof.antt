@@ -1,23 +1,17 @@
 use borrow.Author.Needs.{needs}
-use Rattle.matching.proofs.ChoosingFaults.{earlier-kept, earlier-other}
+use Rattle.matching.proofs.ChosenLaws.Faults.{earlier-kept, earlier-other}
 use Rattle.matching.proofs.chosen.refused_with.Statement.{statement}
 use Rattle.matching.proofs.chosen.refused_with.Tie as tie
-use Rattle.matching.proofs.chosen.refused_with.Reads as reads
-use Rattle.matching.proofs.chosen.refused_with.Lts as lts
 
--- src/chosen.rt:112:9
 returns : tie.Need-returns
 returns c = search needs
 
--- src/chosen.rt:114:9
 code-of-requires : tie.Need-code-of-requires
 code-of-requires c κs = search needs
 
--- src/chosen.rt:116:9
 returns-2 : tie.Need-returns-2
 returns-2 c = search earlier-kept
 
--- src/chosen.rt:108:1
 returns-3 : tie.Need-returns-3
 returns-3 c = search earlier-other
 

@@ -1,26 +1,19 @@
 use borrow.Author.Needs.{needs}
 use Rattle.matching.proofs.chosen.tell.Statement.{statement}
 use Rattle.matching.proofs.chosen.tell.Tie as tie
-use Rattle.matching.proofs.chosen.tell.Reads as reads
-use Rattle.matching.proofs.chosen.tell.Lts as lts
 
--- src/chosen.rt:146:21
 enum-known-answer : tie.Need-enum-known-answer
 enum-known-answer c = search needs
 
--- src/chosen.rt:151:26
 enum-known-answer-2 : tie.Need-enum-known-answer-2
 enum-known-answer-2 c = search needs
 
--- src/chosen.rt:152:17
 code-of-requires : tie.Need-code-of-requires
 code-of-requires c κs = search needs
 
--- src/chosen.rt:142:1
 returns : tie.Need-returns
 returns c = cc
 
--- src/chosen.rt:142:1
 returns-2 : tie.Need-returns-2
 returns-2 c = cc
 

@@ -1,4 +1,4 @@
-use Rattle.matching.proofs.LineChecks.{pair-stops}
+use Rattle.matching.proofs.DerivationLaws.Lines.{pair-stops}
 use Rattle.subsumption.proofs.Deciding.{pair-left, pair-right}
 use Rattle.subsumption.proofs.Replies.{same-reply, same-refused}
 use Rattle.subsumption.proofs.ListingLaws.{asked-rejected, asked-passed, asked-listed, asked-few, prepared}
@@ -9,43 +9,31 @@ use native.Mathlib.Omega.{arith}
 use borrow.Author.Needs.{needs}
 use Rattle.matching.proofs.derivation.check_derivation.Statement.{statement}
 use Rattle.matching.proofs.derivation.check_derivation.Tie as tie
-use Rattle.matching.proofs.derivation.check_derivation.Reads as reads
-use Rattle.matching.proofs.derivation.check_derivation.Lts as lts
-use Rattle.matching.proofs.derivation.check_known.Reads as check-known-reads
 
--- src/derivation.rt:201:9
 slice-aggregate-list-asked : tie.Need-slice-aggregate-list-asked
 slice-aggregate-list-asked c = search needs
 
--- src/derivation.rt:194:9
 list-asked-requires : tie.Need-list-asked-requires
 list-asked-requires c κs = search needs
 
--- src/derivation.rt:204:26
 enum-known-listed : tie.Need-enum-known-listed
 enum-known-listed c = search needs
 
--- src/derivation.rt:205:23
 enum-known-listed-2 : tie.Need-enum-known-listed-2
 enum-known-listed-2 c = search needs
 
--- src/derivation.rt:208:13
 array-share-prefix-ids : tie.Need-array-share-prefix-ids
 array-share-prefix-ids c = omega (arith, asked-few _ _ _ (replicate 64 0) _ (c .before .before .before .before .list-asked .result) refl (c .before .before .before .before .list-asked .ensures .0) (c .before .before .before .before .list-asked .ensures .1) _ (c .before .listed2 .given .1), c .before .before .before .before .list-asked .kept .1 .1 .1 .1 .1 .1 .0)
 
--- src/derivation.rt:208:13
 slice-aggregate-check-known : tie.Need-slice-aggregate-check-known
 slice-aggregate-check-known c = sym (length-take-le _ _ (omega (arith, asked-few _ _ _ (replicate 64 0) _ (c .before .before .before .before .before .list-asked .result) refl (c .before .before .before .before .before .list-asked .ensures .0) (c .before .before .before .before .before .list-asked .ensures .1) _ (c .before .before .listed2 .given .1), c .before .before .before .before .before .list-asked .kept .1 .1 .1 .1 .1 .1 .0)))
 
--- src/derivation.rt:205:33
 check-known-requires : tie.Need-check-known-requires
 check-known-requires c κs = let p = asked-passed _ _ _ (replicate 64 0) _ (c .before .before .before .before .before .list-asked .result) refl (c .before .before .before .before .before .list-asked .ensures .0) (c .before .before .before .before .before .list-asked .ensures .1) _ (c .before .before .listed2 .given .1) in (prepared _ _ _ _ _ (asked-listed _ _ _ (replicate 64 0) _ (c .before .before .before .before .before .list-asked .result) refl (c .before .before .before .before .before .list-asked .ensures .0) (c .before .before .before .before .before .list-asked .ensures .1) _ (c .before .before .listed2 .given .1)), (pair-left _ _ _ p, pair-right _ _ _ p))
 
--- src/derivation.rt:181:1
 returns : tie.Need-returns
 returns c = same-refused _ _ (pair-stops _ _ _ _ _ _ (asked-rejected _ _ _ (replicate 64 0) _ (c .before .before .before .before .list-asked .result) refl (c .before .before .before .before .list-asked .ensures .0) (c .before .before .before .before .list-asked .ensures .1) _ (c .before .listed .given .1)))
 
--- src/derivation.rt:181:1
 returns-2 : tie.Need-returns-2
 returns-2 c = same-reply (c .check-known .result) _ (c .check-known .ensures _ (asked-listed _ _ _ (replicate 64 0) _ (c .before .before .before .before .before .before .list-asked .result) refl (c .before .before .before .before .before .before .list-asked .ensures .0) (c .before .before .before .before .before .before .list-asked .ensures .1) _ (c .before .before .before .listed2 .given .1)))
 

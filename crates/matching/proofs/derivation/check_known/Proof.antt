@@ -1,66 +1,50 @@
 use Rattle.subsumption.specs.declared.refusal.Outcome.the-variants.{Done}
 use Rattle.subsumption.proofs.Refusals.{is-done}
 use Rattle.subsumption.proofs.Deciding.{few-atoms, prepared-ready, known-fault}
-use Rattle.matching.proofs.LineChecks.{accepted-of, asked-stops, shape-stops, rules-stops, last-decides}
+use Rattle.matching.proofs.DerivationLaws.Lines.{accepted-of, asked-stops, shape-stops, rules-stops, last-decides}
 use borrow.Author.Needs.{needs}
 use Rattle.matching.proofs.derivation.check_known.Statement.{statement}
 use Rattle.matching.proofs.derivation.check_known.Tie as tie
-use Rattle.matching.proofs.derivation.check_known.Reads as reads
-use Rattle.matching.proofs.derivation.check_known.Lts as lts
-use Rattle.matching.proofs.derivation.check_last.Reads as check-last-reads
-use Rattle.matching.proofs.derivation.check_rules.Reads as check-rules-reads
-use Rattle.matching.proofs.derivation.check_shape.Reads as check-shape-reads
 
--- src/derivation.rt:165:9
 check-assignment-requires : tie.Need-check-assignment-requires
 check-assignment-requires c κs = few-atoms _ _ _ _ (c .before .before .before .before .before .pre .0)
 
--- src/derivation.rt:166:29
 enum-known-choices : tie.Need-enum-known-choices
 enum-known-choices c = search needs
 
--- src/derivation.rt:167:9
 returns : tie.Need-returns
 returns c = λ qs a. asked-stops _ _ _ _ _ _ Done Done Done (known-fault _ _ _ _ _ _ _ (c .before .before .before .before .before .before .before .before .before .pre .1 .0) (c .before .before .before .before .before .before .before .before .before .pre .1 .1) _ (c .before .before .before .check-assignment .ensures) qs a) _ (c .before .choices .given .1)
 
 enum-told : tie.Need-enum-told
 enum-told c = search needs
 
--- src/derivation.rt:169:9
 check-shape-requires : tie.Need-check-shape-requires
 check-shape-requires c κs = search needs
 
--- src/derivation.rt:170:29
 enum-known-shape : tie.Need-enum-known-shape
 enum-known-shape c = search needs
 
--- src/derivation.rt:171:9
 returns-2 : tie.Need-returns-2
 returns-2 c = λ qs a. shape-stops _ _ _ _ _ _ _ Done Done (known-fault _ _ _ _ _ _ _ (c .before .before .before .before .before .before .before .before .before .before .before .before .pre .1 .0) (c .before .before .before .before .before .before .before .before .before .before .before .before .pre .1 .1) _ (c .before .before .before .before .before .before .check-assignment .ensures) qs a) (c .before .before .before .before .enum-told .given .1) (c .before .before .before .check-shape .ensures) _ (c .before .shape .given .1)
 
 enum-told-2 : tie.Need-enum-told-2
 enum-told-2 c = search needs
 
--- src/derivation.rt:173:9
 check-rules-requires : tie.Need-check-rules-requires
 check-rules-requires c κs = prepared-ready _ _ _ _ (c .before .before .before .before .before .before .before .before .before .before .before .pre .0) _ _ (c .before .before .before .before .before .check-assignment .ensures) (c .before .before .before .enum-told .given .1)
 
--- src/derivation.rt:174:29
 enum-known-rules : tie.Need-enum-known-rules
 enum-known-rules c = search needs
 
--- src/derivation.rt:175:9
 returns-3 : tie.Need-returns-3
 returns-3 c = λ qs a. rules-stops _ _ _ _ _ _ _ _ Done (known-fault _ _ _ _ _ _ _ (c .before .before .before .before .before .before .before .before .before .before .before .before .before .before .before .pre .1 .0) (c .before .before .before .before .before .before .before .before .before .before .before .before .before .before .before .pre .1 .1) _ (c .before .before .before .before .before .before .before .before .before .check-assignment .ensures) qs a) (c .before .before .before .before .before .before .before .enum-told .given .1) (c .before .before .before .before .before .before .check-shape .ensures) (c .before .before .before .before .enum-told2 .given .1) (c .before .before .before .check-rules .ensures .tells _ (accepted-of _ _ a)) _ (c .before .rules .given .1)
 
 enum-told-3 : tie.Need-enum-told-3
 enum-told-3 c = search needs
 
--- src/derivation.rt:177:5
 check-last-requires : tie.Need-check-last-requires
 check-last-requires c κs = is-done _ _ (c .before .before .before .before .before .check-shape .ensures) (c .before .before .before .enum-told2 .given .1)
 
--- src/derivation.rt:151:1
 returns-4 : tie.Need-returns-4
 returns-4 c = λ qs a. last-decides _ _ _ _ _ _ _ _ _ (known-fault _ _ _ _ _ _ _ (c .before .before .before .before .before .before .before .before .before .before .before .before .before .before .before .pre .1 .0) (c .before .before .before .before .before .before .before .before .before .before .before .before .before .before .before .pre .1 .1) _ (c .before .before .before .before .before .before .before .before .before .check-assignment .ensures) qs a) (c .before .before .before .before .before .before .before .enum-told .given .1) (c .before .before .before .before .before .before .check-shape .ensures) (c .before .before .before .before .enum-told2 .given .1) (c .before .before .before .check-rules .ensures .tells _ (accepted-of _ _ a)) (c .before .enum-told3 .given .1) (c .check-last .ensures)
 

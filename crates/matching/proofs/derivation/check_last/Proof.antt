@@ -1,5 +1,5 @@
 use native.Mathlib.Omega.{arith}
-use Rattle.matching.proofs.LineChecks.{some-lines, last-left, last-right, last-both}
+use Rattle.matching.proofs.DerivationLaws.Lines.{some-lines, last-left, last-right, last-both}
 use borrow.Author.Needs.{needs}
 use Rattle.matching.proofs.derivation.check_last.Statement.{statement}
 use Rattle.matching.proofs.derivation.check_last.Tie as tie

@@ -4,8 +4,8 @@ use mathlib.Core.Path.{_≡_, refl, _∙_}
 use lib.ListN.{length}
 use Rattle.subsumption.specs.Tables.{countOf}
 use Rattle.matching.specs.Derivation.{linesOf}
-use Rattle.matching.specs.LineMarks.{MarksOf}
-use Rattle.matching.proofs.LineChecks.{Passed, passed-none, passed-more, marks-more, rules-broken, rules-kept}
+use Rattle.matching.specs.Inner.Derivation.{MarksOf}
+use Rattle.matching.proofs.DerivationLaws.Lines.{Passed, passed-none, passed-more, marks-more, rules-broken, rules-kept}
 use Rattle.matching.proofs.derivation.check_lines.Statement.{statement}
 use Rattle.matching.proofs.derivation.check_lines.Tie as tie
 

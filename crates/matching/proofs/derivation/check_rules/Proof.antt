@@ -1,31 +1,23 @@
-use Rattle.matching.proofs.LineChecks.{marks-none, empty-square, empty-seen}
-use Rattle.matching.proofs.Cells.{square-small}
+use Rattle.matching.proofs.DerivationLaws.Lines.{marks-none, empty-square, empty-seen}
+use Rattle.matching.proofs.DerivationLaws.Cells.{square-small}
 use mathlib.Core.Path.{sym}
 use native.Mathlib.Omega.{arith}
 use borrow.Author.Needs.{needs}
 use Rattle.matching.proofs.derivation.check_rules.Statement.{statement}
 use Rattle.matching.proofs.derivation.check_rules.Tie as tie
-use Rattle.matching.proofs.derivation.check_rules.Reads as reads
-use Rattle.matching.proofs.derivation.check_rules.Lts as lts
-use Rattle.matching.proofs.derivation.check_lines.Reads as check-lines-reads
 
--- src/derivation.rt:110:16
 mul-size : tie.Need-mul-size
 mul-size c = omega (arith, square-small _ (c .before .before .before .before .before .pre .few))
 
--- src/derivation.rt:117:9
 array-borrow-prefix-marks : tie.Need-array-borrow-prefix-marks
 array-borrow-prefix-marks c = omega (arith, square-small _ (c .before .before .before .before .before .pre .few))
 
--- src/derivation.rt:117:9
 slice-aggregate-check-lines : tie.Need-slice-aggregate-check-lines
 slice-aggregate-check-lines c = sym (empty-square _ (c .before .before .before .before .before .before .pre .few) .long)
 
--- src/derivation.rt:111:5
 check-lines-requires : tie.Need-check-lines-requires
 check-lines-requires c κs = (c .before .before .before .before .before .before .pre, marks-none _ _ _ (empty-square _ (c .before .before .before .before .before .before .pre .few)) (λ i j. empty-seen _ i j (c .before .before .before .before .before .before .pre .few)))
 
--- src/derivation.rt:98:1
 returns : tie.Need-returns
 returns c = search needs
 

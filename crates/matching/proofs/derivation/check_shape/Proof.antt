@@ -1,4 +1,4 @@
-use Rattle.matching.proofs.LineChecks.{shape-empty, shape-ragged, shape-whole}
+use Rattle.matching.proofs.DerivationLaws.Lines.{shape-empty, shape-ragged, shape-whole}
 use Rattle.matching.proofs.derivation.check_shape.Statement.{statement}
 use Rattle.matching.proofs.derivation.check_shape.Tie as tie
 

@@ -1,5 +1,5 @@
 use native.Mathlib.Omega.{arith}
-use Rattle.matching.proofs.LineChecks.{line-left, line-right, line-rule}
+use Rattle.matching.proofs.DerivationLaws.Lines.{line-left, line-right, line-rule}
 use Rattle.matching.proofs.derivation.line_follows.Statement.{statement}
 use Rattle.matching.proofs.derivation.line_follows.Tie as tie
 

@@ -1,4 +1,4 @@
-use Rattle.matching.proofs.Answering.{tables-refuse}
+use Rattle.matching.proofs.FindLaws.{tables-refuse}
 use Rattle.subsumption.proofs.ListingLaws.{tables-rejected, tables-listed, tables-few}
 use lib.Seq.{length-take-le}
 use lib.ListN.{replicate}
@@ -6,47 +6,34 @@ use mathlib.Core.Path.{refl, sym}
 use native.Mathlib.Omega.{arith}
 use Rattle.matching.proofs.find.find_assignment.Statement.{statement}
 use Rattle.matching.proofs.find.find_assignment.Tie as tie
-use Rattle.matching.proofs.find.find_assignment.Reads as reads
-use Rattle.matching.proofs.find.find_assignment.Lts as lts
-use Rattle.matching.proofs.find.find_known.Reads as find-known-reads
 
--- src/find.rt:146:73
 slice-aggregate-list-atoms : tie.Need-slice-aggregate-list-atoms
 slice-aggregate-list-atoms c = omega arith
 
--- src/find.rt:146:9
 list-atoms-requires : tie.Need-list-atoms-requires
 list-atoms-requires c κs = omega arith
 
--- src/find.rt:148:26
 enum-known-listed : tie.Need-enum-known-listed
 enum-known-listed c = omega arith
 
--- src/find.rt:149:23
 enum-known-listed-2 : tie.Need-enum-known-listed-2
 enum-known-listed-2 c = omega arith
 
--- src/find.rt:154:13
 array-share-prefix-ids : tie.Need-array-share-prefix-ids
 array-share-prefix-ids c = omega (arith, tables-few _ (replicate 64 0) _ (c .before .before .before .before .list-atoms .result) refl (c .before .before .before .before .list-atoms .ensures .0) (c .before .before .before .before .list-atoms .ensures .1) _ (c .before .listed2 .given .1), c .before .before .before .before .list-atoms .kept .1 .1 .1 .1 .0)
 
--- src/find.rt:154:13
 slice-aggregate-find-known : tie.Need-slice-aggregate-find-known
 slice-aggregate-find-known c = sym (length-take-le _ _ (omega (arith, tables-few _ (replicate 64 0) _ (c .before .before .before .before .before .list-atoms .result) refl (c .before .before .before .before .before .list-atoms .ensures .0) (c .before .before .before .before .before .list-atoms .ensures .1) _ (c .before .before .listed2 .given .1), c .before .before .before .before .before .list-atoms .kept .1 .1 .1 .1 .0)))
 
--- src/find.rt:149:33
 find-known-requires : tie.Need-find-known-requires
 find-known-requires c κs = tables-listed _ (replicate 64 0) _ (c .before .before .before .before .before .before .list-atoms .result) refl (c .before .before .before .before .before .before .list-atoms .ensures .0) (c .before .before .before .before .before .before .list-atoms .ensures .1) _ (c .before .before .before .listed2 .given .1)
 
--- src/find.rt:136:1
 returns : tie.Need-returns
 returns c = tables-refuse _ (c .before .before .before .before .before .before .before .before .before .before .args .out .now) _ (tables-rejected _ (replicate 64 0) _ (c .before .before .before .before .list-atoms .result) refl (c .before .before .before .before .list-atoms .ensures .0) (c .before .before .before .before .list-atoms .ensures .1) _ (c .before .listed .given .1))
 
--- src/find.rt:136:1
 same-length : tie.Need-same-length
 same-length c = omega arith
 
--- src/find.rt:136:1
 returns-2 : tie.Need-returns-2
 returns-2 c = c .before .before .find-known .ensures
 

@@ -1,60 +1,44 @@
-use Rattle.matching.proofs.Refuting.{answers-found, answers-none, refuted-none}
-use Rattle.matching.proofs.NogoodLaws.{nogoods-none}
-use Rattle.matching.proofs.Answering.{whole, every-atom, all-zeros, full-atoms, first-found, nothing-found}
+use Rattle.matching.proofs.SearchLaws.Solve.{answers-found, answers-none, refuted-none}
+use Rattle.matching.proofs.SearchLaws.Nogoods.{nogoods-none}
+use Rattle.matching.proofs.FindLaws.{whole, every-atom, all-zeros, full-atoms, first-found, nothing-found}
 use Rattle.subsumption.proofs.Deciding.{few-atoms}
 use Rattle.subsumption.proofs.ListingLaws.{prepared}
 use Rattle.subsumption.proofs.Accepted.{wellFormed}
 use native.Mathlib.Omega.{arith}
-use mathlib.Core.Path.{refl, sym}
+use mathlib.Core.Path.{refl}
 use Rattle.matching.proofs.find.find_first.Statement.{statement}
 use Rattle.matching.proofs.find.find_first.Tie as tie
-use Rattle.matching.proofs.find.find_first.Reads as reads
-use Rattle.matching.proofs.find.find_first.Lts as lts
-use Rattle.matching.proofs.find.all_atoms.Reads as all-atoms-reads
-use Rattle.matching.proofs.order.first_solution.Reads as first-solution-reads
-use Rattle.matching.proofs.solve.some_solution.Reads as some-solution-reads
 
--- src/find.rt:58:56
 slice-aggregate-close-ground : tie.Need-slice-aggregate-close-ground
 slice-aggregate-close-ground c = omega arith
 
--- src/find.rt:58:5
 close-ground-requires : tie.Need-close-ground-requires
 close-ground-requires c κs = (prepared _ _ _ _ _ (c .before .before .before .before .before .pre), refl)
 
--- src/find.rt:61:9
 all-atoms-requires : tie.Need-all-atoms-requires
 all-atoms-requires c κs = (wellFormed _ (c .before .before .before .before .before .before .before .pre .passed) .few-variables, few-atoms _ _ _ _ (prepared _ _ _ _ _ (c .before .before .before .before .before .before .before .pre)))
 
--- src/find.rt:69:9
 slice-aggregate-some-solution : tie.Need-slice-aggregate-some-solution
 slice-aggregate-some-solution c = omega arith
 
--- src/find.rt:71:9
 slice-aggregate-some-solution-2 : tie.Need-slice-aggregate-some-solution-2
 slice-aggregate-some-solution-2 c = omega arith
 
--- src/find.rt:63:9
 some-solution-requires : tie.Need-some-solution-requires
 some-solution-requires c κs = ((record { passed = c .before .before .before .before .before .before .before .before .before .before .pre .passed; listed = c .before .before .before .before .before .before .before .before .before .before .pre .listed; grounded = c .before .before .before .before .close-ground .ensures _ (c .before .before .before .before .before .before .before .before .before .before .pre) }), (whole _ (c .before .before .before .before .before .before .before .before .before .before .pre .passed) _ _ all-zeros refl (full-atoms _ _ _ (c .before .before .before .before .before .before .before .before .before .before .pre) (c .before .before .all-atoms .ensures)), (every-atom _ (c .before .before .before .before .before .before .before .before .before .before .pre .passed) _ (full-atoms _ _ _ (c .before .before .before .before .before .before .before .before .before .before .pre) (c .before .before .all-atoms .ensures)), (nogoods-none _ _ refl refl))))
 
--- src/find.rt:82:13
 slice-aggregate-first-solution : tie.Need-slice-aggregate-first-solution
 slice-aggregate-first-solution c = omega arith
 
--- src/find.rt:83:13
 slice-aggregate-first-solution-2 : tie.Need-slice-aggregate-first-solution-2
 slice-aggregate-first-solution-2 c = omega arith
 
--- src/find.rt:76:13
 first-solution-requires : tie.Need-first-solution-requires
 first-solution-requires c κs = ((record { passed = c .before .before .before .before .before .before .before .before .before .before .before .before .before .before .before .before .pre .passed; listed = c .before .before .before .before .before .before .before .before .before .before .before .before .before .before .before .before .pre .listed; grounded = c .before .before .before .before .before .before .before .before .before .before .close-ground .ensures _ (c .before .before .before .before .before .before .before .before .before .before .before .before .before .before .before .before .pre) }), (c .before .before .before .before .before .some-solution .ensures .1, (whole _ (c .before .before .before .before .before .before .before .before .before .before .before .before .before .before .before .before .pre .passed) _ _ all-zeros refl (full-atoms _ _ _ (c .before .before .before .before .before .before .before .before .before .before .before .before .before .before .before .before .pre) (c .before .before .before .before .before .before .before .before .all-atoms .ensures)), answers-found _ _ _ (c .before .before .before .before .before .some-solution .result .found) _ _ (c .before .before .before .before .before .some-solution .ensures .0) (c .before .before .if1 .taken))))
 
--- src/find.rt:87:9
 returns : tie.Need-returns
 returns c = first-found _ (c .before .before .before .before .before .before .before .before .before .before .before .before .before .before .before .before .before .before .pre .passed) _ _ all-zeros refl (full-atoms _ _ _ (c .before .before .before .before .before .before .before .before .before .before .before .before .before .before .before .before .before .before .pre) (c .before .before .before .before .before .before .before .before .before .before .all-atoms .ensures)) _ (c .before .first-solution .ensures)
 
--- src/find.rt:47:1
 returns-2 : tie.Need-returns-2
 returns-2 c = nothing-found _ (c .before .before .before .before .before .before .before .before .before .before .before .before .before .before .pre .passed) _ _ all-zeros refl (full-atoms _ _ _ (c .before .before .before .before .before .before .before .before .before .before .before .before .before .before .pre) (c .before .before .before .before .before .before .all-atoms .ensures)) (refuted-none _ _ _ _ _ (answers-none _ _ _ (c .before .before .before .some-solution .result .found) _ _ (c .before .before .before .some-solution .ensures .0) (c .if1 .left)))
 

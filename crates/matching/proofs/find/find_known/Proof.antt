@@ -1,35 +1,25 @@
-use Rattle.matching.proofs.Answering.{buffer-refuses, finds-filled, finds-nothing}
+use Rattle.matching.proofs.FindLaws.{buffer-refuses, finds-filled, finds-nothing}
 use Rattle.subsumption.proofs.Accepted.{wellFormed}
 use native.Mathlib.Omega.{arith}
 use mathlib.Core.Path.{refl}
 use Rattle.matching.proofs.find.find_known.Statement.{statement}
 use Rattle.matching.proofs.find.find_known.Tie as tie
-use Rattle.matching.proofs.find.find_known.Reads as reads
-use Rattle.matching.proofs.find.find_known.Lts as lts
-use Rattle.matching.proofs.find.find_first.Reads as find-first-reads
-use Rattle.matching.proofs.find.write_choice.Reads as write-choice-reads
 
--- src/find.rt:124:9
 returns : tie.Need-returns
 returns c = buffer-refuses _ (c .before .before .before .before .before .before .args .out .now) (c .before .before .before .before .before .before .pre .passed) (c .if1 .taken)
 
--- src/find.rt:126:9
 find-first-requires : tie.Need-find-first-requires
 find-first-requires c κs = c .before .before .before .before .before .before .pre
 
--- src/find.rt:129:9
 write-choice-requires : tie.Need-write-choice-requires
 write-choice-requires c κs = (wellFormed _ (c .before .before .before .before .before .before .before .before .before .before .pre .passed) .few-variables, c .before .before .before .before .if1 .left)
 
--- src/find.rt:130:9
 same-length : tie.Need-same-length
 same-length c = omega arith
 
--- src/find.rt:130:9
 returns-2 : tie.Need-returns-2
 returns-2 c = finds-filled _ _ _ (c .before .before .before .before .before .before .before .before .before .before .before .before .before .pre .passed) (c .before .before .before .before .before .before .before .if1 .left) (c .before .before .before .before .before .before .find-first .result .found) _ (c .before .before .before .before .before .before .find-first .ensures) (c .before .before .before .before .before .if2 .taken) (c .before .before .write-choice .ensures)
 
--- src/find.rt:111:1
 returns-3 : tie.Need-returns-3
 returns-3 c = finds-nothing _ (c .before .before .before .before .before .before .before .before .args .out .now) _ (c .before .before .before .before .before .before .before .before .pre .passed) (c .before .before .if1 .left) (c .before .find-first .result .found) (c .before .find-first .result .choice) (c .before .find-first .ensures) (c .if2 .left) refl
 

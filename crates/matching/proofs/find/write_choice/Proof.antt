@@ -1,12 +1,9 @@
 use Prim.Native.Nat.{_-_, _≤_}
-use mathlib.Core.Path.{refl}
 use native.Mathlib.Omega.{arith}
-use Rattle.matching.specs.Search.{Copied}
-use Rattle.matching.proofs.Answering.{copied-none, copied-more, copied-all}
+use Rattle.matching.specs.Inner.Find.{Copied}
+use Rattle.matching.proofs.FindLaws.{copied-none, copied-more, copied-all}
 use Rattle.matching.proofs.find.write_choice.Statement.{statement}
 use Rattle.matching.proofs.find.write_choice.Tie as tie
-use Rattle.matching.proofs.find.write_choice.Reads as reads
-use Rattle.matching.proofs.find.write_choice.Lts as lts
 
 abbrev Inv-loop : tie.InvT-loop
 Inv-loop count out₀ choice k₀ out k = (k ≤ count) × Copied k choice out₀ out
@@ -14,43 +11,33 @@ Inv-loop count out₀ choice k₀ out k = (k ≤ count) × Copied k choice out�
 abbrev μ-loop : tie.MeasureT-loop
 μ-loop count out₀ choice k₀ out k = count - k
 
--- src/find.rt:87:5
 loop-holds : tie.Need-loop-holds Inv-loop μ-loop
 loop-holds c = (omega arith, copied-none _ _)
 
--- src/find.rt:88:18
 mul-out : tie.Need-mul-out Inv-loop μ-loop
 mul-out c = omega arith
 
--- src/find.rt:88:18
 array-read-out : tie.Need-array-read-out Inv-loop μ-loop
 array-read-out c = omega arith
 
--- src/find.rt:88:9
 mul-out-2 : tie.Need-mul-out-2 Inv-loop μ-loop
 mul-out-2 c = omega arith
 
--- src/find.rt:88:9
 slice-write-out : tie.Need-slice-write-out Inv-loop μ-loop
 slice-write-out c = omega arith
 
--- src/find.rt:89:9
 add-k : tie.Need-add-k Inv-loop μ-loop
 add-k c = omega arith
 
--- src/find.rt:87:5
 loop-less : tie.Need-loop-less Inv-loop μ-loop
 loop-less c = omega arith
 
--- src/find.rt:87:5
 loop-again : tie.Need-loop-again Inv-loop μ-loop
 loop-again c = (omega arith, copied-more _ _ _ _ (omega arith) (c .before .loop .inv .1))
 
--- src/find.rt:81:1
 same-length : tie.Need-same-length Inv-loop μ-loop
 same-length c = c .before .loop .inv .1 .size
 
--- src/find.rt:81:1
 returns : tie.Need-returns Inv-loop μ-loop
 returns c = copied-all _ _ _ _ _ (c .before .loop .inv .0) (omega arith) (c .before .loop .inv .1)
 

@@ -1,74 +1,56 @@
-use Rattle.matching.proofs.Writing.{known-grounds, known-asked, known-stops, known-short, known-subsumed, known-lines, known-not, known-never}
-use Rattle.matching.proofs.Cells.{square-small}
+use Rattle.matching.proofs.WriterLaws.Writing.{known-grounds, known-asked, known-stops, known-short, known-subsumed, known-lines, known-not, known-never}
+use Rattle.matching.proofs.DerivationLaws.Cells.{square-small}
 use Rattle.subsumption.proofs.Deciding.{few-atoms, few-concepts}
 use native.Mathlib.Omega.{arith}
 use borrow.Author.Needs.{needs}
 use Rattle.matching.proofs.writer.derive_known.Statement.{statement}
 use Rattle.matching.proofs.writer.derive_known.Tie as tie
-use Rattle.matching.proofs.writer.derive_known.Reads as reads
-use Rattle.matching.proofs.writer.derive_known.Lts as lts
-use Rattle.matching.proofs.writer.put_lines.Reads as put-lines-reads
 
--- src/writer.rt:221:9
 check-assignment-requires : tie.Need-check-assignment-requires
 check-assignment-requires c κs = few-atoms _ _ _ _ (c .before .before .before .before .before .pre .0)
 
--- src/writer.rt:222:29
 enum-known-choices : tie.Need-enum-known-choices
 enum-known-choices c = search needs
 
--- src/writer.rt:223:9
 returns : tie.Need-returns
 returns c = known-stops _ _ _ _ _ _ _ (c .before .before .before .before .before .before .before .before .before .pre .1 .0) (c .before .before .before .before .before .before .before .before .before .pre .1 .1) (c .before .before .before .before .before .before .before .before .before .args .out .now) _ (c .before .before .before .check-assignment .ensures) _ (c .before .choices .given .1)
 
 enum-told : tie.Need-enum-told
 enum-told c = search needs
 
--- src/writer.rt:226:18
 mul-wanted : tie.Need-mul-wanted
 mul-wanted c = omega (arith, square-small _ (few-concepts _ _ _ _ (c .before .before .before .before .before .before .before .before .pre .0)))
 
--- src/writer.rt:226:18
 mul-wanted-2 : tie.Need-mul-wanted-2
 mul-wanted-2 c = omega (arith, square-small _ (few-concepts _ _ _ _ (c .before .before .before .before .before .before .before .before .pre .0)))
 
--- src/writer.rt:228:9
 returns-2 : tie.Need-returns-2
 returns-2 c = known-short _ _ _ _ _ _ _ (c .before .before .before .before .before .before .before .before .before .pre .1 .0) (c .before .before .before .before .before .before .before .before .before .pre .1 .1) (c .before .before .before .before .before .before .before .before .before .args .out .now) _ (c .before .before .before .check-assignment .ensures) (c .before .enum-told .given .1) (c .if1 .taken)
 
--- src/writer.rt:230:9
 decide-known-requires : tie.Need-decide-known-requires
 decide-known-requires c κs = search needs
 
--- src/writer.rt:247:13
 enum-told-2 : tie.Need-enum-told-2
 enum-told-2 c = search needs
 
--- src/writer.rt:240:41
 put-lines-requires : tie.Need-put-lines-requires
 put-lines-requires c κs = (known-grounds _ _ _ _ _ (c .before .before .before .before .before .before .before .before .before .before .before .before .before .pre .0) _ (c .before .before .before .before .before .before .before .check-assignment .ensures) (c .before .before .before .before .before .enum-told .given .1), (known-asked _ _ _ _ _ (c .before .before .before .before .before .before .before .before .before .before .before .before .before .pre .0) _ (c .before .before .before .before .before .before .before .check-assignment .ensures) (c .before .before .before .before .before .enum-told .given .1) _ _ (c .before .before .before .before .before .before .before .before .before .before .before .before .before .pre .1 .0) (c .before .before .before .before .before .before .before .before .before .before .before .before .before .pre .1 .1) (known-subsumed _ _ _ _ _ _ _ (c .before .before .before .before .before .before .before .before .before .before .before .before .before .pre .1 .0) (c .before .before .before .before .before .before .before .before .before .before .before .before .before .pre .1 .1) (c .before .before .before .before .before .before .before .before .before .before .before .before .before .args .out .now) _ (c .before .before .before .before .before .before .before .check-assignment .ensures) (c .before .before .before .before .before .enum-told .given .1) (c .before .before .before .before .if1 .left) (c .before .before .before .decide-known .result) (c .before .before .before .decide-known .ensures) (c .before .enum-told2 .given .1) _ (c .before .before .before .before .before .before .before .before .before .before .before .before .before .pre .0 .accepted)), c .before .before .before .before .if1 .left))
 
--- src/writer.rt:249:43
 enum-told-3 : tie.Need-enum-told-3
 enum-told-3 c = search needs
 
--- src/writer.rt:250:28
 enum-known-decision : tie.Need-enum-known-decision
 enum-known-decision c = search needs
 
--- src/writer.rt:207:1
 same-length : tie.Need-same-length
 same-length c = search needs
 
--- src/writer.rt:207:1
 returns-3 : tie.Need-returns-3
 returns-3 c = known-lines _ _ _ _ _ _ _ (c .before .before .before .before .before .before .before .before .before .before .before .before .before .before .before .before .pre .1 .0) (c .before .before .before .before .before .before .before .before .before .before .before .before .before .before .before .before .pre .1 .1) (c .before .before .before .before .before .before .before .before .before .before .before .before .before .before .before .before .args .out .now) _ (c .before .before .before .before .before .before .before .before .before .before .check-assignment .ensures) (c .before .before .before .before .before .before .before .before .enum-told .given .1) (c .before .before .before .before .before .before .before .if1 .left) (c .before .before .before .before .before .before .decide-known .result) (c .before .before .before .before .before .before .decide-known .ensures) _ _ (c .before .before .before .before .enum-told2 .given .1) (c .before .before .put-lines .ensures)
 
--- src/writer.rt:207:1
 returns-4 : tie.Need-returns-4
 returns-4 c = known-not _ _ _ _ _ _ _ (c .before .before .before .before .before .before .before .before .before .before .before .before .pre .1 .0) (c .before .before .before .before .before .before .before .before .before .before .before .before .pre .1 .1) (c .before .before .before .before .before .before .before .before .before .before .before .before .args .out .now) _ (c .before .before .before .before .before .before .check-assignment .ensures) (c .before .before .before .before .enum-told .given .1) (c .before .before .before .if1 .left) (c .before .before .decide-known .result) (c .before .before .decide-known .ensures) (c .enum-told3 .given .1)
 
--- src/writer.rt:207:1
 returns-5 : tie.Need-returns-5
 returns-5 c = known-never _ _ _ _ _ _ _ (c .before .before .before .before .before .before .before .before .before .before .before .before .before .pre .1 .0) (c .before .before .before .before .before .before .before .before .before .before .before .before .before .pre .1 .1) (c .before .before .before .before .before .before .before .before .before .before .before .before .before .args .out .now) _ (c .before .before .before .before .before .before .before .check-assignment .ensures) (c .before .before .before .before .before .enum-told .given .1) (c .before .before .before .before .if1 .left) (c .before .before .before .decide-known .result) (c .before .before .before .decide-known .ensures) _ (c .before .decision .given .1)
 

@@ -1,4 +1,4 @@
-use Rattle.matching.proofs.LinesWritten.{pair-not, pair-second}
+use Rattle.matching.proofs.WriterLaws.Lines.{pair-not, pair-second}
 use Rattle.matching.proofs.writer.is_pair.Statement.{statement}
 use Rattle.matching.proofs.writer.is_pair.Tie as tie
 

@@ -1,15 +1,15 @@
 use Prim.Native.Nat.{ℕ}
-use Rattle.matching.proofs.Notes.{measure-less}
+use Rattle.matching.proofs.WriterLaws.Notes.{measure-less}
 use native.Mathlib.Omega.{arith}
 use Prim.Native.Nat.{_+_, _*_}
 use mathlib.Core.Path.{_≡_, refl, _∙_, ap}
 use mathlib.Core.Bool.{false}
 use lib.ListN.{length}
 use Rattle.subsumption.specs.Tables.{countOf}
-use Rattle.matching.specs.LineMarks.{seen}
-use Rattle.matching.specs.Noting.{Noted, unset}
-use Rattle.matching.proofs.Cells.{cell-small, square-small}
-use Rattle.matching.proofs.Notes.{started, started-some, noted-none, unset-less, noted-room, noted-more, noted-last, noted-other, found-line, scan-stops}
+use Rattle.matching.specs.Inner.Derivation.{seen}
+use Rattle.matching.specs.Inner.Writer.{Noted, unset}
+use Rattle.matching.proofs.DerivationLaws.Cells.{cell-small, square-small}
+use Rattle.matching.proofs.WriterLaws.Notes.{started, started-some, noted-none, unset-less, noted-room, noted-more, noted-last, noted-other, found-line, scan-stops}
 use Rattle.matching.proofs.writer.note_lines.Statement.{statement}
 use Rattle.matching.proofs.writer.note_lines.Tie as tie
 

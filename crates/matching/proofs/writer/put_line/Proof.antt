@@ -1,6 +1,6 @@
 use native.Mathlib.Omega.{arith}
 use lib.ListN.{length-set}
-use Rattle.matching.proofs.LinesWritten.{put-front}
+use Rattle.matching.proofs.WriterLaws.Lines.{put-front}
 use borrow.Author.Needs.{needs}
 use Rattle.matching.proofs.writer.put_line.Statement.{statement}
 use Rattle.matching.proofs.writer.put_line.Tie as tie

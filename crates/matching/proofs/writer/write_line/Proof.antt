@@ -1,4 +1,4 @@
-use Rattle.matching.proofs.LinesWritten.{write-front}
+use Rattle.matching.proofs.WriterLaws.Lines.{write-front}
 use borrow.Author.Needs.{needs}
 use Rattle.matching.proofs.writer.write_line.Statement.{statement}
 use Rattle.matching.proofs.writer.write_line.Tie as tie

@@ -1,6 +1,6 @@
 use native.Mathlib.Omega.{arith}
-use Rattle.matching.proofs.Writing.{noted-few, lines-written}
-use Rattle.matching.proofs.Premises.{grown-set, set-seen}
+use Rattle.matching.proofs.WriterLaws.Writing.{noted-few, lines-written}
+use Rattle.matching.proofs.WriterLaws.Premises.{grown-set, set-seen}
 use Rattle.matching.proofs.writer.write_lines.Statement.{statement}
 use Rattle.matching.proofs.writer.write_lines.Tie as tie
 

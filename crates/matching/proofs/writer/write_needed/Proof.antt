@@ -1,8 +1,8 @@
-use Rattle.matching.proofs.Copies.{copied-done}
+use Rattle.matching.proofs.WriterLaws.Copies.{copied-done}
 use native.Mathlib.Omega.{arith}
 use Prim.Native.Nat.{_≤_, _-_}
-use Rattle.matching.specs.Noting.{Copied}
-use Rattle.matching.proofs.Copies.{copied-none, copied-skip, copied-more}
+use Rattle.matching.specs.Inner.Writer.{Copied}
+use Rattle.matching.proofs.WriterLaws.Copies.{copied-none, copied-skip, copied-more}
 use Rattle.matching.proofs.writer.write_needed.Statement.{statement}
 use Rattle.matching.proofs.writer.write_needed.Tie as tie
 

@@ -1,0 +1,3 @@
+-- Listing one variable's chosen ids.
+pub mod Picked
+pub mod Faults

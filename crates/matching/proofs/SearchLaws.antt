@@ -1,0 +1,10 @@
+-- Why the search is right, by the modules of src/search.
+pub mod Monotone
+pub mod Questions
+pub mod Choices
+pub mod Fronts
+pub mod Pairs
+pub mod Interval
+pub mod Solve
+pub mod Nogoods
+pub mod Order

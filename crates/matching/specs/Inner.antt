@@ -1,0 +1,6 @@
+-- Definitions of private contracts: no operation's contract reaches them, so a reader need not believe them.
+pub mod Chosen
+pub mod Search
+pub mod Find
+pub mod Derivation
+pub mod Writer

@@ -1,0 +1,18 @@
+-- What the walk to the first solution promises.
+use Prim.Native.Nat.{ℕ}
+use mathlib.Core.Path.{_≡_}
+use mathlib.Core.List.{List}
+use mathlib.Core.Logic.{_⊎_}
+use lib.ListN.{take}
+use Rattle.subsumption.specs.declared.refusal.Outcome.the-variants.{Done}
+use Rattle.subsumption.specs.Tables.{Tables}
+use Rattle.subsumption.specs.Check.{assignmentFault}
+use Rattle.matching.specs.Solving.{Solves, Earlier}
+use Rattle.matching.specs.Inner.Search.{Between, SolutionIn}
+
+-- The first of the solutions between.
+pub record FirstIn (t : Tables) (low high choice : List ℕ) : Type 0 where
+  pub solution : SolutionIn t low high choice
+  pub first :
+      (other : List ℕ) → assignmentFault t other ≡ Done → Between (take (t .variables) low) (take (t .variables) high) other → Solves t other
+      → (other ≡ take (t .variables) choice) ⊎ Earlier (take (t .variables) choice) other

@@ -1,0 +1,97 @@
+-- What noting and writing the lines of a derivation promise.
+pub mod Explain
+pub mod Needed
+use Prim.Native.Nat.{ℕ, _+_, _-_, _*_, _<_, _≤_}
+use mathlib.Core.Path.{_≡_}
+use mathlib.Core.List.{List, [], _∷_}
+use mathlib.Core.Bool.{Bool, true, false}
+use lib.ListN.{length, getD, drop}
+use Rattle.subsumption.specs.declared.refusal.Outcome.the-variants.{Done}
+use Rattle.subsumption.specs.Tables.{Tables, both, countOf, pairsOf}
+use Rattle.subsumption.specs.Subsumption.{Subsumed}
+use Rattle.subsumption.specs.Check.{tableFault}
+use Rattle.subsumption.specs.Inner.Closure.{Ready}
+use Rattle.matching.specs.Derivation.{ruleAt, leftAt, rightAt, extraAt, pairAt, provedBy, lineFollows}
+use Rattle.matching.specs.Writer.{DerivationOf}
+use Rattle.matching.specs.Inner.Derivation.{Square, seen, Of, MarksOf}
+
+-- what the search asks: the checks have passed, and the atoms are at hand
+pub record Grounds (concepts inclusions ids assignment : List ℕ) : Type 0 where
+  pub ready : Ready concepts inclusions ids assignment
+  pub few-pairs : pairsOf inclusions ≤ 192
+
+-- four numbers in front of what follows them
+abbrev pub inFront : ℕ → ℕ → ℕ → ℕ → List ℕ → List ℕ
+inFront rule left right extra rest = rule ∷ left ∷ right ∷ extra ∷ drop 4 rest
+
+-- line n is written, and nothing else changes
+pub record LineWritten (before after : List ℕ) (n rule left right extra : ℕ) : Type 0 where
+  pub size : length after ≡ length before
+  pub rule-is : ruleAt after n ≡ rule
+  pub left-is : leftAt after n ≡ left
+  pub right-is : rightAt after n ≡ right
+  pub extra-is : extraAt after n ≡ extra
+  pub under : (p : ℕ) → p < n * 4 → getD after p 0 ≡ getD before p 0
+  pub over : (p : ℕ) → (n + 1) * 4 ≤ p → getD after p 0 ≡ getD before p 0
+
+-- how many marks are not set
+unfoldable pub unset : List Bool → ℕ
+unset [] = 0
+unset (true ∷ marks) = unset marks
+unset (false ∷ marks) = unset marks + 1
+
+-- no pair is marked
+pub record Blank (count : ℕ) (marks : List Bool) : Type 0 where
+  pub square : Square count marks
+  pub none : (i j : ℕ) → i < count → j < count → seen count marks i j ≡ false
+  pub all : unset marks ≡ count * count
+
+-- the asked pair is subsumed
+pub record Asked (concepts inclusions ids assignment : List ℕ) (left right : ℕ) : Type 0 where
+  pub t : Tables
+  pub of : Of t concepts inclusions ids
+  pub accepted : tableFault t ≡ Done
+  pub left-known : left < countOf concepts
+  pub right-known : right < countOf concepts
+  pub subsumed : Subsumed t assignment left right
+
+-- n lines are noted: each follows from earlier ones, no pair twice, and just their pairs are marked
+pub record Noted (concepts inclusions ids assignment : List ℕ) (marks : List Bool) (notes : List ℕ) (n : ℕ) : Type 0 where
+  pub marked : MarksOf (countOf concepts) marks notes n
+  pub room : n + unset marks ≡ countOf concepts * countOf concepts
+  pub left-known : (k : ℕ) → k < n → leftAt notes k < countOf concepts
+  pub right-known : (k : ℕ) → k < n → rightAt notes k < countOf concepts
+  pub fresh : (k : ℕ) → k < n → provedBy notes k (leftAt notes k) (rightAt notes k) ≡ false
+  pub follow : (k : ℕ) → k < n → (t : Tables) → Of t concepts inclusions ids → lineFollows t assignment notes k ≡ true
+
+-- the asked pair is noted last
+pub record NotedTo (concepts inclusions ids assignment : List ℕ) (left right : ℕ) (marks : List Bool) (notes : List ℕ) (n : ℕ) : Type 0 where
+  pub noted : Noted concepts inclusions ids assignment marks notes n
+  pub some : 0 < n
+  pub last : pairAt notes left right (n - 1) ≡ true
+
+-- line m is the noted line q, and before it stand the needed lines before q
+pub record Copy (count : ℕ) (needed : List Bool) (notes after : List ℕ) (k m : ℕ) : Type 0 where
+  pub source : ℕ
+  pub early : source < k
+  pub rule-is : ruleAt after m ≡ ruleAt notes source
+  pub left-is : leftAt after m ≡ leftAt notes source
+  pub right-is : rightAt after m ≡ rightAt notes source
+  pub extra-is : extraAt after m ≡ extraAt notes source
+  pub wanted : seen count needed (leftAt notes source) (rightAt notes source) ≡ true
+  pub earlier : (i j : ℕ) → i < count → j < count → provedBy after m i j ≡ both (provedBy notes source i j) (seen count needed i j)
+
+-- of the first k noted lines the needed ones are written, w of them
+pub record Copied (count : ℕ) (needed : List Bool) (notes before after : List ℕ) (k w : ℕ) : Type 0 where
+  pub size : length after ≡ length before
+  pub few : w ≤ k
+  pub proved : (i j : ℕ) → i < count → j < count → provedBy after w i j ≡ both (provedBy notes k i j) (seen count needed i j)
+  pub each : (m : ℕ) → m < w → Copy count needed notes after k m
+  pub rest : (p : ℕ) → w * 4 ≤ p → getD after p 0 ≡ getD before p 0
+  pub last-some : 0 < k → seen count needed (leftAt notes (k - 1)) (rightAt notes (k - 1)) ≡ true → 0 < w
+  pub last-left : 0 < k → seen count needed (leftAt notes (k - 1)) (rightAt notes (k - 1)) ≡ true → leftAt after (w - 1) ≡ leftAt notes (k - 1)
+  pub last-right : 0 < k → seen count needed (leftAt notes (k - 1)) (rightAt notes (k - 1)) ≡ true → rightAt after (w - 1) ≡ rightAt notes (k - 1)
+
+-- the lines are a derivation of the pair, for all tables with these concepts, inclusions and atoms
+pub record WrittenFor (concepts inclusions ids assignment : List ℕ) (left right : ℕ) (before after : List ℕ) (n : ℕ) : Type 0 where
+  pub each : (t : Tables) → Of t concepts inclusions ids → DerivationOf t assignment left right before after n
