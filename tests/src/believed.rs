@@ -30,7 +30,8 @@ pub struct Sentence {
 }
 
 pub const SENTENCES: &[Sentence] = &[
-    Sentence { of: "matching", file: "SampleCards", law: "every-card" },
+    Sentence { of: "cards", file: "SampleCards", law: "every-card" },
+    Sentence { of: "cards", file: "ShownTables", law: "every-table" },
     Sentence { of: "hermitcasket", file: "Texts", law: "texts" },
 ];
 

@@ -2,8 +2,6 @@
 pub mod SubstitutionLaws
 pub mod SearchLaws
 pub mod ChosenLaws
-pub mod SampleLaws
-pub mod SampleCards
 pub mod FindLaws
 pub mod DerivationLaws
 pub mod WriterLaws

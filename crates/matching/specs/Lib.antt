@@ -4,5 +4,4 @@ pub mod Find
 pub mod Chosen
 pub mod Derivation
 pub mod Writer
-pub mod Samples
 pub mod Inner

@@ -6,7 +6,7 @@ use Rattle.subsumption.proofs.atoms.mark_atoms.Statement.{statement}
 use Rattle.subsumption.proofs.atoms.mark_atoms.Tie as tie
 
 mark-sides-requires : tie.Need-mark-sides-requires
-mark-sides-requires c κs = (c .before .before .before .before .before .before .pre .1 .0, (c .before .before .before .before .before .before .pre .0 .few, ap length (c .before .before .before .before .before .before .pre .1 .1 .1 .1)))
+mark-sides-requires c κs = (search needs, (c .before .before .before .before .before .before .pre .0 .few, ap length (c .before .before .before .before .before .before .pre .1 .1 .1 .1)))
 
 mark-ground-rights-requires : tie.Need-mark-ground-rights-requires
 mark-ground-rights-requires c κs = search needs

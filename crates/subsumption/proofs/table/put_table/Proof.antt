@@ -43,7 +43,7 @@ slice-aggregate-write-rows : tie.Need-slice-aggregate-write-rows
 slice-aggregate-write-rows c = search needs
 
 write-rows-requires : tie.Need-write-rows-requires
-write-rows-requires c κs = (c .before .before .before .close .ensures .long, (few-concepts _ _ _ _ (c .before .before .before .before .before .before .before .before .before .before .before .before .before .before .before .before .pre), buffer-fits _ _ (is-done _ _ (c .before .before .before .before .before .before .before .check-buffer .ensures) (c .before .before .before .before .before .enum-told2 .given .1))))
+write-rows-requires c κs = (c .before .before .before .close .ensures .long, (omega (arith, few-concepts _ _ _ _ (c .before .before .before .before .before .before .before .before .before .before .before .before .before .before .before .before .pre)), omega (arith, buffer-fits _ _ (is-done _ _ (c .before .before .before .before .before .before .before .check-buffer .ensures) (c .before .before .before .before .before .enum-told2 .given .1)))))
 
 same-length : tie.Need-same-length
 same-length c = search needs

@@ -8,9 +8,9 @@ use Rattle.subsumption.specs.Rules.{every, contains, sameName, isTop, onPicked,
 use Rattle.subsumption.specs.Refusal.{orElse, refuseIf, firstAt}
 use Rattle.subsumption.specs.Check.{unfit, limitFault, malformedRow, malformed, malformedFault, forward, forwardFault, noConcept, pairsFault, inclusionFault, sidesFault, atomsFault, conceptFault, idFault, useFault, tableFault, assignmentFaultAt, assignmentFault}
 use Rattle.subsumption.proofs.ModelRows.{gather}
-use Rattle.matching.specs.Samples.{Card, Holds, entries, house, looped, questions, cards}
+use Rattle.cards.specs.Samples.{Card, Holds, entries, house, looped, questions, cards}
 use Rattle.matching.proofs.SubstitutionLaws.Members.{anyIn}
-use Rattle.matching.proofs.SampleLaws.{allBelow, built, markAt, lines, some, round, rounds, closedTest, sameList, allIn, allIn-at, before, allLists, assignments, sameBool, earlierTest, isDone, solvedBy, refuted, onIds, marks, misses, saysTest, cardTest, test-holds}
+use Rattle.cards.proofs.SampleLaws.{allBelow, built, markAt, lines, some, round, rounds, closedTest, sameList, allIn, allIn-at, before, allLists, assignments, sameBool, earlierTest, isDone, solvedBy, refuted, onIds, marks, misses, saysTest, cardTest, test-holds}
 
 cards-pass : allIn (cardTest 4) cards ≡ true
 unfolding or both anyBelow decode node shape treeTo tree hasVariable inside occursTo occurs isAtomic inInclusion inQuestion isAtom keep atoms bit pick chosen every contains sameName isTop onPicked onBoth onInner onVariable byRule follows orElse refuseIf firstAt unfit limitFault malformedRow malformed malformedFault forward forwardFault noConcept pairsFault inclusionFault sidesFault atomsFault conceptFault idFault useFault tableFault assignmentFaultAt assignmentFault gather entries house looped questions cards anyIn allBelow built markAt lines some round rounds closedTest sameList allIn before allLists assignments sameBool earlierTest isDone solvedBy refuted onIds marks misses saysTest cardTest

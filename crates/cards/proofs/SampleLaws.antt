@@ -23,11 +23,11 @@ use Rattle.subsumption.proofs.Rules.{Rules, follows-same, follows-named, follow
 use Rattle.subsumption.proofs.RuleSoundness.{follows-sound}
 use Rattle.subsumption.proofs.RuleCompleteness.{rules-complete}
 use Rattle.subsumption.proofs.Chosen.{chosen-known}
 use Rattle.matching.specs.Solving.{Solves, takes, Earlier}
-use Rattle.matching.specs.Samples.{Saying, alwaysBelow, neverBelow, below, notBelow, parts, filling, noFilling, Says, Card, Holds}
+use Rattle.cards.specs.Samples.{Saying, alwaysBelow, neverBelow, below, notBelow, parts, filling, noFilling, Says, Card, Holds}
 use Rattle.matching.proofs.SubstitutionLaws.Locality.{none-by-substitution}
 use Rattle.matching.proofs.ChosenLaws.Faults.{choices-length, choices-low}
 use Rattle.matching.proofs.SubstitutionLaws.Members.{anyIn, anyIn-intro, anyIn-elim}
 
 -- ---- all numbers below n pass
 unfoldable pub allBelow : ℕ → (ℕ → Bool) → Bool
