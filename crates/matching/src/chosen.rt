@@ -1,6 +1,7 @@
 // Listing one variable's chosen ids.
 use subsumption::Listed;
 use subsumption::helpers::check_assignment;
+use subsumption::limits::ATOMS;
 use subsumption::list_atoms;
 use subsumption::refusal::Outcome;
 use subsumption::refusal::Refusal;
@@ -66,8 +67,8 @@ fn put_known(
     if let Outcome::Refused(r) = choices {
         return Chosen::Rejected(r);
     }
-    if out.len() < 64 {
-        return Chosen::Rejected(Refusal::BufferTooShort(64));
+    if out.len() < ATOMS {
+        return Chosen::Rejected(Refusal::BufferTooShort(ATOMS));
     }
     let choice = assignment[variable as usize];
     Chosen::Ids(put_picked(ids, choice, out))
@@ -100,7 +101,7 @@ pub fn put_chosen(
     ensures { λ r. ⌜ chosenReply r ≡ replyWith (choosingFault (tables (now (concepts .entry)) (now (inclusions .entry)) (now (questions .entry)) variables) (now (assignment .entry)) variable (length (now (out .entry)))) (length (chosen (tables (now (concepts .entry)) (now (inclusions .entry)) (now (questions .entry)) variables) (now (assignment .entry)) variable)) ⌝ }
     ensures { λ r. ⌜ now (out .exit) ≡ chosenIn (choosingFault (tables (now (concepts .entry)) (now (inclusions .entry)) (now (questions .entry)) variables) (now (assignment .entry)) variable (length (now (out .entry)))) (chosen (tables (now (concepts .entry)) (now (inclusions .entry)) (now (questions .entry)) variables) (now (assignment .entry)) variable) (now (out .entry)) ⌝ }
 {
-    let mut ids = [0u16; 64];
+    let mut ids = [0u16; ATOMS];
     let atoms = list_atoms(concepts, inclusions, questions, variables, &mut ids);
     match atoms {
         Listed::Rejected(r) => Chosen::Rejected(refused_with(r, variable < variables)),

@@ -5,9 +5,11 @@ pub mod rules;
 use crate::derivation::marks::mark_pair;
 use crate::derivation::marks::number_at;
 use crate::derivation::rules::by_rule;
+use crate::limits::SQUARE;
 use subsumption::Listed;
 use subsumption::helpers::check_assignment;
 use subsumption::helpers::list_asked;
+use subsumption::limits::ATOMS;
 use subsumption::refusal::Outcome;
 use subsumption::refusal::Refusal;
 ghost use mathlib.Core.Path.{_≡_};
@@ -99,7 +101,7 @@ fn check_rules(
     requires { ⌜ Ready (now concepts) (now inclusions) (now atoms) (now assignment) ⌝ }
     ensures { λ r. ⌜ RulesTest (now (concepts .entry)) (now (inclusions .entry)) (now (atoms .entry)) (now (assignment .entry)) (now (lines .entry)) r ⌝ }
 {
-    let mut marks = [false; 36864];
+    let mut marks = [false; SQUARE];
     let count = concepts.len() / 3;
     let size = count * count;
     check_lines(
@@ -184,7 +186,7 @@ pub fn check_derivation(
 ) -> Outcome
     ensures { λ r. ⌜ replyOf r ≡ replyOf (checkingFault (tables (now (concepts .entry)) (now (inclusions .entry)) (now (questions .entry)) variables) (now (assignment .entry)) left right (now (lines .entry))) ⌝ }
 {
-    let mut ids = [0u16; 64];
+    let mut ids = [0u16; ATOMS];
     let listed = list_asked(
         concepts,
         inclusions,

@@ -1,10 +1,13 @@
 // Finding the first assignment that makes every question hold.
+use crate::limits::STORE;
 use crate::search::interval::Interval;
 use crate::search::interval::ones;
 use crate::search::order::first_solution;
 use crate::search::solve::some_solution;
 use subsumption::Listed;
 use subsumption::helpers::close_ground;
+use subsumption::limits::ATOMS;
+use subsumption::limits::WORDS;
 use subsumption::list_atoms;
 use subsumption::refusal::Refusal;
 ghost use Prim.Native.Nat.{_≤_};
@@ -52,9 +55,9 @@ fn find_first(
     requires { ⌜ Accepted (tables (now concepts) (now inclusions) (now questions) variables) (now ids) ⌝ }
     ensures { λ r. ⌜ FoundBy (tables (now (concepts .entry)) (now (inclusions .entry)) (now (questions .entry)) variables) (r .found) (r .choice) ⌝ }
 {
-    let mut ground = [0u64; 576];
+    let mut ground = [0u64; WORDS];
     close_ground(concepts, inclusions, ids, variables, &mut ground);
-    let mut store = [0u64; 16385];
+    let mut store = [0u64; STORE];
     let low = [0u64; 8];
     let full = all_atoms(variables as usize, ids.len());
     let start = Interval { low, high: full };
@@ -140,7 +143,7 @@ pub fn find_assignment(
 ) -> Match
     ensures { λ r. ⌜ Finds (tables (now (concepts .entry)) (now (inclusions .entry)) (now (questions .entry)) variables) (now (out .entry)) (now (out .exit)) (matchReply r) ⌝ }
 {
-    let mut ids = [0u16; 64];
+    let mut ids = [0u16; ATOMS];
     let listed = list_atoms(concepts, inclusions, questions, variables, &mut ids);
     match listed {
         Listed::Rejected(r) => Match::Rejected(r),

@@ -3,6 +3,7 @@
 mod chosen;
 mod derivation;
 mod find;
+mod limits;
 mod search;
 mod writer;
 

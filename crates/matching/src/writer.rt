@@ -4,6 +4,8 @@ pub mod needed;
 
 use crate::derivation::marks::has_mark;
 use crate::derivation::marks::mark_pair;
+use crate::limits::NOTES;
+use crate::limits::SQUARE;
 use crate::writer::explain::Next;
 use crate::writer::explain::next_line;
 use crate::writer::needed::need_lines;
@@ -12,6 +14,7 @@ use subsumption::Listed;
 use subsumption::helpers::check_assignment;
 use subsumption::helpers::decide_known;
 use subsumption::helpers::list_asked;
+use subsumption::limits::ATOMS;
 use subsumption::refusal::Outcome;
 use subsumption::refusal::Refusal;
 ghost use mathlib.Core.Path.{_≡_};
@@ -185,9 +188,9 @@ fn put_lines(
     requires { ⌜ countOf (now concepts) * countOf (now concepts) * 4 ≤ length (now out) ⌝ }
     ensures { λ r. ⌜ WrittenFor (now (concepts .entry)) (now (inclusions .entry)) (now (atoms .entry)) (now (assignment .entry)) left right (now (out .entry)) (now (out .exit)) r ⌝ }
 {
-    let mut marks = [false; 36864];
-    let mut needed = [false; 36864];
-    let mut notes = [0u16; 147456];
+    let mut marks = [false; SQUARE];
+    let mut needed = [false; SQUARE];
+    let mut notes = [0u16; NOTES];
     let count = concepts.len() / 3;
     let size = count * count;
     let room = size * 4;
@@ -266,7 +269,7 @@ pub fn derive(
 ) -> Derived
     ensures { λ r. ⌜ Derives (tables (now (concepts .entry)) (now (inclusions .entry)) (now (questions .entry)) variables) (now (assignment .entry)) left right (now (out .entry)) (now (out .exit)) (derivedReply r) ⌝ }
 {
-    let mut ids = [0u16; 64];
+    let mut ids = [0u16; ATOMS];
     let listed = list_asked(
         concepts,
         inclusions,

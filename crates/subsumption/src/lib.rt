@@ -6,7 +6,7 @@ mod closure;
 mod decide;
 mod ground;
 pub mod helpers;
-mod limits;
+pub mod limits;
 mod listing;
 pub mod refusal;
 mod rows;

@@ -1,7 +1,9 @@
 // An interval of assignments: what is taken for certain, and what may still be taken. Eight numbers each, of which
 // the variables' are read. Taking and leaving hand the interval back.
+use crate::limits::PAIRS;
 use crate::search::pairs::with_pair;
 use crate::search::pairs::without_pair;
+use subsumption::limits::ATOMS;
 ghost use mathlib.Core.Path.{_≡_};
 ghost use mathlib.Core.Bool.{true, false};
 ghost use Prim.Native.Nat.{_-_, _<_, _≤_, _^_};
@@ -34,7 +36,7 @@ pub fn ones(count: usize) -> u64
     requires { ⌜ count ≤ 64 ⌝ }
     ensures { λ r. ⌜ r ≡ 2 ^ count - 1 ⌝ }
 {
-    if count == 64 {
+    if count == ATOMS {
         return 18446744073709551615;
     }
     (1 << count) - 1
@@ -73,8 +75,8 @@ impl Interval {
     {
         let low = self.low;
         let high = self.high;
-        let k = p / 64;
-        let q = p % 64;
+        let k = p / ATOMS;
+        let q = p % ATOMS;
         if has_bit(high[k], q) {
             return !has_bit(low[k], q);
         }
@@ -87,7 +89,7 @@ pub fn first_undecided(interval: Interval) -> Pick
     ensures { λ r. ⌜ Picked (interval .low) (interval .high) r ⌝ }
 {
     let mut p: usize = 0;
-    while p < 512 {
+    while p < PAIRS {
         if interval.is_undecided(p) {
             return Pick::At(p);
         }
@@ -100,7 +102,7 @@ pub fn first_undecided(interval: Interval) -> Pick
 pub fn pick_undecided(interval: Interval, hint: usize) -> Pick
     ensures { λ r. ⌜ Picked (interval .low) (interval .high) r ⌝ }
 {
-    if hint < 512 {
+    if hint < PAIRS {
         if interval.is_undecided(hint) {
             return Pick::At(hint);
         }

@@ -1,5 +1,6 @@
 // Nogoods: intervals that hold no solution, kept for the whole search. A nogood shuts every interval inside it, and tells
 // which pairs are worth splitting. They stand in one list: how many, then the low and the high side of each.
+use crate::limits::PAIRS;
 use crate::search::interval::Interval;
 ghost use mathlib.Core.Path.{_≡_};
 ghost use Prim.Native.Nat.{_+_, _<_, _≤_};
@@ -96,7 +97,7 @@ fn weigh(store: &[u64], at: usize, interval: Interval) -> Weight
     let high = interval.high;
     let mut leaving: usize = 0;
     let mut taking: usize = 0;
-    let mut pair: usize = 512;
+    let mut pair: usize = PAIRS;
     let mut k: usize = 0;
     while k < 8 {
         let leave = store[at + k] & (ALL ^ low[k]);
@@ -104,7 +105,7 @@ fn weigh(store: &[u64], at: usize, interval: Interval) -> Weight
         if (leave & (ALL ^ high[k])) | (take & low[k]) != 0 {
             return Weight {
                 open: MANY,
-                pair: 512,
+                pair: PAIRS,
             };
         }
         leaving += size(leave);
@@ -121,7 +122,7 @@ fn weigh(store: &[u64], at: usize, interval: Interval) -> Weight
     }
     Weight {
         open: MANY,
-        pair: 512,
+        pair: PAIRS,
     }
 }
 
@@ -138,7 +139,7 @@ pub fn choose(store: &[u64], interval: Interval) -> Hint
 {
     let count = store[0] as usize;
     let mut fewest = MANY;
-    let mut pair: usize = 512;
+    let mut pair: usize = PAIRS;
     let mut c: usize = 0;
     while c < count {
         let weight = weigh(store, c * 16 + 1, interval);

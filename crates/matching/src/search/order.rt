@@ -1,7 +1,9 @@
 // The first solution: the pairs are walked in their order, and a pair is left out whenever a solution remains without it.
+use crate::limits::PAIRS;
 use crate::search::interval::Interval;
 use crate::search::interval::has_bit;
 use crate::search::solve::some_solution;
+use subsumption::limits::ATOMS;
 ghost use Rattle.subsumption.specs.Tables.{tables};
 ghost use Rattle.matching.specs.Inner.Search.Interval.{IntervalOf};
 ghost use Rattle.matching.specs.Inner.Search.{Prepared, SolutionIn};
@@ -30,14 +32,14 @@ pub fn first_solution(
     let mut interval = start;
     let mut witness = known;
     let mut p: usize = 0;
-    while p < 512 {
+    while p < PAIRS {
         let at = p;
         p += 1;
         if !interval.is_undecided(at) {
             continue;
         }
-        let without = interval.leave(at / 64, at % 64);
-        if !has_bit(witness[at / 64], at % 64) {
+        let without = interval.leave(at / ATOMS, at % ATOMS);
+        if !has_bit(witness[at / ATOMS], at % ATOMS) {
             interval = without;
             continue;
         }
@@ -58,7 +60,7 @@ pub fn first_solution(
             witness = choice;
             continue;
         }
-        interval = interval.take(at / 64, at % 64);
+        interval = interval.take(at / ATOMS, at % ATOMS);
     }
     witness
 }

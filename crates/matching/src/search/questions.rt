@@ -4,6 +4,8 @@ use subsumption::helpers::below;
 use subsumption::helpers::close_over;
 use subsumption::helpers::mark_variables;
 use subsumption::helpers::pair_at;
+use subsumption::limits::CONCEPTS;
+use subsumption::limits::WORDS;
 ghost use mathlib.Core.Path.{_≡_};
 ghost use lib.ListN.{length};
 ghost use Rattle.subsumption.specs.declared.refusal.Outcome.the-variants.{Done};
@@ -53,7 +55,7 @@ pub fn questions_hold(
     requires { ⌜ assignmentFault (tables (now concepts) (now inclusions) (now questions) variables) (now assignment) ≡ Done ⌝ }
     ensures { λ r. ⌜ Decided (Hold (tables (now (concepts .entry)) (now (inclusions .entry)) (now (questions .entry)) variables) (now (assignment .entry)) right) r ⌝ }
 {
-    let mut columns = [0u64; 576];
+    let mut columns = [0u64; WORDS];
     close_over(
         concepts,
         inclusions,
@@ -64,7 +66,7 @@ pub fn questions_hold(
         assignment,
         &mut columns,
     );
-    let mut held = [false; 192];
+    let mut held = [false; CONCEPTS];
     mark_variables(concepts, &mut held);
     all_below(&columns, &held, questions, right)
 }

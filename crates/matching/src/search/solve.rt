@@ -2,6 +2,7 @@
 // added, the others when atoms are removed: so a failed test makes a nogood, an interval that holds no solution. An
 // interval is split until its low side passes every test or a nogood around it is known; the nogoods of the two halves
 // give one of the whole, and a half whose nogood does not mention the pair speaks for the whole at once.
+use crate::limits::PAIRS;
 use crate::search::interval::Interval;
 use crate::search::interval::Pick;
 use crate::search::interval::has_bit;
@@ -17,6 +18,7 @@ use crate::search::pairs::with_pair;
 use crate::search::pairs::without_pair;
 use crate::search::questions::questions_hold;
 use crate::search::widen::widen;
+use subsumption::limits::ATOMS;
 ghost use mathlib.Core.Path.{_≡_};
 ghost use mathlib.Core.Bool.{true};
 ghost use Prim.Native.Nat.{_<_};
@@ -128,7 +130,7 @@ fn try_low(
 
 // A pair of the one that the other leaves out, if there is one. A hint only.
 fn pair_outside(a: [u64; 8], b: [u64; 8]) -> usize {
-    let mut pair: usize = 512;
+    let mut pair: usize = PAIRS;
     let mut k: usize = 0;
     while k < 8 {
         let word = a[k] & (ALL ^ b[k]);
@@ -188,7 +190,7 @@ fn step_by_test(
             found,
             low: below,
             high: above,
-            pair: 512,
+            pair: PAIRS,
         };
     }
     let pick = pick_undecided(interval, pair_outside(high, above));
@@ -205,7 +207,7 @@ fn step_by_test(
             found: false,
             low,
             high,
-            pair: 512,
+            pair: PAIRS,
         },
     }
 }
@@ -245,7 +247,7 @@ fn look_up(store: &[u64], place: usize, interval: Interval) -> Nogood
 fn can_split(interval: Interval, pair: usize) -> bool
     ensures { λ r. ⌜ CanSplit (interval .low) (interval .high) pair r ⌝ }
 {
-    if pair < 512 {
+    if pair < PAIRS {
         return interval.is_undecided(pair);
     }
     false
@@ -280,7 +282,7 @@ fn next_step(
             found: false,
             low,
             high,
-            pair: 512,
+            pair: PAIRS,
         };
     }
     let pair = hint.pair;
@@ -361,8 +363,8 @@ pub fn some_solution(
         let high = step.high;
         return Answer { found, low, high };
     }
-    let k = step.pair / 64;
-    let q = step.pair % 64;
+    let k = step.pair / ATOMS;
+    let q = step.pair % ATOMS;
     let taken = interval.take(k, q);
     let with = some_solution(
         concepts,

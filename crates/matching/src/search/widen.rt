@@ -1,7 +1,9 @@
 // A failed test is carried as far as it goes on failing: towards no pair where the questions want fewer, towards every
 // pair where they want more. What comes out shuts a whole side of an interval.
+use crate::limits::PAIRS;
 use crate::search::interval::ones;
 use crate::search::questions::questions_hold;
+use subsumption::limits::ATOMS;
 ghost use mathlib.Core.Path.{_≡_};
 ghost use mathlib.Core.Bool.{false};
 ghost use Prim.Native.Nat.{_≤_, _<_};
@@ -15,7 +17,7 @@ const ALL: u64 = 18446744073709551615;
 
 // The lowest bits, all 64 at most.
 fn low_bits(count: usize) -> u64 {
-    if count < 64 {
+    if count < ATOMS {
         return ones(count);
     }
     ALL
@@ -25,7 +27,7 @@ fn low_bits(count: usize) -> u64 {
 fn outside(k: usize, from: usize, size: usize) -> u64
     requires { ⌜ (k < 8) × (from ≤ 512) × (size ≤ 512) ⌝ }
 {
-    let start = k * 64;
+    let start = k * ATOMS;
     let end = from + size;
     if end <= start {
         return ALL;
@@ -72,7 +74,7 @@ fn twice(size: usize) -> usize
     if size < 256 {
         return size + size;
     }
-    512
+    PAIRS
 }
 
 // Where a run of that size starts that ends there.
@@ -108,9 +110,9 @@ pub fn widen(
     let n = variables as usize;
     let mut failing = choice;
     let mut from: usize = 0;
-    let mut size: usize = 512;
-    while from < 512 {
-        let end = 512 - from;
+    let mut size: usize = PAIRS;
+    while from < PAIRS {
+        let end = PAIRS - from;
         let start = start_of(end, size);
         let next = with_run(failing, target, start, end - start);
         if is_same(next, failing) {
