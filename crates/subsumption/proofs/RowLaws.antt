@@ -1,15 +1,14 @@
 -- Writing rows: a row byte by byte, row by row; and what the rows then are.
-use Prim.Native.Nat.{ℕ, zero, suc, _+_, _*_, _/_, _%_, _^_, _<_, _≤_}
+use Prim.Native.Nat.{ℕ, _+_, _*_, _/_, _%_, _^_, _<_, _≤_}
 use mathlib.Core.Path.{_≡_, refl, ap, sym, _∙_, subst}
-use mathlib.Core.List.{List, [], _∷_}
+use mathlib.Core.List.{List}
 use mathlib.Core.Bool.{Bool, true, false}
 use native.Mathlib.Omega.{arith}
-use native.Mathlib.Nat.{add-zero, zero-add, add-suc, suc-add, le-of-suc-le-suc, not-suc-le-zero}
-use lib.Dec.{T, eqb}
+use lib.Dec.{eqb}
 use lib.ListN.{length, getD, set, length-set}
 use lib.Seq.{getD-set-same, getD-set-other}
 use borrow.Author.Tests.{eqb-true, eqb-false}
-use Rattle.subsumption.specs.Tables.{Tables, both, countOf}
+use Rattle.subsumption.specs.Tables.{Tables, countOf}
 use Rattle.subsumption.specs.Atoms.{bit}
 use Rattle.subsumption.specs.Inner.Columns.{has}
 use Rattle.subsumption.specs.Table.{rowStart, marked, TableOf}
@@ -17,32 +16,6 @@ use Rattle.subsumption.specs.Inner.Ground.{ColumnsOf}
 use Rattle.subsumption.specs.Inner.Rows.{shown, banded, BandOf, RowWritten, Written}
 use Rattle.subsumption.proofs.Bits.{bit-shr, bit-mod}
 use Rattle.subsumption.proofs.Blocks.{shows-below, shows-over}
-
--- a table's rule from one test over all its entries
-both-left : (a b : Bool) → T (both a b) → T a
-unfolding both
-both-left true b t = tt
-both-left false b t = t
-
-both-right : (a b : Bool) → T (both a b) → T b
-unfolding both
-both-right true b t = t
-both-right false b t = absurd t
-
-unfoldable pub everyEntry : (ℕ → ℕ → Bool) → ℕ → List ℕ → Bool
-everyEntry test i [] = true
-everyEntry test i (x ∷ xs) = both (test i x) (everyEntry test (suc i) xs)
-
-from : (test : ℕ → ℕ → Bool) (xs : List ℕ) (i : ℕ) → T (everyEntry test i xs) → (k : ℕ) → k < length xs → T (test (i + k) (getD xs k 0))
-unfolding everyEntry
-from test [] i t k h = absurd (not-suc-le-zero h)
-from test (x ∷ xs) i t zero h = subst (λ (m : ℕ). T (test m x)) (sym (add-zero i)) (both-left (test i x) (everyEntry test (suc i) xs) t)
-from test (x ∷ xs) i t (suc k) h =
-    subst (λ (m : ℕ). T (test m (getD xs k 0))) (suc-add i k ∙ sym (add-suc i k))
-    (from test xs (suc i) (both-right (test i x) (everyEntry test (suc i) xs) t) k (le-of-suc-le-suc h))
-
-pub entry : (test : ℕ → ℕ → Bool) (xs : List ℕ) → T (everyEntry test 0 xs) → (k : ℕ) → k < length xs → T (test k (getD xs k 0))
-entry test xs t k h = subst (λ (m : ℕ). T (test m (getD xs k 0))) (zero-add k) (from test xs 0 t k h)
 
 pub start-is : (i start : ℕ) → start ≡ rowStart i → start ≡ i * 24
 unfolding rowStart
