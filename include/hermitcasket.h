@@ -14,6 +14,7 @@
  * - The thread has as much stack left as the operation needs, in bytes at most:
  *     hc_check              2048
  *     hc_atoms              2048
+ *     hc_blanks             2048
  *     hc_subsumption_table  16384
  *     hc_subsumed           16384
  *     hc_match              1048576   (the most measured is 213952)
@@ -103,6 +104,14 @@ hc_answer hc_atoms(const uint16_t *entries, size_t entries_len,
                    const uint16_t *questions, size_t questions_len,
                    uint16_t blanks,
                    uint16_t *out, size_t out_len);
+
+/* The set of blanks in an entry, at any depth. value: the set, bit k for blank k. An id that is no
+ * entry is refusal 4 at place 0. */
+hc_answer hc_blanks(const uint16_t *entries, size_t entries_len,
+                    const uint16_t *inclusions, size_t inclusions_len,
+                    const uint16_t *questions, size_t questions_len,
+                    uint16_t blanks,
+                    uint16_t id);
 
 /* Writes the below table under a filling: 24 bytes a row, row i at byte i * 24; bit j mod 8 of
  * byte j div 8 (lowest bit first) says that i is below j. Other bits of written rows are 0. out

@@ -69,9 +69,10 @@ impl Default for Room {
 
 pub type Operation = fn(&Input, &mut Room) -> Answer;
 
-pub const OPERATIONS: [(&str, Operation); 8] = [
+pub const OPERATIONS: [(&str, Operation); 9] = [
     ("hc_check", |input, _| capi::check(input.tables.lend())),
     ("hc_atoms", |input, room| capi::atoms(input.tables.lend(), &mut room.ids)),
+    ("hc_blanks", |input, _| capi::blanks(input.tables.lend(), 0)),
     ("hc_subsumption_table", |input, room| {
         capi::subsumption_table(input.tables.lend(), &input.assignment, &mut room.rows)
     }),

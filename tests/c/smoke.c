@@ -27,6 +27,7 @@ static void nulls(void)
     show("no tables", hc_check(NOTHING));
     show("no tables, no room", hc_atoms(NOTHING, NULL, 0));
     show("no tables, no part", hc_atoms(NOTHING, ids, LEN(ids)));
+    show("no entry to look at", hc_blanks(NOTHING, 0));
     show("no rows", hc_subsumption_table(NOTHING, NULL, 0, NULL, 0));
     show("no entry", hc_subsumed(NOTHING, NULL, 0, 0, 0));
     show("nothing to fill", hc_match(NOTHING, NULL, 0));
@@ -61,6 +62,8 @@ int main(void)
     show("check", hc_check(TABLES));
     show("atoms", hc_atoms(TABLES, atoms, LEN(atoms)));
     printf("ids %u %u %u\n", (unsigned)atoms[0], (unsigned)atoms[1], (unsigned)atoms[2]);
+    show("blanks", hc_blanks(TABLES, 5));
+    show("no such entry", hc_blanks(TABLES, 6));
     show("table", hc_subsumption_table(TABLES, filling, LEN(filling), table, sizeof table));
     for (int row = 0; row < 6; row++)
         printf("row %d\n", table[24 * row]);

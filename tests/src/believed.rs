@@ -30,6 +30,7 @@ pub struct Sentence {
 }
 
 pub const SENTENCES: &[Sentence] = &[
+    Sentence { of: "subsumption", file: "VariableLaws", law: "set-exactly" },
     Sentence { of: "cards", file: "SampleCards", law: "every-card" },
     Sentence { of: "cards", file: "ShownTables", law: "every-table" },
     Sentence { of: "hermitcasket", file: "Texts", law: "texts" },

@@ -44,6 +44,17 @@ extern "C" {
         out_len: usize,
     ) -> Answer;
 
+    fn hc_blanks(
+        concepts: *const u16,
+        concepts_len: usize,
+        inclusions: *const u16,
+        inclusions_len: usize,
+        questions: *const u16,
+        questions_len: usize,
+        variables: u16,
+        id: u16,
+    ) -> Answer;
+
     fn hc_subsumption_table(
         concepts: *const u16,
         concepts_len: usize,
@@ -161,6 +172,21 @@ pub fn atoms(t: TablesRef, out: &mut [u16]) -> Answer {
             t.variables,
             out.as_mut_ptr(),
             out.len(),
+        )
+    }
+}
+
+pub fn blanks(t: TablesRef, id: u16) -> Answer {
+    unsafe {
+        hc_blanks(
+            t.concepts.as_ptr(),
+            t.concepts.len(),
+            t.inclusions.as_ptr(),
+            t.inclusions.len(),
+            t.questions.as_ptr(),
+            t.questions.len(),
+            t.variables,
+            id,
         )
     }
 }

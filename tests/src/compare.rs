@@ -35,6 +35,15 @@ pub fn atoms(case: &Case) -> Answer {
     answer
 }
 
+/// The set of blanks of one id.
+pub fn blanks(case: &Case, id: u16) -> Answer {
+    let inputs = LentInputs::new(&case.tables, &case.assignment, &mut noise(case));
+    let answer = capi::blanks(inputs.tables(), id);
+    let expected = reference::blanks(&case.tables, id);
+    judge(case, "hc_blanks", answer, expected.map(u64::from), &inputs);
+    answer
+}
+
 pub fn table(case: &Case) -> Answer {
     let mut random = noise(case);
     let inputs = LentInputs::new(&case.tables, &case.assignment, &mut random);

@@ -9,6 +9,8 @@ answer 24 8 16
 check 0 0 0
 atoms 0 0 3
 ids 0 2 3
+blanks 0 0 1
+no such entry 4 0 0
 table 0 0 0
 row 1
 row 2
@@ -33,6 +35,7 @@ no lines 12 0 0
 no tables 0 0 0
 no tables, no room 8 64 0
 no tables, no part 0 0 0
+no entry to look at 4 0 0
 no rows 0 0 0
 no entry 4 0 0
 nothing to fill 0 0 0

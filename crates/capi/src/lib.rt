@@ -4,14 +4,15 @@ use matching::Derived;
 use matching::Match;
 use subsumption::Decision;
 use subsumption::Listed;
+use subsumption::VariableSet;
 use subsumption::refusal::Outcome;
 use subsumption::refusal::code_of;
 ghost use mathlib.Core.Path.{_≡_};
 ghost use lib.ListN.{length};
-ghost use Rattle.subsumption.specs.Tables.{tables};
+ghost use Rattle.subsumption.specs.Tables.{tables, tree, variablesOf};
 ghost use Rattle.subsumption.specs.Atoms.{atoms, chosen};
 ghost use Rattle.subsumption.specs.Refusal.{replyWith, replyOf};
-ghost use Rattle.subsumption.specs.Check.{tableFault};
+ghost use Rattle.subsumption.specs.Check.{tableFault, pairFault};
 ghost use Rattle.subsumption.specs.Listing.{listingFault, listedIn};
 ghost use Rattle.subsumption.specs.Table.{Wrote};
 ghost use Rattle.subsumption.specs.Decide.{Decides};
@@ -82,6 +83,24 @@ pub extern "C" fn hc_atoms(
     match answer {
         Listed::Rejected(r) => answer_of(Outcome::Refused(r), 0),
         Listed::Atoms(n) => answer_of(Outcome::Done, n as u64),
+    }
+}
+
+// The set of the variables in a concept; value: the set, bit k for variable k.
+#[no_mangle]
+pub extern "C" fn hc_blanks(
+    concepts: &[u16],
+    inclusions: &[u16],
+    questions: &[u16],
+    variables: u16,
+    id: u16,
+) -> Answer
+    ensures { λ a. ⌜ replied a ≡ replyWith (pairFault (tables (now (concepts .entry)) (now (inclusions .entry)) (now (questions .entry)) variables) id id) (variablesOf (tree (now (concepts .entry)) id)) ⌝ }
+{
+    let answer = subsumption::variables_in(concepts, inclusions, questions, variables, id);
+    match answer {
+        VariableSet::Rejected(r) => answer_of(Outcome::Refused(r), 0),
+        VariableSet::Set(set) => answer_of(Outcome::Done, set as u64),
     }
 }
 

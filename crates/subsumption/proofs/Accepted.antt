@@ -19,7 +19,8 @@ use Rattle.subsumption.specs.Inner.Tables.{pairOf, Rising}
 use Rattle.subsumption.specs.Tables.{Tables, or, both, Node, topAt, nameAt, existsAt, andAt, varAt, node, decode, countOf, pairsOf, leftOf, rightOf, tree, hasVariable}
 use Rattle.subsumption.specs.Atoms.{atoms}
 use Rattle.subsumption.specs.Check.{unfit, limitFault, malformedRow, malformed, malformedFault, forward, forwardFault, noConcept, pairsFault, inclusionFault, sidesFault, atomsFault, conceptFault, idFault, useFault, tableFault, assignmentFaultAt}
-use Rattle.subsumption.specs.Inner.Atoms.{Layered, Known, VariableMarks, markAt}
+use Rattle.subsumption.specs.Inner.Atoms.{Layered, Known, VariableSets, held}
+use Rattle.subsumption.proofs.Marks.{held-set}
 use Rattle.subsumption.proofs.WellFormed.{WellFormed}
 use Rattle.subsumption.proofs.Bools.{or-false, le-or-lt}
 use Rattle.subsumption.proofs.Refusals.{passed-first, passed-second, passed-if, passed-at}
@@ -116,7 +117,7 @@ module _ (t : Tables) (h : conceptFault t ≡ Done) where
   pub concepts-layered : Layered (t .concepts)
   concepts-layered = record { whole = concepts-whole; few = concepts-few; rising = concepts-rising }
 
-  concepts-numbered : (i k : ℕ) → node (t .concepts) i ≡ varAt k → k < t .variables
+  pub concepts-numbered : (i k : ℕ) → node (t .concepts) i ≡ varAt k → k < t .variables
   unfolding malformedFault malformed node
   concepts-numbered i k e =
       ⊎-elim
@@ -131,6 +132,9 @@ module _ (t : Tables) (h : conceptFault t ≡ Done) where
       (λ l. absurd (let q = top-past (t .concepts) i (omega (arith, concepts-whole)) in let z : _≡_ {A = ℕ} 0 1 = cc (e, q) in omega arith))
       (λ l. name-of _ _ _ _ n (passed-at _ (malformed (t .concepts) (t .variables)) 0 _ concept-rows i (omega arith) (omega arith)) e)
       (le-or-lt (countOf (t .concepts)) i)
+
+  pub few-numbers : (i k : ℕ) → node (t .concepts) i ≡ varAt k → k < 8
+  few-numbers i k e = omega (arith, concepts-numbered i k e, ltb-false 8 (t .variables) (concept-limits .variables-fit))
 
 -- ---- check 4
 pairs-known : (before count : ℕ) (pairs : List ℕ) → pairsFault before count pairs ≡ Done → Known count pairs
@@ -153,23 +157,23 @@ module _ (t : Tables) (h : idFault t ≡ Done) where
   unfolding idFault
   questions-known = pairs-known _ _ _ (passed-second _ _ h)
 
--- ---- checks 5 and 6, by the marks of the ids that hold a variable
-module _ (concepts pairs : List ℕ) (held : List Bool) (m : ℕ) (pair : Pair) (marks : VariableMarks concepts held) (known : Known (countOf concepts) pairs)
+-- ---- checks 5 and 6, by the sets of the variables
+module _ (concepts pairs sets : List ℕ) (m : ℕ) (pair : Pair) (known-sets : VariableSets concepts sets) (known : Known (countOf concepts) pairs)
     (h : m < pairsOf pairs) (e : pair ≡ pairOf pairs m) where
-  pub held-left : markAt held (pair .left) ≡ hasVariable (tree concepts (leftOf pairs m))
+  pub held-left : held sets (pair .left) ≡ hasVariable (tree concepts (leftOf pairs m))
   held-left =
       let q : pair .left ≡ leftOf pairs m = cc e in
-      ap (markAt held) q ∙ marks .holds (leftOf pairs m) (known .left-known m h)
+      ap (held sets) q ∙ held-set concepts sets known-sets (leftOf pairs m) (known .left-known m h)
 
-  pub held-right : markAt held (pair .right) ≡ hasVariable (tree concepts (rightOf pairs m))
+  pub held-right : held sets (pair .right) ≡ hasVariable (tree concepts (rightOf pairs m))
   held-right =
       let q : pair .right ≡ rightOf pairs m = cc e in
-      ap (markAt held) q ∙ marks .holds (rightOf pairs m) (known .right-known m h)
+      ap (held sets) q ∙ held-set concepts sets known-sets (rightOf pairs m) (known .right-known m h)
 
-  pub either-held : (r : Bool) → r ≡ or (markAt held (pair .left)) (markAt held (pair .right)) → or (hasVariable (tree concepts (leftOf pairs m))) (hasVariable (tree concepts (rightOf pairs m))) ≡ r
+  pub either-held : (r : Bool) → r ≡ or (held sets (pair .left)) (held sets (pair .right)) → or (hasVariable (tree concepts (leftOf pairs m))) (hasVariable (tree concepts (rightOf pairs m))) ≡ r
   either-held r f = rw (← held-left, ← held-right) (sym f)
 
-  pub both-held : (r : Bool) → r ≡ both (markAt held (pair .left)) (markAt held (pair .right)) → both (hasVariable (tree concepts (leftOf pairs m))) (hasVariable (tree concepts (rightOf pairs m))) ≡ r
+  pub both-held : (r : Bool) → r ≡ both (held sets (pair .left)) (held sets (pair .right)) → both (hasVariable (tree concepts (leftOf pairs m))) (hasVariable (tree concepts (rightOf pairs m))) ≡ r
   both-held r f = rw (← held-left, ← held-right) (sym f)
 
 -- ---- check 9

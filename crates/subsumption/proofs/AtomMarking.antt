@@ -19,11 +19,11 @@ use Rattle.subsumption.specs.Tables.{Tables, or, both, node, decode, cou
 use Rattle.subsumption.specs.Atoms.{isAtomic, occurs, inInclusion, inQuestion, isAtom, keep, atoms}
 use Rattle.subsumption.specs.Refusal.{orElse, refuseIf}
 use Rattle.subsumption.specs.Check.{inclusionFault, sidesFault, atomsFault, useFault}
-use Rattle.subsumption.specs.Inner.Atoms.{Known, markAt, VariableMarks, MarkedBy, inPair, onSide, onGroundRight, Spread, Narrowed, AtomMarks, markedIds}
+use Rattle.subsumption.specs.Inner.Atoms.{Known, markAt, held, VariableSets, MarkedBy, inPair, onSide, onGroundRight, Spread, Narrowed, AtomMarks, markedIds}
 use Rattle.subsumption.specs.Inner.Check.{Used}
 use Rattle.subsumption.proofs.Bools.{or-cases, or-first, or-second, both-true, both-intro, anyBelow-intro, anyBelow-elim, last-cases, le-or-lt, same-bool}
 use Rattle.subsumption.proofs.Refusals.{passed-if, passed-second}
-use Rattle.subsumption.proofs.Marks.{row-node}
+use Rattle.subsumption.proofs.Marks.{row-node, held-set}
 
 pub atomic-name : (k a b : ℕ) → k ≡ 1 → true ≡ isAtomic (decode k a b)
 unfolding isAtomic decode
@@ -72,13 +72,13 @@ narrowed-done concepts before marks p s h = record { long = s .long; marks = λ 
 no-mark : (q : ℕ) → markAt (replicate 192 false) q ≡ false
 no-mark q = ⊎-elim (λ h. List·getD-eq-default (replicate 192 false) false {n = q} h) (λ h. getD-replicate 192 q false false h) (le-or-lt 192 q)
 
-module _ (concepts inclusions questions : List ℕ) (variables a b c d e : List Bool)
+module _ (concepts inclusions questions sets : List ℕ) (a b c d e : List Bool)
     (known-inclusions : Known (countOf concepts) inclusions) (known-questions : Known (countOf concepts) questions)
-    (held : VariableMarks concepts variables) (none : a ≡ replicate 192 false)
-    (sides : MarkedBy (onSide inclusions) a b) (rights : MarkedBy (onGroundRight questions variables) b c)
+    (known-sets : VariableSets concepts sets) (none : a ≡ replicate 192 false)
+    (sides : MarkedBy (onSide inclusions) a b) (rights : MarkedBy (onGroundRight questions sets) b c)
     (spread : Spread concepts c d) (narrowed : Narrowed concepts d e) where
-  ground-right : (m : ℕ) → m < pairsOf questions → markAt variables (rightOf questions m) ≡ hasVariable (tree concepts (rightOf questions m))
-  ground-right m h = held .holds (rightOf questions m) (known-questions .right-known m h)
+  ground-right : (m : ℕ) → m < pairsOf questions → held sets (rightOf questions m) ≡ hasVariable (tree concepts (rightOf questions m))
+  ground-right m h = held-set concepts sets known-sets (rightOf questions m) (known-questions .right-known m h)
 
   from-root : (p q : ℕ) → markAt c q ≡ true → occurs concepts p q ≡ true → or (inInclusion concepts inclusions p) (inQuestion concepts questions p) ≡ true
   unfolding inInclusion inQuestion
@@ -92,7 +92,7 @@ module _ (concepts inclusions questions : List ℕ) (variables a b c d e : List 
           let (m, l, y) = anyBelow-elim _ _ x in
           anyBelow-intro _ _ m l (⊎-elim (λ z. or-first _ _ (there _ z)) (λ z. or-second _ _ (there _ z)) (or-cases _ _ y))
 
-      question : onGroundRight questions variables q ≡ true → inQuestion concepts questions p ≡ true
+      question : onGroundRight questions sets q ≡ true → inQuestion concepts questions p ≡ true
       question x =
           let (m, l, y) = anyBelow-elim _ _ x in
           anyBelow-intro _ _ m l (both-intro _ _ (ap not (sym (ground-right m l)) ∙ both-true _ _ y .0) (there _ (both-true _ _ y .1)))

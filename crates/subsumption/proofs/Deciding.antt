@@ -10,7 +10,7 @@ use Rattle.subsumption.specs.declared.refusal.Outcome.{Outcome}
 use Rattle.subsumption.specs.declared.refusal.Outcome.the-variants.{Done, Refused}
 use Rattle.subsumption.specs.declared.refusal.Refusal.{Refusal}
 use Rattle.subsumption.specs.declared.decide.Decision.the-variants.{Yes, No}
-use Rattle.subsumption.specs.Tables.{Tables, tables, countOf}
+use Rattle.subsumption.specs.Tables.{Tables, tables, varAt, node, countOf}
 use Rattle.subsumption.specs.Atoms.{atoms}
 use Rattle.subsumption.specs.Refusal.{replyDone, replyRefused, replyOf, Replies}
 use Rattle.subsumption.specs.Check.{bufferFault, noConcept, aloneFault, tableFault, pairFault, assignmentFaultAt, assignmentFault}
@@ -83,6 +83,11 @@ module _ (cs is : List ℕ) (v : ℕ) (ids : List ℕ) (p : Prepared cs is v ids
 
   pub few-concepts : countOf cs ≤ 192
   few-concepts = wellFormed _ (p .accepted .passed) .few
+
+  pub few-numbers : (j k : ℕ) → node cs j ≡ varAt k → k < 8
+  few-numbers j k e =
+      let wf = wellFormed _ (p .accepted .passed) in
+      omega (arith, wf .numbered j k e, wf .few-variables)
 
   pub prepared-ready : (assignment : List ℕ) (x : Outcome) → x ≡ assignmentFaultAt (length ids) v assignment → x ≡ Done → Ready cs is ids assignment
   prepared-ready assignment x e f = accepted-ready cs is (p .questions) v assignment ids (p .accepted) x e f

@@ -8,6 +8,7 @@ pub mod Forward
 pub mod Refusals
 pub mod Replies
 pub mod Depth
+pub mod VariableLaws
 pub mod Trees
 pub mod Inward
 pub mod Occurs

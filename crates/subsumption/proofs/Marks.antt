@@ -1,24 +1,26 @@
 -- Marks of ids: what each pass over them adds.
-use Prim.Native.Nat.{ℕ, zero, suc, _+_, _-_, _<_, _≤_}
+use Prim.Native.Nat.{ℕ, zero, suc, _+_, _-_, _*_, _%_, _^_, _<_, _≤_}
 use mathlib.Core.Path.{_≡_, refl, sym, ap, ap₂, _∙_, subst}
 use mathlib.Core.List.{List}
 use mathlib.Core.Bool.{Bool, true, false, not, false≢true}
 use mathlib.Core.Logic.{_⊎_, ⊎-elim}
 use native.Mathlib.Omega.{arith}
 use native.Mathlib.Numerals.{add-one}
-use native.Mathlib.Nat.{eq-or-lt-of-le}
+use native.Mathlib.Nat.{eq-or-lt-of-le, one-mul, mod-eq-of-lt}
 use lib.Dec.{eqb}
-use lib.ListN.{length, set, length-set}
+use lib.Bits.{bitOr}
+use lib.Pow.{pow-lt}
+use lib.ListN.{length, getD, set, length-set}
 use lib.Seq.{getD-set-same, getD-set-other}
 use borrow.Author.Tests.{eq-eqb, ne-eqb, eqb-true}
 use Rattle.subsumption.specs.declared.tables.Pair.{Pair}
 use Rattle.subsumption.specs.declared.tables.Row.{Row}
 use Rattle.subsumption.specs.Inner.Tables.{rowOf, pairOf, Rising}
-use Rattle.subsumption.specs.Tables.{or, anyBelow, Node, topAt, nameAt, existsAt, andAt, varAt, node, decode, countOf, pairsOf, leftOf, rightOf, tree, hasVariable}
+use Rattle.subsumption.specs.Tables.{or, anyBelow, Node, topAt, nameAt, existsAt, andAt, varAt, node, decode, countOf, pairsOf, leftOf, rightOf, tree, variablesOf, hasVariable}
 use Rattle.subsumption.specs.Atoms.{inside, occurs}
-use Rattle.subsumption.specs.Inner.Atoms.{Layered, Known, markAt, inPair, heldBy, MarkedBy, VariableMarks, Spread, inGroundRight}
+use Rattle.subsumption.specs.Inner.Atoms.{Layered, Known, markAt, held, setBy, Narrow, VariableSets, inPair, heldBy, MarkedBy, VariableMarks, Spread, inGroundRight}
 use Rattle.subsumption.proofs.Bools.{or-cases, or-first, or-second, or-skip, both-none, both-skip, eq-or-ne, last-cases}
-use Rattle.subsumption.proofs.Trees.{variable-top, variable-name, variable-exists, variable-and, variable-var}
+use Rattle.subsumption.proofs.Trees.{set-tree, variable-top, variable-name, variable-exists, variable-and, variable-var}
 use Rattle.subsumption.proofs.Inward.{Inward}
 use Rattle.subsumption.proofs.Occurs.{occurs-self, occurs-exists, occurs-first, occurs-second, occurs-inward}
 
@@ -124,13 +126,13 @@ pub marked-start : (test : ℕ → ℕ → Bool) (marks : List Bool) → length 
 unfolding anyBelow
 marked-start test marks l = marked-none marks l
 
-module _ (questions : List ℕ) (variables marks : List Bool) (m : ℕ) (long : length marks ≡ 192) where
+module _ (questions sets : List ℕ) (marks : List Bool) (m : ℕ) (long : length marks ≡ 192) where
   pub marked-right :
-      rightOf questions m < 192 → markAt variables (rightOf questions m) ≡ false
-      → MarkedBy (λ q. inGroundRight questions variables q m) marks (set marks (rightOf questions m) true)
+      rightOf questions m < 192 → held sets (rightOf questions m) ≡ false
+      → MarkedBy (λ q. inGroundRight questions sets q m) marks (set marks (rightOf questions m) true)
   marked-right h e = marked-as _ _ _ _ (λ q. sym (both-skip _ _ (ap not e))) (marked-one marks (rightOf questions m) long h)
 
-  pub skipped-right : markAt variables (rightOf questions m) ≡ true → MarkedBy (λ q. inGroundRight questions variables q m) marks marks
+  pub skipped-right : held sets (rightOf questions m) ≡ true → MarkedBy (λ q. inGroundRight questions sets q m) marks marks
   skipped-right e = marked-as _ _ _ _ (λ q. sym (both-none _ _ (ap not e))) (marked-none marks long)
 
 module _ (marks : List Bool) (k a b : ℕ) (long : length marks ≡ 192) where
@@ -216,20 +218,20 @@ module _ (count : ℕ) (pairs : List ℕ) (m : ℕ) (pair : Pair) (known : Known
       (marked-as _ _ _ _ (λ q. cc e) (marked-two b (pair .left) (pair .right) (s .marked .long) left-below right-below))
 
   pub rights-more :
-      (variables a b : List Bool) → MarkedTo (inGroundRight pairs variables) (pairsOf pairs) a b m → markAt variables (pair .right) ≡ false
-      → MarkedTo (inGroundRight pairs variables) (pairsOf pairs) a (set b (pair .right) true) (m + 1)
-  rights-more variables a b s v =
+      (sets : List ℕ) (a b : List Bool) → MarkedTo (inGroundRight pairs sets) (pairsOf pairs) a b m → held sets (pair .right) ≡ false
+      → MarkedTo (inGroundRight pairs sets) (pairsOf pairs) a (set b (pair .right) true) (m + 1)
+  rights-more sets a b s v =
       let q : pair .right ≡ rightOf pairs m = cc in
-      marked-to-more (inGroundRight pairs variables) (pairsOf pairs) a b _ m h s
+      marked-to-more (inGroundRight pairs sets) (pairsOf pairs) a b _ m h s
       (rw q
-      (marked-right pairs variables b m (s .marked .long) (rw q at right-below) (rw q at v)))
+      (marked-right pairs sets b m (s .marked .long) (rw q at right-below) (rw q at v)))
 
   pub rights-skip :
-      (variables a b : List Bool) → MarkedTo (inGroundRight pairs variables) (pairsOf pairs) a b m → markAt variables (pair .right) ≡ true
-      → MarkedTo (inGroundRight pairs variables) (pairsOf pairs) a b (m + 1)
-  rights-skip variables a b s v =
+      (sets : List ℕ) (a b : List Bool) → MarkedTo (inGroundRight pairs sets) (pairsOf pairs) a b m → held sets (pair .right) ≡ true
+      → MarkedTo (inGroundRight pairs sets) (pairsOf pairs) a b (m + 1)
+  rights-skip sets a b s v =
       let q : pair .right ≡ rightOf pairs m = cc in
-      marked-to-more (inGroundRight pairs variables) (pairsOf pairs) a b b m h s (skipped-right pairs variables b m (s .marked .long) (rw q at v))
+      marked-to-more (inGroundRight pairs sets) (pairsOf pairs) a b b m h s (skipped-right pairs sets b m (s .marked .long) (rw q at v))
 
 -- ---- a row that was read
 rising-up : (i n : ℕ) (m : Node) → i ≤ n → Rising i m → Rising n m
@@ -388,3 +390,80 @@ module _ (concepts : List ℕ) (layered : Layered concepts) where
             first = λ x y z e. step x y (ap (inside (λ k. eqb y k)) e ∙ or-first _ _ (self y));
             second = λ x y z e. step x z (ap (inside (λ k. eqb z k)) e ∙ or-second _ _ (self z));
           }
+
+-- ---- the sets of the variables, row by row
+module _ (f : ℕ → ℕ) (k a b : ℕ) where
+  pub set-exists : k ≡ 2 → f b ≡ setBy f (decode k a b)
+  unfolding setBy decode
+  set-exists e = rw e
+
+  pub set-and : k ≡ 3 → bitOr (f a) (f b) ≡ setBy f (decode k a b)
+  unfolding setBy decode
+  set-and e = rw e
+
+  pub set-variable : (x : ℕ) → k ≡ 4 → x ≡ 2 ^ a → x ≡ setBy f (decode k a b)
+  unfolding setBy decode
+  set-variable x e h = rw e h
+
+pub set-rest : (f : ℕ → ℕ) (k a b : ℕ) → (k ≡ 2 → ⊥) → (k ≡ 3 → ⊥) → (k ≡ 4 → ⊥) → 0 ≡ setBy f (decode k a b)
+unfolding setBy decode
+set-rest f zero a b h2 h3 h4 = refl
+set-rest f (suc zero) a b h2 h3 h4 = refl
+set-rest f (suc (suc zero)) a b h2 h3 h4 = absurd (h2 refl)
+set-rest f (suc (suc (suc zero))) a b h2 h3 h4 = absurd (h3 refl)
+set-rest f (suc (suc (suc (suc zero)))) a b h2 h3 h4 = absurd (h4 refl)
+set-rest f (suc (suc (suc (suc (suc k))))) a b h2 h3 h4 = refl
+
+pub narrow-variable : (k a b : ℕ) → k ≡ 4 → Narrow (decode k a b) → a < 8
+unfolding decode
+narrow-variable k a b e h = subst (λ (z : ℕ). Narrow (decode z a b)) e h
+
+-- the bit of a variable, in eight
+pub one-of-eight : (a : ℕ) → a < 8 → 1 * 2 ^ a % 256 ≡ 2 ^ a
+one-of-eight a h = ap (λ (z : ℕ). z % 256) (one-mul (2 ^ a)) ∙ mod-eq-of-lt (pow-lt h)
+
+pub record SetsTo (concepts sets : List ℕ) (i : ℕ) : Type 0 where
+  pub long : length sets ≡ 192
+  pub within : i ≤ countOf concepts
+  pub each : (j : ℕ) → j < i → getD sets j 0 ≡ variablesOf (tree concepts j)
+
+pub sets-none : (concepts sets : List ℕ) → length sets ≡ 192 → SetsTo concepts sets 0
+sets-none concepts sets l = record { long = l; within = omega arith; each = λ j h. absurd (omega arith) }
+
+pub sets-row :
+    (concepts sets : List ℕ) (i : ℕ) (row : Row) (x : ℕ) → Layered concepts → SetsTo concepts sets i → i < countOf concepts → row ≡ rowOf concepts i
+    → x ≡ setBy (λ j. getD sets j 0) (decode (row .kind) (row .a) (row .b)) → SetsTo concepts (set sets i x) (i + 1)
+sets-row concepts sets i row x layered s h e k =
+    record {
+      long = length-set sets i x ∙ s .long;
+      within = omega arith;
+      each =
+          λ j l.
+          ⊎-elim
+          (λ (q : j ≡ i).
+          ap (λ (z : ℕ). getD (set sets i x) z 0) q ∙ getD-set-same sets i x 0 (omega (arith, s .long, layered .few)) ∙ k
+          ∙ ap (setBy (λ j. getD sets j 0)) (row-node concepts i row e) ∙ set-tree concepts (layered .rising) (λ j. getD sets j 0) i (s .each)
+          ∙ ap (λ (z : ℕ). variablesOf (tree concepts z)) (sym q))
+          (λ n. getD-set-other sets i j x 0 (λ q. omega arith) ∙ s .each j n)
+          (last-cases j i (omega arith));
+    }
+
+pub sets-done : (concepts sets : List ℕ) (i : ℕ) → SetsTo concepts sets i → countOf concepts ≤ i → VariableSets concepts sets
+sets-done concepts sets i s h = record { long = s .long; each = λ j l. s .each j (omega arith) }
+
+pub row-narrow :
+    (concepts : List ℕ) (i : ℕ) (row : Row) → ((j k : ℕ) → node concepts j ≡ varAt k → k < 8) → row ≡ rowOf concepts i
+    → Narrow (decode (row .kind) (row .a) (row .b))
+row-narrow concepts i row few e = subst Narrow (sym (row-node concepts i row e)) (go (node concepts i) refl)
+  where
+    go : (m : Node) → node concepts i ≡ m → Narrow m
+    go topAt h = tt
+    go (nameAt n) h = tt
+    go (existsAt r j) h = tt
+    go (andAt j k) h = tt
+    go (varAt k) h = few i k h
+
+-- by its set, the id holds a variable exactly when its concept does
+pub held-set : (concepts sets : List ℕ) → VariableSets concepts sets → (i : ℕ) → i < countOf concepts → held sets i ≡ hasVariable (tree concepts i)
+unfolding hasVariable
+held-set concepts sets s i l = ap (λ (z : ℕ). not (eqb z 0)) (s .each i l)

@@ -1,20 +1,23 @@
 -- Concepts without variables do not depend on how variables are read.
 use Prim.Native.Nat.{ℕ}
-use mathlib.Core.Path.{_≡_}
+use mathlib.Core.Path.{_≡_, sym, _∙_}
 use mathlib.Core.List.{List}
 use mathlib.Core.Bool.{false, true≢false}
-use Rattle.subsumption.specs.Tables.{Tables, Concept, top, name, exists, and, var, hasVariable}
+use Rattle.subsumption.specs.Tables.{Tables, Concept, top, name, exists, and, var, variablesOf, hasVariable}
 use Rattle.subsumption.specs.Subsumption.{Interpretation, Reading, Member, assigned, SubsumedBy, Subsumed}
 use Rattle.subsumption.proofs.Bools.{or-false}
+use Rattle.subsumption.proofs.VariableLaws.{variable-both, variable-one}
 use Rattle.subsumption.proofs.Inward.{Ground}
 
 pub member-ground : (I : Interpretation) (ρ ρ′ : Reading) (c : Concept) → hasVariable c ≡ false → (x : ℕ) → Member I ρ c x → Member I ρ′ c x
-unfolding hasVariable
+unfolding hasVariable variablesOf
 member-ground I ρ ρ′ top g x h = h
 member-ground I ρ ρ′ (name n) g x h = h
 member-ground I ρ ρ′ (exists r c) g x (y, l, k, h) = (y, l, k, member-ground I ρ ρ′ c g y h)
-member-ground I ρ ρ′ (and c d) g x (h, k) = (member-ground I ρ ρ′ c (or-false _ _ g .0) x h, member-ground I ρ ρ′ d (or-false _ _ g .1) x k)
-member-ground I ρ ρ′ (var k) g x h = absurd (true≢false g)
+member-ground I ρ ρ′ (and c d) g x (h, k) =
+    let (p, q) = or-false _ _ (sym (variable-both c d) ∙ g) in
+    (member-ground I ρ ρ′ c p x h, member-ground I ρ ρ′ d q x k)
+member-ground I ρ ρ′ (var k) g x h = absurd (true≢false (sym (variable-one k) ∙ g))
 
 pub subsumed-by-ground :
     (t : Tables) (ρ ρ′ : Interpretation → Reading) (i j : ℕ) → Ground (t .concepts) i → Ground (t .concepts) j

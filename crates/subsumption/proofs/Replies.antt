@@ -88,3 +88,9 @@ same-reply x y e = ap replyOf e
 
 pub same-refused : (r : Refusal) (f : Outcome) → Refused r ≡ f → replyRefused r ≡ replyOf f
 same-refused r f e = ap replyOf e
+
+pub with-refused : (r : Refusal) (f : Outcome) (n : ℕ) → Refused r ≡ f → replyRefused r ≡ replyWith f n
+with-refused r f n e = ap (λ (z : Outcome). replyWith z n) e
+
+pub with-value : (m : ℕ) (f : Outcome) (n : ℕ) → f ≡ Done → m ≡ n → replyDone m ≡ replyWith f n
+with-value m f n e h = ap replyDone h ∙ ap (λ (z : Outcome). replyWith z n) (sym e)

@@ -4,6 +4,7 @@ pub mod Tables
 pub mod Atoms
 pub mod Subsumption
 pub mod Rules
+pub mod Variables
 pub mod Listing
 pub mod Table
 pub mod Decide

@@ -1,7 +1,9 @@
 -- Tables (01, "Tables"): lent lists of numbers, and the concepts that they stand for.
-use Prim.Native.Nat.{ℕ, zero, suc, _+_, _*_, _/_}
+use Prim.Native.Nat.{ℕ, zero, suc, _+_, _*_, _/_, _^_}
 use mathlib.Core.List.{List}
-use mathlib.Core.Bool.{Bool, true, false}
+use mathlib.Core.Bool.{Bool, true, false, not}
+use lib.Bits.{bitOr}
+use lib.Dec.{eqb}
 use lib.ListN.{length, getD}
 
 -- The three tables and the number of variables (01: blanks).
@@ -84,10 +86,14 @@ treeTo concepts (suc depth) i = shape (treeTo concepts depth) (node concepts i)
 unfoldable pub tree : List ℕ → ℕ → Concept
 tree concepts i = treeTo concepts (suc i) i
 
--- The concept holds a variable, at any depth.
+-- The set of the variables that stand in a concept, at any depth: a number with bit k for variable k.
+unfoldable pub variablesOf : Concept → ℕ
+variablesOf top = 0
+variablesOf (name n) = 0
+variablesOf (exists r c) = variablesOf c
+variablesOf (and c d) = bitOr (variablesOf c) (variablesOf d)
+variablesOf (var k) = 2 ^ k
+
+-- The concept holds a variable.
 unfoldable pub hasVariable : Concept → Bool
-hasVariable top = false
-hasVariable (name n) = false
-hasVariable (exists r c) = hasVariable c
-hasVariable (and c d) = or (hasVariable c) (hasVariable d)
-hasVariable (var k) = true
+hasVariable c = not (eqb (variablesOf c) 0)

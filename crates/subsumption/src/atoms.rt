@@ -9,7 +9,7 @@ ghost use lib.ListN.{length, replicate};
 ghost use Rattle.subsumption.specs.Tables.{decode, or, both, countOf};
 ghost use Rattle.subsumption.specs.Atoms.{inside, isAtomic};
 ghost use Rattle.subsumption.specs.Inner.Tables.{Rising};
-ghost use Rattle.subsumption.specs.Inner.Atoms.{Layered, Known, markAt, heldBy, VariableMarks, MarkedBy, onSide, onGroundRight, Spread, Narrowed, AtomMarks, markedIds, inFront};
+ghost use Rattle.subsumption.specs.Inner.Atoms.{Layered, Known, markAt, heldBy, VariableMarks, VariableSets, MarkedBy, onSide, onGroundRight, Spread, Narrowed, AtomMarks, markedIds, inFront};
 
 fn holds_variable(marks: &[bool], kind: u16, a: u16, b: u16) -> bool
     requires { ⌜ Rising (length (now marks)) (decode kind a b) ⌝ }
@@ -61,12 +61,12 @@ fn mark_sides(count: usize, pairs: &[u16], marks: &mut [bool])
     }
 }
 
-fn mark_ground_rights(count: usize, questions: &[u16], variables: &[bool], marks: &mut [bool])
+fn mark_ground_rights(count: usize, questions: &[u16], sets: &[u8], marks: &mut [bool])
     requires { ⌜ Known count (now questions) ⌝ }
     requires { ⌜ count ≤ 192 ⌝ }
-    requires { ⌜ length (now variables) ≡ 192 ⌝ }
+    requires { ⌜ length (now sets) ≡ 192 ⌝ }
     requires { ⌜ length (now marks) ≡ 192 ⌝ }
-    ensures { λ _. ⌜ MarkedBy (onGroundRight (now (questions .entry)) (now (variables .entry))) (now (marks .entry)) (now (marks .exit)) ⌝ }
+    ensures { λ _. ⌜ MarkedBy (onGroundRight (now (questions .entry)) (now (sets .entry))) (now (marks .entry)) (now (marks .exit)) ⌝ }
 {
     let rows = questions.len() / 2;
     let mut m: usize = 0;
@@ -74,7 +74,7 @@ fn mark_ground_rights(count: usize, questions: &[u16], variables: &[bool], marks
         let pair = pair_at(questions, m);
         let right = pair.right as usize;
         m += 1;
-        if variables[right] {
+        if sets[right] != 0 {
             continue;
         }
         marks[right] = true;
@@ -161,19 +161,19 @@ pub fn mark_atoms(
     concepts: &[u16],
     inclusions: &[u16],
     questions: &[u16],
-    variables: &[bool],
+    sets: &[u8],
     marks: &mut [bool],
 )
     requires { ⌜ Layered (now concepts) ⌝ }
     requires { ⌜ Known (countOf (now concepts)) (now inclusions) ⌝ }
     requires { ⌜ Known (countOf (now concepts)) (now questions) ⌝ }
-    requires { ⌜ VariableMarks (now concepts) (now variables) ⌝ }
+    requires { ⌜ VariableSets (now concepts) (now sets) ⌝ }
     requires { ⌜ now marks ≡ replicate 192 false ⌝ }
     ensures { λ _. ⌜ AtomMarks (now (concepts .entry)) (now (inclusions .entry)) (now (questions .entry)) (now (marks .exit)) ⌝ }
 {
     let count = concepts.len() / 3;
     mark_sides(count, inclusions, marks);
-    mark_ground_rights(count, questions, variables, marks);
+    mark_ground_rights(count, questions, sets, marks);
     spread(concepts, marks);
     keep_atomic(concepts, marks);
 }

@@ -3,7 +3,6 @@ use crate::atoms::and_also;
 use crate::atoms::count_marks;
 use crate::atoms::either;
 use crate::atoms::mark_atoms;
-use crate::atoms::mark_variables;
 use crate::limits::ATOMS;
 use crate::limits::CONCEPTS;
 use crate::limits::INCLUSIONS;
@@ -15,6 +14,7 @@ use crate::refusal::Outcome;
 use crate::refusal::Refusal;
 use crate::tables::pair_at;
 use crate::tables::row_at;
+use crate::variables::write_sets;
 ghost use mathlib.Core.Path.{_≡_};
 ghost use mathlib.Core.Bool.{not, false};
 ghost use Prim.Native.Nat.{_<_, _≤_, _^_};
@@ -23,7 +23,7 @@ ghost use lib.ListN.{replicate};
 ghost use Rattle.subsumption.specs.Tables.{tables, decode, countOf};
 ghost use Rattle.subsumption.specs.Refusal.{replyOf};
 ghost use Rattle.subsumption.specs.Check.{unfit, limitFault, malformedRow, malformedFault, forward, forwardFault, noConcept, pairsFault, aloneFault, bufferFault, conceptFault, idFault, inclusionFault, sidesFault, tableFault, assignmentFaultAt};
-ghost use Rattle.subsumption.specs.Inner.Atoms.{VariableMarks, Known};
+ghost use Rattle.subsumption.specs.Inner.Atoms.{VariableSets, Known};
 ghost use Rattle.subsumption.specs.Inner.Check.{Used};
 ghost use Rattle.subsumption.specs.declared.refusal.Outcome.the-variants.{Done};
 
@@ -210,9 +210,9 @@ pub fn check_ids(concepts: &[u16], inclusions: &[u16], questions: &[u16], variab
     check_pairs(inclusions.len() / 2, count, questions)
 }
 
-// Check 5, by the marks of the ids that hold a variable.
-fn check_inclusions(concepts: &[u16], inclusions: &[u16], held: &[bool]) -> Outcome
-    requires { ⌜ VariableMarks (now concepts) (now held) ⌝ }
+// Check 5, by the sets of the variables.
+fn check_inclusions(concepts: &[u16], inclusions: &[u16], sets: &[u8]) -> Outcome
+    requires { ⌜ VariableSets (now concepts) (now sets) ⌝ }
     requires { ⌜ countOf (now concepts) ≤ 192 ⌝ }
     requires { ⌜ Known (countOf (now concepts)) (now inclusions) ⌝ }
     ensures { λ r. ⌜ r ≡ inclusionFault (now (concepts .entry)) (now (inclusions .entry)) ⌝ }
@@ -223,7 +223,7 @@ fn check_inclusions(concepts: &[u16], inclusions: &[u16], held: &[bool]) -> Outc
         let pair = pair_at(inclusions, m);
         let left = pair.left as usize;
         let right = pair.right as usize;
-        if either(held[left], held[right]) {
+        if either(sets[left] != 0, sets[right] != 0) {
             return Outcome::Refused(Refusal::VariableInInclusion(m));
         }
         m += 1;
@@ -232,8 +232,8 @@ fn check_inclusions(concepts: &[u16], inclusions: &[u16], held: &[bool]) -> Outc
 }
 
 // Check 6.
-fn check_sides(concepts: &[u16], questions: &[u16], held: &[bool]) -> Outcome
-    requires { ⌜ VariableMarks (now concepts) (now held) ⌝ }
+fn check_sides(concepts: &[u16], questions: &[u16], sets: &[u8]) -> Outcome
+    requires { ⌜ VariableSets (now concepts) (now sets) ⌝ }
     requires { ⌜ countOf (now concepts) ≤ 192 ⌝ }
     requires { ⌜ Known (countOf (now concepts)) (now questions) ⌝ }
     ensures { λ r. ⌜ r ≡ sidesFault (now (concepts .entry)) (now (questions .entry)) ⌝ }
@@ -244,7 +244,7 @@ fn check_sides(concepts: &[u16], questions: &[u16], held: &[bool]) -> Outcome
         let pair = pair_at(questions, m);
         let left = pair.left as usize;
         let right = pair.right as usize;
-        if and_also(held[left], held[right]) {
+        if and_also(sets[left] != 0, sets[right] != 0) {
             return Outcome::Refused(Refusal::VariablesOnBothSides(m));
         }
         m += 1;
@@ -265,17 +265,17 @@ pub fn check_use(
     requires { ⌜ now marks ≡ replicate 192 false ⌝ }
     ensures { λ r. ⌜ Used (tables (now (concepts .entry)) (now (inclusions .entry)) (now (questions .entry)) variables) (now (marks .exit)) r ⌝ }
 {
-    let mut held = [false; CONCEPTS];
-    mark_variables(concepts, &mut held);
-    let grounds = check_inclusions(concepts, inclusions, &held);
+    let mut sets = [0u8; CONCEPTS];
+    write_sets(concepts, &mut sets);
+    let grounds = check_inclusions(concepts, inclusions, &sets);
     if let Outcome::Refused(r) = grounds {
         return Outcome::Refused(r);
     }
-    let sides = check_sides(concepts, questions, &held);
+    let sides = check_sides(concepts, questions, &sets);
     if let Outcome::Refused(r) = sides {
         return Outcome::Refused(r);
     }
-    mark_atoms(concepts, inclusions, questions, &held, marks);
+    mark_atoms(concepts, inclusions, questions, &sets, marks);
     if ATOMS < count_marks(marks, concepts.len() / 3) {
         return Outcome::Refused(Refusal::TooManyAtoms);
     }

@@ -12,6 +12,7 @@ pub mod refusal;
 mod rows;
 mod table;
 mod tables;
+mod variables;
 
 pub use check::check_tables;
 pub use decide::Decision;
@@ -19,3 +20,5 @@ pub use decide::decide_pair;
 pub use listing::Listed;
 pub use listing::list_atoms;
 pub use table::write_table;
+pub use variables::VariableSet;
+pub use variables::variables_in;

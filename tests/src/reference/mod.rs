@@ -4,6 +4,7 @@
 //! of it is slow.
 
 pub mod atoms;
+pub mod blanks;
 pub mod clauses;
 pub mod derivation;
 pub mod matching;
@@ -31,6 +32,12 @@ pub fn atoms(tables: &Tables, room: usize) -> Result<Vec<u16>, Refusal> {
     refusals::of_tables(tables, None)?;
     refusals::of_room(room, ATOM_ROOM)?;
     Ok(atoms::list(tables).iter().map(|&id| id as u16).collect())
+}
+
+/// Operation: the set of blanks in one entry.
+pub fn blanks(tables: &Tables, id: u16) -> Result<u8, Refusal> {
+    refusals::of_tables(tables, Some((id, id)))?;
+    Ok(blanks::set(tables, usize::from(id)))
 }
 
 /// Operation: the subsumption table, as the bytes written to a buffer of `room` bytes.

@@ -2,27 +2,19 @@ use Rattle.capi.proofs.Answers.{by-done, by-code}
 use borrow.Author.Needs.{needs}
 use Rattle.capi.proofs.answer_of.Statement.{statement}
 use Rattle.capi.proofs.answer_of.Tie as tie
-use Rattle.capi.proofs.answer_of.Reads as reads
-use Rattle.capi.proofs.answer_of.Lts as lts
-use Rattle.subsumption.proofs.refusal.code_of.Reads as code-of-reads
 
--- src/lib.rt:37:26
 enum-told : tie.Need-enum-told
 enum-told c = search needs
 
--- src/lib.rt:42:26
 enum-known-outcome : tie.Need-enum-known-outcome
 enum-known-outcome c = search needs
 
--- src/lib.rt:43:17
 code-of-requires : tie.Need-code-of-requires
 code-of-requires c κs = search needs
 
--- src/lib.rt:33:1
 returns : tie.Need-returns
 returns c = by-done (c .before .before .args .outcome) (c .before .before .args .value) (c .enum-told .given .1)
 
--- src/lib.rt:33:1
 returns-2 : tie.Need-returns-2
 returns-2 c = by-code (c .before .before .before .before .args .outcome) (c .before .before .before .before .args .value) _ (c .code-of .result) (c .before .before .outcome .given .1) (c .code-of .ensures)
 

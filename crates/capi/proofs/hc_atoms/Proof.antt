@@ -3,44 +3,31 @@ use Rattle.capi.proofs.Answers.{same-answer}
 use borrow.Author.Needs.{needs}
 use Rattle.capi.proofs.hc_atoms.Statement.{statement}
 use Rattle.capi.proofs.hc_atoms.Tie as tie
-use Rattle.capi.proofs.hc_atoms.Reads as reads
-use Rattle.capi.proofs.hc_atoms.Lts as lts
-use Rattle.capi.proofs.answer_of.Reads as answer-of-reads
-use Rattle.subsumption.proofs.list_atoms.Reads as list-atoms-reads
 
--- src/lib.rt:81:9
 list-atoms-requires : tie.Need-list-atoms-requires
 list-atoms-requires c κs = search needs
 
--- src/lib.rt:83:26
 enum-known-answer : tie.Need-enum-known-answer
 enum-known-answer c = search needs
 
--- src/lib.rt:83:32
 answer-of-requires : tie.Need-answer-of-requires
 answer-of-requires c κs = search needs
 
--- src/lib.rt:84:23
 enum-known-answer-2 : tie.Need-enum-known-answer-2
 enum-known-answer-2 c = search needs
 
--- src/lib.rt:84:29
 answer-of-requires-2 : tie.Need-answer-of-requires-2
 answer-of-requires-2 c κs = search needs
 
--- src/lib.rt:70:1
 same-length : tie.Need-same-length
 same-length c = search needs
 
--- src/lib.rt:70:1
 returns : tie.Need-returns
 returns c = (same-answer listedReply _ (c .before .before .before .before .before .before .list-atoms .result) _ (c .answer-of .result) (c .before .before .before .before .before .before .list-atoms .ensures .0) (c .before .before .answer .given .1) (c .answer-of .ensures), c .before .before .before .before .before .before .list-atoms .ensures .1)
 
--- src/lib.rt:70:1
 same-length-2 : tie.Need-same-length-2
 same-length-2 c = search needs
 
--- src/lib.rt:70:1
 returns-2 : tie.Need-returns-2
 returns-2 c = (same-answer listedReply _ (c .before .before .before .before .before .before .list-atoms .result) _ (c .answer-of2 .result) (c .before .before .before .before .before .before .list-atoms .ensures .0) (c .before .before .answer2 .given .1) (c .answer-of2 .ensures), c .before .before .before .before .before .before .list-atoms .ensures .1)
 

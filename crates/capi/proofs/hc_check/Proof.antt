@@ -2,20 +2,13 @@ use mathlib.Core.Path.{_∙_}
 use borrow.Author.Needs.{needs}
 use Rattle.capi.proofs.hc_check.Statement.{statement}
 use Rattle.capi.proofs.hc_check.Tie as tie
-use Rattle.capi.proofs.hc_check.Reads as reads
-use Rattle.capi.proofs.hc_check.Lts as lts
-use Rattle.capi.proofs.answer_of.Reads as answer-of-reads
-use Rattle.subsumption.proofs.check_tables.Reads as check-tables-reads
 
--- src/lib.rt:65:9
 check-tables-requires : tie.Need-check-tables-requires
 check-tables-requires c κs = search needs
 
--- src/lib.rt:66:5
 answer-of-requires : tie.Need-answer-of-requires
 answer-of-requires c κs = search needs
 
--- src/lib.rt:56:1
 returns : tie.Need-returns
 returns c = c .answer-of .ensures ∙ c .before .check-tables .ensures
 

@@ -2,20 +2,13 @@ use mathlib.Core.Path.{_∙_}
 use borrow.Author.Needs.{needs}
 use Rattle.capi.proofs.hc_check_derivation.Statement.{statement}
 use Rattle.capi.proofs.hc_check_derivation.Tie as tie
-use Rattle.capi.proofs.hc_check_derivation.Reads as reads
-use Rattle.capi.proofs.hc_check_derivation.Lts as lts
-use Rattle.capi.proofs.answer_of.Reads as answer-of-reads
-use Rattle.matching.proofs.check_derivation.Reads as check-derivation-reads
 
--- src/lib.rt:231:9
 check-derivation-requires : tie.Need-check-derivation-requires
 check-derivation-requires c κs = search needs
 
--- src/lib.rt:241:5
 answer-of-requires : tie.Need-answer-of-requires
 answer-of-requires c κs = search needs
 
--- src/lib.rt:218:1
 returns : tie.Need-returns
 returns c = c .answer-of .ensures ∙ c .before .check-derivation .ensures
 

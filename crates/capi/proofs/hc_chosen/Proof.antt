@@ -3,44 +3,31 @@ use Rattle.capi.proofs.Answers.{same-answer}
 use borrow.Author.Needs.{needs}
 use Rattle.capi.proofs.hc_chosen.Statement.{statement}
 use Rattle.capi.proofs.hc_chosen.Tie as tie
-use Rattle.capi.proofs.hc_chosen.Reads as reads
-use Rattle.capi.proofs.hc_chosen.Lts as lts
-use Rattle.capi.proofs.answer_of.Reads as answer-of-reads
-use Rattle.matching.proofs.put_chosen.Reads as put-chosen-reads
 
--- src/lib.rt:172:9
 put-chosen-requires : tie.Need-put-chosen-requires
 put-chosen-requires c κs = search needs
 
--- src/lib.rt:182:26
 enum-known-answer : tie.Need-enum-known-answer
 enum-known-answer c = search needs
 
--- src/lib.rt:182:32
 answer-of-requires : tie.Need-answer-of-requires
 answer-of-requires c κs = search needs
 
--- src/lib.rt:183:21
 enum-known-answer-2 : tie.Need-enum-known-answer-2
 enum-known-answer-2 c = search needs
 
--- src/lib.rt:183:27
 answer-of-requires-2 : tie.Need-answer-of-requires-2
 answer-of-requires-2 c κs = search needs
 
--- src/lib.rt:159:1
 same-length : tie.Need-same-length
 same-length c = search needs
 
--- src/lib.rt:159:1
 returns : tie.Need-returns
 returns c = (same-answer chosenReply _ (c .before .before .before .before .before .before .put-chosen .result) _ (c .answer-of .result) (c .before .before .before .before .before .before .put-chosen .ensures .0) (c .before .before .answer .given .1) (c .answer-of .ensures), c .before .before .before .before .before .before .put-chosen .ensures .1)
 
--- src/lib.rt:159:1
 same-length-2 : tie.Need-same-length-2
 same-length-2 c = search needs
 
--- src/lib.rt:159:1
 returns-2 : tie.Need-returns-2
 returns-2 c = (same-answer chosenReply _ (c .before .before .before .before .before .before .put-chosen .result) _ (c .answer-of2 .result) (c .before .before .before .before .before .before .put-chosen .ensures .0) (c .before .before .answer2 .given .1) (c .answer-of2 .ensures), c .before .before .before .before .before .before .put-chosen .ensures .1)
 

@@ -3,44 +3,31 @@ use Rattle.capi.proofs.Answers.{derives-as}
 use borrow.Author.Needs.{needs}
 use Rattle.capi.proofs.hc_derive.Statement.{statement}
 use Rattle.capi.proofs.hc_derive.Tie as tie
-use Rattle.capi.proofs.hc_derive.Reads as reads
-use Rattle.capi.proofs.hc_derive.Lts as lts
-use Rattle.capi.proofs.answer_of.Reads as answer-of-reads
-use Rattle.matching.proofs.derive.Reads as derive-reads
 
--- src/lib.rt:201:9
 derive-requires : tie.Need-derive-requires
 derive-requires c κs = search needs
 
--- src/lib.rt:212:27
 enum-known-answer : tie.Need-enum-known-answer
 enum-known-answer c = search needs
 
--- src/lib.rt:212:33
 answer-of-requires : tie.Need-answer-of-requires
 answer-of-requires c κs = search needs
 
--- src/lib.rt:213:24
 enum-known-answer-2 : tie.Need-enum-known-answer-2
 enum-known-answer-2 c = search needs
 
--- src/lib.rt:213:30
 answer-of-requires-2 : tie.Need-answer-of-requires-2
 answer-of-requires-2 c κs = search needs
 
--- src/lib.rt:188:1
 same-length : tie.Need-same-length
 same-length c = search needs
 
--- src/lib.rt:188:1
 returns : tie.Need-returns
 returns c = derives-as (tables (c .before .before .before .before .before .before .before .before .before .before .before .before .before .args .concepts .now) (c .before .before .before .before .before .before .before .before .before .before .before .before .before .args .inclusions .now) (c .before .before .before .before .before .before .before .before .before .before .before .before .before .args .questions .now) (c .before .before .before .before .before .before .before .before .before .before .before .before .before .args .variables)) (c .before .before .before .before .before .before .before .before .before .before .before .before .before .args .assignment .now) (c .before .before .before .before .before .before .before .before .before .before .before .before .before .args .out .now) _ (c .before .before .before .before .before .before .before .before .before .before .before .before .before .args .left) (c .before .before .before .before .before .before .before .before .before .before .before .before .before .args .right) (c .answer-of .result) (c .before .before .before .before .before .before .derive .result) _ (c .before .before .before .before .before .before .derive .ensures) (c .before .before .answer .given .1) (c .answer-of .ensures)
 
--- src/lib.rt:188:1
 same-length-2 : tie.Need-same-length-2
 same-length-2 c = search needs
 
--- src/lib.rt:188:1
 returns-2 : tie.Need-returns-2
 returns-2 c = derives-as (tables (c .before .before .before .before .before .before .before .before .before .before .before .before .before .args .concepts .now) (c .before .before .before .before .before .before .before .before .before .before .before .before .before .args .inclusions .now) (c .before .before .before .before .before .before .before .before .before .before .before .before .before .args .questions .now) (c .before .before .before .before .before .before .before .before .before .before .before .before .before .args .variables)) (c .before .before .before .before .before .before .before .before .before .before .before .before .before .args .assignment .now) (c .before .before .before .before .before .before .before .before .before .before .before .before .before .args .out .now) _ (c .before .before .before .before .before .before .before .before .before .before .before .before .before .args .left) (c .before .before .before .before .before .before .before .before .before .before .before .before .before .args .right) (c .answer-of2 .result) (c .before .before .before .before .before .before .derive .result) _ (c .before .before .before .before .before .before .derive .ensures) (c .before .before .answer2 .given .1) (c .answer-of2 .ensures)
 

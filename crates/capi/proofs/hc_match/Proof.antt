@@ -4,44 +4,31 @@ use Rattle.capi.proofs.Answers.{finds-as}
 use borrow.Author.Needs.{needs}
 use Rattle.capi.proofs.hc_match.Statement.{statement}
 use Rattle.capi.proofs.hc_match.Tie as tie
-use Rattle.capi.proofs.hc_match.Reads as reads
-use Rattle.capi.proofs.hc_match.Lts as lts
-use Rattle.capi.proofs.answer_of.Reads as answer-of-reads
-use Rattle.matching.proofs.find_assignment.Reads as find-assignment-reads
 
--- src/lib.rt:151:9
 find-assignment-requires : tie.Need-find-assignment-requires
 find-assignment-requires c κs = search needs
 
--- src/lib.rt:153:25
 enum-known-answer : tie.Need-enum-known-answer
 enum-known-answer c = search needs
 
--- src/lib.rt:153:31
 answer-of-requires : tie.Need-answer-of-requires
 answer-of-requires c κs = search needs
 
--- src/lib.rt:154:36
 enum-told : tie.Need-enum-told
 enum-told c = search needs
 
--- src/lib.rt:154:26
 answer-of-requires-2 : tie.Need-answer-of-requires-2
 answer-of-requires-2 c κs = search needs
 
--- src/lib.rt:141:1
 same-length : tie.Need-same-length
 same-length c = search needs
 
--- src/lib.rt:141:1
 returns : tie.Need-returns
 returns c = finds-as (tables (c .before .before .before .before .before .before .before .before .before .before .before .before .args .concepts .now) (c .before .before .before .before .before .before .before .before .before .before .before .before .args .inclusions .now) (c .before .before .before .before .before .before .before .before .before .before .before .before .args .questions .now) (c .before .before .before .before .before .before .before .before .before .before .before .before .args .variables)) [] (c .before .before .before .before .before .before .before .before .before .before .before .before .args .out .now) _ 0 0 (c .answer-of .result) (c .before .before .before .before .before .before .find-assignment .result) _ (c .before .before .before .before .before .before .find-assignment .ensures) (c .before .before .answer .given .1) (c .answer-of .ensures)
 
--- src/lib.rt:141:1
 same-length-2 : tie.Need-same-length-2
 same-length-2 c = search needs
 
--- src/lib.rt:141:1
 returns-2 : tie.Need-returns-2
 returns-2 c = finds-as (tables (c .before .before .before .before .before .before .before .before .before .before .before .args .concepts .now) (c .before .before .before .before .before .before .before .before .before .before .before .args .inclusions .now) (c .before .before .before .before .before .before .before .before .before .before .before .args .questions .now) (c .before .before .before .before .before .before .before .before .before .before .before .args .variables)) [] (c .before .before .before .before .before .before .before .before .before .before .before .args .out .now) _ 0 0 (c .answer-of2 .result) (c .before .before .before .before .before .find-assignment .result) _ (c .before .before .before .before .before .find-assignment .ensures) (c .before .enum-told .given .1) (c .answer-of2 .ensures)
 

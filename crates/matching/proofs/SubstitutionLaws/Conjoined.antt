@@ -1,11 +1,13 @@
 -- An assignment is a substitution: each variable stands for the conjunction of its chosen atoms, top if there are none.
 use Prim.Native.Nat.{ℕ}
-use mathlib.Core.Path.{_≡_, refl, subst, sym}
+use mathlib.Core.Path.{_≡_, refl, subst, sym, _∙_}
 use mathlib.Core.List.{List, [], _∷_, List·Memᴰ, List·Memᴰ·head, List·Memᴰ·tail}
 use mathlib.Core.Bool.{false}
-use Rattle.subsumption.specs.Tables.{Tables, or, Concept, top, and, tree, hasVariable, leftOf, rightOf}
+use Rattle.subsumption.specs.Tables.{Tables, Concept, top, and, tree, variablesOf, hasVariable, leftOf, rightOf}
 use Rattle.subsumption.specs.Atoms.{chosen}
 use Rattle.subsumption.specs.Subsumption.{Interpretation, Member, noVariables, assigned}
+use Rattle.subsumption.proofs.Bools.{or-skip}
+use Rattle.subsumption.proofs.VariableLaws.{variable-both}
 use Rattle.subsumption.proofs.WellFormed.{WellFormed}
 use Rattle.subsumption.proofs.Inward.{Ground}
 use Rattle.subsumption.proofs.Chosen.{chosen-ground}
@@ -18,9 +20,11 @@ conjoined concepts [] = top
 conjoined concepts (p ∷ ps) = and (tree concepts p) (conjoined concepts ps)
 
 pub conjoined-ground : (concepts ps : List ℕ) → ((p : ℕ) → List·Memᴰ p ps → Ground concepts p) → hasVariable (conjoined concepts ps) ≡ false
-unfolding conjoined hasVariable or
+unfolding conjoined hasVariable variablesOf
 conjoined-ground concepts [] g = refl
-conjoined-ground concepts (p ∷ ps) g = rw (g p (List·Memᴰ·head refl), or) (conjoined-ground concepts ps (λ q m. g q (List·Memᴰ·tail m)))
+conjoined-ground concepts (p ∷ ps) g =
+    variable-both (tree concepts p) (conjoined concepts ps) ∙ or-skip _ _ (g p (List·Memᴰ·head refl))
+    ∙ conjoined-ground concepts ps (λ q m. g q (List·Memᴰ·tail m))
 
 module _ (I : Interpretation) (concepts : List ℕ) (x : ℕ) where
   pub conjoined-in :

@@ -1,11 +1,12 @@
 -- What the passes over marks of ids promise (src/atoms.rt).
-use Prim.Native.Nat.{ℕ, _*_, _<_, _≤_}
+use Prim.Native.Nat.{ℕ, _*_, _<_, _≤_, _^_}
 use mathlib.Core.Path.{_≡_}
 use mathlib.Core.List.{List, _++_}
 use mathlib.Core.Bool.{Bool, true, false, not}
+use lib.Bits.{bitOr}
 use lib.Dec.{eqb}
 use lib.ListN.{length, getD, drop}
-use Rattle.subsumption.specs.Tables.{or, both, anyBelow, Node, topAt, nameAt, existsAt, andAt, varAt, node, countOf, pairsOf, leftOf, rightOf, tree, hasVariable}
+use Rattle.subsumption.specs.Tables.{or, both, anyBelow, Node, topAt, nameAt, existsAt, andAt, varAt, node, countOf, pairsOf, leftOf, rightOf, tree, variablesOf, hasVariable}
 use Rattle.subsumption.specs.Atoms.{occurs, isAtomic, inInclusion, inQuestion, keep}
 use Rattle.subsumption.specs.Inner.Tables.{Rising}
 
@@ -31,6 +32,30 @@ heldBy holds (existsAt r j) = holds j
 heldBy holds (andAt j k) = or (holds j) (holds k)
 heldBy holds (varAt k) = true
 
+-- the set of a row's variables, by those of its inner ids
+unfoldable pub setBy : (ℕ → ℕ) → Node → ℕ
+setBy sets topAt = 0
+setBy sets (nameAt n) = 0
+setBy sets (existsAt r j) = sets j
+setBy sets (andAt j k) = bitOr (sets j) (sets k)
+setBy sets (varAt k) = 2 ^ k
+
+-- a variable's number has its bit in eight
+abbrev pub Narrow : Node → Type 0
+Narrow topAt = Unit {0}
+Narrow (nameAt n) = Unit {0}
+Narrow (existsAt r j) = Unit {0}
+Narrow (andAt j k) = Unit {0}
+Narrow (varAt k) = k < 8
+
+pub record VariableSets (concepts sets : List ℕ) : Type 0 where
+  pub long : length sets ≡ 192
+  pub each : (i : ℕ) → i < countOf concepts → getD sets i 0 ≡ variablesOf (tree concepts i)
+
+-- by its set, the id holds a variable
+abbrev pub held : List ℕ → ℕ → Bool
+held sets i = not (eqb (getD sets i 0) 0)
+
 pub record VariableMarks (concepts : List ℕ) (marks : List Bool) : Type 0 where
   pub long : length marks ≡ 192
   pub holds : (i : ℕ) → i < countOf concepts → markAt marks i ≡ hasVariable (tree concepts i)
@@ -46,11 +71,11 @@ inPair pairs q m = or (eqb q (leftOf pairs m)) (eqb q (rightOf pairs m))
 abbrev pub onSide : List ℕ → ℕ → Bool
 onSide pairs q = anyBelow (pairsOf pairs) (inPair pairs q)
 
-abbrev pub inGroundRight : List ℕ → List Bool → ℕ → ℕ → Bool
-inGroundRight questions variables q m = both (not (markAt variables (rightOf questions m))) (eqb q (rightOf questions m))
+abbrev pub inGroundRight : List ℕ → List ℕ → ℕ → ℕ → Bool
+inGroundRight questions sets q m = both (not (held sets (rightOf questions m))) (eqb q (rightOf questions m))
 
-abbrev pub onGroundRight : List ℕ → List Bool → ℕ → Bool
-onGroundRight questions variables q = anyBelow (pairsOf questions) (inGroundRight questions variables q)
+abbrev pub onGroundRight : List ℕ → List ℕ → ℕ → Bool
+onGroundRight questions sets q = anyBelow (pairsOf questions) (inGroundRight questions sets q)
 
 -- the marks after are those ids that stand in an id marked before
 pub record Spread (concepts : List ℕ) (before after : List Bool) : Type 0 where

@@ -12,11 +12,11 @@ use Rattle.subsumption.proofs.check.check_inclusions.Statement.{stateme
 use Rattle.subsumption.proofs.check.check_inclusions.Tie as tie
 
 abbrev Inv-loop : tie.InvT-loop
-Inv-loop concepts inclusions held rows m₀ m =
+Inv-loop concepts inclusions sets rows m₀ m =
     Scan VariableInInclusion (λ k. or (hasVariable (tree concepts (leftOf inclusions k))) (hasVariable (tree concepts (rightOf inclusions k)))) (pairsOf inclusions) m
 
 abbrev μ-loop : tie.MeasureT-loop
-μ-loop concepts inclusions held rows m₀ m = pairsOf inclusions - m
+μ-loop concepts inclusions sets rows m₀ m = pairsOf inclusions - m
 
 read-left : tie.Need-shared-slice-read-either Inv-loop μ-loop
 read-left c =

@@ -12,11 +12,11 @@ use Rattle.subsumption.proofs.check.check_sides.Statement.{statement}
 use Rattle.subsumption.proofs.check.check_sides.Tie as tie
 
 abbrev Inv-loop : tie.InvT-loop
-Inv-loop concepts questions held rows m₀ m =
+Inv-loop concepts questions sets rows m₀ m =
     Scan VariablesOnBothSides (λ k. both (hasVariable (tree concepts (leftOf questions k))) (hasVariable (tree concepts (rightOf questions k)))) (pairsOf questions) m
 
 abbrev μ-loop : tie.MeasureT-loop
-μ-loop concepts questions held rows m₀ m = pairsOf questions - m
+μ-loop concepts questions sets rows m₀ m = pairsOf questions - m
 
 read-left : tie.Need-shared-slice-read-and-also Inv-loop μ-loop
 read-left c =

@@ -3,22 +3,22 @@ use native.Mathlib.Omega.{arith}
 use Rattle.subsumption.specs.Check.{useFault}
 use Rattle.subsumption.proofs.Refusals.{stops, goes-on}
 use Rattle.subsumption.proofs.AtomMarking.{use-refused, use-many, use-few}
-use Rattle.subsumption.proofs.Accepted.{concepts-layered, concepts-few, inclusions-known, questions-known}
+use Rattle.subsumption.proofs.Accepted.{few-numbers, concepts-layered, concepts-few, inclusions-known, questions-known}
 use borrow.Author.Needs.{needs}
 use Rattle.subsumption.proofs.check.check_use.Statement.{statement}
 use Rattle.subsumption.proofs.check.check_use.Tie as tie
 
-slice-aggregate-mark-variables : tie.Need-slice-aggregate-mark-variables
-slice-aggregate-mark-variables c = search needs
+slice-aggregate-write-sets : tie.Need-slice-aggregate-write-sets
+slice-aggregate-write-sets c = search needs
 
-mark-variables-requires : tie.Need-mark-variables-requires
-mark-variables-requires c κs = (concepts-layered _ (c .before .before .before .before .before .pre .0), refl)
+write-sets-requires : tie.Need-write-sets-requires
+write-sets-requires c κs = (concepts-layered _ (c .before .before .before .before .before .pre .0), (few-numbers _ (c .before .before .before .before .before .pre .0), refl))
 
 slice-aggregate-check-inclusions : tie.Need-slice-aggregate-check-inclusions
 slice-aggregate-check-inclusions c = search needs
 
 check-inclusions-requires : tie.Need-check-inclusions-requires
-check-inclusions-requires c κs = (c .before .before .mark-variables .ensures, (concepts-few _ (c .before .before .before .before .before .before .before .before .pre .0), inclusions-known _ (c .before .before .before .before .before .before .before .before .pre .1 .0)))
+check-inclusions-requires c κs = (c .before .before .write-sets .ensures, (concepts-few _ (c .before .before .before .before .before .before .before .before .pre .0), inclusions-known _ (c .before .before .before .before .before .before .before .before .pre .1 .0)))
 
 enum-known-grounds : tie.Need-enum-known-grounds
 enum-known-grounds c = search needs
@@ -34,7 +34,7 @@ slice-aggregate-check-sides : tie.Need-slice-aggregate-check-sides
 slice-aggregate-check-sides c = search needs
 
 check-sides-requires : tie.Need-check-sides-requires
-check-sides-requires c κs = (c .before .before .before .before .before .before .mark-variables .ensures, (concepts-few _ (c .before .before .before .before .before .before .before .before .before .before .before .before .pre .0), questions-known _ (c .before .before .before .before .before .before .before .before .before .before .before .before .pre .1 .0)))
+check-sides-requires c κs = (c .before .before .before .before .before .before .write-sets .ensures, (concepts-few _ (c .before .before .before .before .before .before .before .before .before .before .before .before .pre .0), questions-known _ (c .before .before .before .before .before .before .before .before .before .before .before .before .pre .1 .0)))
 
 enum-known-sides : tie.Need-enum-known-sides
 enum-known-sides c = search needs
@@ -50,7 +50,7 @@ slice-aggregate-mark-atoms : tie.Need-slice-aggregate-mark-atoms
 slice-aggregate-mark-atoms c = search needs
 
 mark-atoms-requires : tie.Need-mark-atoms-requires
-mark-atoms-requires c κs = (concepts-layered _ (c .before .before .before .before .before .before .before .before .before .before .before .before .before .before .before .before .before .pre .0), (inclusions-known _ (c .before .before .before .before .before .before .before .before .before .before .before .before .before .before .before .before .before .pre .1 .0), (questions-known _ (c .before .before .before .before .before .before .before .before .before .before .before .before .before .before .before .before .before .pre .1 .0), (c .before .before .before .before .before .before .before .before .before .before .before .mark-variables .ensures, c .before .before .before .before .before .before .before .before .before .before .before .before .before .before .before .before .before .pre .1 .1))))
+mark-atoms-requires c κs = (concepts-layered _ (c .before .before .before .before .before .before .before .before .before .before .before .before .before .before .before .before .before .pre .0), (inclusions-known _ (c .before .before .before .before .before .before .before .before .before .before .before .before .before .before .before .before .before .pre .1 .0), (questions-known _ (c .before .before .before .before .before .before .before .before .before .before .before .before .before .before .before .before .before .pre .1 .0), (c .before .before .before .before .before .before .before .before .before .before .before .write-sets .ensures, c .before .before .before .before .before .before .before .before .before .before .before .before .before .before .before .before .before .pre .1 .1))))
 
 count-marks-requires : tie.Need-count-marks-requires
 count-marks-requires c κs = omega (arith, concepts-few _ (c .before .before .before .before .before .before .before .before .before .before .before .before .before .before .before .before .before .before .before .before .before .pre .0), c .before .before .before .mark-atoms .ensures .long)
@@ -71,8 +71,8 @@ pub check-use-spec : {M : Type 1} → statement M
 check-use-spec =
     tie.close
     (tie.spec
-    slice-aggregate-mark-variables
-    mark-variables-requires
+    slice-aggregate-write-sets
+    write-sets-requires
     slice-aggregate-check-inclusions
     check-inclusions-requires
     enum-known-grounds
