@@ -120,5 +120,5 @@ fn the_archive_has_no_variables() {
             _ => panic!("{}", line),
         }
     }
-    assert_eq!(exported.len(), 8, "{:?}", exported);
+    assert_eq!(exported.len(), 9, "{:?}", exported);
 }
