@@ -81,6 +81,15 @@ name-of v (suc (suc (suc zero))) a b n h e = absurd (let z : _≡_ {A = ℕ} 0 1
 name-of v (suc (suc (suc (suc zero)))) a b n h e = absurd (let z : _≡_ {A = ℕ} 0 1 = cc e in omega arith)
 name-of v (suc (suc (suc (suc (suc kind))))) a b n h e = absurd (true≢false h)
 
+role-of : (v kind a b r j : ℕ) → malformedRow v kind a b ≡ false → decode kind a b ≡ existsAt r j → r < 100
+unfolding malformedRow decode
+role-of v zero a b r j h e = absurd (let z : _≡_ {A = ℕ} 0 1 = cc e in omega arith)
+role-of v (suc zero) a b r j h e = absurd (let z : _≡_ {A = ℕ} 0 1 = cc e in omega arith)
+role-of v (suc (suc zero)) a b r j h e = let q : a ≡ r = cc e in omega (arith, ltb-false 99 a h)
+role-of v (suc (suc (suc zero))) a b r j h e = absurd (let z : _≡_ {A = ℕ} 0 1 = cc e in omega arith)
+role-of v (suc (suc (suc (suc zero)))) a b r j h e = absurd (let z : _≡_ {A = ℕ} 0 1 = cc e in omega arith)
+role-of v (suc (suc (suc (suc (suc kind))))) a b r j h e = absurd (true≢false h)
+
 module _ (t : Tables) (h : conceptFault t ≡ Done) where
   pub concept-limits : Limited t
   unfolding conceptFault
@@ -131,6 +140,14 @@ module _ (t : Tables) (h : conceptFault t ≡ Done) where
       ⊎-elim
       (λ l. absurd (let q = top-past (t .concepts) i (omega (arith, concepts-whole)) in let z : _≡_ {A = ℕ} 0 1 = cc (e, q) in omega arith))
       (λ l. name-of _ _ _ _ n (passed-at _ (malformed (t .concepts) (t .variables)) 0 _ concept-rows i (omega arith) (omega arith)) e)
+      (le-or-lt (countOf (t .concepts)) i)
+
+  pub concepts-roles : (i r j : ℕ) → node (t .concepts) i ≡ existsAt r j → r < 100
+  unfolding malformedFault malformed node
+  concepts-roles i r j e =
+      ⊎-elim
+      (λ l. absurd (let q = top-past (t .concepts) i (omega (arith, concepts-whole)) in let z : _≡_ {A = ℕ} 0 1 = cc (e, q) in omega arith))
+      (λ l. role-of _ _ _ _ r j (passed-at _ (malformed (t .concepts) (t .variables)) 0 _ concept-rows i (omega arith) (omega arith)) e)
       (le-or-lt (countOf (t .concepts)) i)
 
   pub few-numbers : (i k : ℕ) → node (t .concepts) i ≡ varAt k → k < 8

@@ -6,7 +6,7 @@ use mathlib.Core.Bool.{Bool, true, false, not, false≢true}
 use mathlib.Core.Logic.{⊎-elim}
 use native.Mathlib.Omega.{arith}
 use lib.Dec.{eqb}
-use lib.ListN.{length, set, length-set, replicate, getD-replicate, List·getD-eq-default}
+use lib.ListN.{length, getD, set, length-set, replicate, getD-replicate, List·getD-eq-default}
 use lib.Seq.{getD-set-same, getD-set-other}
 use borrow.Author.Tests.{eq-eqb, ne-eqb, eqb-true, lt-ltb, le-ltb, ltb-false}
 use Rattle.subsumption.specs.declared.refusal.Refusal.{Refusal}
@@ -15,15 +15,17 @@ use Rattle.subsumption.specs.declared.refusal.Outcome.{Outcome}
 use Rattle.subsumption.specs.declared.refusal.Outcome.the-variants.{Done, Refused}
 use Rattle.subsumption.specs.declared.tables.Row.{Row}
 use Rattle.subsumption.specs.Inner.Tables.{rowOf}
-use Rattle.subsumption.specs.Tables.{Tables, or, both, node, decode, countOf, pairsOf, leftOf, rightOf, tree, hasVariable}
-use Rattle.subsumption.specs.Atoms.{isAtomic, occurs, inInclusion, inQuestion, isAtom, keep, atoms}
+use Rattle.subsumption.specs.Tables.{Tables, tables, or, both, anyBelow, node, decode, countOf, pairsOf, leftOf, rightOf, tree, hasVariable}
+use Rattle.subsumption.specs.Atoms.{isAtomic, occurs, inInclusion, inQuestion, stands, twin, isLowest, isAtom, keep, atoms}
 use Rattle.subsumption.specs.Refusal.{orElse, refuseIf}
 use Rattle.subsumption.specs.Check.{inclusionFault, sidesFault, atomsFault, useFault}
-use Rattle.subsumption.specs.Inner.Atoms.{Known, markAt, held, VariableSets, MarkedBy, inPair, onSide, onGroundRight, Spread, Narrowed, AtomMarks, markedIds}
+use Rattle.subsumption.specs.Inner.Atoms.{Known, markAt, held, VariableSets, MarkedBy, inPair, onSide, onGroundRight, Spread, Narrowed, StandingMarks, AtomMarks, markedIds}
+use Rattle.subsumption.specs.Inner.Twins.{LowestTwins, Lowered}
 use Rattle.subsumption.specs.Inner.Check.{Used}
 use Rattle.subsumption.proofs.Bools.{or-cases, or-first, or-second, both-true, both-intro, anyBelow-intro, anyBelow-elim, last-cases, le-or-lt, same-bool}
 use Rattle.subsumption.proofs.Refusals.{passed-if, passed-second}
 use Rattle.subsumption.proofs.Marks.{row-node, held-set}
+use Rattle.subsumption.proofs.TwinLaws.{twin-same, same-twin, lowest-least, lowest-intro}
 
 pub atomic-name : (k a b : ℕ) → k ≡ 1 → true ≡ isAtomic (decode k a b)
 unfolding isAtomic decode
@@ -120,8 +122,9 @@ module _ (concepts inclusions questions sets : List ℕ) (a b c d e : List Bool)
           ∙ or-first _ _ (anyBelow-intro _ _ m l (both-intro _ _ (ap not (ground-right m l) ∙ both-true _ _ y .0) (eq-eqb (rightOf questions m) (rightOf questions m) refl))))
           (both-true _ _ y .1)
 
-  pub atoms-marked : AtomMarks concepts inclusions questions e
-  atoms-marked =
+  pub standing-marked : StandingMarks concepts inclusions questions e
+  unfolding stands
+  standing-marked =
       record {
         long = narrowed .long;
         holds =
@@ -130,6 +133,39 @@ module _ (concepts inclusions questions sets : List ℕ) (a b c d e : List Bool)
             ∙ ap (both (isAtomic (node concepts p)))
             (same-bool _ _ (λ x. let (q, l, m, o) = spread .sound p h x in from-root p q m o) (λ x. to-root p x));
       }
+
+-- a mark moved to the lowest twin is a mark of a lowest twin
+module _ (concepts inclusions questions firsts : List ℕ) (before after : List Bool) (standing : StandingMarks concepts inclusions questions before)
+    (lowest : LowestTwins concepts firsts) (lowered : Lowered firsts (countOf concepts) before after) where
+  abbrev t : Tables
+  t = tables concepts inclusions questions 0
+
+  is-lowest : (p q : ℕ) → p < countOf concepts → getD firsts p 0 ≡ q → isLowest concepts q ≡ true
+  is-lowest p q l e =
+      let w = lowest .each p l in
+      lowest-intro concepts q (λ x h s. omega (arith, w .least x (sym s ∙ ap (tree concepts) (sym e) ∙ w .same)))
+
+  there : (q : ℕ) → anyBelow (countOf concepts) (λ p. both (eqb (getD firsts p 0) q) (markAt before p)) ≡ true → isAtom t q ≡ true
+  unfolding isAtom
+  there q h =
+      let (p, l, e) = anyBelow-elim _ _ h in
+      let f : getD firsts p 0 ≡ q = eqb-true _ q (both-true _ _ e .0) in
+      both-intro _ _ (is-lowest p q l f)
+      (anyBelow-intro _ _ p l
+      (both-intro _ _ (same-twin concepts q p (ap (tree concepts) (sym f) ∙ lowest .each p l .same)) (sym (standing .holds p l) ∙ both-true _ _ e .1)))
+
+  back : (q : ℕ) → isAtom t q ≡ true → anyBelow (countOf concepts) (λ p. both (eqb (getD firsts p 0) q) (markAt before p)) ≡ true
+  unfolding isAtom
+  back q h =
+      let (p, l, e) = anyBelow-elim _ _ (both-true _ _ h .1) in
+      let w = lowest .each p l in
+      let s = twin-same concepts q p (both-true _ _ e .0) in
+      let f : getD firsts p 0 ≡ q
+      = omega (arith, w .least q s, lowest-least concepts q (getD firsts p 0) (both-true _ _ h .0) (s ∙ sym (w .same))) in
+      anyBelow-intro _ _ p l (both-intro _ _ (eq-eqb (getD firsts p 0) q f) (standing .holds p l ∙ both-true _ _ e .1))
+
+  pub atoms-marked : AtomMarks concepts inclusions questions after
+  atoms-marked = record { long = lowered .long; holds = λ q l. lowered .marks q l ∙ same-bool _ _ (there q) (back q) }
 
 keep-as : (f g : ℕ → Bool) (from count : ℕ) → ((p : ℕ) → from ≤ p → p < from + count → f p ≡ g p) → keep f from count ≡ keep g from count
 unfolding keep
@@ -142,7 +178,7 @@ keep-as f g from (suc count) h = go (keep-as f g (suc from) count (λ p l k. h p
 
 -- the marked ids are the atoms
 pub atoms-listed : (t : Tables) (marks : List Bool) → AtomMarks (t .concepts) (t .inclusions) (t .questions) marks → markedIds marks (countOf (t .concepts)) ≡ atoms t
-unfolding atoms isAtom
+unfolding atoms isAtom stands
 atoms-listed t marks m = keep-as (markAt marks) (isAtom t) 0 (countOf (t .concepts)) (λ p l k. m .holds p (omega arith))
 
 module _ (t : Tables) (x y : Outcome) (n : ℕ) (marks : List Bool) (ex : x ≡ inclusionFault (t .concepts) (t .inclusions)) (hx : x ≡ Done)

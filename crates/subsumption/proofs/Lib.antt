@@ -13,6 +13,7 @@ pub mod Trees
 pub mod Inward
 pub mod Occurs
 pub mod Keep
+pub mod TwinLaws
 pub mod AtomLaws
 pub mod Chosen
 pub mod Membership
@@ -25,6 +26,7 @@ pub mod Rules
 pub mod RuleSoundness
 pub mod RuleCompleteness
 pub mod Marks
+pub mod TwinKeys
 pub mod Lists
 pub mod AtomMarking
 pub mod Accepted

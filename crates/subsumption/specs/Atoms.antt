@@ -2,9 +2,10 @@
 use Prim.Native.Nat.{ℕ, zero, suc, _/_, _%_, _^_}
 use mathlib.Core.List.{List, [], _∷_}
 use mathlib.Core.Bool.{Bool, true, false, not}
+use native.Mathlib.Decide.{ℕ-discrete}
 use lib.Dec.{eqb}
 use lib.ListN.{getD}
-use Rattle.subsumption.specs.Tables.{Tables, or, both, anyBelow, Node, topAt, nameAt, existsAt, andAt, varAt, node, countOf, pairsOf, leftOf, rightOf, tree, hasVariable}
+use Rattle.subsumption.specs.Tables.{Tables, or, both, anyBelow, Node, topAt, nameAt, existsAt, andAt, varAt, node, countOf, pairsOf, leftOf, rightOf, tree, concept-discrete, hasVariable}
 
 unfoldable pub inside : (ℕ → Bool) → Node → Bool
 inside occurs topAt = false
@@ -39,11 +40,27 @@ inQuestion concepts questions p =
     anyBelow (pairsOf questions)
     (λ m. both (not (hasVariable (tree concepts (rightOf questions m)))) (occurs concepts p (rightOf questions m)))
 
--- Which ids are atoms.
-unfoldable pub isAtom : Tables → ℕ → Bool
-isAtom t p =
+-- A name or "some" that stands in an inclusion or in a variable-free right side.
+unfoldable pub stands : Tables → ℕ → Bool
+stands t p =
     both (isAtomic (node (t .concepts) p))
     (or (inInclusion (t .concepts) (t .inclusions) p) (inQuestion (t .concepts) (t .questions) p))
+
+unfoldable pub holds : {A : Type 0} → Dec A → Bool
+holds (yes _) = true
+holds (no _) = false
+
+-- Two ids are twins when they are built alike: their concepts are one.
+unfoldable pub twin : List ℕ → ℕ → ℕ → Bool
+twin concepts p q = holds (concept-discrete ℕ-discrete (tree concepts p) (tree concepts q))
+
+-- No twin of the id is lower.
+unfoldable pub isLowest : List ℕ → ℕ → Bool
+isLowest concepts p = not (anyBelow p (twin concepts p))
+
+-- Which ids are atoms: of each id that stands so, its lowest twin, wherever that one stands.
+unfoldable pub isAtom : Tables → ℕ → Bool
+isAtom t p = both (isLowest (t .concepts) p) (anyBelow (countOf (t .concepts)) (λ q. both (twin (t .concepts) p q) (stands t q)))
 
 -- The numbers from `from` on that pass the test, of `count`, rising.
 unfoldable pub keep : (ℕ → Bool) → ℕ → ℕ → List ℕ

@@ -1,6 +1,7 @@
 -- Definitions of private contracts: no operation's contract reaches them.
 pub mod Tables
 pub mod Atoms
+pub mod Twins
 pub mod Check
 pub mod Listing
 pub mod Columns

@@ -70,6 +70,7 @@ pub data Concept : Type 0 where
   exists : ℕ → Concept → Concept
   and : Concept → Concept → Concept
   var : ℕ → Concept
+  deriving Discrete as concept-discrete
 
 unfoldable pub shape : (ℕ → Concept) → Node → Concept
 shape inner topAt = top

@@ -1,15 +1,19 @@
-// Which ids are atoms: those in inclusions and variable-free right sides and all that stands in them, of kinds 1 and 2.
+// Which ids are atoms: the lowest twins of those in inclusions and variable-free right sides and of all that stands in them, of
+// kinds 1 and 2.
+use crate::limits::CONCEPTS;
 use crate::tables::pair_at;
 use crate::tables::row_at;
+use crate::twins::keep_lowest;
+use crate::twins::note_twins;
 ghost use mathlib.Core.Path.{_≡_};
 ghost use mathlib.Core.Bool.{false};
-ghost use Prim.Native.Nat.{_≤_};
+ghost use Prim.Native.Nat.{ℕ, _<_, _≤_};
 ghost use lib.Dec.{eqb};
 ghost use lib.ListN.{length, replicate};
-ghost use Rattle.subsumption.specs.Tables.{decode, or, both, countOf};
+ghost use Rattle.subsumption.specs.Tables.{decode, or, both, node, existsAt, countOf};
 ghost use Rattle.subsumption.specs.Atoms.{inside, isAtomic};
 ghost use Rattle.subsumption.specs.Inner.Tables.{Rising};
-ghost use Rattle.subsumption.specs.Inner.Atoms.{Layered, Known, markAt, heldBy, VariableMarks, VariableSets, MarkedBy, onSide, onGroundRight, Spread, Narrowed, AtomMarks, markedIds, inFront};
+ghost use Rattle.subsumption.specs.Inner.Atoms.{Layered, Known, markAt, heldBy, VariableMarks, VariableSets, MarkedBy, onSide, onGroundRight, Spread, Narrowed, StandingMarks, AtomMarks, markedIds, inFront};
 
 fn holds_variable(marks: &[bool], kind: u16, a: u16, b: u16) -> bool
     requires { ⌜ Rising (length (now marks)) (decode kind a b) ⌝ }
@@ -156,8 +160,8 @@ fn keep_atomic(concepts: &[u16], marks: &mut [bool])
     }
 }
 
-// Marks exactly the atoms.
-pub fn mark_atoms(
+// Marks the names and existentials that stand in an inclusion or a variable-free right side.
+fn mark_standing(
     concepts: &[u16],
     inclusions: &[u16],
     questions: &[u16],
@@ -169,13 +173,35 @@ pub fn mark_atoms(
     requires { ⌜ Known (countOf (now concepts)) (now questions) ⌝ }
     requires { ⌜ VariableSets (now concepts) (now sets) ⌝ }
     requires { ⌜ now marks ≡ replicate 192 false ⌝ }
-    ensures { λ _. ⌜ AtomMarks (now (concepts .entry)) (now (inclusions .entry)) (now (questions .entry)) (now (marks .exit)) ⌝ }
+    ensures { λ _. ⌜ StandingMarks (now (concepts .entry)) (now (inclusions .entry)) (now (questions .entry)) (now (marks .exit)) ⌝ }
 {
     let count = concepts.len() / 3;
     mark_sides(count, inclusions, marks);
     mark_ground_rights(count, questions, sets, marks);
     spread(concepts, marks);
     keep_atomic(concepts, marks);
+}
+
+// Marks exactly the atoms.
+pub fn mark_atoms(
+    concepts: &[u16],
+    inclusions: &[u16],
+    questions: &[u16],
+    sets: &[u8],
+    marks: &mut [bool],
+)
+    requires { ⌜ Layered (now concepts) ⌝ }
+    requires { ⌜ ((i r j : ℕ) → node (now concepts) i ≡ existsAt r j → r < 100) ⌝ }
+    requires { ⌜ Known (countOf (now concepts)) (now inclusions) ⌝ }
+    requires { ⌜ Known (countOf (now concepts)) (now questions) ⌝ }
+    requires { ⌜ VariableSets (now concepts) (now sets) ⌝ }
+    requires { ⌜ now marks ≡ replicate 192 false ⌝ }
+    ensures { λ _. ⌜ AtomMarks (now (concepts .entry)) (now (inclusions .entry)) (now (questions .entry)) (now (marks .exit)) ⌝ }
+{
+    mark_standing(concepts, inclusions, questions, sets, marks);
+    let mut firsts = [0u16; CONCEPTS];
+    note_twins(concepts, &mut firsts);
+    keep_lowest(&firsts, concepts.len() / 3, marks);
 }
 
 pub fn count_marks(marks: &[bool], count: usize) -> usize

@@ -12,6 +12,7 @@ pub mod refusal;
 mod rows;
 mod table;
 mod tables;
+mod twins;
 mod variables;
 
 pub use check::check_tables;

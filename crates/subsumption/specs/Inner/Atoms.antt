@@ -6,8 +6,8 @@ use mathlib.Core.Bool.{Bool, true, false, not}
 use lib.Bits.{bitOr}
 use lib.Dec.{eqb}
 use lib.ListN.{length, getD, drop}
-use Rattle.subsumption.specs.Tables.{or, both, anyBelow, Node, topAt, nameAt, existsAt, andAt, varAt, node, countOf, pairsOf, leftOf, rightOf, tree, variablesOf, hasVariable}
-use Rattle.subsumption.specs.Atoms.{occurs, isAtomic, inInclusion, inQuestion, keep}
+use Rattle.subsumption.specs.Tables.{tables, or, both, anyBelow, Node, topAt, nameAt, existsAt, andAt, varAt, node, countOf, pairsOf, leftOf, rightOf, tree, variablesOf, hasVariable}
+use Rattle.subsumption.specs.Atoms.{occurs, isAtomic, stands, isAtom, keep}
 use Rattle.subsumption.specs.Inner.Tables.{Rising}
 
 abbrev pub markAt : List Bool → ℕ → Bool
@@ -90,11 +90,14 @@ pub record Narrowed (concepts : List ℕ) (before after : List Bool) : Type 0 wh
   pub long : length after ≡ 192
   pub marks : (p : ℕ) → p < countOf concepts → markAt after p ≡ both (isAtomic (node concepts p)) (markAt before p)
 
+-- neither reads the number of variables
+pub record StandingMarks (concepts inclusions questions : List ℕ) (marks : List Bool) : Type 0 where
+  pub long : length marks ≡ 192
+  pub holds : (p : ℕ) → p < countOf concepts → markAt marks p ≡ stands (tables concepts inclusions questions 0) p
+
 pub record AtomMarks (concepts inclusions questions : List ℕ) (marks : List Bool) : Type 0 where
   pub long : length marks ≡ 192
-  pub holds :
-      (p : ℕ) → p < countOf concepts
-      → markAt marks p ≡ both (isAtomic (node concepts p)) (or (inInclusion concepts inclusions p) (inQuestion concepts questions p))
+  pub holds : (p : ℕ) → p < countOf concepts → markAt marks p ≡ isAtom (tables concepts inclusions questions 0) p
 
 -- the marked ids below count, rising
 abbrev pub markedIds : List Bool → ℕ → List ℕ

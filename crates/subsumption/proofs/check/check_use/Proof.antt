@@ -3,7 +3,7 @@ use native.Mathlib.Omega.{arith}
 use Rattle.subsumption.specs.Check.{useFault}
 use Rattle.subsumption.proofs.Refusals.{stops, goes-on}
 use Rattle.subsumption.proofs.AtomMarking.{use-refused, use-many, use-few}
-use Rattle.subsumption.proofs.Accepted.{few-numbers, concepts-layered, concepts-few, inclusions-known, questions-known}
+use Rattle.subsumption.proofs.Accepted.{few-numbers, concepts-layered, concepts-roles, concepts-few, inclusions-known, questions-known}
 use borrow.Author.Needs.{needs}
 use Rattle.subsumption.proofs.check.check_use.Statement.{statement}
 use Rattle.subsumption.proofs.check.check_use.Tie as tie
@@ -50,7 +50,7 @@ slice-aggregate-mark-atoms : tie.Need-slice-aggregate-mark-atoms
 slice-aggregate-mark-atoms c = search needs
 
 mark-atoms-requires : tie.Need-mark-atoms-requires
-mark-atoms-requires c κs = (concepts-layered _ (c .before .before .before .before .before .before .before .before .before .before .before .before .before .before .before .before .before .pre .0), (inclusions-known _ (c .before .before .before .before .before .before .before .before .before .before .before .before .before .before .before .before .before .pre .1 .0), (questions-known _ (c .before .before .before .before .before .before .before .before .before .before .before .before .before .before .before .before .before .pre .1 .0), (c .before .before .before .before .before .before .before .before .before .before .before .write-sets .ensures, c .before .before .before .before .before .before .before .before .before .before .before .before .before .before .before .before .before .pre .1 .1))))
+mark-atoms-requires c κs = (concepts-layered _ (c .before .before .before .before .before .before .before .before .before .before .before .before .before .before .before .before .before .pre .0), (concepts-roles _ (c .before .before .before .before .before .before .before .before .before .before .before .before .before .before .before .before .before .pre .0), (inclusions-known _ (c .before .before .before .before .before .before .before .before .before .before .before .before .before .before .before .before .before .pre .1 .0), (questions-known _ (c .before .before .before .before .before .before .before .before .before .before .before .before .before .before .before .before .before .pre .1 .0), (c .before .before .before .before .before .before .before .before .before .before .before .write-sets .ensures, c .before .before .before .before .before .before .before .before .before .before .before .before .before .before .before .before .before .pre .1 .1)))))
 
 count-marks-requires : tie.Need-count-marks-requires
 count-marks-requires c κs = omega (arith, concepts-few _ (c .before .before .before .before .before .before .before .before .before .before .before .before .before .before .before .before .before .before .before .before .before .pre .0), c .before .before .before .mark-atoms .ensures .long)
