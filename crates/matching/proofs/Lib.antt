@@ -1,5 +1,6 @@
 -- Laws and machinery behind the proofs of the functions.
 pub mod SubstitutionLaws
+pub mod TwinLaws
 pub mod SearchLaws
 pub mod ChosenLaws
 pub mod FindLaws

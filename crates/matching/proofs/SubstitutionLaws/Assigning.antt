@@ -7,13 +7,14 @@ use native.Mathlib.Omega.{arith}
 use native.Mathlib.Nat.{pow-suc}
 use lib.Dec.{eqb, ltb}
 use lib.ListN.{length, getD}
-use borrow.Author.Tests.{eq-eqb, lt-ltb}
+use borrow.Author.Tests.{eq-eqb, eqb-true, lt-ltb, not-false}
 use Rattle.subsumption.specs.declared.refusal.Refusal.{Refusal}
 use Rattle.subsumption.specs.declared.refusal.Outcome.the-variants.{Done}
 use Rattle.subsumption.specs.Refusal.{orElse, refuseIf, firstAt}
 use Rattle.subsumption.specs.Tables.{Tables}
 use Rattle.subsumption.specs.Atoms.{atoms, bit}
 use Rattle.subsumption.specs.Check.{assignmentFault, assignmentFaultAt}
+use Rattle.subsumption.proofs.Refusals.{passed-first, passed-if}
 use Rattle.subsumption.proofs.Chosen.{bit-half}
 
 -- a number with these bits below n, and no others
@@ -76,31 +77,48 @@ unfolding firstAt orElse refuseIf
 clear refusal faulty from zero h = refl
 clear refusal faulty from (suc count) h = rw (h from (omega arith) (omega arith), refuseIf, orElse) (clear refusal faulty (suc from) count (λ i l k. h i (omega arith) (omega arith)))
 
--- What check 9 asks.
-pub accepted :
-    (t : Tables) (α : List ℕ) → length α ≡ t .variables → ((k : ℕ) → k < t .variables → getD α k 0 < 2 ^ length (atoms t))
-    → assignmentFault t α ≡ Done
-unfolding assignmentFault assignmentFaultAt orElse refuseIf
-accepted t α e h =
-    rw (eq-eqb (length α) (t .variables) e)
-    (clear _ (λ k. not (ltb (getD α k 0) (2 ^ length (atoms t)))) 0 (t .variables) (λ k l u. ap not (lt-ltb _ _ (h k (omega arith)))))
+-- What check 9 asks, over any number of atoms.
+module _ (count variables : ℕ) (α : List ℕ) where
+  pub accepted : length α ≡ variables → ((k : ℕ) → k < variables → getD α k 0 < 2 ^ count) → assignmentFaultAt count variables α ≡ Done
+  unfolding assignmentFaultAt orElse refuseIf
+  accepted e h =
+      rw (eq-eqb (length α) variables e)
+      (clear _ (λ k. not (ltb (getD α k 0) (2 ^ count))) 0 variables (λ k l u. ap not (lt-ltb _ _ (h k (omega arith)))))
+
+  pub accepted-length : assignmentFaultAt count variables α ≡ Done → length α ≡ variables
+  unfolding assignmentFaultAt
+  accepted-length h = eqb-true _ _ (not-false _ (passed-if _ _ (passed-first _ _ h)))
 
 -- The assignment that takes the atoms at these positions.
-unfoldable pub assignmentOf : Tables → (ℕ → ℕ → Bool) → List ℕ
-assignmentOf t f = listed (λ k. coded (f k) (length (atoms t))) (t .variables)
+unfoldable pub assignmentTo : ℕ → ℕ → (ℕ → ℕ → Bool) → List ℕ
+assignmentTo count variables f = listed (λ k. coded (f k) count) variables
+
+module _ (count variables : ℕ) (f : ℕ → ℕ → Bool) where
+  pub assignmentTo-length : length (assignmentTo count variables f) ≡ variables
+  unfolding assignmentTo
+  assignmentTo-length = listed-length _ variables
+
+  at : (k : ℕ) → k < variables → getD (assignmentTo count variables f) k 0 ≡ coded (f k) count
+  unfolding assignmentTo
+  at k l = listed-at _ variables k l
+
+  pub assignmentTo-accepted : assignmentFaultAt count variables (assignmentTo count variables f) ≡ Done
+  assignmentTo-accepted = accepted count variables (assignmentTo count variables f) assignmentTo-length (λ k l. omega (arith, at k l, coded-less (f k) count))
+
+  pub assignmentTo-bit : (k q : ℕ) → k < variables → q < count → bit (getD (assignmentTo count variables f) k 0) q ≡ f k q
+  assignmentTo-bit k q l u = ap (λ (z : ℕ). bit z q) (at k l) ∙ coded-bit (f k) count q u
+
+-- The same over a card's own atoms.
+abbrev pub assignmentOf : Tables → (ℕ → ℕ → Bool) → List ℕ
+assignmentOf t f = assignmentTo (length (atoms t)) (t .variables) f
 
 module _ (t : Tables) (f : ℕ → ℕ → Bool) where
   pub assignmentOf-length : length (assignmentOf t f) ≡ t .variables
-  unfolding assignmentOf
-  assignmentOf-length = listed-length _ (t .variables)
-
-  at : (k : ℕ) → k < t .variables → getD (assignmentOf t f) k 0 ≡ coded (f k) (length (atoms t))
-  unfolding assignmentOf
-  at k l = listed-at _ (t .variables) k l
+  assignmentOf-length = assignmentTo-length (length (atoms t)) (t .variables) f
 
   pub assignmentOf-accepted : assignmentFault t (assignmentOf t f) ≡ Done
-  assignmentOf-accepted =
-      accepted t (assignmentOf t f) assignmentOf-length (λ k l. omega (arith, at k l, coded-less (f k) (length (atoms t))))
+  unfolding assignmentFault
+  assignmentOf-accepted = assignmentTo-accepted (length (atoms t)) (t .variables) f
 
   pub assignmentOf-bit : (k q : ℕ) → k < t .variables → q < length (atoms t) → bit (getD (assignmentOf t f) k 0) q ≡ f k q
-  assignmentOf-bit k q l u = ap (λ (z : ℕ). bit z q) (at k l) ∙ coded-bit (f k) (length (atoms t)) q u
+  assignmentOf-bit k q l u = assignmentTo-bit (length (atoms t)) (t .variables) f k q l u

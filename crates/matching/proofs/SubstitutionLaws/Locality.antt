@@ -10,7 +10,7 @@ use lib.ListN.{length, getD, List·getD-eq-default}
 use borrow.Author.Tests.{lt-ltb, le-ltb}
 use Rattle.subsumption.specs.declared.refusal.Outcome.the-variants.{Done}
 use Rattle.subsumption.specs.Tables.{Tables, both, anyBelow, Node, topAt, nameAt, existsAt, andAt, varAt, node, countOf, pairsOf, leftOf, rightOf, Concept, tree, hasVariable}
-use Rattle.subsumption.specs.Atoms.{occurs, isAtomic, inInclusion, inQuestion, isAtom, atoms, bit, chosen}
+use Rattle.subsumption.specs.Atoms.{occurs, isAtomic, inInclusion, inQuestion, stands, atoms, bit, chosen}
 use Rattle.subsumption.specs.Subsumption.{Interpretation, noVariables, assigned, Obeys, SubsumedBy, Subsumed}
 use Rattle.subsumption.specs.Rules.{every}
 use Rattle.subsumption.specs.Check.{tableFault, assignmentFault}
@@ -21,7 +21,7 @@ use Rattle.subsumption.proofs.Depth.{by-smaller}
 use Rattle.subsumption.proofs.Trees.{tree-top, tree-name, tree-exists, tree-and, tree-var, inner-exists, inner-and}
 use Rattle.subsumption.proofs.Inward.{Ground}
 use Rattle.subsumption.proofs.Occurs.{occurs-self, occurs-exists, occurs-first, occurs-second, occurs-le}
-use Rattle.subsumption.proofs.AtomLaws.{atom-listed}
+use Rattle.subsumption.proofs.AtomLaws.{AtomOf, atom-of}
 use Rattle.subsumption.proofs.Chosen.{pick-member, pick-intro}
 use Rattle.subsumption.proofs.Bits.{bit-of-zero}
 use Rattle.subsumption.proofs.Membership.{member-ground}
@@ -80,18 +80,18 @@ module _ (t : Tables) (wf : WellFormed t) where
             )
         go i smaller h (varAt k) e = rw (tree-var (t .concepts) (wf .rising) i k e) tt
 
-  left-atom : (m p : ℕ) → m < pairsOf (t .inclusions) → occurs (t .concepts) p (leftOf (t .inclusions) m) ≡ true → isAtomic (node (t .concepts) p) ≡ true → List·Memᴰ p (atoms t)
-  unfolding isAtom inInclusion
+  left-atom : (m p : ℕ) → m < pairsOf (t .inclusions) → occurs (t .concepts) p (leftOf (t .inclusions) m) ≡ true → isAtomic (node (t .concepts) p) ≡ true → AtomOf t p
+  unfolding stands inInclusion
   left-atom m p l o a =
-      atom-listed t p (omega (arith, occurs-le (t .concepts) (wf .rising) p _ o, wf .left-known m l))
+      atom-of t p (omega (arith, occurs-le (t .concepts) (wf .rising) p _ o, wf .left-known m l))
       (both-intro _ _ a (or-first _ _ (anyBelow-intro _ _ m l (or-first _ _ o))))
 
   right-atom :
       (m p : ℕ) → m < pairsOf (t .questions) → Ground (t .concepts) (rightOf (t .questions) m) → occurs (t .concepts) p (rightOf (t .questions) m) ≡ true
-      → isAtomic (node (t .concepts) p) ≡ true → List·Memᴰ p (atoms t)
-  unfolding isAtom inQuestion
+      → isAtomic (node (t .concepts) p) ≡ true → AtomOf t p
+  unfolding stands inQuestion
   right-atom m p l g o a =
-      atom-listed t p (omega (arith, occurs-le (t .concepts) (wf .rising) p _ o, wf .question-right m l))
+      atom-of t p (omega (arith, occurs-le (t .concepts) (wf .rising) p _ o, wf .question-right m l))
       (both-intro _ _ a (or-second _ _ (anyBelow-intro _ _ m l (both-intro _ _ (ap not g) o))))
 
 -- the concepts of all ids and of all variables, with their parts
@@ -181,9 +181,14 @@ module _ (t : Tables) (wf : WellFormed t) (σ : ℕ → Concept) (bits below inn
         none : (q : ℕ) → bit (getD α k 0) q ≡ true → t .variables ≤ k → ⊥
         none q h l = bit-of-zero q (rw (List·getD-eq-default α 0 {n = k} (omega (arith, assignmentOf-length t bits))) at h)
 
-    atom-holds : (I : Interpretation) (p : ℕ) → List·Memᴰ p (atoms t) → Holds t I E (concepts-closed t σ) inner (reach I) inner-decides (new I) (t .variables) σ (of I) (old I) (tree (t .concepts) p)
+    abbrev HoldsOf : Interpretation → Concept → Type 0
+    HoldsOf I c = Holds t I E (concepts-closed t σ) inner (reach I) inner-decides (new I) (t .variables) σ (of I) (old I) c
+
+    -- what holds of the atom holds of its twins
+    atom-holds : (I : Interpretation) (p : ℕ) → AtomOf t p → HoldsOf I (tree (t .concepts) p)
     unfolding of
-    atom-holds I p m k x lk l h b = test-member I (tree (t .concepts) p) x (every-elim _ _ h p (taken k p lk m b))
+    atom-holds I p a =
+        subst (HoldsOf I) (a .same) (λ k x lk l h b. test-member I (tree (t .concepts) (a .atom)) x (every-elim _ _ h (a .atom) (taken k (a .atom) lk (a .listed) b)))
 
     still-obeys : (I : Interpretation) → Obeys t I → Obeys t (extended I E inner (reach I))
     still-obeys I obeys m l =
