@@ -12,13 +12,13 @@
  *   overlap one another.
  * - While a call runs, nothing else writes what it is lent, nor reads its output buffer.
  * - The thread has as much stack left as the operation needs, in bytes at most:
- *     hc_check              2048
- *     hc_atoms              2048
- *     hc_blanks             2048
+ *     hc_check              8192
+ *     hc_atoms              8192
+ *     hc_blanks             8192
  *     hc_subsumption_table  16384
  *     hc_subsumed           16384
- *     hc_match              1048576   (the most measured is 213952)
- *     hc_chosen             2048
+ *     hc_match              1048576   (the most measured is 213984)
+ *     hc_chosen             8192
  *     hc_derive             524288
  *     hc_check_derivation   65536
  *
@@ -35,9 +35,12 @@
  *
  * At most 192 entries, 96 inclusions, 32 questions, 8 blanks, 64 parts; names to 999, roles to 99.
  *
- * The parts are the ids of kinds 1 and 2 that stand, at any depth, in an inclusion or in a
- * blank-free right side of a question, in rising order. A filling is one 64-bit number for each
- * blank: bit k chooses the part at position k. The empty choice reads as top.
+ * The parts come from the ids of kinds 1 and 2 that stand, at any depth, in an inclusion or in a
+ * blank-free right side of a question. Entries that are built alike (same kind, same name, role or
+ * blank, inner entries alike in the same order) are twins and count once: the part is the lowest
+ * twin among all entries, wherever that one stands. Parts are listed in rising order. A filling is
+ * one 64-bit number for each blank: bit k chooses the part at position k. The empty choice reads
+ * as top.
  *
  * A derivation is lines of four numbers: rule, left, right, extra; left and right are entry ids.
  * Premises stand on earlier lines:

@@ -1,6 +1,6 @@
 //! The checks 1 to 7 and 9, in one pass over each table.
 
-use crate::columns::{count_ones, has, insert, Set, EMPTY};
+use crate::columns::{count_ones, each, has, insert, Set, EMPTY};
 
 /// Number and place of 01's refusal table.
 pub type Refusal = (u16, u64);
@@ -34,7 +34,7 @@ pub fn accept(input: &Input, pair: Option<(u16, u16)>) -> Result<Accepted, Refus
     check_pairs(input, count, pair)?;
     let patterns = patterns(input, count);
     check_patterns(input, &patterns)?;
-    let atoms = atoms(input, count, &patterns);
+    let atoms = lowest_twins(input, &atoms_with_copies(input, count, &patterns));
     if count_ones(&atoms) > 64 {
         return Err((7, 64));
     }
@@ -149,7 +149,7 @@ fn check_patterns(input: &Input, patterns: &Set) -> Result<(), Refusal> {
 }
 
 /// Marks go from each id to its inner ids, highest first, so one pass is enough.
-fn atoms(input: &Input, count: usize, patterns: &Set) -> Set {
+fn atoms_with_copies(input: &Input, count: usize, patterns: &Set) -> Set {
     let mut reached = EMPTY;
     for &id in input.inclusions {
         insert(&mut reached, usize::from(id));
@@ -179,4 +179,43 @@ fn atoms(input: &Input, count: usize, patterns: &Set) -> Set {
         }
     }
     atoms
+}
+
+/// Slots of the table of rows seen so far: a power of two, over twice the rows.
+const SLOTS: usize = 512;
+const FREE: u8 = 255;
+
+/// The lowest id that is built like each of these. Inner ids are replaced by their lowest twins,
+/// so that rows of twins are equal; the first of equal rows is found in an open hash table. Ids
+/// above the highest of the set cannot be the lowest twin of one.
+fn lowest_twins(input: &Input, ids: &Set) -> Set {
+    let end = (0..3).rev().find(|&block| ids[block] != 0);
+    let end = end.map_or(0, |block| 64 * (block + 1) - ids[block].leading_zeros() as usize);
+    let mut slots = [FREE; SLOTS];
+    let mut keys = [0; 192];
+    let mut lowest = [0; 192];
+    for id in 0..end {
+        let (kind, a, b) = input.row(id);
+        let key = match kind {
+            2 => key_of(2, a, usize::from(lowest[b])),
+            3 => key_of(3, usize::from(lowest[a]), usize::from(lowest[b])),
+            _ => key_of(kind, a, b),
+        };
+        keys[id] = key;
+        let mut slot = (key.wrapping_mul(0x9e37_79b9_7f4a_7c15) >> 55) as usize;
+        while slots[slot] != FREE && keys[usize::from(slots[slot])] != key {
+            slot = (slot + 1) % SLOTS;
+        }
+        if slots[slot] == FREE {
+            slots[slot] = id as u8;
+        }
+        lowest[id] = slots[slot];
+    }
+    let mut twins = EMPTY;
+    each(*ids, |id| insert(&mut twins, usize::from(lowest[id])));
+    twins
+}
+
+fn key_of(kind: u16, a: usize, b: usize) -> u64 {
+    u64::from(kind) << 32 | (a as u64) << 16 | b as u64
 }

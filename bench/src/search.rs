@@ -6,7 +6,7 @@ use hermitcasket_tests::reference::patterns::Patterns;
 use hermitcasket_tests::tables::Tables;
 
 use crate::checks::{self, Refusal};
-use crate::columns::Columns;
+use crate::columns::{each, Columns};
 use crate::lend;
 
 /// Writes the first assignment that solves every question.
@@ -18,7 +18,9 @@ pub fn find(tables: &Tables, out: &mut [u64]) -> Result<(), Refusal> {
         return Err((8, variables as u64));
     }
     let closed = Columns::close(&input, &accepted, &[0; 8][..variables]);
-    let patterns = Patterns::new(tables, |i, j| closed.holds(i, j));
+    let mut atoms = Vec::new();
+    each(accepted.atoms, |id| atoms.push(id));
+    let patterns = Patterns::new(tables, &atoms, |i, j| closed.holds(i, j));
     let first = matching::search(&patterns, variables).ok_or((10, 0))?;
     out[..variables].copy_from_slice(&first);
     Ok(())

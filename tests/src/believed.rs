@@ -31,6 +31,7 @@ pub struct Sentence {
 
 pub const SENTENCES: &[Sentence] = &[
     Sentence { of: "subsumption", file: "VariableLaws", law: "set-exactly" },
+    Sentence { of: "matching", file: "TwinLaws", law: "twins-count-once" },
     Sentence { of: "cards", file: "SampleCards", law: "every-card" },
     Sentence { of: "cards", file: "ShownTables", law: "every-table" },
     Sentence { of: "hermitcasket", file: "Texts", law: "texts" },
@@ -130,8 +131,13 @@ fn head(line: &str) -> Option<&str> {
     rest.split(|c: char| !is_part(c)).next()
 }
 
-/// The constructors on a line of a `data` definition.
+/// The constructors on a line of a `data` definition, or the name of what is derived for the type.
 fn constructors(line: &str) -> Vec<String> {
+    if let Some((_, name)) = line.split_once(" as ") {
+        if line.trim_start().starts_with("deriving ") {
+            return vec![name.trim().to_string()];
+        }
+    }
     let Some((names, _)) = line.split_once(" : ") else { return Vec::new() };
     names.split_whitespace().map(str::to_string).collect()
 }

@@ -129,14 +129,16 @@ fn fewer_variables(_: &mut Random, tables: &mut Tables) {
     tables.variables = tables.variables.saturating_sub(1);
 }
 
-/// 62 to 68 more names that stand in inclusions; without room for them, names and existentials
-/// at random in every inclusion.
+/// 62 to 68 more names that stand in inclusions, mostly one of each, else copies of two; without
+/// room for them, names and existentials at random in every inclusion.
 fn many_atoms(random: &mut Random, tables: &mut Tables) {
     let more = 62 + 2 * random.below(4);
+    let copies = random.percent(30);
     if tables.concept_count() + more <= MAX_CONCEPTS {
         for _ in 0..more / 2 {
             let id = tables.concept_count() as u16;
-            tables.concepts.extend([1, 7, 0, 1, 8, 0]);
+            let (one, other) = if copies { (7, 8) } else { (MAX_NAME - id, MAX_NAME - id - 1) };
+            tables.concepts.extend([1, one, 0, 1, other, 0]);
             tables.inclusions.extend([id, id + 1]);
         }
         return;

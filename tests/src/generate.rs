@@ -1,4 +1,5 @@
-//! Random tables of many shapes that the checks accept, and random cases around them.
+//! Random tables of many shapes that the checks accept, copies pasted into them, and random cases
+//! around them.
 
 use std::collections::BTreeSet;
 
@@ -33,7 +34,7 @@ struct Shape {
     deep: bool,
     /// Variables at the lowest ids choose atoms of higher ids.
     variables_first: bool,
-    /// Chance in percent that a row repeats an earlier one.
+    /// Chance in percent that a row repeats an earlier one and is its twin, or nearly so.
     twins: usize,
     style: Style,
 }
@@ -118,7 +119,8 @@ fn concept(random: &mut Random, shape: &Shape, earlier: &[[u16; 3]]) -> [u16; 3]
         return [4, id as u16, 0];
     }
     if id > 0 && random.percent(shape.twins) {
-        return *random.pick(earlier);
+        let row = *random.pick(earlier);
+        return nearly(random, row, id);
     }
     match weighted(random, &shape.weights) {
         0 => [0, 0, 0],
@@ -126,6 +128,16 @@ fn concept(random: &mut Random, shape: &Shape, earlier: &[[u16; 3]]) -> [u16; 3]
         3 if id > 0 => [3, inner(random, shape, id), inner(random, shape, id)],
         4 if shape.variables > 0 => [4, random.below(shape.variables) as u16, 0],
         _ => [1, *random.pick(&shape.names), 0],
+    }
+}
+
+/// The row again, or one that is easily taken for its twin: "and" the other way round, or "some" of
+/// the entry before, which may be such an "and".
+fn nearly(random: &mut Random, row: [u16; 3], id: usize) -> [u16; 3] {
+    match row {
+        [3, first, second] if random.percent(30) => [3, second, first],
+        [2, role, _] if random.percent(30) => [2, role, id as u16 - 1],
+        row => row,
     }
 }
 
@@ -237,17 +249,21 @@ fn add_questions(random: &mut Random, shape: &Shape, tables: &mut Tables) {
     }
 }
 
-/// 192 concepts: variables, 64 names and existentials without variables (ids 8 to 71), and
-/// existentials and conjunctions over all of these.
+/// 192 concepts: variables, 64 names and existentials without variables (ids 8 to 71), no two of
+/// them twins, and existentials and conjunctions over all of these.
 fn full_rows(random: &mut Random) -> Vec<[u16; 3]> {
     let mut rows: Vec<[u16; 3]> = (0..8).map(|variable| [4, variable, 0]).collect();
     while rows.len() < 72 {
         let id = rows.len();
-        rows.push(if id > 8 && random.percent(50) {
+        let row = if id > 8 && random.percent(50) {
             [2, random.below(3) as u16, random.between(8, id - 1) as u16]
         } else {
             [1, MAX_NAME - id as u16, 0]
-        });
+        };
+        // a row that is there already would be a twin, and there would be fewer than 64 atoms
+        if !rows.contains(&row) {
+            rows.push(row);
+        }
     }
     while rows.len() < MAX_CONCEPTS {
         let (a, b) = (random.below(rows.len()) as u16, random.below(rows.len()) as u16);
@@ -278,6 +294,32 @@ pub fn full(random: &mut Random) -> Tables {
     tables
 }
 
+/// Pastes up to `most` copies of rows under new ids behind the others, some over copies of their
+/// inner ids, and then names any twin in the place of each id of the inclusions and questions.
+/// Many lowest twins so stand nowhere any more. The atoms, and the first solution, stay the same.
+pub fn paste_copies(random: &mut Random, tables: &mut Tables, most: usize) {
+    let count = tables.concept_count();
+    // for each id the id that it is a copy of, and for each of those all its copies
+    let mut original: Vec<usize> = (0..count).collect();
+    let mut copies: Vec<Vec<u16>> = (0..count as u16).map(|id| vec![id]).collect();
+    let room = MAX_CONCEPTS.saturating_sub(count).min(most);
+    for _ in 0..if count == 0 { 0 } else { room } {
+        let id = random.below(tables.concept_count());
+        let mut other = |inner: u16| *random.pick(&copies[original[usize::from(inner)]]);
+        let row = match tables.row(id) {
+            [2, role, inner] => [2, role, other(inner)],
+            [3, first, second] => [3, other(first), other(second)],
+            row => row,
+        };
+        copies[original[id]].push(tables.concept_count() as u16);
+        original.push(original[id]);
+        tables.concepts.extend(row);
+    }
+    for id in tables.inclusions.iter_mut().chain(&mut tables.questions) {
+        *id = *random.pick(&copies[usize::from(*id)]);
+    }
+}
+
 /// An assignment that check 9 accepts, for accepted tables.
 pub fn assignment(random: &mut Random, tables: &Tables) -> Vec<u64> {
     let count = atoms::list(tables).len();
@@ -292,11 +334,15 @@ pub fn assignment(random: &mut Random, tables: &Tables) -> Vec<u64> {
     (0..tables.variables).map(|_| choice(random) & all).collect()
 }
 
-/// A random case: most are accepted, the others are damaged in the tables, the assignment, the
-/// pair or the buffers, or in several of them.
+/// A random case, some with copies pasted in: most are accepted, the others are damaged in the
+/// tables, the assignment, the pair or the buffers, or in several of them.
 pub fn case(random: &mut Random, size: Size) -> Case {
     let at_limits = size == Size::Large && random.percent(30);
     let mut tables = if at_limits { full(random) } else { valid(random, size) };
+    if random.percent(25) {
+        let most = random.between(1, 12);
+        paste_copies(random, &mut tables, most);
+    }
     let choices = assignment(random, &tables);
     if random.percent(40) {
         damage::tables(random, &mut tables);

@@ -4,9 +4,11 @@ use hermitcasket_tests::capi::{self, Answer};
 use hermitcasket_tests::compare;
 use hermitcasket_tests::faults::{every_set, Fault, FAULTS};
 use hermitcasket_tests::generate;
-use hermitcasket_tests::limits::ATOM_ROOM;
+use hermitcasket_tests::limits::{ATOM_ROOM, MAX_ATOMS};
 use hermitcasket_tests::random::{cases, full_run, seed, Random, Size};
+use hermitcasket_tests::reference::atoms;
 use hermitcasket_tests::tables::{Case, Tables};
+use hermitcasket_tests::tally::Tally;
 
 /// The list written here by hand, from the library and from the reference.
 fn expect(atoms: &[u16], tables: Tables) {
@@ -45,12 +47,143 @@ fn questions_give_right_sides_without_variables() {
     expect(&[1, 2], Tables::new(&rows(), &[], &[[1, 4], [4, 3], [6, 5]], 1));
 }
 
-/// Twins are atoms of their own, in the order of their ids, wherever they are named.
+/// Wherever the copies are named, and whether or not the lowest stands there too.
 #[test]
-fn each_id_is_an_atom_of_its_own() {
-    expect(&[1, 6], Tables::new(&rows(), &[[6, 1]], &[], 1));
-    expect(&[6], Tables::new(&rows(), &[], &[[1, 6]], 1));
-    expect(&[1, 2, 6, 7], Tables::new(&rows(), &[[7, 0]], &[[4, 6], [0, 6]], 1));
+fn only_the_lowest_twin_is_an_atom() {
+    expect(&[1], Tables::new(&rows(), &[[6, 1]], &[], 1));
+    expect(&[1], Tables::new(&rows(), &[[1, 6]], &[], 1));
+    expect(&[1], Tables::new(&rows(), &[[6, 6]], &[], 1));
+    expect(&[1], Tables::new(&rows(), &[], &[[0, 6]], 1));
+    expect(&[1, 2, 7], Tables::new(&rows(), &[[7, 0]], &[[4, 6], [0, 6]], 1));
+}
+
+/// 0 and 1 one name, 2 and 3 "some" of each, 4 and 5 "and" of these, 6 and 7 "some" of each,
+/// 8 "some" of 5 again: each of a pair is built of the twins of the other's inner ids.
+#[test]
+fn twins_of_twins() {
+    let rows = [
+        [1, 5, 0],
+        [1, 5, 0],
+        [2, 1, 0],
+        [2, 1, 1],
+        [3, 0, 3],
+        [3, 1, 2],
+        [2, 9, 4],
+        [2, 9, 5],
+        [2, 9, 5],
+    ];
+    for ids in [[6, 6], [7, 7], [8, 8], [7, 8], [8, 6]] {
+        expect(&[0, 2, 6], Tables::new(&rows, &[ids], &[], 0));
+        expect(&[0, 2, 6], Tables::new(&rows, &[], &[ids], 0));
+    }
+    expect(&[0, 2], Tables::new(&rows, &[[3, 5]], &[], 0));
+    // each tower of 95 is the other's twin, storey by storey
+    let mut towers = vec![[1, 5, 0], [1, 5, 0]];
+    towers.extend((0..94).flat_map(|k| [[2, 0, 2 * k], [2, 0, 2 * k + 1]]));
+    let lowest: Vec<u16> = (0..64).map(|k| 2 * k).collect();
+    expect(&lowest, Tables::new(&towers, &[[127, 0]], &[], 0));
+    expect(&lowest, Tables::new(&towers, &[[126, 127]], &[], 0));
+}
+
+/// Towers of "and" hold 2^94 names, and are told apart, or not, all the same.
+#[test]
+fn twins_over_towers_of_conjunctions() {
+    for (name, atoms) in [(5, vec![0, 190]), (6, vec![0, 1, 190, 191])] {
+        let mut rows = vec![[1, 5, 0], [1, name, 0]];
+        rows.extend((0..94).flat_map(|k| [[3, 2 * k, 2 * k], [3, 2 * k + 1, 2 * k + 1]]));
+        rows.extend([[2, 0, 188], [2, 0, 189]]);
+        expect(&atoms, Tables::new(&rows, &[[190, 191]], &[], 0));
+    }
+}
+
+/// "And" keeps its order and its pairing, though each of two is below the other.
+#[test]
+fn conjunctions_in_another_order_are_no_twins() {
+    let rows = [
+        [1, 5, 0],
+        [1, 6, 0],
+        [3, 0, 1],
+        [3, 1, 0],
+        [2, 0, 2],
+        [2, 0, 3],
+        [3, 0, 1],
+        [2, 0, 6],
+        [3, 2, 0],
+        [3, 0, 3],
+        [2, 0, 8],
+        [2, 0, 9],
+    ];
+    expect(&[0, 1, 4, 5], Tables::new(&rows, &[[4, 5]], &[], 0));
+    expect(&[0, 1, 4, 5], Tables::new(&rows, &[[7, 5]], &[], 0));
+    expect(&[0, 1, 10, 11], Tables::new(&rows, &[[10, 11]], &[], 0));
+}
+
+/// Another kind, name, role or inner concept, also where the numbers of two rows are the same.
+#[test]
+fn what_is_no_twin() {
+    let rows = [
+        [1, 0, 0],
+        [2, 0, 0],
+        [2, 1, 0],
+        [2, 0, 1],
+        [1, 1, 0],
+        [2, 0, 4],
+        [0, 0, 0],
+        [2, 0, 6],
+        [1, 256, 0],
+        [2, 0, 8],
+    ];
+    let inclusions: Vec<[u16; 2]> = (0..10).map(|id| [id, id]).collect();
+    let all: Vec<u16> = (0..10).filter(|&id| id != 6).collect();
+    expect(&all, Tables::new(&rows, &inclusions, &[], 0));
+    // tops are twins, and so are existentials over them; alone they are no atoms
+    let tops = [[0, 0, 0], [0, 0, 0], [2, 0, 0], [2, 0, 1]];
+    expect(&[2], Tables::new(&tops, &[[3, 1]], &[], 0));
+}
+
+/// The lowest twin is the atom where only a copy stands as an atom must: it stands itself on a
+/// question's left, under a variable's side, inside such a concept, or nowhere at all.
+#[test]
+fn the_lowest_twin_may_stand_anywhere() {
+    // 0 name, 1 exists 0, 2 and 3 the same again, 4 a variable, 5 "1 and 4", 6 exists 1
+    let rows = [[1, 5, 0], [2, 1, 0], [1, 5, 0], [2, 1, 2], [4, 0, 0], [3, 1, 4], [2, 7, 1]];
+    let ask = |questions: &[[u16; 2]]| Tables::new(&rows, &[[3, 3]], questions, 1);
+    for questions in [vec![], vec![[0, 4]], vec![[1, 4]], vec![[6, 4]], vec![[0, 5], [5, 2]]] {
+        expect(&[0, 1], ask(&questions));
+    }
+    // the same with no inclusion, and the copies on a right side
+    expect(&[0, 1], Tables::new(&rows, &[], &[[1, 3], [0, 5]], 1));
+    expect(&[0], Tables::new(&rows, &[], &[[1, 2]], 1));
+    // and where nothing is asked of a copy, nothing is an atom
+    expect(&[], Tables::new(&rows, &[], &[[1, 4], [3, 5]], 1));
+}
+
+/// Names and `count - names` copies of the first ones, each in an inclusion of its own.
+fn with_copies(names: u16, count: u16) -> Tables {
+    let rows: Vec<[u16; 3]> = (0..count).map(|id| [1, id % names, 0]).collect();
+    // an inclusion for each two, since there is room for 96
+    let inclusions: Vec<[u16; 2]> =
+        (0..count).step_by(2).map(|id| [id, (id + 1).min(count - 1)]).collect();
+    Tables::new(&rows, &inclusions, &[], 0)
+}
+
+/// 65 ids that were atoms each, and 64 of them left, are accepted; 65 left are not.
+#[test]
+fn copies_count_once_at_the_limit() {
+    let all: Vec<u16> = (0..64).collect();
+    for count in [64, 65, 66, 128, 191, 192] {
+        let tables = with_copies(64, count);
+        assert_eq!(atoms::list_with_copies(&tables).len(), usize::from(count));
+        expect(&all, tables.clone());
+        compare::all(&Case::new(tables.clone(), &[]));
+        assert_eq!(compare::find(&Case::new(tables, &[])), Answer::done(0), "{}", count);
+    }
+    for count in [65, 66, 130, 192] {
+        let case = Case::new(with_copies(65, count), &[]);
+        assert_eq!(compare::atoms(&case), Answer::refused(7, 64), "{}", count);
+        assert_eq!(compare::find(&case), Answer::refused(7, 64), "{}", count);
+        compare::all(&case);
+    }
 }
 
 /// The buffer wants 64 numbers however few are written.
@@ -80,6 +213,32 @@ fn every_set_of_faults() {
         };
         assert_eq!(compare::atoms(&case), wanted, "{:?} in\n{}", chosen, case);
     }
+}
+
+/// Copies pasted behind everything, and named in the place of the originals, leave the list as it
+/// was; the list with copies is mostly another.
+#[test]
+fn pasted_copies_leave_the_list() {
+    let seed = seed("atoms, copies");
+    let mut tally = Tally::new("atoms, copies");
+    for size in [Size::Small, Size::Medium, Size::Large] {
+        for k in 0..(cases(size) / 4).max(1) {
+            let mut random = Random::for_case(seed, k);
+            let mut tables = generate::valid(&mut random, size);
+            let before = atoms::list(&tables);
+            let most = random.between(1, 60);
+            generate::paste_copies(&mut random, &mut tables, most);
+            let ids: Vec<u16> = before.iter().map(|&id| id as u16).collect();
+            expect(&ids, tables.clone());
+            let with_copies = atoms::list_with_copies(&tables);
+            tally.case();
+            tally.note("longer with copies", with_copies.len() > before.len());
+            tally.note("over 64 with copies", with_copies.len() > MAX_ATOMS);
+            let elsewhere = before.iter().any(|id| !with_copies.contains(id));
+            tally.note("a lowest twin stands elsewhere", elsewhere);
+        }
+    }
+    tally.finish(&[("longer with copies", 20..=90), ("a lowest twin stands elsewhere", 20..=90)]);
 }
 
 #[test]

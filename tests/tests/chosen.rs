@@ -32,6 +32,17 @@ fn ids_of_the_chosen_positions() {
     }
 }
 
+/// The lowest twins 0 and 1 are named, though only the copies 2 and 3 stand in the inclusion.
+#[test]
+fn the_lowest_twin_is_named() {
+    let rows = [[1, 5, 0], [2, 1, 0], [1, 5, 0], [2, 1, 2], [4, 0, 0]];
+    let tables = Tables::new(&rows, &[[2, 3]], &[], 1);
+    let lists: [&[u16]; 4] = [&[], &[0], &[1], &[0, 1]];
+    for (choice, ids) in lists.iter().enumerate() {
+        expect(ids, &tables, &[choice as u64], 0);
+    }
+}
+
 /// 64 atoms and every bit of the choice, alone and with all others.
 #[test]
 fn every_bit() {

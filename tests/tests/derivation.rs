@@ -156,6 +156,27 @@ fn broken_lines() {
     }
 }
 
+/// Rule 7's extra is a chosen part, so a lowest twin: a copy of it is none, wherever it stands.
+#[test]
+fn a_copy_is_no_chosen_part() {
+    // 0 to 2 one name, 3 to 5 "some" of each, 6 the variable; the copies 1 and 4 stand as atoms
+    let rows = [[1, 5, 0], [1, 5, 0], [1, 5, 0], [2, 1, 0], [2, 1, 1], [2, 1, 2], [4, 0, 0]];
+    let mut case = Case::new(Tables::new(&rows, &[[1, 4]], &[], 1), &[3]);
+    for (from, to) in (0..3).flat_map(|from| (0..3).map(move |to| (from, to))) {
+        let names = vec![[1, from, to, 0], [7, 6, to, from]];
+        let somes = vec![[1, from, to, 0], [5, from + 3, to + 3, 0], [7, 6, to + 3, from + 3]];
+        for lines in [names, somes] {
+            let last = lines.len() - 1;
+            case.pair = (6, lines[last][2]);
+            case.lines = lines.concat();
+            let refused = Answer::refused(12, last as u64);
+            let wanted = if from == 0 { Answer::done(0) } else { refused };
+            assert_eq!(compare::check_derivation(&case), wanted, "{:?}", lines);
+            assert_eq!(compare::derive(&case).0.number, 0, "{:?}", case.pair);
+        }
+    }
+}
+
 /// No lines and ragged lists are place 0, even where a later line is broken too.
 #[test]
 fn no_lines_and_ragged_lists() {

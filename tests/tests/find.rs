@@ -41,14 +41,14 @@ fn sample_cards() {
 /// {1} is earlier than {0}, blank 0 counts first, blanks in no question stay empty.
 #[test]
 fn order_of_assignments() {
-    // 0 and 1 are one name: either makes the variable below it
-    let rows = [[1, 5, 0], [1, 5, 0], [4, 0, 0], [4, 1, 0], [3, 2, 3]];
-    let twins = [[0, 1]];
-    expect(Some(&[2]), &Tables::new(&rows[..3], &twins, &[[2, 0]], 1));
+    // 0 and 1 are below each other: either makes the variable below both
+    let rows = [[1, 5, 0], [1, 6, 0], [4, 0, 0], [4, 1, 0], [3, 2, 3]];
+    let alike = [[0, 1], [1, 0]];
+    expect(Some(&[2]), &Tables::new(&rows[..3], &alike, &[[2, 0]], 1));
     // any of two variables may bring the name: the later one does
-    expect(Some(&[0, 2]), &Tables::new(&rows, &twins, &[[4, 1]], 2));
-    expect(Some(&[2, 0]), &Tables::new(&rows, &twins, &[[2, 1]], 2));
-    expect(Some(&[0; 8]), &Tables::new(&rows, &twins, &[], 8));
+    expect(Some(&[0, 2]), &Tables::new(&rows, &alike, &[[4, 1]], 2));
+    expect(Some(&[2, 0]), &Tables::new(&rows, &alike, &[[2, 1]], 2));
+    expect(Some(&[0; 8]), &Tables::new(&rows, &alike, &[], 8));
 }
 
 /// Without variables the questions are only asked.
@@ -412,7 +412,8 @@ fn questions_read_by_structure() {
             let mut random = Random::for_case(seed, k);
             let tables = generate::valid(&mut random, size);
             let ground = reference::relation(&tables, &vec![0; usize::from(tables.variables)]);
-            let patterns = reference::patterns::Patterns::new(&tables, |i, j| ground[i][j]);
+            let atoms = reference::atoms::list(&tables);
+            let patterns = reference::patterns::Patterns::new(&tables, &atoms, |i, j| ground[i][j]);
             let assignment = generate::assignment(&mut random, &tables);
             let below = reference::relation(&tables, &assignment);
             for (k, (left, right)) in tables.question_pairs().into_iter().enumerate() {

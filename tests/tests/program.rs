@@ -122,6 +122,73 @@ fn samples() {
     assert_eq!(agree(b""), "answer=refused\nnumber=13\nplace=0\n");
 }
 
+/// 01's sample with name 9 and "some" pasted in again: where the inclusion and the questions name
+/// the copies, the sheet names the lowest twins, though these stand there no more.
+#[test]
+fn the_sheet_names_the_lowest_twin() {
+    let copied = SAMPLE
+        .replace("entries=6", "entries=8")
+        .replace("and=1,4\n", "and=1,4\nname=9\nsome=1,0\n");
+    assert_eq!(agree(copied.as_bytes()), "answer=filled\nblanks=1\nfill=3\n");
+    let pairs = "inclusions=1\nbelow=2,3\nquestions=2\nbelow=5,3\nbelow=2,4\n";
+    for named in [
+        "inclusions=1\nbelow=7,6\nquestions=2\nbelow=5,6\nbelow=7,4\n",
+        "inclusions=1\nbelow=2,6\nquestions=2\nbelow=5,3\nbelow=7,4\n",
+        "inclusions=2\nbelow=2,3\nbelow=7,6\nquestions=2\nbelow=5,6\nbelow=2,4\n",
+    ] {
+        let text = copied.replace(pairs, named);
+        assert_eq!(agree(text.as_bytes()), "answer=filled\nblanks=1\nfill=3\n", "{}", named);
+    }
+    // card I over the copies
+    let none = "inclusions=1\nbelow=7,6\nquestions=2\nbelow=5,6\nbelow=0,4\n";
+    assert_eq!(agree(copied.replace(pairs, none).as_bytes()), "answer=none\n");
+    // WIDE with its answer's ids 1 and 2 pasted in again, and these asked for
+    let twins = WIDE
+        .replace("entries=8", "entries=11")
+        .replace("name=12\n", "name=12\nname=999\nsome=99,8\nand=9,8\n")
+        .replace("below=1,7\nbelow=2,0\n", "below=8,7\nbelow=9,0\n")
+        .replace("below=6,3\nbelow=3,4\nbelow=3,5\n", "below=6,10\nbelow=10,4\nbelow=3,5\n");
+    assert_eq!(agree(twins.as_bytes()), "answer=filled\nblanks=2\nfill=\nfill=1,2\n");
+}
+
+/// Copies count once: 64 names and 65 or 192 entries are accepted, 65 names are not.
+#[test]
+fn copies_at_the_limit_of_parts() {
+    let parts = |names: u16, count: u16| {
+        let rows: Vec<[u16; 3]> = (0..count).map(|id| [1, id % names, 0]).collect();
+        let inclusions: Vec<[u16; 2]> = (0..count / 2).map(|k| [k, count - 1 - k]).collect();
+        let questions = [[count / 2, count / 2]];
+        layout(&Tables::new(&rows, &inclusions, &questions, 0)).expect("a layout")
+    };
+    for (names, count) in [(64, 64), (64, 65), (64, 128), (64, 192), (1, 192)] {
+        assert_eq!(agree(&parts(names, count)), "answer=filled\nblanks=0\n", "{}", count);
+    }
+    for count in [65, 66, 192] {
+        assert_eq!(agree(&parts(65, count)), refused(Refusal { number: 7, place: 64 }));
+    }
+}
+
+/// Copies pasted into a problem, and named in the place of the originals, change no byte printed.
+#[test]
+fn copies_change_no_sheet() {
+    let seed = seed("program, copies");
+    let mut tally = Tally::new("program, copies");
+    for (size, share) in [(Size::Small, 30), (Size::Medium, 20), (Size::Large, 20)] {
+        for k in 0..(cases(size) / share).max(1) {
+            let mut random = Random::for_case(seed, k);
+            let mut tables = generate::valid(&mut random, size);
+            let before = output(&layout(&tables).expect("a layout"));
+            let most = random.between(1, 40);
+            generate::paste_copies(&mut random, &mut tables, most);
+            assert_eq!(agree(&layout(&tables).expect("a layout")), before, "for\n{}", tables);
+            tally.case();
+            tally.note("filled", before.starts_with("answer=filled"));
+            tally.note("none", before == "answer=none\n");
+        }
+    }
+    tally.finish(&[("filled", 20..=80), ("none", 20..=80)]);
+}
+
 /// The examples of 01's refusal table that a text can bring, and the limit cards.
 #[test]
 fn refusals_of_the_tables() {

@@ -1,9 +1,16 @@
-//! The reference itself, held against 01's definition of "below" on tiny tables.
+//! The reference itself, held against 01's definition of "below" on tiny tables, and against 02's
+//! of twins.
 
+use std::collections::BTreeSet;
+
+use hermitcasket_tests::families::FAMILIES;
 use hermitcasket_tests::generate;
+use hermitcasket_tests::hard::{self, Hard};
+use hermitcasket_tests::limits::{MAX_ATOMS, MAX_CONCEPTS};
 use hermitcasket_tests::random::{cases, seed, Random, Size};
-use hermitcasket_tests::reference::atoms::chosen;
+use hermitcasket_tests::reference::atoms::{self, chosen, Twins};
 use hermitcasket_tests::reference::model::Canonical;
+use hermitcasket_tests::reference::{self, matching};
 use hermitcasket_tests::semantics::{
     all_interpretations, counterexample, member, obeys, random_model, Interpretation,
 };
@@ -116,4 +123,160 @@ fn few_symbols(random: &mut Random) -> Tables {
         }
     }
     tables
+}
+
+/// The concept written out in full: two are built alike exactly when they read the same. Its
+/// length doubles with each "and", so this is for tiny tables only.
+fn written_out(tables: &Tables, id: usize) -> String {
+    match tables.concept(id) {
+        Concept::Top => "top".to_string(),
+        Concept::Name(name) => format!("n{}", name),
+        Concept::Existential(role, inner) => format!("r{}({})", role, written_out(tables, inner)),
+        Concept::Conjunction(first, second) => {
+            format!("({} and {})", written_out(tables, first), written_out(tables, second))
+        }
+        Concept::Variable(variable) => format!("v{}", variable),
+    }
+}
+
+/// Whether the id stands in the other, at any depth.
+fn stands_in(tables: &Tables, id: usize, other: usize) -> bool {
+    let inside = match tables.concept(other) {
+        Concept::Existential(_, inner) => stands_in(tables, id, inner),
+        Concept::Conjunction(first, second) => {
+            stands_in(tables, id, first) || stands_in(tables, id, second)
+        }
+        _ => false,
+    };
+    id == other || inside
+}
+
+/// Both lists of atoms by their definitions, each id asked alone.
+#[test]
+fn both_lists_of_atoms_by_their_definitions() {
+    let seed = seed("reference, twins");
+    let mut tally = Tally::new("reference, twins");
+    for k in 0..cases(Size::Small) / 4 {
+        let mut random = Random::for_case(seed, k);
+        let mut tables = generate::valid(&mut random, Size::Small);
+        if random.percent(60) {
+            let most = random.between(1, 12);
+            generate::paste_copies(&mut random, &mut tables, most);
+        }
+        let count = tables.concept_count();
+        let texts: Vec<String> = (0..count).map(|id| written_out(&tables, id)).collect();
+        let ground = |id: &usize| !texts[*id].contains('v');
+        let mut sides: Vec<usize> = tables.inclusion_pairs().iter().map(|pair| pair.0).collect();
+        sides.extend(tables.inclusion_pairs().iter().map(|pair| pair.1));
+        sides.extend(tables.question_pairs().iter().map(|pair| pair.1).filter(ground));
+        let stands = |&id: &usize| {
+            matches!(tables.row(id)[0], 1 | 2)
+                && sides.iter().any(|&side| stands_in(&tables, id, side))
+        };
+        let with_copies: Vec<usize> = (0..count).filter(stands).collect();
+        assert_eq!(atoms::list_with_copies(&tables), with_copies, "{}", tables);
+        let mut twins = Twins::new(&tables);
+        let mut wanted = BTreeSet::new();
+        for id in 0..count {
+            let lowest = texts.iter().position(|text| *text == texts[id]).expect("itself");
+            assert_eq!(twins.lowest(id), lowest, "{} of {}", id, tables);
+            for other in 0..count {
+                assert_eq!(twins.alike(id, other), texts[id] == texts[other], "{}", tables);
+            }
+            if with_copies.contains(&id) {
+                wanted.insert(lowest);
+            }
+        }
+        let wanted: Vec<usize> = wanted.into_iter().collect();
+        assert_eq!(atoms::list(&tables), wanted, "{}", tables);
+        tally.case();
+        tally.note("one list", wanted == with_copies);
+        tally.note("fewer", wanted.len() < with_copies.len());
+        let stands_nowhere = |id: &usize| !with_copies.contains(id);
+        tally.note("a lowest twin stands elsewhere", wanted.iter().any(stands_nowhere));
+    }
+    tally.finish(&[
+        ("one list", 20..=80),
+        ("fewer", 15..=80),
+        ("a lowest twin stands elsewhere", 10..=80),
+    ]);
+}
+
+/// Towers of 95 "and" over one name and its copy: 2^95 names each, one step for each pair.
+#[test]
+fn twins_of_tall_towers() {
+    for (name, alike) in [(5, true), (6, false)] {
+        let mut rows = vec![[1, 5, 0], [1, name, 0]];
+        rows.extend((0..95).flat_map(|k| [[3, 2 * k, 2 * k], [3, 2 * k + 1, 2 * k + 1]]));
+        let tables = Tables::new(&rows, &[], &[], 0);
+        assert_eq!(tables.concept_count(), MAX_CONCEPTS);
+        assert_eq!(Twins::new(&tables).alike(190, 191), alike);
+        assert_eq!(Twins::new(&tables).lowest(191), if alike { 190 } else { 191 });
+    }
+}
+
+/// Copies pasted in leave the atoms and the first solution. Over the list with copies the
+/// reference finds something exactly when it does over the atoms, by both of its ways.
+#[test]
+fn a_solution_over_either_list() {
+    let seed = seed("reference, both lists");
+    let mut tally = Tally::new("reference, both lists");
+    for k in 0..cases(Size::Small) / 12 {
+        let mut random = Random::for_case(seed, k);
+        let tables = generate::valid(&mut random, Size::Small);
+        let mut pasted = tables.clone();
+        let most = random.between(1, 8);
+        generate::paste_copies(&mut random, &mut pasted, most);
+        assert_eq!(reference::check(&pasted), Ok(()), "{}", pasted);
+        assert_eq!(atoms::list(&pasted), atoms::list(&tables), "{}", pasted);
+        let first = matching::first_solution(&pasted);
+        assert_eq!(first, matching::first_solution(&tables), "{}", pasted);
+        let with_copies = atoms::list_with_copies(&pasted);
+        let over_copies = matching::first_solution_over(&pasted, &with_copies);
+        assert_eq!(over_copies.is_some(), first.is_some(), "{}", pasted);
+        let few = usize::from(pasted.variables) * with_copies.len() <= 10;
+        if few {
+            let tried = matching::brute_force_over(&pasted, &with_copies);
+            assert_eq!(tried, over_copies, "{}", pasted);
+        }
+        tally.case();
+        tally.note("filled", first.is_some());
+        tally.note("none", first.is_none());
+        tally.note("every choice tried", few);
+        tally.note("fewer atoms", with_copies.len() > atoms::list(&pasted).len());
+    }
+    tally.finish(&[
+        ("filled", 20..=80),
+        ("none", 20..=80),
+        ("every choice tried", 20..=90),
+        ("fewer atoms", 20..=90),
+    ]);
+}
+
+/// The problems that are built have no twins among their atoms, so as many as are meant.
+#[test]
+fn built_problems_have_no_copies() {
+    let one_list = |problem: &Hard| {
+        let list = atoms::list(&problem.tables);
+        assert_eq!(list, atoms::list_with_copies(&problem.tables), "{}", problem.label);
+    };
+    for k in [1, 8, 60] {
+        hard::with_harmless(k).iter().for_each(one_list);
+    }
+    for seed in 1..4 {
+        hard::puzzles(seed).iter().for_each(one_list);
+        hard::large_random_puzzles(seed).iter().for_each(one_list);
+        for problem in hard::at_the_limits(seed) {
+            one_list(&problem);
+            assert_eq!(atoms::list(&problem.tables).len(), MAX_ATOMS, "{}", problem.label);
+        }
+    }
+    hard::large_fixed_puzzles().iter().for_each(one_list);
+    one_list(&hard::hardest_pigeons());
+    // the families are random in part: fewer atoms, and no more than a third of the concepts
+    for family in FAMILIES {
+        for n in [24, 48, 96, 192] {
+            assert!(atoms::list(&family.tables(n)).len() <= n / 3, "{:?} {}", family, n);
+        }
+    }
 }

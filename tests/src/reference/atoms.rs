@@ -1,4 +1,5 @@
-//! Patterns, atoms (01: parts) and what an assignment (01: filling) chooses.
+//! Patterns, atoms (01: parts) and what an assignment (01: filling) chooses. Twin ids, whose
+//! concepts are built alike, count as one atom: the lowest of them.
 
 use std::collections::BTreeSet;
 
@@ -37,9 +38,10 @@ fn is_atom(tables: &Tables, id: usize) -> bool {
     matches!(tables.concept(id), Concept::Name(_) | Concept::Existential(_, _))
 }
 
-/// The atoms' ids, rising, however many: both sides of every inclusion and every right side of a
-/// question that holds no variable.
-pub fn list(tables: &Tables) -> Vec<usize> {
+/// Every name and existential of the inclusions, and of the right sides of questions that hold no
+/// variable, rising, however many. This was the list of atoms before twins counted once (02, A.2);
+/// it is kept to hold what A.2 promises of the two lists.
+pub fn list_with_copies(tables: &Tables) -> Vec<usize> {
     let pattern = patterns(tables);
     let mut seen = BTreeSet::new();
     for (left, right) in tables.inclusion_pairs() {
@@ -55,12 +57,64 @@ pub fn list(tables: &Tables) -> Vec<usize> {
     seen.into_iter().collect()
 }
 
+/// The atoms' ids, rising, however many: of each id with copies its lowest twin among all ids,
+/// even one that stands in no inclusion and no right side.
+pub fn list(tables: &Tables) -> Vec<usize> {
+    let mut twins = Twins::new(tables);
+    let ids = list_with_copies(tables);
+    let lowest: BTreeSet<usize> = ids.into_iter().map(|id| twins.lowest(id)).collect();
+    lowest.into_iter().collect()
+}
+
+/// Which ids are built alike, by walking two concepts side by side.
+pub struct Twins<'a> {
+    tables: &'a Tables,
+    /// Row i, column j, once asked. Without it a tower of "and" takes twice the steps each storey.
+    known: Vec<Option<bool>>,
+}
+
+impl<'a> Twins<'a> {
+    /// Inner ids must be smaller.
+    pub fn new(tables: &'a Tables) -> Self {
+        Twins { tables, known: vec![None; tables.concept_count().pow(2)] }
+    }
+
+    /// Same kind, same name, role or variable, inner ids alike in the same order.
+    pub fn alike(&mut self, one: usize, other: usize) -> bool {
+        let at = one * self.tables.concept_count() + other;
+        if let Some(known) = self.known[at] {
+            return known;
+        }
+        let alike = match (self.tables.concept(one), self.tables.concept(other)) {
+            (Concept::Top, Concept::Top) => true,
+            (Concept::Name(a), Concept::Name(b)) => a == b,
+            (Concept::Existential(r, a), Concept::Existential(s, b)) => r == s && self.alike(a, b),
+            (Concept::Conjunction(a, b), Concept::Conjunction(c, d)) => {
+                self.alike(a, c) && self.alike(b, d)
+            }
+            (Concept::Variable(a), Concept::Variable(b)) => a == b,
+            _ => false,
+        };
+        self.known[at] = Some(alike);
+        alike
+    }
+
+    /// The lowest twin; an id is a twin of itself.
+    pub fn lowest(&mut self, id: usize) -> usize {
+        (0..id).find(|&lower| self.alike(lower, id)).unwrap_or(id)
+    }
+}
+
 /// The ids chosen for each variable: bit k stands for the atom at position k.
 pub fn chosen(tables: &Tables, assignment: &[u64]) -> Vec<Vec<usize>> {
-    let atoms = list(tables);
+    chosen_from(&list(tables), assignment)
+}
+
+/// The same where the positions are those of another list of ids.
+pub fn chosen_from(ids: &[usize], assignment: &[u64]) -> Vec<Vec<usize>> {
     let of_choice = |choice: u64| {
-        let positions = (0..atoms.len()).filter(move |&position| choice >> position & 1 == 1);
-        positions.map(|position| atoms[position]).collect()
+        let positions = (0..ids.len()).filter(move |&position| choice >> position & 1 == 1);
+        positions.map(|position| ids[position]).collect()
     };
     assignment.iter().map(|&choice| of_choice(choice)).collect()
 }

@@ -9,13 +9,19 @@
 //! mean that there is none.
 
 use super::clauses::Clauses;
+use super::model::Canonical;
 use super::patterns::Patterns;
 use super::{atoms, relation};
 use crate::tables::Tables;
 
 /// Whether every question holds under the assignment.
 pub fn solves(tables: &Tables, assignment: &[u64]) -> bool {
-    let below = relation(tables, assignment);
+    solves_choosing(tables, &atoms::chosen(tables, assignment))
+}
+
+/// Whether every question holds with these ids chosen for each variable, atoms or not.
+pub fn solves_choosing(tables: &Tables, chosen: &[Vec<usize>]) -> bool {
+    let below = Canonical::build(tables, chosen).members;
     tables.question_pairs().iter().all(|&(left, right)| below[left][right])
 }
 
@@ -27,21 +33,33 @@ pub fn choices(tables: &Tables) -> usize {
 /// The first of all assignments that solves, each tried in 01's order: the pair (0, 0) is the
 /// highest digit, and leaving out is 0.
 pub fn brute_force(tables: &Tables) -> Option<Vec<u64>> {
-    let (choices, atoms) = (choices(tables), atoms::list(tables).len());
+    brute_force_over(tables, &atoms::list(tables))
+}
+
+/// The same where the variables choose from another list of ids.
+pub fn brute_force_over(tables: &Tables, ids: &[usize]) -> Option<Vec<u64>> {
+    let choices = usize::from(tables.variables) * ids.len();
     assert!(choices < 20, "too many assignments to try");
     let of_number = |number: u32| {
         let mut assignment = vec![0; usize::from(tables.variables)];
         for digit in (0..choices).filter(|&digit| number >> (choices - 1 - digit) & 1 == 1) {
-            assignment[digit / atoms] |= 1 << (digit % atoms);
+            assignment[digit / ids.len()] |= 1 << (digit % ids.len());
         }
         assignment
     };
-    (0..1u32 << choices).map(of_number).find(|assignment| solves(tables, assignment))
+    let solves =
+        |assignment: &Vec<u64>| solves_choosing(tables, &atoms::chosen_from(ids, assignment));
+    (0..1u32 << choices).map(of_number).find(solves)
 }
 
 /// The first solution, by the search. The tables must be accepted.
 pub fn first_solution(tables: &Tables) -> Option<Vec<u64>> {
     first_solution_with_effort(tables).0
+}
+
+/// The same where the variables choose from another list of up to 64 ids.
+pub fn first_solution_over(tables: &Tables, ids: &[usize]) -> Option<Vec<u64>> {
+    search_over(tables, ids).0
 }
 
 /// How hard the search was.
@@ -55,8 +73,12 @@ pub struct Effort {
 
 /// The first solution and what it took.
 pub fn first_solution_with_effort(tables: &Tables) -> (Option<Vec<u64>>, Effort) {
+    search_over(tables, &atoms::list(tables))
+}
+
+fn search_over(tables: &Tables, ids: &[usize]) -> (Option<Vec<u64>>, Effort) {
     let below = relation(tables, &vec![0; usize::from(tables.variables)]);
-    let patterns = Patterns::new(tables, |i, j| below[i][j]);
+    let patterns = Patterns::new(tables, ids, |i, j| below[i][j]);
     search_with_effort(&patterns, usize::from(tables.variables))
 }
 

@@ -49,14 +49,14 @@ pub struct Patterns {
 }
 
 impl Patterns {
-    /// The tables must be accepted; `holds(i, j)` says that the ground i is subsumed by the
-    /// ground j.
-    pub fn new(tables: &Tables, holds: impl Fn(usize, usize) -> bool) -> Patterns {
+    /// The tables must be accepted; the variables choose from `ids`, ground names and existentials,
+    /// mostly the atoms; `holds(i, j)` says that the ground i is subsumed by the ground j.
+    pub fn new(tables: &Tables, ids: &[usize], holds: impl Fn(usize, usize) -> bool) -> Patterns {
         let count = tables.concept_count();
         let pattern = atoms::patterns(tables);
         let mut made = Patterns {
             concepts: (0..count).map(|id| tables.concept(id)).collect(),
-            atoms: atoms::list(tables),
+            atoms: ids.to_vec(),
             questions: tables.question_pairs(),
             parts: Vec::new(),
             above: vec![[0; 3]; count],
