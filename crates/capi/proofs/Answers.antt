@@ -6,12 +6,13 @@ use Rattle.subsumption.specs.declared.refusal.Refusal.{Refusal}
 use Rattle.subsumption.specs.declared.refusal.Outcome.{Outcome}
 use Rattle.subsumption.specs.declared.refusal.Outcome.the-variants.{Done, Refused}
 use Rattle.subsumption.specs.declared.refusal.Code.{Code}
+use Rattle.subsumption.specs.declared.table.Tabled.{Tabled}
 use Rattle.subsumption.specs.declared.decide.Decision.{Decision}
 use Rattle.matching.specs.declared.find.Match.{Match}
 use Rattle.matching.specs.declared.writer.Derived.{Derived}
 use Rattle.subsumption.specs.Tables.{Tables}
-use Rattle.subsumption.specs.Refusal.{codeOf, Reply, replyDone, replyWith, replyOf}
-use Rattle.subsumption.specs.Table.{Wrote}
+use Rattle.subsumption.specs.Refusal.{codeOf, Reply, replyDone, replyWith}
+use Rattle.subsumption.specs.Table.{tabledReply, Wrote}
 use Rattle.subsumption.specs.Decide.{decisionReply, Decides}
 use Rattle.matching.specs.Find.{matchReply, Finds}
 use Rattle.matching.specs.Writer.{derivedReply, Derives}
@@ -35,8 +36,8 @@ passed-on : {E : Type 0} (Promise : Reply → Type 0) (reply : E → Reply) (x y
 passed-on Promise reply x y a p e f = subst Promise (ap reply e ∙ sym f) p
 
 module _ (t : Tables) (assignment before after : List ℕ) (left right : ℕ) (a : Answer) where
-  pub wrote-as : (x y : Outcome) → Wrote t assignment before after (replyOf x) → x ≡ y → replied a ≡ replyOf y → Wrote t assignment before after (replied a)
-  wrote-as x y = passed-on (Wrote t assignment before after) replyOf x y a
+  pub wrote-as : (x y : Tabled) → Wrote t assignment before after (tabledReply x) → x ≡ y → replied a ≡ tabledReply y → Wrote t assignment before after (replied a)
+  wrote-as x y = passed-on (Wrote t assignment before after) tabledReply x y a
 
   pub decides-as :
       (x y : Decision) → Decides t assignment left right (decisionReply x) → x ≡ y → replied a ≡ decisionReply y → Decides t assignment left right (replied a)

@@ -4,6 +4,7 @@ use matching::Derived;
 use matching::Match;
 use subsumption::Decision;
 use subsumption::Listed;
+use subsumption::Tabled;
 use subsumption::VariableSet;
 use subsumption::refusal::Outcome;
 use subsumption::refusal::code_of;
@@ -104,7 +105,7 @@ pub extern "C" fn hc_blanks(
     }
 }
 
-// Writes the subsumption table under an assignment.
+// Writes the subsumption table under an assignment; value: how many marks.
 #[no_mangle]
 pub extern "C" fn hc_subsumption_table(
     concepts: &[u16],
@@ -116,7 +117,7 @@ pub extern "C" fn hc_subsumption_table(
 ) -> Answer
     ensures { λ a. ⌜ Wrote (tables (now (concepts .entry)) (now (inclusions .entry)) (now (questions .entry)) variables) (now (assignment .entry)) (now (out .entry)) (now (out .exit)) (replied a) ⌝ }
 {
-    let written = subsumption::write_table(
+    let answer = subsumption::write_table(
         concepts,
         inclusions,
         questions,
@@ -124,7 +125,10 @@ pub extern "C" fn hc_subsumption_table(
         assignment,
         out,
     );
-    answer_of(written, 0)
+    match answer {
+        Tabled::Rejected(r) => answer_of(Outcome::Refused(r), 0),
+        Tabled::Marks(marks) => answer_of(Outcome::Done, marks as u64),
+    }
 }
 
 // Decides one pair under an assignment; value: 1 or 0.

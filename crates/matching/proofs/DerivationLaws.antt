@@ -5,3 +5,4 @@ pub mod Dispatch
 pub mod Monotone
 pub mod Lines
 pub mod Soundness
+pub mod Few

@@ -75,6 +75,16 @@ both-none true b h = cc
 both-none false b h = refl
 
 -- Two tests are equal where each implies the other.
+pub both-first : (a b : Bool) → b ≡ true → both a b ≡ a
+unfolding both
+both-first true b e = e
+both-first false b e = refl
+
+pub both-second : (a b : Bool) → b ≡ false → both a b ≡ false
+unfolding both
+both-second true b e = e
+both-second false b e = refl
+
 pub same-bool : (a b : Bool) → (a ≡ true → b ≡ true) → (b ≡ true → a ≡ true) → a ≡ b
 same-bool true true f g = refl
 same-bool true false f g = sym (f refl)

@@ -12,7 +12,7 @@ use Rattle.subsumption.specs.declared.refusal.Refusal.{Refusal}
 use Rattle.subsumption.specs.declared.decide.Decision.the-variants.{Yes, No}
 use Rattle.subsumption.specs.Tables.{Tables, tables, varAt, node, countOf}
 use Rattle.subsumption.specs.Atoms.{atoms}
-use Rattle.subsumption.specs.Refusal.{replyDone, replyRefused, replyOf, Replies}
+use Rattle.subsumption.specs.Refusal.{replyDone, replyRefused, replyWith, Replies}
 use Rattle.subsumption.specs.Check.{bufferFault, noConcept, aloneFault, tableFault, pairFault, assignmentFaultAt, assignmentFault}
 use Rattle.subsumption.specs.Inner.Columns.{has, Empty}
 use Rattle.subsumption.specs.Inner.Settling.{chooseFrom}
@@ -20,7 +20,7 @@ use Rattle.subsumption.specs.Inner.Closure.{Ready, Closed}
 use Rattle.subsumption.specs.Inner.Listing.{Accepted, Prepared, ForAccepted}
 use Rattle.subsumption.specs.Inner.Ground.{ColumnsOf}
 use Rattle.subsumption.specs.Inner.Rows.{Written}
-use Rattle.subsumption.specs.Table.{rowStart, writingFault, TableOf, Left, Wrote}
+use Rattle.subsumption.specs.Table.{rowStart, counted, total, marksIn, writingFault, TableOf, Left, Wrote}
 use Rattle.subsumption.specs.Decide.{decidingFault, decisionReply, Tells, Decides}
 use Rattle.subsumption.proofs.Bools.{or-false, or-skip}
 use Rattle.subsumption.proofs.Refusals.{passed-first, passed-second, passed-if, done-if, stops, goes-on, both-done, refuses}
@@ -30,6 +30,7 @@ use Rattle.subsumption.proofs.Accepted.{wellFormed, table-concepts, con
 use Rattle.subsumption.proofs.ListingLaws.{pair-tables}
 use Rattle.subsumption.proofs.Closing.{nothing}
 use Rattle.subsumption.proofs.RowLaws.{table-of}
+use Rattle.subsumption.proofs.MarkLaws.{marks-counted}
 use Rattle.subsumption.proofs.Completeness.{closed-exactly}
 
 module _ (t : Tables) (assignment : List ℕ) (h : tableFault t ≡ Done) where
@@ -146,44 +147,46 @@ module _ (t : Tables) (assignment : List ℕ) (left right : ℕ) where
 
 -- ---- writing the table
 module _ (t : Tables) (assignment before : List ℕ) where
-  pub wrote-refused : (r : Refusal) → Refused r ≡ writingFault t assignment (length before) → Wrote t assignment before before (replyOf (Refused r))
-  wrote-refused r e = record { replied = ap replyOf e; left = subst (Left t assignment before before) e refl }
+  pub wrote-refused : (r : Refusal) → Refused r ≡ writingFault t assignment (length before) → Wrote t assignment before before (replyRefused r)
+  wrote-refused r e = record { replied = ap (λ (z : Outcome). replyWith z (marksIn (countOf (t .concepts)) before)) e; left = subst (Left t assignment before before) e refl }
 
   pub wrote-done :
-      (after : List ℕ) → Done ≡ writingFault t assignment (length before) → TableOf t assignment before after → Wrote t assignment before after (replyOf Done)
-  wrote-done after e k = record { replied = ap replyOf e; left = subst (Left t assignment before after) e k }
+      (after : List ℕ) (marks : ℕ) → Done ≡ writingFault t assignment (length before) → TableOf t assignment before after → marks ≡ marksIn (countOf (t .concepts)) after
+      → Wrote t assignment before after (replyDone marks)
+  wrote-done after marks e k n = record { replied = ap replyDone n ∙ ap (λ (z : Outcome). replyWith z (marksIn (countOf (t .concepts)) after)) e; left = subst (Left t assignment before after) e k }
 
   pub table-written :
       (columns after : List ℕ) → tableFault t ≡ Done → ColumnsOf t assignment columns
       → Written columns (countOf (t .concepts)) before after → TableOf t assignment before after
   table-written columns after h c w = table-of t assignment columns before after (wellFormed t h .few) c w
 
-  pub table-refused : (r : Refusal) → Refused r ≡ tableFault t → Wrote t assignment before before (replyOf (Refused r))
+  pub table-refused : (r : Refusal) → Refused r ≡ tableFault t → Wrote t assignment before before (replyRefused r)
   unfolding writingFault
   table-refused r e = wrote-refused r (stops (Refused r) _ _ r e refl)
 
 module _ (cs is : List ℕ) (v : ℕ) (ids assignment before : List ℕ) (x : Outcome) (ex : x ≡ assignmentFaultAt (length ids) v assignment) where
-  pub put-choices : (r : Refusal) → x ≡ Refused r → ForAccepted cs is v ids (λ t. Wrote t assignment before before (replyOf (Refused r)))
+  pub put-choices : (r : Refusal) → x ≡ Refused r → ForAccepted cs is v ids (λ t. Wrote t assignment before before (replyRefused r))
   unfolding writingFault
   put-choices r h qs a =
       wrote-refused (tables cs is qs v) assignment before r
       (goes-on Done _ _ _ (sym (a .passed)) refl (stops x _ _ r (choices-fault cs is qs v assignment ids a x ex) h))
 
   module _ (hx : x ≡ Done) (y : Outcome) (ey : y ≡ bufferFault (countOf cs * 24) (length before)) where
-    pub put-room : (r : Refusal) → y ≡ Refused r → ForAccepted cs is v ids (λ t. Wrote t assignment before before (replyOf (Refused r)))
+    pub put-room : (r : Refusal) → y ≡ Refused r → ForAccepted cs is v ids (λ t. Wrote t assignment before before (replyRefused r))
     unfolding writingFault rowStart
     put-room r h qs a =
         wrote-refused (tables cs is qs v) assignment before r
         (goes-on Done _ _ _ (sym (a .passed)) refl (goes-on x _ _ _ (choices-fault cs is qs v assignment ids a x ex) hx (refuses y _ r ey h)))
 
     pub put-done :
-        (columns after : List ℕ) → y ≡ Done → Closed cs is (chooseFrom ids assignment) (replicate 576 0) columns → Written columns (countOf cs) before after
-        → ForAccepted cs is v ids (λ t. Wrote t assignment before after (replyOf Done))
+        (columns after : List ℕ) (marks : ℕ) → y ≡ Done → Closed cs is (chooseFrom ids assignment) (replicate 576 0) columns → Written columns (countOf cs) before after
+        → marks ≡ total (λ j. counted (λ i. has columns i j) (countOf cs)) (countOf cs) → ForAccepted cs is v ids (λ t. Wrote t assignment before after (replyDone marks))
     unfolding writingFault rowStart
-    put-done columns after hy c w qs a =
-        wrote-done (tables cs is qs v) assignment before after
+    put-done columns after marks hy c w n qs a =
+        wrote-done (tables cs is qs v) assignment before after marks
         (goes-on Done _ _ _ (sym (a .passed)) refl (both-done x _ y _ (choices-fault cs is qs v assignment ids a x ex) hx ey hy))
         (table-written (tables cs is qs v) assignment before columns after (a .passed) (accepted-columns cs is qs v assignment ids a _ columns no-columns c) w)
+        (n ∙ marks-counted columns (countOf cs) before after (wellFormed (tables cs is qs v) (a .passed) .few) w)
 
 -- ---- deciding
 module _ (t : Tables) (assignment : List ℕ) (left right : ℕ) where

@@ -43,5 +43,6 @@ pub mod Including
 pub mod Linking
 pub mod Closing
 pub mod RowLaws
+pub mod MarkLaws
 pub mod GroundLaws
 pub mod Blocks

@@ -15,7 +15,7 @@ use Rattle.subsumption.specs.Tables.{or, both, anyBelow, Node, topAt, na
 use Rattle.subsumption.specs.Inner.Tables.{rowOf, Rising}
 use Rattle.subsumption.specs.Inner.Atoms.{Layered, markAt}
 use Rattle.subsumption.specs.Inner.Twins.{keyOf, FirstSame, Slots, LowestTwin, LowestTwins, Lowered}
-use Rattle.subsumption.proofs.Bools.{or-first, or-skip, both-true, anyBelow-elim, last-cases, le-or-lt, eq-or-ne}
+use Rattle.subsumption.proofs.Bools.{or-first, or-skip, both-true, both-first, both-second, anyBelow-elim, last-cases, le-or-lt, eq-or-ne}
 use Rattle.subsumption.proofs.Trees.{tree-eq}
 use Rattle.subsumption.proofs.TwinLaws.{lowest-least, lowest-of}
 use Rattle.subsumption.proofs.Marks.{row-node}
@@ -302,16 +302,6 @@ twins-done concepts firsts keys slots i T over =
     }
 
 -- ---- the walk that moves the marks
-both-second : (a b : Bool) → b ≡ false → both a b ≡ false
-unfolding both
-both-second true b e = e
-both-second false b e = refl
-
-both-first : (a b : Bool) → b ≡ true → both a b ≡ a
-unfolding both
-both-first true b e = e
-both-first false b e = refl
-
 pub record LoweredTo (firsts : List ℕ) (count : ℕ) (before marks : List Bool) (p : ℕ) : Type 0 where
   pub long : length marks ≡ 192
   pub within : p ≤ count

@@ -3,6 +3,7 @@
 mod atoms;
 mod check;
 mod closure;
+mod counting;
 mod decide;
 mod ground;
 pub mod helpers;
@@ -20,6 +21,7 @@ pub use decide::Decision;
 pub use decide::decide_pair;
 pub use listing::Listed;
 pub use listing::list_atoms;
+pub use table::Tabled;
 pub use table::write_table;
 pub use variables::VariableSet;
 pub use variables::variables_in;

@@ -1,18 +1,24 @@
-// Writing the subsumption table.
+// Writing the subsumption table, and counting its marks.
 use crate::check::check_assignment;
 use crate::check::check_buffer;
 use crate::closure::close;
+use crate::counting::count_pairs;
 use crate::limits::ATOMS;
 use crate::limits::ROW_BYTES;
 use crate::limits::WORDS;
 use crate::listing::Listed;
 use crate::listing::list_atoms;
 use crate::refusal::Outcome;
+use crate::refusal::Refusal;
 use crate::rows::write_rows;
 ghost use Rattle.subsumption.specs.Tables.{tables};
-ghost use Rattle.subsumption.specs.Refusal.{replyOf};
 ghost use Rattle.subsumption.specs.Inner.Listing.{ForAccepted, Prepared};
-ghost use Rattle.subsumption.specs.Table.{Wrote};
+ghost use Rattle.subsumption.specs.Table.{tabledReply, Wrote};
+
+pub enum Tabled {
+    Marks(usize),
+    Rejected(Refusal),
+}
 
 // The rest of the checks, given the atoms of accepted tables, and then the table.
 fn put_table(
@@ -22,23 +28,23 @@ fn put_table(
     variables: u16,
     assignment: &[u64],
     out: &mut [u8],
-) -> Outcome
+) -> Tabled
     requires { ⌜ Prepared (now concepts) (now inclusions) variables (now atoms) ⌝ }
-    ensures { λ r. ⌜ ForAccepted (now (concepts .entry)) (now (inclusions .entry)) variables (now (atoms .entry)) (λ t. Wrote t (now (assignment .entry)) (now (out .entry)) (now (out .exit)) (replyOf r)) ⌝ }
+    ensures { λ r. ⌜ ForAccepted (now (concepts .entry)) (now (inclusions .entry)) variables (now (atoms .entry)) (λ t. Wrote t (now (assignment .entry)) (now (out .entry)) (now (out .exit)) (tabledReply r)) ⌝ }
 {
     let choices = check_assignment(assignment, variables, atoms.len());
     if let Outcome::Refused(r) = choices {
-        return Outcome::Refused(r);
+        return Tabled::Rejected(r);
     }
     let count = concepts.len() / 3;
     let room = check_buffer(count * ROW_BYTES, out.len());
     if let Outcome::Refused(r) = room {
-        return Outcome::Refused(r);
+        return Tabled::Rejected(r);
     }
     let mut columns = [0u64; WORDS];
     close(concepts, inclusions, atoms, assignment, &mut columns);
     write_rows(&columns, count, out);
-    Outcome::Done
+    Tabled::Marks(count_pairs(&columns, count))
 }
 
 // Writes the subsumption table under an assignment.
@@ -49,13 +55,13 @@ pub fn write_table(
     variables: u16,
     assignment: &[u64],
     out: &mut [u8],
-) -> Outcome
-    ensures { λ r. ⌜ Wrote (tables (now (concepts .entry)) (now (inclusions .entry)) (now (questions .entry)) variables) (now (assignment .entry)) (now (out .entry)) (now (out .exit)) (replyOf r) ⌝ }
+) -> Tabled
+    ensures { λ r. ⌜ Wrote (tables (now (concepts .entry)) (now (inclusions .entry)) (now (questions .entry)) variables) (now (assignment .entry)) (now (out .entry)) (now (out .exit)) (tabledReply r) ⌝ }
 {
     let mut ids = [0u16; ATOMS];
     let listed = list_atoms(concepts, inclusions, questions, variables, &mut ids);
     match listed {
-        Listed::Rejected(r) => Outcome::Refused(r),
+        Listed::Rejected(r) => Tabled::Rejected(r),
         Listed::Atoms(count) => put_table(
             concepts,
             inclusions,

@@ -10,44 +10,20 @@ use lib.Seq.{length-take-le}
 use Rattle.subsumption.specs.declared.refusal.Outcome.the-variants.{Done}
 use Rattle.subsumption.specs.Tables.{Tables, pairsOf, leftOf, rightOf, tree, hasVariable}
 use Rattle.subsumption.specs.Subsumption.{Subsumed}
+use Rattle.subsumption.specs.Table.{counted}
 use Rattle.subsumption.specs.Check.{tableFault, assignmentFault}
 use Rattle.subsumption.proofs.Bools.{both-true, both-intro, eq-or-ne, last-cases}
+use Rattle.subsumption.proofs.MarkLaws.{counted-less}
 use Rattle.subsumption.proofs.Accepted.{wellFormed}
 use Rattle.matching.specs.Solving.{takes, Solves}
 use Rattle.matching.specs.Inner.Search.{Decided, Hold, Within, SolutionIn, NoSolution}
 use Rattle.matching.specs.Inner.Search.Pairs.{Changed}
-use Rattle.matching.specs.Inner.Search.Interval.{IntervalOf, undecided, one, counted, openPairs, Picked}
+use Rattle.matching.specs.Inner.Search.Interval.{IntervalOf, undecided, openPairs, Picked}
 use Rattle.matching.specs.Inner.Search.Solve.{Refuted}
 use Rattle.matching.specs.declared.search.interval.Pick.{Pick}
 use Rattle.matching.specs.declared.search.interval.Pick.the-variants.{At, Nothing}
 use Rattle.matching.proofs.SearchLaws.Fronts.{front-known, front-takes, front-within, accepted-bits, within-accepted}
 use Rattle.matching.proofs.SearchLaws.Monotone.{monotone, antitone}
-
--- ---- how many pairs are undecided
-module _ (f g : ℕ → Bool) where
-  one-le : (p : ℕ) → (f p ≡ true → g p ≡ true) → one (f p) ≤ one (g p)
-  unfolding one
-  one-le p h = go (f p) refl (g p) refl
-    where
-      go : (a : Bool) → f p ≡ a → (b : Bool) → g p ≡ b → one (f p) ≤ one (g p)
-      go true e true k = omega (arith, ap one e, ap one k)
-      go true e false k = absurd (true≢false (sym (h e) ∙ k))
-      go false e b k = omega (arith, ap one e)
-
-  counted-le : (n : ℕ) → ((p : ℕ) → p < n → f p ≡ true → g p ≡ true) → counted f n ≤ counted g n
-  unfolding counted
-  counted-le zero h = omega arith
-  counted-le (suc n) h = omega (arith, one-le n (h n (omega arith)), counted-le n (λ p l. h p (omega arith)))
-
-  pub counted-less : (n p : ℕ) → p < n → f p ≡ false → g p ≡ true → ((q : ℕ) → q < n → f q ≡ true → g q ≡ true) → counted f n < counted g n
-  unfolding counted one
-  counted-less zero p l e k h = absurd (omega arith)
-  counted-less (suc n) p l e k h =
-      ⊎-elim
-      (λ (q : p ≡ n).
-      omega (arith, ap one (subst (λ (z : ℕ). f z ≡ false) q e), ap one (subst (λ (z : ℕ). g z ≡ true) q k), counted-le n (λ r m. h r (omega arith))))
-      (λ m. omega (arith, one-le n (h n (omega arith)), counted-less n p m e k (λ r x. h r (omega arith))))
-      (last-cases p n l)
 
 -- ---- one pair
 pub open-high : (low high : List ℕ) (p : ℕ) → undecided low high p ≡ true → takes high (p / 64) (p % 64) ≡ true

@@ -1,5 +1,5 @@
 -- What an interval of assignments is, and what picking an undecided pair of it promises.
-use Prim.Native.Nat.{ℕ, zero, suc, _+_, _<_, _/_, _%_}
+use Prim.Native.Nat.{ℕ, _<_, _/_, _%_}
 use mathlib.Core.Path.{_≡_}
 use mathlib.Core.List.{List}
 use mathlib.Core.Bool.{Bool, true, false, not}
@@ -9,6 +9,7 @@ use Rattle.subsumption.specs.Tables.{Tables, both}
 use Rattle.subsumption.specs.Check.{assignmentFault}
 use Rattle.matching.specs.declared.search.interval.Pick.{Pick}
 use Rattle.matching.specs.declared.search.interval.Pick.the-variants.{At, Nothing}
+use Rattle.subsumption.specs.Table.{counted}
 use Rattle.matching.specs.Solving.{takes}
 use Rattle.matching.specs.Inner.Search.{Within}
 
@@ -23,15 +24,7 @@ pub record IntervalOf (t : Tables) (low high : List ℕ) : Type 0 where
 unfoldable pub undecided : List ℕ → List ℕ → ℕ → Bool
 undecided low high p = both (takes high (p / 64) (p % 64)) (not (takes low (p / 64) (p % 64)))
 
-unfoldable pub one : Bool → ℕ
-one true = 1
-one false = 0
-
--- How many places below a number pass a test; here, how many pairs are undecided.
-unfoldable pub counted : (ℕ → Bool) → ℕ → ℕ
-counted test zero = 0
-counted test (suc n) = one (test n) + counted test n
-
+-- How many pairs are undecided.
 unfoldable pub openPairs : List ℕ → List ℕ → ℕ
 openPairs low high = counted (undecided low high) 512
 

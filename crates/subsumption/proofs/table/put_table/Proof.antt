@@ -5,6 +5,11 @@ use native.Mathlib.Omega.{arith}
 use borrow.Author.Needs.{needs}
 use Rattle.subsumption.proofs.table.put_table.Statement.{statement}
 use Rattle.subsumption.proofs.table.put_table.Tie as tie
+use Rattle.subsumption.proofs.check.check_assignment.Reads as check-assignment-reads
+use Rattle.subsumption.proofs.check.check_buffer.Reads as check-buffer-reads
+use Rattle.subsumption.proofs.closure.close.Reads as close-reads
+use Rattle.subsumption.proofs.counting.count_pairs.Reads as count-pairs-reads
+use Rattle.subsumption.proofs.rows.write_rows.Reads as write-rows-reads
 
 check-assignment-requires : tie.Need-check-assignment-requires
 check-assignment-requires c κs = few-atoms _ _ _ _ (c .before .before .before .before .before .pre)
@@ -45,11 +50,17 @@ slice-aggregate-write-rows c = search needs
 write-rows-requires : tie.Need-write-rows-requires
 write-rows-requires c κs = (c .before .before .before .close .ensures .long, (omega (arith, few-concepts _ _ _ _ (c .before .before .before .before .before .before .before .before .before .before .before .before .before .before .before .before .pre)), omega (arith, buffer-fits _ _ (is-done _ _ (c .before .before .before .before .before .before .before .check-buffer .ensures) (c .before .before .before .before .before .enum-told2 .given .1)))))
 
+slice-aggregate-count-pairs : tie.Need-slice-aggregate-count-pairs
+slice-aggregate-count-pairs c = search needs
+
+count-pairs-requires : tie.Need-count-pairs-requires
+count-pairs-requires c κs = (c .before .before .before .before .before .before .before .close .ensures .long, omega (arith, few-concepts _ _ _ _ (c .before .before .before .before .before .before .before .before .before .before .before .before .before .before .before .before .before .before .before .before .pre)))
+
 same-length : tie.Need-same-length
 same-length c = search needs
 
 returns-3 : tie.Need-returns-3
-returns-3 c = put-done _ _ _ _ _ _ _ (c .before .before .before .before .before .before .before .before .before .before .before .before .before .check-assignment .ensures) (c .before .before .before .before .before .before .before .before .before .before .before .enum-told .given .1) _ (c .before .before .before .before .before .before .before .before .before .before .check-buffer .ensures) _ _ (c .before .before .before .before .before .before .before .before .enum-told2 .given .1) (c .before .before .before .before .before .before .close .ensures) (c .before .before .write-rows .ensures)
+returns-3 c = put-done _ _ _ _ _ _ _ (c .before .before .before .before .before .before .before .before .before .before .before .before .before .before .before .check-assignment .ensures) (c .before .before .before .before .before .before .before .before .before .before .before .before .before .enum-told .given .1) _ (c .before .before .before .before .before .before .before .before .before .before .before .before .check-buffer .ensures) _ _ _ (c .before .before .before .before .before .before .before .before .before .before .enum-told2 .given .1) (c .before .before .before .before .before .before .before .before .close .ensures) (c .before .before .before .before .write-rows .ensures) (c .count-pairs .ensures)
 
 pub put-table-spec : {M : Type 1} → statement M
 put-table-spec =
@@ -68,5 +79,7 @@ put-table-spec =
     close-requires
     slice-aggregate-write-rows
     write-rows-requires
+    slice-aggregate-count-pairs
+    count-pairs-requires
     same-length
     returns-3)
