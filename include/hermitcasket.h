@@ -118,7 +118,8 @@ hc_answer hc_blanks(const uint16_t *entries, size_t entries_len,
 
 /* Writes the below table under a filling: 24 bytes a row, row i at byte i * 24; bit j mod 8 of
  * byte j div 8 (lowest bit first) says that i is below j. Other bits of written rows are 0. out
- * wants entries * 24 bytes; bytes past the last row keep their values. value: 0. */
+ * wants entries * 24 bytes; bytes past the last row keep their values. value: the number of yes
+ * marks, which are the ones in the written rows. */
 hc_answer hc_subsumption_table(const uint16_t *entries, size_t entries_len,
                                const uint16_t *inclusions, size_t inclusions_len,
                                const uint16_t *questions, size_t questions_len,

@@ -13,23 +13,27 @@ use crate::timing::{measure, Times};
 
 pub const SIZES: [usize; 4] = [24, 48, 96, 192];
 
-fn proved(tables: &Tables, out: &mut [u8]) {
+/// How many pairs are below.
+fn proved(tables: &Tables, out: &mut [u8]) -> u64 {
     let answer = capi::subsumption_table(tables.lend(), &[], out);
     assert_eq!(answer.number, 0, "refused: {:?}", answer);
+    answer.value
 }
 
-fn plain(tables: &Tables, out: &mut [u8]) {
-    let answer = subsumption_table(lend(tables), &[], out);
-    assert_eq!(answer, Ok(()), "refused");
+fn plain(tables: &Tables, out: &mut [u8]) -> u64 {
+    subsumption_table(lend(tables), &[], out).expect("accepted tables")
 }
 
-/// The times of both, and the table that they agree on.
-fn compare(tables: &Tables) -> (Times, Vec<u8>) {
+/// The times of both, and the table and the number of marks that they agree on.
+fn compare(tables: &Tables) -> (Times, Vec<u8>, u64) {
     let bytes = tables.concept_count() * ROW_BYTES;
     let (mut first, mut second) = (vec![0xff; bytes], vec![0; bytes]);
-    let times = measure(|| proved(tables, &mut first), || plain(tables, &mut second));
+    let (mut marks, mut counted) = (0, 0);
+    let times =
+        measure(|| marks = proved(tables, &mut first), || counted = plain(tables, &mut second));
     assert!(first == second, "the two tables differ for\n{}", tables);
-    (times, first)
+    assert_eq!(marks, counted, "the two numbers of marks differ for\n{}", tables);
+    (times, first, marks)
 }
 
 pub fn times(family: Family, n: usize) -> Times {
@@ -46,16 +50,15 @@ fn print_lines(family: Family, tools: &Tools) {
     let mut before = None;
     for n in SIZES {
         let tables = family.tables(n);
-        let (times, rows) = compare(&tables);
+        let (times, rows, marks) = compare(&tables);
         let konclude = tools.classify(&tables);
         check(&konclude, &rows);
         let growth = before.map(|half: Times| times.proved / half.proved);
         before = Some(times);
-        let ones: u32 = rows.iter().map(|byte| byte.count_ones()).sum();
         let line = Line {
             label: family.label(),
             tables: &tables,
-            answer: ones.to_string(),
+            answer: marks.to_string(),
             times,
             growth,
             konclude: told(&konclude),

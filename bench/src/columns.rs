@@ -227,6 +227,11 @@ impl Columns {
         has(&self.columns[right], left)
     }
 
+    /// How many pairs are below: the ones of the columns are those of the rows.
+    pub fn marks(&self) -> u64 {
+        self.columns[..self.count].iter().map(|column| u64::from(count_ones(column))).sum()
+    }
+
     /// Rows are the columns transposed, 64 by 64 bits at a time.
     pub fn write_rows(&self, out: &mut [u8]) {
         out.fill(0);

@@ -41,7 +41,8 @@ pub fn atoms(input: Input, out: &mut [u16]) -> Result<usize, Refusal> {
     Ok(count)
 }
 
-pub fn subsumption_table(input: Input, assignment: &[u64], out: &mut [u8]) -> Result<(), Refusal> {
+/// How many pairs are below.
+pub fn subsumption_table(input: Input, assignment: &[u64], out: &mut [u8]) -> Result<u64, Refusal> {
     let accepted = checks::accept(&input, None)?;
     checks::accept_assignment(&input, &accepted, assignment)?;
     let wanted = accepted.count * ROW_BYTES;
@@ -50,7 +51,7 @@ pub fn subsumption_table(input: Input, assignment: &[u64], out: &mut [u8]) -> Re
     }
     let closed = columns::Columns::close(&input, &accepted, assignment);
     closed.write_rows(&mut out[..wanted]);
-    Ok(())
+    Ok(closed.marks())
 }
 
 pub fn subsumed(input: Input, assignment: &[u64], pair: (u16, u16)) -> Result<bool, Refusal> {

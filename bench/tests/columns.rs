@@ -25,7 +25,8 @@ fn agree(case: &Case) {
     let written = subsumption_table(lend(tables), &case.assignment, &mut bytes);
     bytes.truncate(tables.concept_count() * 24);
     let expected = reference::subsumption_table(tables, &case.assignment, case.table_room);
-    assert_eq!(written.map(|()| bytes), numbered(expected), "{}", case);
+    let written = written.map(|marks| reference::Table { rows: bytes, marks });
+    assert_eq!(written, numbered(expected), "{}", case);
 
     let decided = subsumed(lend(tables), &case.assignment, case.pair);
     let expected = reference::subsumed(tables, &case.assignment, case.pair);

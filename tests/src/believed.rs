@@ -31,6 +31,8 @@ pub struct Sentence {
 
 pub const SENTENCES: &[Sentence] = &[
     Sentence { of: "subsumption", file: "VariableLaws", law: "set-exactly" },
+    Sentence { of: "subsumption", file: "MarkLaws", law: "marks-between" },
+    Sentence { of: "matching", file: "DerivationLaws/Few", law: "lines-few" },
     Sentence { of: "matching", file: "TwinLaws", law: "twins-count-once" },
     Sentence { of: "cards", file: "SampleCards", law: "every-card" },
     Sentence { of: "cards", file: "ShownTables", law: "every-table" },

@@ -50,9 +50,9 @@ pub fn table(case: &Case) -> Answer {
     let mut out: Lent<u8> = Lent::noise(case.table_room, &mut random);
     let answer = capi::subsumption_table(inputs.tables(), inputs.assignment(), out.slice_mut());
     let expected = reference::subsumption_table(&case.tables, &case.assignment, case.table_room);
-    let written = expected.clone().unwrap_or_default();
+    let written = expected.clone().unwrap_or_default().rows;
     let name = "hc_subsumption_table";
-    judge(case, name, answer, expected.map(|_| 0), &inputs);
+    judge(case, name, answer, expected.map(|table| table.marks), &inputs);
     judge_rows(case, out.slice(), &written);
     judge_output(case, name, &out, &written);
     answer

@@ -1,12 +1,12 @@
 //! hc_derive and hc_check_derivation: each rule, damaged lines, refusals, and a derivation for
 //! every yes.
 
-use hermitcasket_tests::capi::Answer;
+use hermitcasket_tests::capi::{self, Answer};
 use hermitcasket_tests::compare;
 use hermitcasket_tests::families::FAMILIES;
 use hermitcasket_tests::faults::{base, every_set, Fault, FAULTS};
 use hermitcasket_tests::generate;
-use hermitcasket_tests::limits::line_room;
+use hermitcasket_tests::limits::{line_room, ROW_BYTES};
 use hermitcasket_tests::planted;
 use hermitcasket_tests::random::{cases, full_run, seed, Random, Size};
 use hermitcasket_tests::reference::derivation::{self, Line};
@@ -440,6 +440,60 @@ fn towers_over_variables() {
         }
     }
     tally.finish(&[("yes", 20..=80), ("no", 20..=80), ("long", 20..=100)]);
+}
+
+/// The marks of the subsumption table, and the lines of the longest derivation of these pairs; no
+/// derivation has more lines than marks.
+fn marks_and_lines(tables: &Tables, assignment: &[u64], pairs: &[(u16, u16)]) -> (u64, u64) {
+    let count = tables.concept_count();
+    let mut rows = vec![0xff; count * ROW_BYTES];
+    let table = capi::subsumption_table(tables.lend(), assignment, &mut rows);
+    assert_eq!(table.number, 0, "for\n{}", tables);
+    let mut out = vec![0; line_room(count)];
+    let mut longest = 0;
+    for &pair in pairs {
+        let derived = capi::derive(tables.lend(), assignment, pair, &mut out);
+        assert!([0, 11].contains(&derived.number), "{:?} for\n{}", derived, tables);
+        let (lines, marks) = (derived.value, table.value);
+        assert!(lines <= marks, "{} lines, {} marks, {:?} for\n{}", lines, marks, pair, tables);
+        longest = longest.max(lines);
+    }
+    (table.value, longest)
+}
+
+#[test]
+fn no_more_lines_than_marks() {
+    let seed = seed("derivation, marks");
+    let mut tally = Tally::new("derivation, marks");
+    for (size, share, most) in
+        [(Size::Small, 16, 196), (Size::Medium, 20, 40), (Size::Large, 30, 6)]
+    {
+        for k in 0..(cases(size) / share).max(1) {
+            let mut random = Random::for_case(seed, k);
+            let tables = generate::valid(&mut random, size);
+            let assignment = generate::assignment(&mut random, &tables);
+            let pairs = generate::pairs(&mut random, &tables, most);
+            let (marks, longest) = marks_and_lines(&tables, &assignment, &pairs);
+            tally.case();
+            tally.note("some lines", longest > 0);
+            tally.note("as many lines as marks", longest > 0 && longest == marks);
+        }
+    }
+    for family in FAMILIES {
+        let tables = family.tables(192);
+        let pairs = generate::pairs(&mut Random::new(seed), &tables, 6);
+        marks_and_lines(&tables, &[], &pairs);
+    }
+    tally.finish(&[("some lines", 50..=100)]);
+}
+
+/// The bound is reached: one entry alone; and an inclusion, which rests on both its ids.
+#[test]
+fn as_many_lines_as_marks() {
+    let one = Tables::new(&[[1, 5, 0]], &[], &[], 0);
+    assert_eq!(marks_and_lines(&one, &[], &[(0, 0)]), (1, 1));
+    let two = Tables::new(&[[1, 5, 0], [1, 6, 0]], &[[0, 1]], &[], 0);
+    assert_eq!(marks_and_lines(&two, &[], &[(0, 1)]), (3, 3));
 }
 
 /// 8 with its length, before 11; longer buffers keep their rest.

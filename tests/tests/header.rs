@@ -11,7 +11,7 @@ atoms 0 0 3
 ids 0 2 3
 blanks 0 0 1
 no such entry 4 0 0
-table 0 0 0
+table 0 0 13
 row 1
 row 2
 row 28

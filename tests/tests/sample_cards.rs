@@ -22,7 +22,7 @@ fn expect(holds: bool, tables: Tables, assignment: &[u64], left: u16, right: u16
     assert_eq!(compare::decide(&case), Answer::done(u64::from(holds)));
     let mut bytes = vec![0x5a; case.table_room];
     let answer = capi::subsumption_table(case.tables.lend(), assignment, &mut bytes);
-    assert_eq!(answer, Answer::done(0));
+    assert_eq!(answer.number, 0);
     let byte = bytes[usize::from(left) * 24 + usize::from(right) / 8];
     assert_eq!(byte >> (right % 8) & 1 == 1, holds);
     compare::all(&case);

@@ -40,16 +40,24 @@ pub fn blanks(tables: &Tables, id: u16) -> Result<u8, Refusal> {
     Ok(blanks::set(tables, usize::from(id)))
 }
 
-/// Operation: the subsumption table, as the bytes written to a buffer of `room` bytes.
+/// A written subsumption table: its bytes, and how many pairs it says are below.
+#[derive(Clone, Debug, Default, PartialEq, Eq)]
+pub struct Table {
+    pub rows: Vec<u8>,
+    pub marks: u64,
+}
+
+/// Operation: the subsumption table, written to a buffer of `room` bytes.
 pub fn subsumption_table(
     tables: &Tables,
     assignment: &[u64],
     room: usize,
-) -> Result<Vec<u8>, Refusal> {
+) -> Result<Table, Refusal> {
     refusals::of_tables(tables, None)?;
     refusals::of_assignment(tables, assignment)?;
     refusals::of_room(room, tables.concept_count() * ROW_BYTES)?;
-    Ok(rows(&relation(tables, assignment)))
+    let relation = relation(tables, assignment);
+    Ok(Table { rows: rows(&relation), marks: marks(&relation) })
 }
 
 /// Operation: decide one pair.
@@ -116,6 +124,11 @@ pub fn relation(tables: &Tables, assignment: &[u64]) -> Vec<Vec<bool>> {
 pub fn accepts(case: &Case) -> bool {
     refusals::of_tables(&case.tables, None).is_ok()
         && refusals::of_assignment(&case.tables, &case.assignment).is_ok()
+}
+
+/// The pairs of the relation, counted one by one and without its layout.
+pub fn marks(relation: &[Vec<bool>]) -> u64 {
+    relation.iter().flatten().filter(|&&holds| holds).count() as u64
 }
 
 /// The layout of the subsumption table: bit j mod 8 of byte j div 8 of row i.
