@@ -60,11 +60,12 @@ pub extern "C" fn hc_check(
     concepts: &[u16],
     inclusions: &[u16],
     questions: &[u16],
+    roles: &[u16],
     variables: u16,
 ) -> Answer
-    ensures { λ a. ⌜ replied a ≡ replyOf (tableFault (tables (now (concepts .entry)) (now (inclusions .entry)) (now (questions .entry)) variables)) ⌝ }
+    ensures { λ a. ⌜ replied a ≡ replyOf (tableFault (tables (now (concepts .entry)) (now (inclusions .entry)) (now (questions .entry)) (now (roles .entry)) variables)) ⌝ }
 {
-    let checked = subsumption::check_tables(concepts, inclusions, questions, variables);
+    let checked = subsumption::check_tables(concepts, inclusions, questions, roles, variables);
     answer_of(checked, 0)
 }
 
@@ -74,13 +75,14 @@ pub extern "C" fn hc_atoms(
     concepts: &[u16],
     inclusions: &[u16],
     questions: &[u16],
+    roles: &[u16],
     variables: u16,
     out: &mut [u16],
 ) -> Answer
-    ensures { λ a. ⌜ replied a ≡ replyWith (listingFault (tables (now (concepts .entry)) (now (inclusions .entry)) (now (questions .entry)) variables) (length (now (out .entry)))) (length (atoms (tables (now (concepts .entry)) (now (inclusions .entry)) (now (questions .entry)) variables))) ⌝ }
-    ensures { λ a. ⌜ now (out .exit) ≡ listedIn (listingFault (tables (now (concepts .entry)) (now (inclusions .entry)) (now (questions .entry)) variables) (length (now (out .entry)))) (tables (now (concepts .entry)) (now (inclusions .entry)) (now (questions .entry)) variables) (now (out .entry)) ⌝ }
+    ensures { λ a. ⌜ replied a ≡ replyWith (listingFault (tables (now (concepts .entry)) (now (inclusions .entry)) (now (questions .entry)) (now (roles .entry)) variables) (length (now (out .entry)))) (length (atoms (tables (now (concepts .entry)) (now (inclusions .entry)) (now (questions .entry)) (now (roles .entry)) variables))) ⌝ }
+    ensures { λ a. ⌜ now (out .exit) ≡ listedIn (listingFault (tables (now (concepts .entry)) (now (inclusions .entry)) (now (questions .entry)) (now (roles .entry)) variables) (length (now (out .entry)))) (tables (now (concepts .entry)) (now (inclusions .entry)) (now (questions .entry)) (now (roles .entry)) variables) (now (out .entry)) ⌝ }
 {
-    let answer = subsumption::list_atoms(concepts, inclusions, questions, variables, out);
+    let answer = subsumption::list_atoms(concepts, inclusions, questions, roles, variables, out);
     match answer {
         Listed::Rejected(r) => answer_of(Outcome::Refused(r), 0),
         Listed::Atoms(n) => answer_of(Outcome::Done, n as u64),
@@ -93,12 +95,13 @@ pub extern "C" fn hc_blanks(
     concepts: &[u16],
     inclusions: &[u16],
     questions: &[u16],
+    roles: &[u16],
     variables: u16,
     id: u16,
 ) -> Answer
-    ensures { λ a. ⌜ replied a ≡ replyWith (pairFault (tables (now (concepts .entry)) (now (inclusions .entry)) (now (questions .entry)) variables) id id) (variablesOf (tree (now (concepts .entry)) id)) ⌝ }
+    ensures { λ a. ⌜ replied a ≡ replyWith (pairFault (tables (now (concepts .entry)) (now (inclusions .entry)) (now (questions .entry)) (now (roles .entry)) variables) id id) (variablesOf (tree (now (concepts .entry)) id)) ⌝ }
 {
-    let answer = subsumption::variables_in(concepts, inclusions, questions, variables, id);
+    let answer = subsumption::variables_in(concepts, inclusions, questions, roles, variables, id);
     match answer {
         VariableSet::Rejected(r) => answer_of(Outcome::Refused(r), 0),
         VariableSet::Set(set) => answer_of(Outcome::Done, set as u64),
@@ -111,16 +114,18 @@ pub extern "C" fn hc_subsumption_table(
     concepts: &[u16],
     inclusions: &[u16],
     questions: &[u16],
+    roles: &[u16],
     variables: u16,
     assignment: &[u64],
     out: &mut [u8],
 ) -> Answer
-    ensures { λ a. ⌜ Wrote (tables (now (concepts .entry)) (now (inclusions .entry)) (now (questions .entry)) variables) (now (assignment .entry)) (now (out .entry)) (now (out .exit)) (replied a) ⌝ }
+    ensures { λ a. ⌜ Wrote (tables (now (concepts .entry)) (now (inclusions .entry)) (now (questions .entry)) (now (roles .entry)) variables) (now (assignment .entry)) (now (out .entry)) (now (out .exit)) (replied a) ⌝ }
 {
     let answer = subsumption::write_table(
         concepts,
         inclusions,
         questions,
+        roles,
         variables,
         assignment,
         out,
@@ -137,17 +142,19 @@ pub extern "C" fn hc_subsumed(
     concepts: &[u16],
     inclusions: &[u16],
     questions: &[u16],
+    roles: &[u16],
     variables: u16,
     assignment: &[u64],
     left: u16,
     right: u16,
 ) -> Answer
-    ensures { λ a. ⌜ Decides (tables (now (concepts .entry)) (now (inclusions .entry)) (now (questions .entry)) variables) (now (assignment .entry)) left right (replied a) ⌝ }
+    ensures { λ a. ⌜ Decides (tables (now (concepts .entry)) (now (inclusions .entry)) (now (questions .entry)) (now (roles .entry)) variables) (now (assignment .entry)) left right (replied a) ⌝ }
 {
     let answer = subsumption::decide_pair(
         concepts,
         inclusions,
         questions,
+        roles,
         variables,
         assignment,
         left,
@@ -166,12 +173,13 @@ pub extern "C" fn hc_match(
     concepts: &[u16],
     inclusions: &[u16],
     questions: &[u16],
+    roles: &[u16],
     variables: u16,
     out: &mut [u64],
 ) -> Answer
-    ensures { λ a. ⌜ Finds (tables (now (concepts .entry)) (now (inclusions .entry)) (now (questions .entry)) variables) (now (out .entry)) (now (out .exit)) (replied a) ⌝ }
+    ensures { λ a. ⌜ Finds (tables (now (concepts .entry)) (now (inclusions .entry)) (now (questions .entry)) (now (roles .entry)) variables) (now (out .entry)) (now (out .exit)) (replied a) ⌝ }
 {
-    let answer = matching::find_assignment(concepts, inclusions, questions, variables, out);
+    let answer = matching::find_assignment(concepts, inclusions, questions, roles, variables, out);
     match answer {
         Match::Rejected(r) => answer_of(Outcome::Refused(r), 0),
         Match::Filled => answer_of(Outcome::Done, 0),
@@ -184,18 +192,20 @@ pub extern "C" fn hc_chosen(
     concepts: &[u16],
     inclusions: &[u16],
     questions: &[u16],
+    roles: &[u16],
     variables: u16,
     assignment: &[u64],
     variable: u16,
     out: &mut [u16],
 ) -> Answer
-    ensures { λ a. ⌜ replied a ≡ replyWith (choosingFault (tables (now (concepts .entry)) (now (inclusions .entry)) (now (questions .entry)) variables) (now (assignment .entry)) variable (length (now (out .entry)))) (length (chosen (tables (now (concepts .entry)) (now (inclusions .entry)) (now (questions .entry)) variables) (now (assignment .entry)) variable)) ⌝ }
-    ensures { λ a. ⌜ now (out .exit) ≡ chosenIn (choosingFault (tables (now (concepts .entry)) (now (inclusions .entry)) (now (questions .entry)) variables) (now (assignment .entry)) variable (length (now (out .entry)))) (chosen (tables (now (concepts .entry)) (now (inclusions .entry)) (now (questions .entry)) variables) (now (assignment .entry)) variable) (now (out .entry)) ⌝ }
+    ensures { λ a. ⌜ replied a ≡ replyWith (choosingFault (tables (now (concepts .entry)) (now (inclusions .entry)) (now (questions .entry)) (now (roles .entry)) variables) (now (assignment .entry)) variable (length (now (out .entry)))) (length (chosen (tables (now (concepts .entry)) (now (inclusions .entry)) (now (questions .entry)) (now (roles .entry)) variables) (now (assignment .entry)) variable)) ⌝ }
+    ensures { λ a. ⌜ now (out .exit) ≡ chosenIn (choosingFault (tables (now (concepts .entry)) (now (inclusions .entry)) (now (questions .entry)) (now (roles .entry)) variables) (now (assignment .entry)) variable (length (now (out .entry)))) (chosen (tables (now (concepts .entry)) (now (inclusions .entry)) (now (questions .entry)) (now (roles .entry)) variables) (now (assignment .entry)) variable) (now (out .entry)) ⌝ }
 {
     let answer = matching::put_chosen(
         concepts,
         inclusions,
         questions,
+        roles,
         variables,
         assignment,
         variable,
@@ -213,18 +223,20 @@ pub extern "C" fn hc_derive(
     concepts: &[u16],
     inclusions: &[u16],
     questions: &[u16],
+    roles: &[u16],
     variables: u16,
     assignment: &[u64],
     left: u16,
     right: u16,
     out: &mut [u16],
 ) -> Answer
-    ensures { λ a. ⌜ Derives (tables (now (concepts .entry)) (now (inclusions .entry)) (now (questions .entry)) variables) (now (assignment .entry)) left right (now (out .entry)) (now (out .exit)) (replied a) ⌝ }
+    ensures { λ a. ⌜ Derives (tables (now (concepts .entry)) (now (inclusions .entry)) (now (questions .entry)) (now (roles .entry)) variables) (now (assignment .entry)) left right (now (out .entry)) (now (out .exit)) (replied a) ⌝ }
 {
     let answer = matching::derive(
         concepts,
         inclusions,
         questions,
+        roles,
         variables,
         assignment,
         left,
@@ -243,18 +255,20 @@ pub extern "C" fn hc_check_derivation(
     concepts: &[u16],
     inclusions: &[u16],
     questions: &[u16],
+    roles: &[u16],
     variables: u16,
     assignment: &[u64],
     left: u16,
     right: u16,
     lines: &[u16],
 ) -> Answer
-    ensures { λ a. ⌜ replied a ≡ replyOf (checkingFault (tables (now (concepts .entry)) (now (inclusions .entry)) (now (questions .entry)) variables) (now (assignment .entry)) left right (now (lines .entry))) ⌝ }
+    ensures { λ a. ⌜ replied a ≡ replyOf (checkingFault (tables (now (concepts .entry)) (now (inclusions .entry)) (now (questions .entry)) (now (roles .entry)) variables) (now (assignment .entry)) left right (now (lines .entry))) ⌝ }
 {
     let judged = matching::check_derivation(
         concepts,
         inclusions,
         questions,
+        roles,
         variables,
         assignment,
         left,

@@ -115,7 +115,7 @@ module _ (t : Tables) (α : List ℕ) where
             first = λ i j a b l k e h. taken i j (line 3 0) l k (List·Memᴰ·tail (List·Memᴰ·tail (List·Memᴰ·head refl))) (follows-first t α _ i j l k a b e h);
             second = λ i j a b l k e h. taken i j (line 3 1) l k (List·Memᴰ·tail (List·Memᴰ·tail (List·Memᴰ·tail (List·Memᴰ·head refl)))) (follows-second t α _ i j l k a b e h);
             meet = λ i j a b l k e h u. taken i j (line 4 0) l k (List·Memᴰ·tail (List·Memᴰ·tail (List·Memᴰ·tail (List·Memᴰ·tail (List·Memᴰ·head refl))))) (follows-meet t α _ i j l k a b e h u);
-            linked = λ i j r a b l k e f h. taken i j (line 5 0) l k (List·Memᴰ·tail (List·Memᴰ·tail (List·Memᴰ·tail (List·Memᴰ·tail (List·Memᴰ·tail (List·Memᴰ·head refl)))))) (follows-linked t α _ i j l k r a b e f h);
+            linked = λ i j r s a b l k e f w h. taken i j (line 5 0) l k (List·Memᴰ·tail (List·Memᴰ·tail (List·Memᴰ·tail (List·Memᴰ·tail (List·Memᴰ·tail (List·Memᴰ·head refl)))))) (follows-linked t α _ i j l k r s a b e f w h);
             included = λ i j m l k u h v. taken i j (line 6 m) l k (later (Memᴰ·append-left _ (gather-in (λ m. line 6 m ∷ []) _ m u (List·Memᴰ·head refl)))) (follows-included t α _ i j l k m u h v);
             chooses = λ i j v p l k e m h. taken i j (line 7 p) l k (later (Memᴰ·append-right (gather (λ m. line 6 m ∷ []) (pairsOf (t .inclusions))) (gather-in (λ p. line 7 p ∷ []) _ p (chosen-known t α v p m) (List·Memᴰ·head refl)))) (follows-chooses t α _ i j l k v p e m h);
             all-chosen = λ i j v l k e h. taken i j (line 8 0) l k (List·Memᴰ·tail (List·Memᴰ·tail (List·Memᴰ·tail (List·Memᴰ·tail (List·Memᴰ·tail (List·Memᴰ·tail (List·Memᴰ·head refl))))))) (follows-all-chosen t α _ i j l k v e h);

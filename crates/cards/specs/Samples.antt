@@ -47,11 +47,11 @@ unfoldable pub entries : List ℕ
 entries = 1 ∷ 5 ∷ 0 ∷ 1 ∷ 7 ∷ 0 ∷ 2 ∷ 1 ∷ 0 ∷ 1 ∷ 9 ∷ 0 ∷ 4 ∷ 0 ∷ 0 ∷ 3 ∷ 1 ∷ 4 ∷ []
 
 unfoldable pub house : List ℕ → Tables
-house questions = tables entries (2 ∷ 3 ∷ []) questions 1
+house questions = tables entries (2 ∷ 3 ∷ []) questions [] 1
 
 -- The tables of cards K and L.
 unfoldable pub looped : Tables
-looped = tables (1 ∷ 1 ∷ 0 ∷ 2 ∷ 0 ∷ 0 ∷ 2 ∷ 0 ∷ 1 ∷ []) (0 ∷ 1 ∷ []) [] 0
+looped = tables (1 ∷ 1 ∷ 0 ∷ 2 ∷ 0 ∷ 0 ∷ 2 ∷ 0 ∷ 1 ∷ []) (0 ∷ 1 ∷ []) [] [] 0
 
 unfoldable pub questions : List ℕ
 questions = 5 ∷ 3 ∷ 2 ∷ 4 ∷ []

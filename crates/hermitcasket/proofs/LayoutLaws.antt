@@ -1,8 +1,9 @@
--- An accepted text is the layout of the tables that it says, and they can be said.
+-- An accepted text is a layout of the tables that it says, and they can be said.
 use Prim.Native.Nat.{ℕ, zero, suc, _+_, _*_, _≤_}
 use mathlib.Core.Path.{_≡_, refl, sym, ap, _∙_, subst}
 use mathlib.Core.List.{List, [], _∷_, _++_, append-assoc, append-nil}
 use mathlib.Core.Bool.{Bool, true, false}
+use mathlib.Core.Logic.{inl, inr}
 use native.Mathlib.Omega.{arith}
 use native.Mathlib.Nat.{zero-mul, suc-mul}
 use lib.Dec.{ltb}
@@ -18,8 +19,8 @@ use Rattle.hermitcasket.specs.declared.lines.PairLine.{PairLine}
 use Rattle.hermitcasket.specs.declared.lines.PairLine.the-variants.{Two, NoPair}
 use Rattle.hermitcasket.specs.declared.lines.RowLine.{RowLine}
 use Rattle.hermitcasket.specs.declared.lines.RowLine.the-variants.{Row, NoRow}
-use Rattle.hermitcasket.specs.Lines.{variablesKey, conceptsKey, inclusionsKey, questionsKey, belowKey, numberText, numberLine, pairLine, rowLine}
-use Rattle.hermitcasket.specs.Text.{linesText, rowOfNumbers, pairOfNumbers, layout, RowsFit, ConceptFits, PairFits, Sayable, Line, numbers, off, rowNumbers, pairNumbers, rowAt, pairAt, Part, part, faulty, prepend, lineThen, readLines, accepted, refused, pickJudged, Onward, countThen, countAt, partThen, sectionAt, judgeEnd, judgeQuestions, judgeInclusions, judgeConcepts, judgeLines, judge}
+use Rattle.hermitcasket.specs.Lines.{variablesKey, rolesKey, widerKey, conceptsKey, inclusionsKey, questionsKey, belowKey, numberText, starts, numberLine, pairLine, rowLine}
+use Rattle.hermitcasket.specs.Text.{linesText, rowOfNumbers, pairOfNumbers, rolesText, layout, Says, RowsFit, ConceptFits, PairFits, Sayable, Line, numbers, off, rowNumbers, pairNumbers, rowAt, pairAt, Part, part, faulty, prepend, lineThen, readLines, accepted, refused, pickJudged, Onward, countThen, countAt, partThen, sectionAt, rolesAt, judgeEnd, judgeQuestions, judgeInclusions, judgeConcepts, judgeRoles, judgeLines, judge}
 use Rattle.hermitcasket.proofs.LineLaws.{Holds, holds-join}
 use Rattle.hermitcasket.proofs.RightLines.{numberLine-holds, pairLine-holds, pairLine-small, rowLine-holds, rowLine-fits}
 
@@ -100,18 +101,18 @@ rows-show rest xs n e = go (rowLine rest) refl
         subst (λ (z : List ℕ). Holds rest (rowOfNumbers z) n × ConceptFits z × (length z ≡ 3)) ex
         (subst (λ (z : ℕ). Holds rest (rowOfNumbers (k ∷ a ∷ b ∷ [])) z) en (rowLine-holds rest k a b m f), rowLine-fits rest k a b m f, refl)
 
-pairs-show : (rest xs : List ℕ) (n : ℕ) → pairAt rest ≡ numbers xs n → Holds rest (pairOfNumbers xs) n × PairFits xs × (length xs ≡ 2)
+pairs-show : (key rest xs : List ℕ) (n : ℕ) → pairAt key rest ≡ numbers xs n → Holds rest (pairOfNumbers key xs) n × PairFits xs × (length xs ≡ 2)
 unfolding pairNumbers
-pairs-show rest xs n e = go (pairLine belowKey rest) refl
+pairs-show key rest xs n e = go (pairLine key rest) refl
   where
-    go : (l : PairLine) → pairLine belowKey rest ≡ l → Holds rest (pairOfNumbers xs) n × PairFits xs × (length xs ≡ 2)
+    go : (l : PairLine) → pairLine key rest ≡ l → Holds rest (pairOfNumbers key xs) n × PairFits xs × (length xs ≡ 2)
     go NoPair f = absurd (let g : off ≡ numbers xs n = rw f at e in let z : _≡_ {A = ℕ} 0 1 = cc in omega arith)
     go (Two a b m) f =
         let g : numbers (a ∷ b ∷ []) m ≡ numbers xs n = rw f at e in
         let ex : a ∷ b ∷ [] ≡ xs = cc in
         let en : m ≡ n = cc in
-        subst (λ (z : List ℕ). Holds rest (pairOfNumbers z) n × PairFits z × (length z ≡ 2)) ex
-        (subst (λ (z : ℕ). Holds rest (pairOfNumbers (a ∷ b ∷ [])) z) en (pairLine-holds belowKey rest a b m f), pairLine-small belowKey rest a b m f, refl)
+        subst (λ (z : List ℕ). Holds rest (pairOfNumbers key z) n × PairFits z × (length z ≡ 2)) ex
+        (subst (λ (z : ℕ). Holds rest (pairOfNumbers key (a ∷ b ∷ [])) z) en (pairLine-holds key rest a b m f), pairLine-small key rest a b m f, refl)
 
 -- ---- counts and sections
 module _ (key : List ℕ) (limit table at : ℕ) (rest : List ℕ) (t : Tables) where
@@ -177,83 +178,148 @@ module _
       places : (a b c p : ℕ) → p ≡ a + b + c → p ≡ a + (b + c)
       places a b c p e = omega arith
 
--- ---- the whole text
-regroup : (a b c d e f g : List ℕ) → a ++ ((b ++ c) ++ ((d ++ e) ++ (f ++ g))) ≡ a ++ (b ++ (c ++ (d ++ (e ++ (f ++ g)))))
-regroup a b c d e f g = simp append-assoc
+-- ---- the roles
+module _ (at : ℕ) (rest : List ℕ) (t : Tables) where
+  pub record Roles (go : List ℕ → Onward) : Type 0 where
+    pub present : Bool
+    pub count : ℕ
+    pub xs : List ℕ
+    pub used : ℕ
+    pub absent : present ≡ false → xs ≡ []
+    pub holds : Holds rest (rolesText present xs) used
+    pub few : count ≤ 32
+    pub fits : RowsFit PairFits 2 count xs
+    pub size : length xs ≡ count * 2
+    pub goes : go xs (at + used) (drop used rest) ≡ accepted t
 
--- four parts, each behind the one before, and nothing behind the last
+  pub roles-read : (go : List ℕ → Onward) → rolesAt go at rest ≡ accepted t → Roles go
+  unfolding rolesAt pickJudged rolesText
+  roles-read go e = pick (starts rolesKey rest) refl
+    where
+      pick : (b : Bool) → starts rolesKey rest ≡ b → Roles go
+      pick true h =
+          let s = section-read (pairAt widerKey) (pairOfNumbers widerKey) PairFits 2 (pairs-show widerKey) rolesKey 32 4 at rest t go (rw h at e) in
+          let q : s .count ≡ pairsOf (s .xs) = omega (arith, s .size) in
+          record {
+            present = true;
+            absent = λ f. absurd (let z : _≡_ {A = ℕ} 0 1 = cc in omega arith);
+            count = s .count;
+            xs = s .xs;
+            used = s .used;
+            holds = subst (λ (z : ℕ). Holds rest (numberText rolesKey z ++ linesText (pairOfNumbers widerKey) 2 z (s .xs)) (s .used)) q (s .holds);
+            few = s .few;
+            fits = s .fits;
+            size = s .size;
+            goes = s .goes;
+          }
+      pick false h =
+          let z : at ≡ at + 0 = omega arith in
+          record {
+            present = false;
+            absent = λ f. refl;
+            count = 0;
+            xs = [];
+            used = 0;
+            holds = holds-none rest;
+            few = omega arith;
+            fits = refl;
+            size = omega arith;
+            goes = subst (λ (y : ℕ). go [] y rest ≡ accepted t) z (rw h at e);
+          }
+
+-- ---- the whole text
+regroup : (a r b c d e f g : List ℕ) → a ++ (r ++ ((b ++ c) ++ ((d ++ e) ++ (f ++ g)))) ≡ a ++ (r ++ (b ++ (c ++ (d ++ (e ++ (f ++ g))))))
+regroup a r b c d e f g = simp append-assoc
+
+-- what stands behind a part that is held
+on : (rest front more : List ℕ) (u : ℕ) → Holds rest front u → drop u rest ≡ more → rest ≡ front ++ more
+on rest front more u h e = h .front ∙ ap (λ (z : List ℕ). front ++ z) e
+
+-- five parts, each behind the one before, and nothing behind the last
 all-held :
-    (text a b c d e f g : List ℕ) (u0 u1 u2 u3 : ℕ) → Holds text a u0 → Holds (drop u0 text) (b ++ c) u1 → Holds (drop u1 (drop u0 text)) (d ++ e) u2
-    → Holds (drop u2 (drop u1 (drop u0 text))) (f ++ g) u3 → drop u3 (drop u2 (drop u1 (drop u0 text))) ≡ [] → text ≡ a ++ (b ++ (c ++ (d ++ (e ++ (f ++ g)))))
-all-held text a b c d e f g u0 u1 u2 u3 h0 h1 h2 h3 q =
-    h0 .front
-    ∙ ap (λ (z : List ℕ). a ++ z)
-    (h1 .front
-    ∙ ap (λ (z : List ℕ). (b ++ c) ++ z)
-    (h2 .front ∙ ap (λ (z : List ℕ). (d ++ e) ++ z) (h3 .front ∙ ap (λ (z : List ℕ). (f ++ g) ++ z) q ∙ append-nil (f ++ g))))
-    ∙ regroup a b c d e f g
+    (text a r b c d e f g : List ℕ) (u0 u1 u2 u3 u4 : ℕ) → Holds text a u0 → Holds (drop u0 text) r u1 → Holds (drop u1 (drop u0 text)) (b ++ c) u2
+    → Holds (drop u2 (drop u1 (drop u0 text))) (d ++ e) u3 → Holds (drop u3 (drop u2 (drop u1 (drop u0 text)))) (f ++ g) u4
+    → drop u4 (drop u3 (drop u2 (drop u1 (drop u0 text)))) ≡ [] → text ≡ a ++ (r ++ (b ++ (c ++ (d ++ (e ++ (f ++ g))))))
+all-held text a r b c d e f g u0 u1 u2 u3 u4 h0 h1 h2 h3 h4 q =
+    on _ _ _ _ h0 (on _ _ _ _ h1 (on _ _ _ _ h2 (on _ _ _ _ h3 (on _ _ _ _ h4 q ∙ append-nil (f ++ g)))))
+    ∙ regroup a r b c d e f g
 
 module _
-    (v : ℕ) (C I Q : List ℕ) (c i q : ℕ) (sizeC : length C ≡ c * 3) (sizeI : length I ≡ i * 2) (sizeQ : length Q ≡ q * 2) where
-  counts : (countOf C ≡ c) × (pairsOf I ≡ i) × (pairsOf Q ≡ q)
-  counts = (omega arith, omega arith, omega arith)
+    (v : ℕ) (C I Q R : List ℕ) (c i q r : ℕ) (sizeC : length C ≡ c * 3) (sizeI : length I ≡ i * 2) (sizeQ : length Q ≡ q * 2) (sizeR : length R ≡ r * 2) where
+  counts : (countOf C ≡ c) × (pairsOf I ≡ i) × (pairsOf Q ≡ q) × (pairsOf R ≡ r)
+  counts = (omega arith, omega arith, omega arith, omega arith)
 
   laid-out :
-      layout (tables C I Q v)
+      (present : Bool)
+      → layout present (tables C I Q R v)
       ≡ numberText variablesKey v
+      ++ (rolesText present R
       ++ (numberText conceptsKey c ++ (linesText rowOfNumbers 3 c C
-      ++ (numberText inclusionsKey i ++ (linesText pairOfNumbers 2 i I ++ (numberText questionsKey q ++ linesText pairOfNumbers 2 q Q)))))
+      ++ (numberText inclusionsKey i ++ (linesText (pairOfNumbers belowKey) 2 i I ++ (numberText questionsKey q ++ linesText (pairOfNumbers belowKey) 2 q Q))))))
   unfolding layout
-  laid-out = rw (counts .0, counts .1, counts .2) refl
+  laid-out present = rw (counts .0, counts .1, counts .2) refl
 
-  sayable : v ≤ 8 → c ≤ 192 → i ≤ 96 → q ≤ 32 → RowsFit ConceptFits 3 c C → RowsFit PairFits 2 i I → RowsFit PairFits 2 q Q → Sayable (tables C I Q v)
-  sayable hv hc hi hq fc fi fq =
+  sayable :
+      v ≤ 8 → c ≤ 192 → i ≤ 96 → q ≤ 32 → r ≤ 32 → RowsFit ConceptFits 3 c C → RowsFit PairFits 2 i I → RowsFit PairFits 2 q Q → RowsFit PairFits 2 r R
+      → Sayable (tables C I Q R v)
+  sayable hv hc hi hq hr fc fi fq fr =
       record {
         few-variables = hv;
         few-concepts = omega (arith, counts .0);
         few-inclusions = omega (arith, counts .1);
         few-questions = omega (arith, counts .2);
+        few-roles = omega (arith, counts .3);
         concepts-fit = subst (λ (z : ℕ). RowsFit ConceptFits 3 z C) (sym (counts .0)) fc;
         inclusions-fit = subst (λ (z : ℕ). RowsFit PairFits 2 z I) (sym (counts .1)) fi;
         questions-fit = subst (λ (z : ℕ). RowsFit PairFits 2 z Q) (sym (counts .2)) fq;
+        roles-fit = subst (λ (z : ℕ). RowsFit PairFits 2 z R) (sym (counts .3)) fr;
       }
 
+  says : (text : List ℕ) (present : Bool) → (present ≡ false → R ≡ []) → text ≡ layout present (tables C I Q R v) → Says text (tables C I Q R v)
+  says text true absent e = inl e
+  says text false absent e = inr (e, absent refl)
+
   whole :
-      (text : List ℕ) (u0 u1 u2 u3 : ℕ) → Holds text (numberText variablesKey v) u0
-      → Holds (drop u0 text) (numberText conceptsKey c ++ linesText rowOfNumbers 3 c C) u1
-      → Holds (drop u1 (drop u0 text)) (numberText inclusionsKey i ++ linesText pairOfNumbers 2 i I) u2
-      → Holds (drop u2 (drop u1 (drop u0 text))) (numberText questionsKey q ++ linesText pairOfNumbers 2 q Q) u3
-      → drop u3 (drop u2 (drop u1 (drop u0 text))) ≡ [] → text ≡ layout (tables C I Q v)
-  whole text u0 u1 u2 u3 h0 h1 h2 h3 e =
-      all-held text (numberText variablesKey v) (numberText conceptsKey c) (linesText rowOfNumbers 3 c C) (numberText inclusionsKey i) (linesText pairOfNumbers 2 i I)
-      (numberText questionsKey q) (linesText pairOfNumbers 2 q Q) u0 u1 u2 u3 h0 h1 h2 h3 e
-      ∙ sym laid-out
+      (text : List ℕ) (present : Bool) (u0 u1 u2 u3 u4 : ℕ) → Holds text (numberText variablesKey v) u0 → Holds (drop u0 text) (rolesText present R) u1
+      → Holds (drop u1 (drop u0 text)) (numberText conceptsKey c ++ linesText rowOfNumbers 3 c C) u2
+      → Holds (drop u2 (drop u1 (drop u0 text))) (numberText inclusionsKey i ++ linesText (pairOfNumbers belowKey) 2 i I) u3
+      → Holds (drop u3 (drop u2 (drop u1 (drop u0 text)))) (numberText questionsKey q ++ linesText (pairOfNumbers belowKey) 2 q Q) u4
+      → drop u4 (drop u3 (drop u2 (drop u1 (drop u0 text)))) ≡ [] → text ≡ layout present (tables C I Q R v)
+  whole text present u0 u1 u2 u3 u4 h0 h1 h2 h3 h4 e =
+      all-held text (numberText variablesKey v) (rolesText present R) (numberText conceptsKey c) (linesText rowOfNumbers 3 c C) (numberText inclusionsKey i)
+      (linesText (pairOfNumbers belowKey) 2 i I) (numberText questionsKey q) (linesText (pairOfNumbers belowKey) 2 q Q) u0 u1 u2 u3 u4 h0 h1 h2 h3 h4 e
+      ∙ sym (laid-out present)
 
 end-read : (s t : Tables) (at : ℕ) (rest : List ℕ) → judgeEnd s at rest ≡ accepted t → (rest ≡ []) × (s ≡ t)
 unfolding judgeEnd
 end-read s t at [] e = (refl, cc)
 end-read s t at (b ∷ rest) e = not-accepted (BadText at) t e
 
-lines-accepted : (text : List ℕ) (t : Tables) → judgeLines 0 text ≡ accepted t → (text ≡ layout t) × Sayable t
-unfolding judgeLines judgeConcepts judgeInclusions judgeQuestions
+lines-accepted : (text : List ℕ) (t : Tables) → judgeLines 0 text ≡ accepted t → Says text t × Sayable t
+unfolding judgeLines judgeRoles judgeConcepts judgeInclusions judgeQuestions
 lines-accepted text t e =
     let a = count-read variablesKey 8 3 0 text t _ e in
-    let r1 = drop (a .used) text in
-    let s1 = section-read rowAt rowOfNumbers ConceptFits 3 rows-show conceptsKey 192 0 (0 + a .used) r1 t _ (a .goes) in
-    let r2 = drop (s1 .used) r1 in
-    let s2 = section-read pairAt pairOfNumbers PairFits 2 pairs-show inclusionsKey 96 1 (0 + a .used + s1 .used) r2 t _ (s1 .goes) in
-    let r3 = drop (s2 .used) r2 in
-    let s3 = section-read pairAt pairOfNumbers PairFits 2 pairs-show questionsKey 32 2 (0 + a .used + s1 .used + s2 .used) r3 t _ (s2 .goes) in
-    let z = end-read (tables (s1 .xs) (s2 .xs) (s3 .xs) (a .count)) t (0 + a .used + s1 .used + s2 .used + s3 .used) (drop (s3 .used) r3) (s3 .goes) in
-    subst (λ (y : Tables). (text ≡ layout y) × Sayable y) (z .1) (
-      whole (a .count) (s1 .xs) (s2 .xs) (s3 .xs) (s1 .count) (s2 .count) (s3 .count) (s1 .size) (s2 .size) (s3 .size) text (a .used) (s1 .used) (s2 .used) (s3 .used) (a .holds) (s1 .holds) (s2 .holds) (s3 .holds) (z .0),
-      sayable (a .count) (s1 .xs) (s2 .xs) (s3 .xs) (s1 .count) (s2 .count) (s3 .count) (s1 .size) (s2 .size) (s3 .size) (a .few) (s1 .few) (s2 .few) (s3 .few) (s1 .fits) (s2 .fits) (s3 .fits),
+    let t1 = drop (a .used) text in
+    let s1 = roles-read (0 + a .used) t1 t _ (a .goes) in
+    let t2 = drop (s1 .used) t1 in
+    let s2 = section-read rowAt rowOfNumbers ConceptFits 3 rows-show conceptsKey 192 0 (0 + a .used + s1 .used) t2 t _ (s1 .goes) in
+    let t3 = drop (s2 .used) t2 in
+    let s3 = section-read (pairAt belowKey) (pairOfNumbers belowKey) PairFits 2 (pairs-show belowKey) inclusionsKey 96 1 (0 + a .used + s1 .used + s2 .used) t3 t _ (s2 .goes) in
+    let t4 = drop (s3 .used) t3 in
+    let s4 = section-read (pairAt belowKey) (pairOfNumbers belowKey) PairFits 2 (pairs-show belowKey) questionsKey 32 2 (0 + a .used + s1 .used + s2 .used + s3 .used) t4 t _ (s3 .goes) in
+    let z = end-read (tables (s2 .xs) (s3 .xs) (s4 .xs) (s1 .xs) (a .count)) t (0 + a .used + s1 .used + s2 .used + s3 .used + s4 .used) (drop (s4 .used) t4) (s4 .goes) in
+    subst (λ (y : Tables). Says text y × Sayable y) (z .1) (
+      says (a .count) (s2 .xs) (s3 .xs) (s4 .xs) (s1 .xs) (s2 .count) (s3 .count) (s4 .count) (s1 .count) (s2 .size) (s3 .size) (s4 .size) (s1 .size) text (s1 .present) (s1 .absent)
+          (whole (a .count) (s2 .xs) (s3 .xs) (s4 .xs) (s1 .xs) (s2 .count) (s3 .count) (s4 .count) (s1 .count) (s2 .size) (s3 .size) (s4 .size) (s1 .size) text (s1 .present)
+          (a .used) (s1 .used) (s2 .used) (s3 .used) (s4 .used) (a .holds) (s1 .holds) (s2 .holds) (s3 .holds) (s4 .holds) (z .0)),
+      sayable (a .count) (s2 .xs) (s3 .xs) (s4 .xs) (s1 .xs) (s2 .count) (s3 .count) (s4 .count) (s1 .count) (s2 .size) (s3 .size) (s4 .size) (s1 .size)
+          (a .few) (s2 .few) (s3 .few) (s4 .few) (s1 .few) (s2 .fits) (s3 .fits) (s4 .fits) (s1 .fits),
     )
 
-pub accepted-layout : (text : List ℕ) (t : Tables) → judge text ≡ accepted t → (text ≡ layout t) × Sayable t
+pub accepted-layout : (text : List ℕ) (t : Tables) → judge text ≡ accepted t → Says text t × Sayable t
 unfolding judge pickJudged
 accepted-layout text t e = go (ltb 8192 (length text)) refl
   where
-    go : (b : Bool) → ltb 8192 (length text) ≡ b → (text ≡ layout t) × Sayable t
+    go : (b : Bool) → ltb 8192 (length text) ≡ b → Says text t × Sayable t
     go true h = not-accepted (BadText 8192) t (rw h at e)
     go false h = lines-accepted text t (rw h at e)

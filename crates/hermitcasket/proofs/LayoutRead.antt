@@ -2,7 +2,7 @@
 use Prim.Native.Nat.{ℕ, zero, suc, _+_, _<_, _≤_}
 use mathlib.Core.Path.{_≡_, refl, sym, ap, _∙_}
 use mathlib.Core.List.{List, [], _∷_, _++_, append-assoc, append-nil}
-use mathlib.Core.Bool.{false}
+use mathlib.Core.Bool.{Bool, true, false}
 use native.Mathlib.Omega.{arith}
 use native.Mathlib.Numerals.{add-one}
 use lib.ListN.{length, take, drop, length-append, take-append-drop}
@@ -13,8 +13,8 @@ use Rattle.hermitcasket.specs.declared.lines.Number.the-variants.{Value,
 use Rattle.hermitcasket.specs.declared.lines.PairLine.the-variants.{Two, NoPair}
 use Rattle.hermitcasket.specs.declared.lines.RowLine.the-variants.{Row}
 use Rattle.hermitcasket.specs.Digits.{digits}
-use Rattle.hermitcasket.specs.Lines.{variablesKey, conceptsKey, inclusionsKey, questionsKey, belowKey, topText, nameKey, someKey, andKey, variableKey, numberText, pairText, rowText, starts, pickNumber, numberFrom, behind as shifted, numberLine, secondOf, firstOf, pairIf, pairLine, topRow, oneRow, twoRow, orRow, rowLine}
-use Rattle.hermitcasket.specs.Text.{linesText, rowOfNumbers, pairOfNumbers, layout, RowFits, RowsFit, ConceptFits, PairFits, Sayable, Line, numbers, rowNumbers, pairNumbers, rowAt, pairAt, part, prepend, lineThen, readLines, accepted, pickJudged, Onward, countThen, partThen, sectionAt, judgeEnd, judgeQuestions, judgeInclusions, judgeConcepts, judgeLines, judge}
+use Rattle.hermitcasket.specs.Lines.{variablesKey, rolesKey, widerKey, conceptsKey, inclusionsKey, questionsKey, belowKey, topText, nameKey, someKey, andKey, variableKey, numberText, pairText, rowText, starts, pickNumber, numberFrom, behind as shifted, numberLine, secondOf, firstOf, pairIf, pairLine, topRow, oneRow, twoRow, orRow, rowLine}
+use Rattle.hermitcasket.specs.Text.{linesText, rowOfNumbers, pairOfNumbers, rolesText, layout, RowFits, RowsFit, ConceptFits, PairFits, Sayable, Line, numbers, rowNumbers, pairNumbers, rowAt, pairAt, part, prepend, lineThen, readLines, accepted, pickJudged, Onward, countThen, partThen, sectionAt, rolesAt, judgeEnd, judgeQuestions, judgeInclusions, judgeConcepts, judgeRoles, judgeLines, judge}
 use Rattle.hermitcasket.proofs.DigitLaws.{digits-some, reads-digits}
 use Rattle.hermitcasket.proofs.LineLaws.{starts-right}
 
@@ -130,12 +130,12 @@ rows-right (x ∷ y ∷ []) more l h = absurd (omega arith)
 rows-right (x ∷ y ∷ z ∷ []) more l h = rw (rowLine-right x y z more h) refl
 rows-right (x ∷ y ∷ z ∷ w ∷ xs) more l h = absurd (omega arith)
 
-pairs-right : (xs more : List ℕ) → length xs ≡ 2 → PairFits xs → pairAt (pairOfNumbers xs ++ more) ≡ numbers xs (length (pairOfNumbers xs))
+pairs-right : (key xs more : List ℕ) → length xs ≡ 2 → PairFits xs → pairAt key (pairOfNumbers key xs ++ more) ≡ numbers xs (length (pairOfNumbers key xs))
 unfolding pairNumbers
-pairs-right [] more l h = absurd (omega arith)
-pairs-right (x ∷ []) more l h = absurd (omega arith)
-pairs-right (x ∷ y ∷ []) more l h = rw (pairLine-right belowKey x y more (h .0) (h .1)) refl
-pairs-right (x ∷ y ∷ z ∷ xs) more l h = absurd (omega arith)
+pairs-right key [] more l h = absurd (omega arith)
+pairs-right key (x ∷ []) more l h = absurd (omega arith)
+pairs-right key (x ∷ y ∷ []) more l h = rw (pairLine-right key x y more (h .0) (h .1)) refl
+pairs-right key (x ∷ y ∷ z ∷ xs) more l h = absurd (omega arith)
 
 -- ---- several lines
 module _
@@ -173,9 +173,20 @@ module _
       (rw (drop-append-seam (numberText key count) (linesText write width count xs ++ more), lines-right count (at + length (numberText key count)) xs more h) refl)
 
 -- ---- the whole text
-module _ (t : Tables) (s : Sayable t) where
+key-there : (n : ℕ) (more : List ℕ) → starts rolesKey (numberText rolesKey n ++ more) ≡ true
+unfolding numberText
+key-there n more = rw (append-assoc rolesKey (digits n ++ (10 ∷ [])) more) (starts-right rolesKey ((digits n ++ (10 ∷ [])) ++ more))
+
+key-missing : (n : ℕ) (more : List ℕ) → starts rolesKey (numberText conceptsKey n ++ more) ≡ false
+unfolding starts both numberText
+key-missing n more = refl
+
+module _ (t : Tables) (s : Sayable t) (present : Bool) (absent : present ≡ false → t .roles ≡ []) where
   a : List ℕ
   a = numberText variablesKey (t .variables)
+
+  r : List ℕ
+  r = rolesText present (t .roles)
 
   b : List ℕ
   b = numberText conceptsKey (countOf (t .concepts))
@@ -187,47 +198,69 @@ module _ (t : Tables) (s : Sayable t) where
   d = numberText inclusionsKey (pairsOf (t .inclusions))
 
   e : List ℕ
-  e = linesText pairOfNumbers 2 (pairsOf (t .inclusions)) (t .inclusions)
+  e = linesText (pairOfNumbers belowKey) 2 (pairsOf (t .inclusions)) (t .inclusions)
 
   f : List ℕ
   f = numberText questionsKey (pairsOf (t .questions))
 
   g : List ℕ
-  g = linesText pairOfNumbers 2 (pairsOf (t .questions)) (t .questions)
+  g = linesText (pairOfNumbers belowKey) 2 (pairsOf (t .questions)) (t .questions)
 
-  text-is : layout t ≡ a ++ (b ++ (c ++ (d ++ (e ++ (f ++ g)))))
-  unfolding layout a b c d e f g
+  text-is : layout present t ≡ a ++ (r ++ (b ++ (c ++ (d ++ (e ++ (f ++ g))))))
+  unfolding layout a r b c d e f g
   text-is = refl
 
-  first : judgeLines 0 (a ++ (b ++ (c ++ (d ++ (e ++ (f ++ g)))))) ≡ judgeConcepts (t .variables) (0 + length a) (b ++ (c ++ (d ++ (e ++ (f ++ g)))))
+  first : (more : List ℕ) → judgeLines 0 (a ++ more) ≡ judgeRoles (t .variables) (0 + length a) more
   unfolding judgeLines countThen pickJudged a
-  first =
-      let more = b ++ (c ++ (d ++ (e ++ (f ++ g)))) in
+  first more =
       rw (numberLine-right variablesKey (t .variables) more (omega (arith, s .few-variables)), le-ltb 8 (t .variables) (s .few-variables))
       (rw (drop-append-seam (numberText variablesKey (t .variables)) more) refl)
 
-  second :
-      (at : ℕ) → judgeConcepts (t .variables) at (b ++ (c ++ (d ++ (e ++ (f ++ g))))) ≡ judgeInclusions (t .variables) (t .concepts) (at + length b + length c) (d ++ (e ++ (f ++ g)))
+  second : (at : ℕ) (more : List ℕ) → judgeRoles (t .variables) at (r ++ (b ++ more)) ≡ judgeConcepts (t .variables) (t .roles) (at + length r) (b ++ more)
+  unfolding judgeRoles rolesAt pickJudged rolesText r b
+  second at more = go present absent
+    where
+      go :
+          (x : Bool) → (x ≡ false → t .roles ≡ [])
+          → judgeRoles (t .variables) at (rolesText x (t .roles) ++ (numberText conceptsKey (countOf (t .concepts)) ++ more))
+          ≡ judgeConcepts (t .variables) (t .roles) (at + length (rolesText x (t .roles))) (numberText conceptsKey (countOf (t .concepts)) ++ more)
+      go true h =
+          let n = numberText rolesKey (pairsOf (t .roles)) in
+          let l = linesText (pairOfNumbers widerKey) 2 (pairsOf (t .roles)) (t .roles) in
+          let more' = numberText conceptsKey (countOf (t .concepts)) ++ more in
+          let z : at + length n + length l ≡ at + length (n ++ l) = omega (arith, length-append n l) in
+          ap (λ (y : List ℕ). judgeRoles (t .variables) at y) (append-assoc n l more')
+          ∙ rw (key-there (pairsOf (t .roles)) (l ++ more'))
+          (section-right (pairAt widerKey) (pairOfNumbers widerKey) PairFits 2 (pairs-right widerKey) rolesKey 32 4 at (pairsOf (t .roles)) (t .roles) more' _
+          (s .few-roles) (omega arith) (s .roles-fit)
+          ∙ ap (λ (y : ℕ). judgeConcepts (t .variables) (t .roles) y more') z)
+      go false h =
+          let z : at + 0 ≡ at = omega arith in
+          rw (key-missing (countOf (t .concepts)) more, z, h refl) refl
+
+  third :
+      (at : ℕ) → judgeConcepts (t .variables) (t .roles) at (b ++ (c ++ (d ++ (e ++ (f ++ g))))) ≡ judgeInclusions (t .variables) (t .roles) (t .concepts) (at + length b + length c) (d ++ (e ++ (f ++ g)))
   unfolding judgeConcepts b c
-  second at =
+  third at =
       section-right rowAt rowOfNumbers ConceptFits 3 rows-right conceptsKey 192 0 at (countOf (t .concepts)) (t .concepts) (d ++ (e ++ (f ++ g))) _
       (s .few-concepts) (omega arith) (s .concepts-fit)
 
-  third :
-      (at : ℕ) → judgeInclusions (t .variables) (t .concepts) at (d ++ (e ++ (f ++ g))) ≡ judgeQuestions (t .variables) (t .concepts) (t .inclusions) (at + length d + length e) (f ++ g)
+  fourth :
+      (at : ℕ) → judgeInclusions (t .variables) (t .roles) (t .concepts) at (d ++ (e ++ (f ++ g))) ≡ judgeQuestions (t .variables) (t .roles) (t .concepts) (t .inclusions) (at + length d + length e) (f ++ g)
   unfolding judgeInclusions d e
-  third at =
-      section-right pairAt pairOfNumbers PairFits 2 pairs-right inclusionsKey 96 1 at (pairsOf (t .inclusions)) (t .inclusions) (f ++ g) _
+  fourth at =
+      section-right (pairAt belowKey) (pairOfNumbers belowKey) PairFits 2 (pairs-right belowKey) inclusionsKey 96 1 at (pairsOf (t .inclusions)) (t .inclusions) (f ++ g) _
       (s .few-inclusions) (omega arith) (s .inclusions-fit)
 
-  fourth : (at : ℕ) → judgeQuestions (t .variables) (t .concepts) (t .inclusions) at (f ++ g) ≡ accepted t
+  fifth : (at : ℕ) → judgeQuestions (t .variables) (t .roles) (t .concepts) (t .inclusions) at (f ++ g) ≡ accepted t
   unfolding judgeQuestions judgeEnd f g
-  fourth at =
-      ap (λ (z : List ℕ). judgeQuestions (t .variables) (t .concepts) (t .inclusions) at (f ++ z)) (sym (append-nil g))
-      ∙ section-right pairAt pairOfNumbers PairFits 2 pairs-right questionsKey 32 2 at (pairsOf (t .questions)) (t .questions) [] _
+  fifth at =
+      ap (λ (z : List ℕ). judgeQuestions (t .variables) (t .roles) (t .concepts) (t .inclusions) at (f ++ z)) (sym (append-nil g))
+      ∙ section-right (pairAt belowKey) (pairOfNumbers belowKey) PairFits 2 (pairs-right belowKey) questionsKey 32 2 at (pairsOf (t .questions)) (t .questions) [] _
       (s .few-questions) (omega arith) (s .questions-fit)
 
-  pub layout-accepted : length (layout t) ≤ 8192 → judge (layout t) ≡ accepted t
+  pub layout-accepted : length (layout present t) ≤ 8192 → judge (layout present t) ≡ accepted t
   unfolding judge pickJudged
   layout-accepted h =
-      rw (le-ltb 8192 (length (layout t)) h) (ap (λ (z : List ℕ). judgeLines 0 z) text-is ∙ first ∙ second _ ∙ third _ ∙ fourth _)
+      rw (le-ltb 8192 (length (layout present t)) h)
+      (ap (λ (z : List ℕ). judgeLines 0 z) text-is ∙ first _ ∙ second _ _ ∙ third _ ∙ fourth _ ∙ fifth _)

@@ -11,7 +11,7 @@ use Rattle.hermitcasket.specs.declared.lines.PairLine.the-variants.{Two,
 use Rattle.hermitcasket.specs.declared.lines.RowLine.{RowLine}
 use Rattle.hermitcasket.specs.declared.lines.RowLine.the-variants.{Row, NoRow}
 use Rattle.hermitcasket.specs.declared.text.Lines.the-variants.{Upto, Off}
-use Rattle.hermitcasket.specs.Lines.{belowKey, pairLine, rowLine}
+use Rattle.hermitcasket.specs.Lines.{pairLine, rowLine}
 use Rattle.hermitcasket.specs.Text.{Line, numbers, off, rowNumbers, pairNumbers, rowAt, pairAt, Part, part, faulty, prepend, lineThen, readLines}
 use Rattle.hermitcasket.specs.Inner.Text.{partOf}
 use Rattle.hermitcasket.proofs.RightLines.{row-within, pair-within}
@@ -110,22 +110,22 @@ module _ (count at : ℕ) (text out rest : List ℕ) (i used : ℕ) (h : i < cou
           lined-more rowAt 3 count at text out _ rest more i used n (k ∷ a ∷ b ∷ []) s h (rw (sym e ∙ f) refl) m rows-within
           (take-three (i * 3) ((i + 1) * 3) k a b out (omega arith) (omega arith))
 
-  module _ (line : PairLine) (s : Lined pairAt 2 count at text out rest i used) (e : line ≡ pairLine belowKey rest) where
-    pub pairs-off : line ≡ NoPair → readLines pairAt count at text ≡ partOf (Off (at + used)) at text (count * 2) out
+  module _ (key : List ℕ) (line : PairLine) (s : Lined (pairAt key) 2 count at text out rest i used) (e : line ≡ pairLine key rest) where
+    pub pairs-off : line ≡ NoPair → readLines (pairAt key) count at text ≡ partOf (Off (at + used)) at text (count * 2) out
     unfolding pairNumbers
-    pairs-off f = lined-off pairAt 2 count at text out rest i used (count * 2) s h (rw (sym e ∙ f) refl)
+    pairs-off f = lined-off (pairAt key) 2 count at text out rest i used (count * 2) s h (rw (sym e ∙ f) refl)
 
     module _ (a b n : ℕ) (f : line ≡ Two a b n) where
       pub pairs-within : n ≤ length rest
-      pairs-within = pair-within belowKey rest a b n (sym e ∙ f)
+      pairs-within = pair-within key rest a b n (sym e ∙ f)
 
       pub pairs-used : used + n ≤ length text
       pairs-used = omega (arith, pairs-within, ap length (s .here), length-drop used text, s .within)
 
       pub pairs-more :
           (more : List ℕ) → more ≡ drop n rest → (before : List ℕ) → length out ≡ length before → count * 2 ≤ length before
-          → Lined pairAt 2 count at text (set (set out (i * 2) a) (i * 2 + 1) b) more (i + 1) (used + n)
+          → Lined (pairAt key) 2 count at text (set (set out (i * 2) a) (i * 2 + 1) b) more (i + 1) (used + n)
       unfolding pairNumbers
       pairs-more more m before q l =
-          lined-more pairAt 2 count at text out _ rest more i used n (a ∷ b ∷ []) s h (rw (sym e ∙ f) refl) m pairs-within
+          lined-more (pairAt key) 2 count at text out _ rest more i used n (a ∷ b ∷ []) s h (rw (sym e ∙ f) refl) m pairs-within
           (take-two (i * 2) ((i + 1) * 2) a b out (omega arith) (omega arith))

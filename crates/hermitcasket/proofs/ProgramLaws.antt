@@ -125,25 +125,25 @@ module _
             (ap (λ (z : Refusal). codeText (codeOf z)) (same-refusal r x (said (NotFound r) e (Refused x) f .0)))
 
 -- ---- a text
-module _ (text concepts inclusions questions : List ℕ) (read : Read) (judged : judge text ≡ judgedBy read concepts inclusions questions) where
+module _ (text concepts inclusions questions roles : List ℕ) (read : Read) (judged : judge text ≡ judgedBy read concepts inclusions questions roles) where
   module _ (before : List ℕ) (size : ℕ) (after : List ℕ) where
     pub text-refused : (r : Refusal) → read ≡ Rejected r → Wrote before 0 (codeText (codeOf r)) size after → Output (Answered text) before size after
     unfolding judgedBy
     text-refused r e w =
         output _ before _ size after w
-        (subst (λ (z : Judged). AnsweredJudged z (codeText (codeOf r))) (sym (judged ∙ ap (λ (z : Read). judgedBy z concepts inclusions questions) e)) refl)
+        (subst (λ (z : Judged). AnsweredJudged z (codeText (codeOf r))) (sym (judged ∙ ap (λ (z : Read). judgedBy z concepts inclusions questions roles) e)) refl)
 
     pub text-answered :
-        (v c i q : ℕ) → read ≡ Problem v c i q
-        → Output (AnsweredTables (tables (take (c * 3) concepts) (take (i * 2) inclusions) (take (q * 2) questions) v) (tableFault (tables (take (c * 3) concepts) (take (i * 2) inclusions) (take (q * 2) questions) v))) before size after
+        (v c i q p : ℕ) → read ≡ Problem v c i q p
+        → Output (AnsweredTables (tables (take (c * 3) concepts) (take (i * 2) inclusions) (take (q * 2) questions) (take (p * 2) roles) v) (tableFault (tables (take (c * 3) concepts) (take (i * 2) inclusions) (take (q * 2) questions) (take (p * 2) roles) v))) before size after
         → Output (Answered text) before size after
     unfolding judgedBy
-    text-answered v c i q e o =
+    text-answered v c i q p e o =
         record {
-          answered = subst (λ (z : Judged). AnsweredJudged z (take size after)) (sym (judged ∙ ap (λ (z : Read). judgedBy z concepts inclusions questions) e)) (o .answered);
+          answered = subst (λ (z : Judged). AnsweredJudged z (take size after)) (sym (judged ∙ ap (λ (z : Read). judgedBy z concepts inclusions questions roles) e)) (o .answered);
           within = o .within;
           kept = o .kept;
         }
 
-pub read-fits : (read : Read) → ReadFits read → (v c i q : ℕ) → read ≡ Problem v c i q → (v ≤ 8) × (c ≤ 192) × (i ≤ 96) × (q ≤ 32)
-read-fits read h v c i q e = subst ReadFits e h
+pub read-fits : (read : Read) → ReadFits read → (v c i q p : ℕ) → read ≡ Problem v c i q p → (v ≤ 8) × (c ≤ 192) × (i ≤ 96) × (q ≤ 32) × (p ≤ 32)
+read-fits read h v c i q p e = subst ReadFits e h

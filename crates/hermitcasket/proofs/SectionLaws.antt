@@ -2,10 +2,11 @@
 use Prim.Native.Nat.{ℕ, _+_, _*_, _<_, _≤_}
 use mathlib.Core.Path.{_≡_, refl, sym, ap, _∙_, subst}
 use mathlib.Core.List.{List, [], _∷_}
+use mathlib.Core.Bool.{Bool, true, false, not}
 use native.Mathlib.Omega.{arith}
 use lib.ListN.{length, drop, length-drop}
 use lib.Seq.{drop-drop, drop-length}
-use borrow.Author.Tests.{lt-ltb, le-ltb}
+use borrow.Author.Tests.{lt-ltb, le-ltb, not-true, not-false}
 use Rattle.subsumption.specs.declared.refusal.Refusal.{Refusal}
 use Rattle.subsumption.specs.declared.refusal.Refusal.the-variants.{Limit, BadText}
 use Rattle.hermitcasket.specs.declared.lines.Number.{Number}
@@ -14,8 +15,8 @@ use Rattle.hermitcasket.specs.declared.text.Lines.{Lines}
 use Rattle.hermitcasket.specs.declared.text.Lines.the-variants.{Upto, Off}
 use Rattle.hermitcasket.specs.declared.text.Section.{Section}
 use Rattle.hermitcasket.specs.declared.text.Section.the-variants.{Through, Faulty}
-use Rattle.hermitcasket.specs.Lines.{questionsKey, numberLine}
-use Rattle.hermitcasket.specs.Text.{Line, pickJudged, countThen, partThen, readLines, sectionAt, pairAt, judgeEnd}
+use Rattle.hermitcasket.specs.Lines.{rolesKey, widerKey, questionsKey, belowKey, starts, numberLine}
+use Rattle.hermitcasket.specs.Text.{Line, pickJudged, countThen, partThen, readLines, sectionAt, rolesAt, pairAt, judgeEnd}
 use Rattle.hermitcasket.specs.Inner.Text.{partOf, PartFits, countedThen, sectionThen, lastThen, SectionFits, Counts, Sectioned, Last}
 use Rattle.hermitcasket.proofs.LineLaws.{holds-within}
 use Rattle.hermitcasket.proofs.RightLines.{numberLine-holds}
@@ -42,10 +43,10 @@ module _ (key : List ℕ) (limit table at : ℕ) (rest : List ℕ) (found : Numb
 module _ (key : List ℕ) (limit table at : ℕ) (rest : List ℕ) (counted : Section) (counts : Counts key limit table at rest counted) where
   pub section-refused :
       (line : List ℕ → Line) (width : ℕ) (r : Refusal) (out : List ℕ) → counted ≡ Faulty r
-      → Sectioned key limit table line width at rest counted out
+      → Sectioned (sectionAt key limit table line) limit width at rest counted out
   unfolding sectionAt countedThen sectionThen
   section-refused line width r out h =
-      subst (λ (z : Section). Sectioned key limit table line width at rest z out) (sym h)
+      subst (λ (z : Section). Sectioned (sectionAt key limit table line) limit width at rest z out) (sym h)
       (record { judged = λ go. counts .judged _ ∙ rw h refl; fits = tt })
 
   module _ (count n : ℕ) (h : counted ≡ Through count n) where
@@ -71,12 +72,12 @@ module _ (key : List ℕ) (limit table at : ℕ) (rest : List ℕ) (counted : Se
         all : readLines line count (at + n) (drop n rest) ≡ partOf lines (at + n) (drop n rest) (count * width) out
         all = subst (λ (z : List ℕ). readLines line count (at + n) z ≡ partOf lines (at + n) z (count * width) out) e r
 
-        pub section-off : (place : ℕ) → lines ≡ Off place → Sectioned key limit table line width at rest (Faulty (BadText place)) out
+        pub section-off : (place : ℕ) → lines ≡ Off place → Sectioned (sectionAt key limit table line) limit width at rest (Faulty (BadText place)) out
         unfolding sectionAt countedThen sectionThen partThen partOf
         section-off place f = record { judged = λ go. counts .judged _ ∙ rw h (rw (all, f) refl); fits = tt }
 
         pub section-through :
-            (m : ℕ) → lines ≡ Upto m → PartFits lines (length more) → Sectioned key limit table line width at rest (Through count (n + m)) out
+            (m : ℕ) → lines ≡ Upto m → PartFits lines (length more) → Sectioned (sectionAt key limit table line) limit width at rest (Through count (n + m)) out
         unfolding sectionAt countedThen sectionThen partThen partOf
         section-through m f p =
             let q : at + n + m ≡ at + (n + m) = omega arith in
@@ -85,8 +86,21 @@ module _ (key : List ℕ) (limit table at : ℕ) (rest : List ℕ) (counted : Se
               fits = (counted-few, lines-used lines m f p);
             }
 
+-- ---- the roles, if their key is there
+module _ (at : ℕ) (rest : List ℕ) (there : Bool) (is-there : there ≡ starts rolesKey rest) (out : List ℕ) where
+  pub roles-absent : not there ≡ true → Sectioned rolesAt 32 2 at rest (Through 0 0) out
+  unfolding rolesAt pickJudged sectionThen
+  roles-absent h =
+      let z : at + 0 ≡ at = omega arith in
+      record { judged = λ go. rw (sym is-there ∙ not-true there h, z) refl; fits = (omega arith, omega arith) }
+
+  pub roles-present :
+      not there ≡ false → (r : Section) → Sectioned (sectionAt rolesKey 32 4 (pairAt widerKey)) 32 2 at rest r out → Sectioned rolesAt 32 2 at rest r out
+  unfolding rolesAt pickJudged
+  roles-present h r s = record { judged = λ go. rw (sym is-there ∙ not-false there h) (s .judged go); fits = s .fits }
+
 -- ---- the last section
-module _ (at : ℕ) (rest : List ℕ) (asked : Section) (out : List ℕ) (s : Sectioned questionsKey 32 2 pairAt 2 at rest asked out) where
+module _ (at : ℕ) (rest : List ℕ) (asked : Section) (out : List ℕ) (s : Sectioned (sectionAt questionsKey 32 2 (pairAt belowKey)) 32 2 at rest asked out) where
   pub last-refused : (r : Refusal) → asked ≡ Faulty r → Last at rest asked out
   unfolding sectionThen lastThen
   last-refused r h = subst (λ (z : Section). Last at rest z out) (sym h) (record { judged = λ t. s .judged _ ∙ rw h refl; fits = tt })
@@ -94,9 +108,6 @@ module _ (at : ℕ) (rest : List ℕ) (asked : Section) (out : List ℕ) (s : Se
   module _ (count n : ℕ) (h : asked ≡ Through count n) where
     last-fits : (count ≤ 32) × (n ≤ length rest)
     last-fits = subst (λ (z : Section). SectionFits z 32 (length rest)) h (s .fits)
-
-    pub last-within : n ≤ length rest
-    last-within = last-fits .1
 
     pub last-more : n < length rest → Last at rest (Faulty (BadText (at + n))) out
     unfolding sectionThen lastThen judgeEnd

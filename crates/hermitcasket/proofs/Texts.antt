@@ -1,14 +1,16 @@
--- The accepted texts are exactly the layouts of tables within the counts, and reading a layout gives the tables back.
+-- The accepted texts are exactly the layouts of tables within the counts, with the section of the roles or, where there are none,
+-- without it; and reading a layout gives the tables back.
 use Prim.Native.Nat.{ℕ, zero, suc, _+_, _*_, _≤_}
 use mathlib.Core.Path.{_≡_, ap, _∙_}
 use mathlib.Core.List.{List, [], _∷_, _++_}
-use mathlib.Core.Logic.{_↔_}
+use mathlib.Core.Bool.{Bool, true, false}
+use mathlib.Core.Logic.{_↔_, ⊎-elim}
 use native.Mathlib.Omega.{arith}
 use lib.ListN.{length, getD, take, drop, length-append}
 use Rattle.subsumption.specs.Tables.{Tables, countOf, pairsOf}
 use Rattle.hermitcasket.specs.Digits.{digits}
-use Rattle.hermitcasket.specs.Lines.{variablesKey, conceptsKey, inclusionsKey, questionsKey, belowKey, nameKey, someKey, andKey, variableKey, numberText, pairText, rowText}
-use Rattle.hermitcasket.specs.Text.{linesText, rowOfNumbers, pairOfNumbers, layout, RowFits, RowsFit, ConceptFits, PairFits, Sayable, accepted, judge}
+use Rattle.hermitcasket.specs.Lines.{variablesKey, rolesKey, widerKey, conceptsKey, inclusionsKey, questionsKey, belowKey, nameKey, someKey, andKey, variableKey, numberText, pairText, rowText}
+use Rattle.hermitcasket.specs.Text.{linesText, rowOfNumbers, pairOfNumbers, rolesText, layout, Says, RowFits, RowsFit, ConceptFits, PairFits, Sayable, accepted, judge}
 use Rattle.hermitcasket.proofs.SizeLaws.{digits-short}
 use Rattle.hermitcasket.proofs.LayoutLaws.{accepted-layout}
 use Rattle.hermitcasket.proofs.LayoutRead.{layout-accepted}
@@ -49,11 +51,27 @@ module _ (write : List ℕ → List ℕ) (Fits : List ℕ → Type 0) (width : �
   lines-size (suc count) xs h =
       omega (arith, each (take width xs) (h .1), lines-size count (drop width xs) (h .2), length-append (write (take width xs)) (linesText write width count (drop width xs)))
 
-seven : (a b c d e f g : List ℕ) → length (a ++ (b ++ (c ++ (d ++ (e ++ (f ++ g)))))) ≡ length a + length b + length c + length d + length e + length f + length g
-seven a b c d e f g =
+pairs-size : (key xs : List ℕ) → length key ≤ 6 → RowsFit PairFits 2 (pairsOf xs) xs → length (linesText (pairOfNumbers key) 2 (pairsOf xs) xs) ≤ pairsOf xs * 18
+pairs-size key xs l h =
+    lines-size (pairOfNumbers key) PairFits 2 (λ ys f. omega (arith, pair-size key (getD ys 0 0) (getD ys 1 0) (f .0) (f .1))) (pairsOf xs) xs h
+
+roles-size : (present : Bool) (roles : List ℕ) → pairsOf roles ≤ 32 → RowsFit PairFits 2 (pairsOf roles) roles → length (rolesText present roles) ≤ 12 + 32 * 18
+unfolding rolesText
+roles-size true roles l h =
     omega (
       arith,
-      length-append a (b ++ (c ++ (d ++ (e ++ (f ++ g))))),
+      number-size rolesKey (pairsOf roles) (omega arith),
+      pairs-size widerKey roles (omega arith) h,
+      length-append (numberText rolesKey (pairsOf roles)) (linesText (pairOfNumbers widerKey) 2 (pairsOf roles) roles),
+    )
+roles-size false roles l h = omega arith
+
+eight : (a r b c d e f g : List ℕ) → length (a ++ (r ++ (b ++ (c ++ (d ++ (e ++ (f ++ g))))))) ≡ length a + length r + length b + length c + length d + length e + length f + length g
+eight a r b c d e f g =
+    omega (
+      arith,
+      length-append a (r ++ (b ++ (c ++ (d ++ (e ++ (f ++ g)))))),
+      length-append r (b ++ (c ++ (d ++ (e ++ (f ++ g))))),
       length-append b (c ++ (d ++ (e ++ (f ++ g)))),
       length-append c (d ++ (e ++ (f ++ g))),
       length-append d (e ++ (f ++ g)),
@@ -61,23 +79,30 @@ seven a b c d e f g =
       length-append f g,
     )
 
-pub layout-size : (t : Tables) → Sayable t → length (layout t) ≤ 8192
+pub layout-size : (present : Bool) (t : Tables) → Sayable t → length (layout present t) ≤ 8192
 unfolding layout
-layout-size t s =
+layout-size present t s =
     omega (
       arith,
       s,
       number-size variablesKey (t .variables) (omega (arith, s .few-variables)),
+      roles-size present (t .roles) (s .few-roles) (s .roles-fit),
       number-size conceptsKey (countOf (t .concepts)) (omega (arith, s .few-concepts)),
       number-size inclusionsKey (pairsOf (t .inclusions)) (omega (arith, s .few-inclusions)),
       number-size questionsKey (pairsOf (t .questions)) (omega (arith, s .few-questions)),
       lines-size rowOfNumbers ConceptFits 3 (λ xs h. row-size (getD xs 0 0) (getD xs 1 0) (getD xs 2 0) h) (countOf (t .concepts)) (t .concepts) (s .concepts-fit),
-      lines-size pairOfNumbers PairFits 2 (λ xs h. pair-size belowKey (getD xs 0 0) (getD xs 1 0) (h .0) (h .1)) (pairsOf (t .inclusions)) (t .inclusions) (s .inclusions-fit),
-      lines-size pairOfNumbers PairFits 2 (λ xs h. pair-size belowKey (getD xs 0 0) (getD xs 1 0) (h .0) (h .1)) (pairsOf (t .questions)) (t .questions) (s .questions-fit),
-      seven (numberText variablesKey (t .variables)) (numberText conceptsKey (countOf (t .concepts))) (linesText rowOfNumbers 3 (countOf (t .concepts)) (t .concepts))
-          (numberText inclusionsKey (pairsOf (t .inclusions))) (linesText pairOfNumbers 2 (pairsOf (t .inclusions)) (t .inclusions))
-          (numberText questionsKey (pairsOf (t .questions))) (linesText pairOfNumbers 2 (pairsOf (t .questions)) (t .questions)),
+      pairs-size belowKey (t .inclusions) (omega arith) (s .inclusions-fit),
+      pairs-size belowKey (t .questions) (omega arith) (s .questions-fit),
+      eight (numberText variablesKey (t .variables)) (rolesText present (t .roles)) (numberText conceptsKey (countOf (t .concepts)))
+          (linesText rowOfNumbers 3 (countOf (t .concepts)) (t .concepts))
+          (numberText inclusionsKey (pairsOf (t .inclusions))) (linesText (pairOfNumbers belowKey) 2 (pairsOf (t .inclusions)) (t .inclusions))
+          (numberText questionsKey (pairsOf (t .questions))) (linesText (pairOfNumbers belowKey) 2 (pairsOf (t .questions)) (t .questions)),
     )
 
-pub texts : (text : List ℕ) (t : Tables) → (judge text ≡ accepted t) ↔ ((text ≡ layout t) × Sayable t)
-texts text t = (accepted-layout text t, λ h. ap judge (h .0) ∙ layout-accepted t (h .1) (layout-size t (h .1)))
+says-accepted : (text : List ℕ) (t : Tables) → Says text t → Sayable t → judge text ≡ accepted t
+says-accepted text t h s =
+    ⊎-elim (λ e. ap judge e ∙ layout-accepted t s true (λ f. absurd (let z : _≡_ {A = ℕ} 0 1 = cc in omega arith)) (layout-size true t s))
+    (λ (e, none). ap judge e ∙ layout-accepted t s false (λ f. none) (layout-size false t s)) h
+
+pub texts : (text : List ℕ) (t : Tables) → (judge text ≡ accepted t) ↔ (Says text t × Sayable t)
+texts text t = (accepted-layout text t, λ h. says-accepted text t (h .0) (h .1))

@@ -15,9 +15,15 @@ use Rattle.hermitcasket.specs.Digits.{digits}
 
 -- ---- the bytes in front of a line's numbers
 
--- "blanks=", "entries=", "inclusions=", "questions=", "below="
+-- "blanks=", "roles=", "wider=", "entries=", "inclusions=", "questions=", "below="
 abbrev pub variablesKey : List ℕ
 variablesKey = 98 ∷ 108 ∷ 97 ∷ 110 ∷ 107 ∷ 115 ∷ 61 ∷ []
+
+abbrev pub rolesKey : List ℕ
+rolesKey = 114 ∷ 111 ∷ 108 ∷ 101 ∷ 115 ∷ 61 ∷ []
+
+abbrev pub widerKey : List ℕ
+widerKey = 119 ∷ 105 ∷ 100 ∷ 101 ∷ 114 ∷ 61 ∷ []
 
 abbrev pub conceptsKey : List ℕ
 conceptsKey = 101 ∷ 110 ∷ 116 ∷ 114 ∷ 105 ∷ 101 ∷ 115 ∷ 61 ∷ []

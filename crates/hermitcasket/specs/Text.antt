@@ -3,6 +3,7 @@ use Prim.Native.Nat.{ℕ, zero, suc, _+_, _≤_}
 use mathlib.Core.Path.{_≡_}
 use mathlib.Core.List.{List, [], _∷_, _++_}
 use mathlib.Core.Bool.{Bool, true, false}
+use mathlib.Core.Logic.{_⊎_}
 use lib.Dec.{ltb}
 use lib.ListN.{length, getD, take, drop}
 use Rattle.subsumption.specs.declared.refusal.Refusal.{Refusal}
@@ -14,7 +15,7 @@ use Rattle.hermitcasket.specs.declared.lines.PairLine.{PairLine}
 use Rattle.hermitcasket.specs.declared.lines.PairLine.the-variants.{Two, NoPair}
 use Rattle.hermitcasket.specs.declared.lines.RowLine.{RowLine}
 use Rattle.hermitcasket.specs.declared.lines.RowLine.the-variants.{Row, NoRow}
-use Rattle.hermitcasket.specs.Lines.{variablesKey, conceptsKey, inclusionsKey, questionsKey, belowKey, numberText, pairText, rowText, numberLine, pairLine, rowLine}
+use Rattle.hermitcasket.specs.Lines.{variablesKey, rolesKey, widerKey, conceptsKey, inclusionsKey, questionsKey, belowKey, numberText, pairText, rowText, starts, numberLine, pairLine, rowLine}
 
 -- ---- what a right text is
 
@@ -26,15 +27,25 @@ linesText text width (suc count) numbers = text (take width numbers) ++ linesTex
 abbrev pub rowOfNumbers : List ℕ → List ℕ
 rowOfNumbers numbers = rowText (getD numbers 0 0) (getD numbers 1 0) (getD numbers 2 0)
 
-abbrev pub pairOfNumbers : List ℕ → List ℕ
-pairOfNumbers numbers = pairText belowKey (getD numbers 0 0) (getD numbers 1 0)
+abbrev pub pairOfNumbers : List ℕ → List ℕ → List ℕ
+pairOfNumbers key numbers = pairText key (getD numbers 0 0) (getD numbers 1 0)
 
-unfoldable pub layout : Tables → List ℕ
-layout t =
+-- The roles above roles, or no section.
+unfoldable pub rolesText : Bool → List ℕ → List ℕ
+rolesText true roles = numberText rolesKey (pairsOf roles) ++ linesText (pairOfNumbers widerKey) 2 (pairsOf roles) roles
+rolesText false roles = []
+
+unfoldable pub layout : Bool → Tables → List ℕ
+layout present t =
     numberText variablesKey (t .variables)
+    ++ (rolesText present (t .roles)
     ++ (numberText conceptsKey (countOf (t .concepts)) ++ (linesText rowOfNumbers 3 (countOf (t .concepts)) (t .concepts)
-    ++ (numberText inclusionsKey (pairsOf (t .inclusions)) ++ (linesText pairOfNumbers 2 (pairsOf (t .inclusions)) (t .inclusions)
-    ++ (numberText questionsKey (pairsOf (t .questions)) ++ linesText pairOfNumbers 2 (pairsOf (t .questions)) (t .questions))))))
+    ++ (numberText inclusionsKey (pairsOf (t .inclusions)) ++ (linesText (pairOfNumbers belowKey) 2 (pairsOf (t .inclusions)) (t .inclusions)
+    ++ (numberText questionsKey (pairsOf (t .questions)) ++ linesText (pairOfNumbers belowKey) 2 (pairsOf (t .questions)) (t .questions)))))))
+
+-- A text that says the tables: it may lack the section of the roles where there are none.
+abbrev pub Says : List ℕ → Tables → Type 0
+Says text t = (text ≡ layout true t) ⊎ ((text ≡ layout false t) × (t .roles ≡ []))
 
 -- ---- what a text can say: kinds 0 to 4 with unused fields 0, numbers up to 65535, counts up to their limits
 
@@ -62,9 +73,11 @@ pub record Sayable (t : Tables) : Type 0 where
   pub few-concepts : countOf (t .concepts) ≤ 192
   pub few-inclusions : pairsOf (t .inclusions) ≤ 96
   pub few-questions : pairsOf (t .questions) ≤ 32
+  pub few-roles : pairsOf (t .roles) ≤ 32
   pub concepts-fit : RowsFit ConceptFits 3 (countOf (t .concepts)) (t .concepts)
   pub inclusions-fit : RowsFit PairFits 2 (pairsOf (t .inclusions)) (t .inclusions)
   pub questions-fit : RowsFit PairFits 2 (pairsOf (t .questions)) (t .questions)
+  pub roles-fit : RowsFit PairFits 2 (pairsOf (t .roles)) (t .roles)
 
 -- ---- the judgement
 
@@ -84,8 +97,8 @@ pairNumbers NoPair = off
 abbrev pub rowAt : List ℕ → Line
 rowAt rest = rowNumbers (rowLine rest)
 
-abbrev pub pairAt : List ℕ → Line
-pairAt rest = pairNumbers (pairLine belowKey rest)
+abbrev pub pairAt : List ℕ → List ℕ → Line
+pairAt key rest = pairNumbers (pairLine key rest)
 
 -- The numbers of several lines, the place behind them and the text that remains there; or the place where the earliest faulty one starts.
 pub data Part : Type 0 where
@@ -133,23 +146,31 @@ countAt key limit table go at rest = countThen limit table (numberLine key rest)
 unfoldable pub sectionAt : List ℕ → ℕ → ℕ → (List ℕ → Line) → (List ℕ → Onward) → Onward
 sectionAt key limit table line go at rest = countAt key limit table (λ count behind more. partThen (readLines line count behind more) go) at rest
 
+-- The section of the roles is there where the text goes on with its key.
+unfoldable pub rolesAt : (List ℕ → Onward) → Onward
+rolesAt go at rest = pickJudged (starts rolesKey rest) (sectionAt rolesKey 32 4 (pairAt widerKey) go at rest) (go [] at rest)
+
 -- The lines in order, from the last to the first: the end of the text, and what goes before it.
 unfoldable pub judgeEnd : Tables → Onward
 judgeEnd t at [] = accepted t
 judgeEnd t at (byte ∷ rest) = refused (BadText at)
 
-unfoldable pub judgeQuestions : ℕ → List ℕ → List ℕ → Onward
-judgeQuestions variables concepts inclusions at rest =
-    sectionAt questionsKey 32 2 pairAt (λ questions. judgeEnd (tables concepts inclusions questions variables)) at rest
+unfoldable pub judgeQuestions : ℕ → List ℕ → List ℕ → List ℕ → Onward
+judgeQuestions variables roles concepts inclusions at rest =
+    sectionAt questionsKey 32 2 (pairAt belowKey) (λ questions. judgeEnd (tables concepts inclusions questions roles variables)) at rest
 
-unfoldable pub judgeInclusions : ℕ → List ℕ → Onward
-judgeInclusions variables concepts at rest = sectionAt inclusionsKey 96 1 pairAt (λ inclusions. judgeQuestions variables concepts inclusions) at rest
+unfoldable pub judgeInclusions : ℕ → List ℕ → List ℕ → Onward
+judgeInclusions variables roles concepts at rest =
+    sectionAt inclusionsKey 96 1 (pairAt belowKey) (λ inclusions. judgeQuestions variables roles concepts inclusions) at rest
 
-unfoldable pub judgeConcepts : ℕ → Onward
-judgeConcepts variables at rest = sectionAt conceptsKey 192 0 rowAt (λ concepts. judgeInclusions variables concepts) at rest
+unfoldable pub judgeConcepts : ℕ → List ℕ → Onward
+judgeConcepts variables roles at rest = sectionAt conceptsKey 192 0 rowAt (λ concepts. judgeInclusions variables roles concepts) at rest
+
+unfoldable pub judgeRoles : ℕ → Onward
+judgeRoles variables at rest = rolesAt (λ roles. judgeConcepts variables roles) at rest
 
 unfoldable pub judgeLines : Onward
-judgeLines at rest = countAt variablesKey 8 3 judgeConcepts at rest
+judgeLines at rest = countAt variablesKey 8 3 judgeRoles at rest
 
 -- A longer text is refused before any line is judged.
 unfoldable pub judge : List ℕ → Judged

@@ -32,18 +32,20 @@ fn answer_tables(
     concepts: &[u16],
     inclusions: &[u16],
     questions: &[u16],
+    roles: &[u16],
     variables: u16,
     out: &mut [u8],
 ) -> usize
     requires { ⌜ variables ≤ 8 ⌝ }
     requires { ⌜ 4096 ≤ length (now out) ⌝ }
-    ensures { λ r. ⌜ Output (AnsweredTables (tables (now (concepts .entry)) (now (inclusions .entry)) (now (questions .entry)) variables) (tableFault (tables (now (concepts .entry)) (now (inclusions .entry)) (now (questions .entry)) variables))) (now (out .entry)) r (now (out .exit)) ⌝ }
+    ensures { λ r. ⌜ Output (AnsweredTables (tables (now (concepts .entry)) (now (inclusions .entry)) (now (questions .entry)) (now (roles .entry)) variables) (tableFault (tables (now (concepts .entry)) (now (inclusions .entry)) (now (questions .entry)) (now (roles .entry)) variables))) (now (out .entry)) r (now (out .exit)) ⌝ }
 {
     let mut assignment = [0u64; 8];
     let found = matching::find_assignment(
         concepts,
         inclusions,
         questions,
+        roles,
         variables,
         &mut assignment,
     );
@@ -54,6 +56,7 @@ fn answer_tables(
                 concepts,
                 inclusions,
                 questions,
+                roles,
                 variables,
                 &assignment[..n],
                 out,
@@ -71,16 +74,25 @@ pub fn answer(text: &[u8], out: &mut [u8]) -> usize
     let mut concepts = [0u16; 576];
     let mut inclusions = [0u16; 192];
     let mut questions = [0u16; 64];
-    let read = read_text(text, &mut concepts, &mut inclusions, &mut questions);
+    let mut roles = [0u16; 64];
+    let read = read_text(
+        text,
+        &mut concepts,
+        &mut inclusions,
+        &mut questions,
+        &mut roles,
+    );
     match read {
-        Read::Problem(variables, c, i, q) => {
+        Read::Problem(variables, c, i, q, p) => {
             let n = c * 3;
             let m = i * 2;
             let k = q * 2;
+            let l = p * 2;
             answer_tables(
                 &concepts[..n],
                 &inclusions[..m],
                 &questions[..k],
+                &roles[..l],
                 variables,
                 out,
             )

@@ -17,17 +17,18 @@ fn put_variable(
     concepts: &[u16],
     inclusions: &[u16],
     questions: &[u16],
+    roles: &[u16],
     variables: u16,
     assignment: &[u64],
     variable: u16,
     at: usize,
     out: &mut [u8],
 ) -> usize
-    requires { ⌜ tableFault (tables (now concepts) (now inclusions) (now questions) variables) ≡ Done ⌝ }
-    requires { ⌜ assignmentFault (tables (now concepts) (now inclusions) (now questions) variables) (now assignment) ≡ Done ⌝ }
+    requires { ⌜ tableFault (tables (now concepts) (now inclusions) (now questions) (now roles) variables) ≡ Done ⌝ }
+    requires { ⌜ assignmentFault (tables (now concepts) (now inclusions) (now questions) (now roles) variables) (now assignment) ≡ Done ⌝ }
     requires { ⌜ variable < variables ⌝ }
-    requires { ⌜ at + length (fillText (chosen (tables (now concepts) (now inclusions) (now questions) variables) (now assignment) variable)) ≤ length (now out) ⌝ }
-    ensures { λ r. ⌜ Wrote (now (out .entry)) at (fillText (chosen (tables (now (concepts .entry)) (now (inclusions .entry)) (now (questions .entry)) variables) (now (assignment .entry)) variable)) r (now (out .exit)) ⌝ }
+    requires { ⌜ at + length (fillText (chosen (tables (now concepts) (now inclusions) (now questions) (now roles) variables) (now assignment) variable)) ≤ length (now out) ⌝ }
+    ensures { λ r. ⌜ Wrote (now (out .entry)) at (fillText (chosen (tables (now (concepts .entry)) (now (inclusions .entry)) (now (questions .entry)) (now (roles .entry)) variables) (now (assignment .entry)) variable)) r (now (out .exit)) ⌝ }
 {
     let mut buffer = [0u16; 64];
     let mut number: u16 = 0;
@@ -36,6 +37,7 @@ fn put_variable(
         concepts,
         inclusions,
         questions,
+        roles,
         variables,
         assignment,
         variable,
@@ -50,15 +52,16 @@ fn put_fills(
     concepts: &[u16],
     inclusions: &[u16],
     questions: &[u16],
+    roles: &[u16],
     variables: u16,
     assignment: &[u64],
     at: usize,
     out: &mut [u8],
 ) -> usize
-    requires { ⌜ tableFault (tables (now concepts) (now inclusions) (now questions) variables) ≡ Done ⌝ }
-    requires { ⌜ assignmentFault (tables (now concepts) (now inclusions) (now questions) variables) (now assignment) ≡ Done ⌝ }
-    requires { ⌜ at + length (fillsText (atoms (tables (now concepts) (now inclusions) (now questions) variables)) (now assignment)) ≤ length (now out) ⌝ }
-    ensures { λ r. ⌜ Wrote (now (out .entry)) at (fillsText (atoms (tables (now (concepts .entry)) (now (inclusions .entry)) (now (questions .entry)) variables)) (now (assignment .entry))) r (now (out .exit)) ⌝ }
+    requires { ⌜ tableFault (tables (now concepts) (now inclusions) (now questions) (now roles) variables) ≡ Done ⌝ }
+    requires { ⌜ assignmentFault (tables (now concepts) (now inclusions) (now questions) (now roles) variables) (now assignment) ≡ Done ⌝ }
+    requires { ⌜ at + length (fillsText (atoms (tables (now concepts) (now inclusions) (now questions) (now roles) variables)) (now assignment)) ≤ length (now out) ⌝ }
+    ensures { λ r. ⌜ Wrote (now (out .entry)) at (fillsText (atoms (tables (now (concepts .entry)) (now (inclusions .entry)) (now (questions .entry)) (now (roles .entry)) variables)) (now (assignment .entry))) r (now (out .exit)) ⌝ }
 {
     let mut end = at;
     let mut k: u16 = 0;
@@ -67,6 +70,7 @@ fn put_fills(
             concepts,
             inclusions,
             questions,
+            roles,
             variables,
             assignment,
             k,
@@ -82,14 +86,15 @@ pub fn put_filled(
     concepts: &[u16],
     inclusions: &[u16],
     questions: &[u16],
+    roles: &[u16],
     variables: u16,
     assignment: &[u64],
     out: &mut [u8],
 ) -> usize
-    requires { ⌜ tableFault (tables (now concepts) (now inclusions) (now questions) variables) ≡ Done ⌝ }
-    requires { ⌜ assignmentFault (tables (now concepts) (now inclusions) (now questions) variables) (now assignment) ≡ Done ⌝ }
-    requires { ⌜ 0 + length (filledText (atoms (tables (now concepts) (now inclusions) (now questions) variables)) (now assignment)) ≤ length (now out) ⌝ }
-    ensures { λ r. ⌜ Wrote (now (out .entry)) 0 (filledText (atoms (tables (now (concepts .entry)) (now (inclusions .entry)) (now (questions .entry)) variables)) (now (assignment .entry))) r (now (out .exit)) ⌝ }
+    requires { ⌜ tableFault (tables (now concepts) (now inclusions) (now questions) (now roles) variables) ≡ Done ⌝ }
+    requires { ⌜ assignmentFault (tables (now concepts) (now inclusions) (now questions) (now roles) variables) (now assignment) ≡ Done ⌝ }
+    requires { ⌜ 0 + length (filledText (atoms (tables (now concepts) (now inclusions) (now questions) (now roles) variables)) (now assignment)) ≤ length (now out) ⌝ }
+    ensures { λ r. ⌜ Wrote (now (out .entry)) 0 (filledText (atoms (tables (now (concepts .entry)) (now (inclusions .entry)) (now (questions .entry)) (now (roles .entry)) variables)) (now (assignment .entry))) r (now (out .exit)) ⌝ }
 {
     let a = put_bytes(b"answer=filled\n", 0, out);
     let b = put_line(b"blanks=", assignment.len(), a, out);
@@ -97,6 +102,7 @@ pub fn put_filled(
         concepts,
         inclusions,
         questions,
+        roles,
         variables,
         assignment,
         b,

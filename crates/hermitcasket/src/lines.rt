@@ -2,7 +2,7 @@
 ghost use mathlib.Core.Path.{_≡_};
 ghost use Prim.Native.Nat.{_≤_};
 ghost use lib.ListN.{length, drop};
-ghost use Rattle.hermitcasket.specs.Lines.{belowKey, starts, wrongDigit, number, numberLine, pairLine, rowLine};
+ghost use Rattle.hermitcasket.specs.Lines.{starts, wrongDigit, number, numberLine, pairLine, rowLine};
 
 // A number and the length used, its end among it.
 pub enum Number {
@@ -153,11 +153,4 @@ pub fn row_line(rest: &[u8]) -> RowLine
         return RowLine::Row(4, a, 0, n);
     }
     RowLine::NoRow
-}
-
-// An inclusion or a question.
-pub fn below_line(rest: &[u8]) -> PairLine
-    ensures { λ r. ⌜ r ≡ pairLine belowKey (now (rest .entry)) ⌝ }
-{
-    pair_line(rest, b"below=")
 }

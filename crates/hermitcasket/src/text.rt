@@ -3,16 +3,17 @@ use crate::lines::Number;
 use crate::lines::PairLine;
 use crate::lines::RowLine;
 use crate::lines::behind;
-use crate::lines::below_line;
 use crate::lines::number_line;
+use crate::lines::pair_line;
 use crate::lines::row_line;
+use crate::lines::starts_with;
 use subsumption::refusal::Refusal;
 ghost use mathlib.Core.Path.{_≡_};
 ghost use Prim.Native.Nat.{_+_, _*_, _≤_};
 ghost use lib.ListN.{length};
 ghost use Rattle.hermitcasket.specs.Lines.{conceptsKey};
-ghost use Rattle.hermitcasket.specs.Text.{readLines, rowAt, pairAt, judgeConcepts, judge};
-ghost use Rattle.hermitcasket.specs.Inner.Text.{partOf, PartFits, Counts, Sectioned, Last, faultOf, judgedBy, ReadFits};
+ghost use Rattle.hermitcasket.specs.Text.{readLines, rowAt, pairAt, sectionAt, rolesAt, judge};
+ghost use Rattle.hermitcasket.specs.Inner.Text.{partOf, PartFits, Counts, Sectioned, Last, faultOf, judgedBy, ReadFits, TablesRead};
 
 // The length of the lines, or the place where the earliest faulty one starts.
 pub enum Lines {
@@ -20,9 +21,9 @@ pub enum Lines {
     Off(usize),
 }
 
-// What the text says: the variables, and the counts of concepts, inclusions and questions.
+// What the text says: the variables, and the counts of concepts, inclusions, questions and pairs of roles.
 pub enum Read {
-    Problem(u16, usize, usize, usize),
+    Problem(u16, usize, usize, usize, usize),
     Rejected(Refusal),
 }
 
@@ -53,18 +54,19 @@ fn read_rows(part: &[u8], at: usize, count: usize, out: &mut [u16]) -> Lines
     Lines::Upto(used)
 }
 
-// So many inclusions or questions, two numbers each.
-fn read_pairs(part: &[u8], at: usize, count: usize, out: &mut [u16]) -> Lines
+// So many lines of two numbers each.
+fn read_pairs(part: &[u8], at: usize, key: &[u8], count: usize, out: &mut [u16]) -> Lines
     requires { ⌜ at + length (now part) ≤ 8192 ⌝ }
+    requires { ⌜ length (now key) ≤ 16 ⌝ }
     requires { ⌜ count * 2 ≤ length (now out) ⌝ }
-    ensures { λ r. ⌜ readLines pairAt count at (now (part .entry)) ≡ partOf r at (now (part .entry)) (count * 2) (now (out .exit)) ⌝ }
+    ensures { λ r. ⌜ readLines (pairAt (now (key .entry))) count at (now (part .entry)) ≡ partOf r at (now (part .entry)) (count * 2) (now (out .exit)) ⌝ }
     ensures { λ r. ⌜ PartFits r (length (now (part .entry))) ⌝ }
 {
     let mut rest = part;
     let mut used: usize = 0;
     let mut i: usize = 0;
     while i < count {
-        let line = below_line(rest);
+        let line = pair_line(rest, key);
         let PairLine::Two(left, right, n) = line else {
             return Lines::Off(at + used);
         };
@@ -104,7 +106,7 @@ fn read_count(rest: &[u8], at: usize, key: &[u8], limit: u16, table: usize) -> S
 fn read_concepts(rest: &[u8], at: usize, out: &mut [u16]) -> Section
     requires { ⌜ at + length (now rest) ≤ 8192 ⌝ }
     requires { ⌜ 192 * 3 ≤ length (now out) ⌝ }
-    ensures { λ r. ⌜ Sectioned conceptsKey 192 0 rowAt 3 at (now (rest .entry)) r (now (out .exit)) ⌝ }
+    ensures { λ r. ⌜ Sectioned (sectionAt conceptsKey 192 0 rowAt) 192 3 at (now (rest .entry)) r (now (out .exit)) ⌝ }
 {
     let counted = read_count(rest, at, b"entries=", 192, 0);
     let Section::Through(count, n) = counted else {
@@ -118,30 +120,44 @@ fn read_concepts(rest: &[u8], at: usize, out: &mut [u16]) -> Section
     }
 }
 
-// The inclusions or the questions.
+// A table of pairs: the key of its count, and that of its lines.
 fn read_section(
     rest: &[u8],
     at: usize,
     key: &[u8],
+    line: &[u8],
     limit: u16,
     table: usize,
     out: &mut [u16],
 ) -> Section
     requires { ⌜ at + length (now rest) ≤ 8192 ⌝ }
     requires { ⌜ length (now key) ≤ 16 ⌝ }
+    requires { ⌜ length (now line) ≤ 16 ⌝ }
     requires { ⌜ limit * 2 ≤ length (now out) ⌝ }
-    ensures { λ r. ⌜ Sectioned (now (key .entry)) limit table pairAt 2 at (now (rest .entry)) r (now (out .exit)) ⌝ }
+    ensures { λ r. ⌜ Sectioned (sectionAt (now (key .entry)) limit table (pairAt (now (line .entry)))) limit 2 at (now (rest .entry)) r (now (out .exit)) ⌝ }
 {
     let counted = read_count(rest, at, key, limit, table);
     let Section::Through(count, n) = counted else {
         return counted;
     };
     let pairs = behind(rest, n);
-    let lines = read_pairs(pairs, at + n, count, out);
+    let lines = read_pairs(pairs, at + n, line, count, out);
     match lines {
         Lines::Upto(m) => Section::Through(count, n + m),
         Lines::Off(place) => Section::Faulty(Refusal::BadText(place)),
     }
+}
+
+// The roles above roles. A text may lack the section and then has no such pairs.
+fn read_roles(rest: &[u8], at: usize, out: &mut [u16]) -> Section
+    requires { ⌜ at + length (now rest) ≤ 8192 ⌝ }
+    requires { ⌜ 32 * 2 ≤ length (now out) ⌝ }
+    ensures { λ r. ⌜ Sectioned rolesAt 32 2 at (now (rest .entry)) r (now (out .exit)) ⌝ }
+{
+    if !starts_with(rest, b"roles=") {
+        return Section::Through(0, 0);
+    }
+    read_section(rest, at, b"roles=", b"wider=", 32, 4, out)
 }
 
 // The questions, with nothing behind them.
@@ -150,7 +166,7 @@ fn read_questions(rest: &[u8], at: usize, out: &mut [u16]) -> Section
     requires { ⌜ 32 * 2 ≤ length (now out) ⌝ }
     ensures { λ r. ⌜ Last at (now (rest .entry)) r (now (out .exit)) ⌝ }
 {
-    let asked = read_section(rest, at, b"questions=", 32, 2, out);
+    let asked = read_section(rest, at, b"questions=", b"below=", 32, 2, out);
     let Section::Through(count, n) = asked else {
         return asked;
     };
@@ -170,22 +186,23 @@ fn fault(section: Section) -> Refusal
     }
 }
 
-// The tables behind the variables' count, into the caller's arrays.
+// The tables behind the pairs of roles, into the caller's arrays.
 fn read_tables(
     rest: &[u8],
     at: usize,
     variables: u16,
+    pairs: usize,
     concepts: &mut [u16],
     inclusions: &mut [u16],
     questions: &mut [u16],
 ) -> Read
     requires { ⌜ at + length (now rest) ≤ 8192 ⌝ }
     requires { ⌜ variables ≤ 8 ⌝ }
+    requires { ⌜ pairs ≤ 32 ⌝ }
     requires { ⌜ 192 * 3 ≤ length (now concepts) ⌝ }
     requires { ⌜ 96 * 2 ≤ length (now inclusions) ⌝ }
     requires { ⌜ 32 * 2 ≤ length (now questions) ⌝ }
-    ensures { λ r. ⌜ judgeConcepts variables at (now (rest .entry)) ≡ judgedBy r (now (concepts .exit)) (now (inclusions .exit)) (now (questions .exit)) ⌝ }
-    ensures { λ r. ⌜ ReadFits r ⌝ }
+    ensures { λ r. ⌜ TablesRead variables pairs at (now (rest .entry)) r (now (concepts .exit)) (now (inclusions .exit)) (now (questions .exit)) ⌝ }
 {
     let rows = read_concepts(rest, at, concepts);
     let Section::Through(c, n) = rows else {
@@ -193,7 +210,7 @@ fn read_tables(
     };
     let second = behind(rest, n);
     let b = at + n;
-    let given = read_section(second, b, b"inclusions=", 96, 1, inclusions);
+    let given = read_section(second, b, b"inclusions=", b"below=", 96, 1, inclusions);
     let Section::Through(i, m) = given else {
         return Read::Rejected(fault(given));
     };
@@ -202,7 +219,7 @@ fn read_tables(
     let Section::Through(q, _) = asked else {
         return Read::Rejected(fault(asked));
     };
-    Read::Problem(variables, c, i, q)
+    Read::Problem(variables, c, i, q, pairs)
 }
 
 // The whole text, into the caller's arrays.
@@ -211,11 +228,13 @@ pub fn read_text(
     concepts: &mut [u16],
     inclusions: &mut [u16],
     questions: &mut [u16],
+    roles: &mut [u16],
 ) -> Read
     requires { ⌜ 192 * 3 ≤ length (now concepts) ⌝ }
     requires { ⌜ 96 * 2 ≤ length (now inclusions) ⌝ }
     requires { ⌜ 32 * 2 ≤ length (now questions) ⌝ }
-    ensures { λ r. ⌜ judge (now (text .entry)) ≡ judgedBy r (now (concepts .exit)) (now (inclusions .exit)) (now (questions .exit)) ⌝ }
+    requires { ⌜ 32 * 2 ≤ length (now roles) ⌝ }
+    ensures { λ r. ⌜ judge (now (text .entry)) ≡ judgedBy r (now (concepts .exit)) (now (inclusions .exit)) (now (questions .exit)) (now (roles .exit)) ⌝ }
     ensures { λ r. ⌜ ReadFits r ⌝ }
 {
     if 8192 < text.len() {
@@ -226,5 +245,18 @@ pub fn read_text(
         return Read::Rejected(fault(counted));
     };
     let rest = behind(text, n);
-    read_tables(rest, n, variables as u16, concepts, inclusions, questions)
+    let above = read_roles(rest, n, roles);
+    let Section::Through(pairs, m) = above else {
+        return Read::Rejected(fault(above));
+    };
+    let tables = behind(rest, m);
+    read_tables(
+        tables,
+        n + m,
+        variables as u16,
+        pairs,
+        concepts,
+        inclusions,
+        questions,
+    )
 }

@@ -9,10 +9,13 @@ use crate::limits::SQUARE;
 use subsumption::Listed;
 use subsumption::helpers::check_assignment;
 use subsumption::helpers::list_asked;
+use subsumption::helpers::note_roles;
 use subsumption::limits::ATOMS;
+use subsumption::limits::ROLE_WORDS;
 use subsumption::refusal::Outcome;
 use subsumption::refusal::Refusal;
 ghost use mathlib.Core.Path.{_≡_};
+ghost use lib.ListN.{length};
 ghost use Prim.Native.Nat.{_<_};
 ghost use Rattle.subsumption.specs.declared.refusal.Refusal.the-variants.{BadDerivation};
 ghost use Rattle.subsumption.specs.declared.refusal.Outcome.the-variants.{Done};
@@ -26,6 +29,7 @@ ghost use Rattle.matching.specs.Inner.Derivation.{MarksOf, LineTest, Rul
 fn line_follows(
     concepts: &[u16],
     inclusions: &[u16],
+    into: &[u64],
     atoms: &[u16],
     assignment: &[u64],
     marks: &[bool],
@@ -33,9 +37,10 @@ fn line_follows(
     k: usize,
 ) -> bool
     requires { ⌜ Ready (now concepts) (now inclusions) (now atoms) (now assignment) ⌝ }
+    requires { ⌜ length (now into) ≡ 200 ⌝ }
     requires { ⌜ MarksOf (countOf (now concepts)) (now marks) (now lines) k ⌝ }
     requires { ⌜ k < linesOf (now lines) ⌝ }
-    ensures { λ r. ⌜ LineTest (now (concepts .entry)) (now (inclusions .entry)) (now (atoms .entry)) (now (assignment .entry)) (now (lines .entry)) k r ⌝ }
+    ensures { λ r. ⌜ LineTest (now (concepts .entry)) (now (inclusions .entry)) (now (into .entry)) (now (atoms .entry)) (now (assignment .entry)) (now (lines .entry)) k r ⌝ }
 {
     let count = concepts.len() / 3;
     let rule = number_at(lines, k * 4);
@@ -51,6 +56,7 @@ fn line_follows(
     by_rule(
         concepts,
         inclusions,
+        into,
         atoms,
         assignment,
         marks,
@@ -65,20 +71,31 @@ fn line_follows(
 fn check_lines(
     concepts: &[u16],
     inclusions: &[u16],
+    into: &[u64],
     atoms: &[u16],
     assignment: &[u64],
     lines: &[u16],
     marks: &mut [bool],
 ) -> Outcome
     requires { ⌜ Ready (now concepts) (now inclusions) (now atoms) (now assignment) ⌝ }
+    requires { ⌜ length (now into) ≡ 200 ⌝ }
     requires { ⌜ MarksOf (countOf (now concepts)) (now marks) (now lines) 0 ⌝ }
-    ensures { λ r. ⌜ RulesTest (now (concepts .entry)) (now (inclusions .entry)) (now (atoms .entry)) (now (assignment .entry)) (now (lines .entry)) r ⌝ }
+    ensures { λ r. ⌜ RulesTest (now (concepts .entry)) (now (inclusions .entry)) (now (into .entry)) (now (atoms .entry)) (now (assignment .entry)) (now (lines .entry)) r ⌝ }
 {
     let count = concepts.len() / 3;
     let total = lines.len() / 4;
     let mut k = 0;
     while k < total {
-        if line_follows(concepts, inclusions, atoms, assignment, marks, lines, k) {
+        if line_follows(
+            concepts,
+            inclusions,
+            into,
+            atoms,
+            assignment,
+            marks,
+            lines,
+            k,
+        ) {
             let left = number_at(lines, k * 4 + 1);
             let right = number_at(lines, k * 4 + 2);
             mark_pair(marks, count, left, right);
@@ -94,12 +111,14 @@ fn check_lines(
 fn check_rules(
     concepts: &[u16],
     inclusions: &[u16],
+    into: &[u64],
     atoms: &[u16],
     assignment: &[u64],
     lines: &[u16],
 ) -> Outcome
     requires { ⌜ Ready (now concepts) (now inclusions) (now atoms) (now assignment) ⌝ }
-    ensures { λ r. ⌜ RulesTest (now (concepts .entry)) (now (inclusions .entry)) (now (atoms .entry)) (now (assignment .entry)) (now (lines .entry)) r ⌝ }
+    requires { ⌜ length (now into) ≡ 200 ⌝ }
+    ensures { λ r. ⌜ RulesTest (now (concepts .entry)) (now (inclusions .entry)) (now (into .entry)) (now (atoms .entry)) (now (assignment .entry)) (now (lines .entry)) r ⌝ }
 {
     let mut marks = [false; SQUARE];
     let count = concepts.len() / 3;
@@ -107,6 +126,7 @@ fn check_rules(
     check_lines(
         concepts,
         inclusions,
+        into,
         atoms,
         assignment,
         lines,
@@ -147,6 +167,7 @@ fn check_last(left: u16, right: u16, lines: &[u16]) -> Outcome
 fn check_known(
     concepts: &[u16],
     inclusions: &[u16],
+    roles: &[u16],
     atoms: &[u16],
     variables: u16,
     assignment: &[u64],
@@ -154,9 +175,9 @@ fn check_known(
     right: u16,
     lines: &[u16],
 ) -> Outcome
-    requires { ⌜ Prepared (now concepts) (now inclusions) variables (now atoms) ⌝ }
+    requires { ⌜ Prepared (now concepts) (now inclusions) (now roles) variables (now atoms) ⌝ }
     requires { ⌜ (left < countOf (now concepts)) × (right < countOf (now concepts)) ⌝ }
-    ensures { λ r. ⌜ ForAccepted (now (concepts .entry)) (now (inclusions .entry)) variables (now (atoms .entry)) (λ t. r ≡ checkingFault t (now (assignment .entry)) left right (now (lines .entry))) ⌝ }
+    ensures { λ r. ⌜ ForAccepted (now (concepts .entry)) (now (inclusions .entry)) (now (roles .entry)) variables (now (atoms .entry)) (λ t. r ≡ checkingFault t (now (assignment .entry)) left right (now (lines .entry))) ⌝ }
 {
     let choices = check_assignment(assignment, variables, atoms.len());
     if let Outcome::Refused(r) = choices {
@@ -166,7 +187,9 @@ fn check_known(
     if let Outcome::Refused(r) = shape {
         return Outcome::Refused(r);
     }
-    let rules = check_rules(concepts, inclusions, atoms, assignment, lines);
+    let mut into = [0u64; ROLE_WORDS];
+    note_roles(roles, &mut into);
+    let rules = check_rules(concepts, inclusions, &into, atoms, assignment, lines);
     if let Outcome::Refused(r) = rules {
         return Outcome::Refused(r);
     }
@@ -178,19 +201,21 @@ pub fn check_derivation(
     concepts: &[u16],
     inclusions: &[u16],
     questions: &[u16],
+    roles: &[u16],
     variables: u16,
     assignment: &[u64],
     left: u16,
     right: u16,
     lines: &[u16],
 ) -> Outcome
-    ensures { λ r. ⌜ replyOf r ≡ replyOf (checkingFault (tables (now (concepts .entry)) (now (inclusions .entry)) (now (questions .entry)) variables) (now (assignment .entry)) left right (now (lines .entry))) ⌝ }
+    ensures { λ r. ⌜ replyOf r ≡ replyOf (checkingFault (tables (now (concepts .entry)) (now (inclusions .entry)) (now (questions .entry)) (now (roles .entry)) variables) (now (assignment .entry)) left right (now (lines .entry))) ⌝ }
 {
     let mut ids = [0u16; ATOMS];
     let listed = list_asked(
         concepts,
         inclusions,
         questions,
+        roles,
         variables,
         left,
         right,
@@ -201,6 +226,7 @@ pub fn check_derivation(
         Listed::Atoms(count) => check_known(
             concepts,
             inclusions,
+            roles,
             &ids[..count],
             variables,
             assignment,

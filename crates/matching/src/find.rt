@@ -49,14 +49,15 @@ fn find_first(
     concepts: &[u16],
     inclusions: &[u16],
     questions: &[u16],
+    roles: &[u16],
     variables: u16,
     ids: &[u16],
 ) -> Solution
-    requires { ⌜ Accepted (tables (now concepts) (now inclusions) (now questions) variables) (now ids) ⌝ }
-    ensures { λ r. ⌜ FoundBy (tables (now (concepts .entry)) (now (inclusions .entry)) (now (questions .entry)) variables) (r .found) (r .choice) ⌝ }
+    requires { ⌜ Accepted (tables (now concepts) (now inclusions) (now questions) (now roles) variables) (now ids) ⌝ }
+    ensures { λ r. ⌜ FoundBy (tables (now (concepts .entry)) (now (inclusions .entry)) (now (questions .entry)) (now (roles .entry)) variables) (r .found) (r .choice) ⌝ }
 {
     let mut ground = [0u64; WORDS];
-    close_ground(concepts, inclusions, ids, variables, &mut ground);
+    close_ground(concepts, inclusions, roles, ids, variables, &mut ground);
     let mut store = [0u64; STORE];
     let low = [0u64; 8];
     let full = all_atoms(variables as usize, ids.len());
@@ -65,6 +66,7 @@ fn find_first(
         concepts,
         inclusions,
         questions,
+        roles,
         variables,
         ids,
         &ground,
@@ -78,6 +80,7 @@ fn find_first(
             concepts,
             inclusions,
             questions,
+            roles,
             variables,
             ids,
             &ground,
@@ -113,18 +116,19 @@ fn find_known(
     concepts: &[u16],
     inclusions: &[u16],
     questions: &[u16],
+    roles: &[u16],
     variables: u16,
     ids: &[u16],
     out: &mut [u64],
 ) -> Match
-    requires { ⌜ Accepted (tables (now concepts) (now inclusions) (now questions) variables) (now ids) ⌝ }
-    ensures { λ r. ⌜ Finds (tables (now (concepts .entry)) (now (inclusions .entry)) (now (questions .entry)) variables) (now (out .entry)) (now (out .exit)) (matchReply r) ⌝ }
+    requires { ⌜ Accepted (tables (now concepts) (now inclusions) (now questions) (now roles) variables) (now ids) ⌝ }
+    ensures { λ r. ⌜ Finds (tables (now (concepts .entry)) (now (inclusions .entry)) (now (questions .entry)) (now (roles .entry)) variables) (now (out .entry)) (now (out .exit)) (matchReply r) ⌝ }
 {
     let wanted = variables as usize;
     if out.len() < wanted {
         return Match::Rejected(Refusal::BufferTooShort(wanted));
     }
-    let first = find_first(concepts, inclusions, questions, variables, ids);
+    let first = find_first(concepts, inclusions, questions, roles, variables, ids);
     if first.found {
         let choice = first.choice;
         write_choice(choice, wanted, out);
@@ -138,19 +142,21 @@ pub fn find_assignment(
     concepts: &[u16],
     inclusions: &[u16],
     questions: &[u16],
+    roles: &[u16],
     variables: u16,
     out: &mut [u64],
 ) -> Match
-    ensures { λ r. ⌜ Finds (tables (now (concepts .entry)) (now (inclusions .entry)) (now (questions .entry)) variables) (now (out .entry)) (now (out .exit)) (matchReply r) ⌝ }
+    ensures { λ r. ⌜ Finds (tables (now (concepts .entry)) (now (inclusions .entry)) (now (questions .entry)) (now (roles .entry)) variables) (now (out .entry)) (now (out .exit)) (matchReply r) ⌝ }
 {
     let mut ids = [0u16; ATOMS];
-    let listed = list_atoms(concepts, inclusions, questions, variables, &mut ids);
+    let listed = list_atoms(concepts, inclusions, questions, roles, variables, &mut ids);
     match listed {
         Listed::Rejected(r) => Match::Rejected(r),
         Listed::Atoms(count) => find_known(
             concepts,
             inclusions,
             questions,
+            roles,
             variables,
             &ids[..count],
             out,

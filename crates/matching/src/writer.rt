@@ -14,7 +14,9 @@ use subsumption::Listed;
 use subsumption::helpers::check_assignment;
 use subsumption::helpers::decide_known;
 use subsumption::helpers::list_asked;
+use subsumption::helpers::note_roles;
 use subsumption::limits::ATOMS;
+use subsumption::limits::ROLE_WORDS;
 use subsumption::refusal::Outcome;
 use subsumption::refusal::Refusal;
 ghost use mathlib.Core.Path.{_≡_};
@@ -66,6 +68,7 @@ fn is_pair(left: usize, right: usize, i: usize, j: usize) -> bool
 fn note_lines(
     concepts: &[u16],
     inclusions: &[u16],
+    into: &[u64],
     atoms: &[u16],
     assignment: &[u64],
     left: usize,
@@ -74,16 +77,17 @@ fn note_lines(
     notes: &mut [u16],
 ) -> usize
     requires { ⌜ Grounds (now concepts) (now inclusions) (now atoms) (now assignment) ⌝ }
-    requires { ⌜ Asked (now concepts) (now inclusions) (now atoms) (now assignment) left right ⌝ }
+    requires { ⌜ length (now into) ≡ 200 ⌝ }
+    requires { ⌜ Asked (now concepts) (now inclusions) (now into) (now atoms) (now assignment) left right ⌝ }
     requires { ⌜ Blank (countOf (now concepts)) (now marks) ⌝ }
     requires { ⌜ length (now notes) ≡ countOf (now concepts) * countOf (now concepts) * 4 ⌝ }
-    ensures { λ r. ⌜ NotedTo (now (concepts .entry)) (now (inclusions .entry)) (now (atoms .entry)) (now (assignment .entry)) left right (now (marks .exit)) (now (notes .exit)) r ⌝ }
+    ensures { λ r. ⌜ NotedTo (now (concepts .entry)) (now (inclusions .entry)) (now (into .entry)) (now (atoms .entry)) (now (assignment .entry)) left right (now (marks .exit)) (now (notes .exit)) r ⌝ }
 {
     let count = concepts.len() / 3;
     let mut n = 0;
     let mut from = 0;
     loop {
-        let next = next_line(concepts, inclusions, atoms, assignment, marks, from);
+        let next = next_line(concepts, inclusions, into, atoms, assignment, marks, from);
         if let Next::Line(rule, i, j, extra) = next {
             write_line(notes, n, rule as u16, i as u16, j as u16, extra as u16);
             mark_pair(marks, count, i, j);
@@ -131,6 +135,7 @@ fn write_needed(notes: &[u16], n: usize, needed: &[bool], count: usize, out: &mu
 fn write_lines(
     concepts: &[u16],
     inclusions: &[u16],
+    into: &[u64],
     atoms: &[u16],
     assignment: &[u64],
     left: usize,
@@ -141,17 +146,19 @@ fn write_lines(
     out: &mut [u16],
 ) -> usize
     requires { ⌜ Grounds (now concepts) (now inclusions) (now atoms) (now assignment) ⌝ }
-    requires { ⌜ Asked (now concepts) (now inclusions) (now atoms) (now assignment) left right ⌝ }
+    requires { ⌜ length (now into) ≡ 200 ⌝ }
+    requires { ⌜ Asked (now concepts) (now inclusions) (now into) (now atoms) (now assignment) left right ⌝ }
     requires { ⌜ Blank (countOf (now concepts)) (now marks) ⌝ }
     requires { ⌜ Blank (countOf (now concepts)) (now needed) ⌝ }
     requires { ⌜ length (now notes) ≡ countOf (now concepts) * countOf (now concepts) * 4 ⌝ }
     requires { ⌜ countOf (now concepts) * countOf (now concepts) * 4 ≤ length (now out) ⌝ }
-    ensures { λ r. ⌜ WrittenFor (now (concepts .entry)) (now (inclusions .entry)) (now (atoms .entry)) (now (assignment .entry)) left right (now (out .entry)) (now (out .exit)) r ⌝ }
+    ensures { λ r. ⌜ WrittenFor (now (concepts .entry)) (now (inclusions .entry)) (now (into .entry)) (now (atoms .entry)) (now (assignment .entry)) left right (now (out .entry)) (now (out .exit)) r ⌝ }
 {
     let count = concepts.len() / 3;
     let n = note_lines(
         concepts,
         inclusions,
+        into,
         atoms,
         assignment,
         left,
@@ -163,6 +170,7 @@ fn write_lines(
     need_lines(
         concepts,
         inclusions,
+        into,
         atoms,
         assignment,
         notes,
@@ -177,6 +185,7 @@ fn write_lines(
 fn put_lines(
     concepts: &[u16],
     inclusions: &[u16],
+    into: &[u64],
     atoms: &[u16],
     assignment: &[u64],
     left: u16,
@@ -184,9 +193,10 @@ fn put_lines(
     out: &mut [u16],
 ) -> usize
     requires { ⌜ Grounds (now concepts) (now inclusions) (now atoms) (now assignment) ⌝ }
-    requires { ⌜ Asked (now concepts) (now inclusions) (now atoms) (now assignment) left right ⌝ }
+    requires { ⌜ length (now into) ≡ 200 ⌝ }
+    requires { ⌜ Asked (now concepts) (now inclusions) (now into) (now atoms) (now assignment) left right ⌝ }
     requires { ⌜ countOf (now concepts) * countOf (now concepts) * 4 ≤ length (now out) ⌝ }
-    ensures { λ r. ⌜ WrittenFor (now (concepts .entry)) (now (inclusions .entry)) (now (atoms .entry)) (now (assignment .entry)) left right (now (out .entry)) (now (out .exit)) r ⌝ }
+    ensures { λ r. ⌜ WrittenFor (now (concepts .entry)) (now (inclusions .entry)) (now (into .entry)) (now (atoms .entry)) (now (assignment .entry)) left right (now (out .entry)) (now (out .exit)) r ⌝ }
 {
     let mut marks = [false; SQUARE];
     let mut needed = [false; SQUARE];
@@ -197,6 +207,7 @@ fn put_lines(
     write_lines(
         concepts,
         inclusions,
+        into,
         atoms,
         assignment,
         left as usize,
@@ -212,6 +223,7 @@ fn put_lines(
 fn derive_known(
     concepts: &[u16],
     inclusions: &[u16],
+    roles: &[u16],
     atoms: &[u16],
     variables: u16,
     assignment: &[u64],
@@ -219,9 +231,9 @@ fn derive_known(
     right: u16,
     out: &mut [u16],
 ) -> Derived
-    requires { ⌜ Prepared (now concepts) (now inclusions) variables (now atoms) ⌝ }
+    requires { ⌜ Prepared (now concepts) (now inclusions) (now roles) variables (now atoms) ⌝ }
     requires { ⌜ (left < countOf (now concepts)) × (right < countOf (now concepts)) ⌝ }
-    ensures { λ r. ⌜ ForAccepted (now (concepts .entry)) (now (inclusions .entry)) variables (now (atoms .entry)) (λ t. Derives t (now (assignment .entry)) left right (now (out .entry)) (now (out .exit)) (derivedReply r)) ⌝ }
+    ensures { λ r. ⌜ ForAccepted (now (concepts .entry)) (now (inclusions .entry)) (now (roles .entry)) variables (now (atoms .entry)) (λ t. Derives t (now (assignment .entry)) left right (now (out .entry)) (now (out .exit)) (derivedReply r)) ⌝ }
 {
     let choices = check_assignment(assignment, variables, atoms.len());
     if let Outcome::Refused(r) = choices {
@@ -235,16 +247,20 @@ fn derive_known(
     let decision = decide_known(
         concepts,
         inclusions,
+        roles,
         atoms,
         variables,
         assignment,
         left,
         right,
     );
+    let mut into = [0u64; ROLE_WORDS];
+    note_roles(roles, &mut into);
     match decision {
         Decision::Yes => Derived::Lines(put_lines(
             concepts,
             inclusions,
+            &into,
             atoms,
             assignment,
             left,
@@ -261,19 +277,21 @@ pub fn derive(
     concepts: &[u16],
     inclusions: &[u16],
     questions: &[u16],
+    roles: &[u16],
     variables: u16,
     assignment: &[u64],
     left: u16,
     right: u16,
     out: &mut [u16],
 ) -> Derived
-    ensures { λ r. ⌜ Derives (tables (now (concepts .entry)) (now (inclusions .entry)) (now (questions .entry)) variables) (now (assignment .entry)) left right (now (out .entry)) (now (out .exit)) (derivedReply r) ⌝ }
+    ensures { λ r. ⌜ Derives (tables (now (concepts .entry)) (now (inclusions .entry)) (now (questions .entry)) (now (roles .entry)) variables) (now (assignment .entry)) left right (now (out .entry)) (now (out .exit)) (derivedReply r) ⌝ }
 {
     let mut ids = [0u16; ATOMS];
     let listed = list_asked(
         concepts,
         inclusions,
         questions,
+        roles,
         variables,
         left,
         right,
@@ -284,6 +302,7 @@ pub fn derive(
         Listed::Atoms(count) => derive_known(
             concepts,
             inclusions,
+            roles,
             &ids[..count],
             variables,
             assignment,

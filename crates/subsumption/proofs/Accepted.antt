@@ -1,6 +1,6 @@
 -- What passed checks tell of the tables.
 use Prim.Native.Nat.{ℕ, zero, suc, _*_, _%_, _/_, _^_, _<_, _≤_}
-use mathlib.Core.Path.{_≡_, refl, sym, ap, _∙_, subst}
+use mathlib.Core.Path.{_≡_, refl, sym, ap, ap₂, _∙_, subst}
 use mathlib.Core.List.{List}
 use mathlib.Core.Bool.{Bool, false, not, true≢false}
 use mathlib.Core.Logic.{⊎-elim}
@@ -18,8 +18,9 @@ use Rattle.subsumption.specs.declared.tables.Pair.{Pair}
 use Rattle.subsumption.specs.Inner.Tables.{pairOf, Rising}
 use Rattle.subsumption.specs.Tables.{Tables, or, both, Node, topAt, nameAt, existsAt, andAt, varAt, node, decode, countOf, pairsOf, leftOf, rightOf, tree, hasVariable}
 use Rattle.subsumption.specs.Atoms.{atoms}
-use Rattle.subsumption.specs.Check.{unfit, limitFault, malformedRow, malformed, malformedFault, forward, forwardFault, noConcept, pairsFault, inclusionFault, sidesFault, atomsFault, conceptFault, idFault, useFault, tableFault, assignmentFaultAt}
+use Rattle.subsumption.specs.Check.{unfit, limitFault, malformedRow, malformed, malformedFault, forward, forwardFault, noConcept, pairsFault, inclusionFault, sidesFault, rolesFault, atomsFault, conceptFault, idFault, useFault, tableFault, assignmentFaultAt}
 use Rattle.subsumption.specs.Inner.Atoms.{Layered, Known, VariableSets, held}
+use Rattle.subsumption.specs.Inner.Roles.{LowRoles}
 use Rattle.subsumption.proofs.Marks.{held-set}
 use Rattle.subsumption.proofs.WellFormed.{WellFormed}
 use Rattle.subsumption.proofs.Bools.{or-false, le-or-lt}
@@ -39,6 +40,7 @@ pub record Limited (t : Tables) : Type 0 where
   pub inclusions-fit : unfit 2 96 (t .inclusions) ≡ false
   pub questions-fit : unfit 2 32 (t .questions) ≡ false
   pub variables-fit : ltb 8 (t .variables) ≡ false
+  pub roles-fit : unfit 2 32 (t .roles) ≡ false
 
 limited : (t : Tables) → limitFault t ≡ Done → Limited t
 unfolding limitFault
@@ -47,7 +49,8 @@ limited t h =
       concepts-fit = passed-if _ _ (passed-first _ _ h);
       inclusions-fit = passed-if _ _ (passed-first _ _ (passed-second _ _ h));
       questions-fit = passed-if _ _ (passed-first _ _ (passed-second _ _ (passed-second _ _ h)));
-      variables-fit = passed-if _ _ (passed-second _ _ (passed-second _ _ (passed-second _ _ h)));
+      variables-fit = passed-if _ _ (passed-first _ _ (passed-second _ _ (passed-second _ _ (passed-second _ _ h))));
+      roles-fit = passed-if _ _ (passed-second _ _ (passed-second _ _ (passed-second _ _ (passed-second _ _ h))));
     }
 
 -- ---- checks 2 and 3
@@ -193,6 +196,15 @@ module _ (concepts pairs sets : List ℕ) (m : ℕ) (pair : Pair) (known-sets : 
   pub both-held : (r : Bool) → r ≡ both (held sets (pair .left)) (held sets (pair .right)) → both (hasVariable (tree concepts (leftOf pairs m))) (hasVariable (tree concepts (rightOf pairs m))) ≡ r
   both-held r f = rw (← held-left, ← held-right) (sym f)
 
+-- ---- check 16
+pub role-over :
+    (roles : List ℕ) (m : ℕ) (pair : Pair) → pair ≡ pairOf roles m → (r : Bool) → r ≡ or (ltb 99 (pair .left)) (ltb 99 (pair .right))
+    → or (ltb 99 (leftOf roles m)) (ltb 99 (rightOf roles m)) ≡ r
+role-over roles m pair e r f =
+    let p : pair .left ≡ leftOf roles m = cc e in
+    let q : pair .right ≡ rightOf roles m = cc e in
+    sym (f ∙ ap₂ (λ (x y : ℕ). or (ltb 99 x) (ltb 99 y)) p q)
+
 -- ---- check 9
 pub none-past : (choice atomCount : ℕ) → atomCount ≡ 64 → choice < 2 ^ 64 → false ≡ not (ltb choice (2 ^ atomCount))
 none-past choice atomCount e h = rw (e, lt-ltb choice (2 ^ 64) h) refl
@@ -241,7 +253,7 @@ module _ (t : Tables) (h : tableFault t ≡ Done) where
 
   atoms-few : length (atoms t) ≤ 64
   unfolding useFault atomsFault
-  atoms-few = ltb-false _ _ (passed-if _ _ (passed-second _ _ (passed-second _ _ table-use)))
+  atoms-few = ltb-false _ _ (passed-if _ _ (passed-second _ _ (passed-second _ _ (passed-second _ _ table-use))))
 
   pub one-sided : (m : ℕ) → m < pairsOf (t .questions)
       → both (hasVariable (tree (t .concepts) (leftOf (t .questions) m))) (hasVariable (tree (t .concepts) (rightOf (t .questions) m))) ≡ false
@@ -249,6 +261,20 @@ module _ (t : Tables) (h : tableFault t ≡ Done) where
   one-sided m l =
       passed-at _ (λ m. both (hasVariable (tree (t .concepts) (leftOf (t .questions) m))) (hasVariable (tree (t .concepts) (rightOf (t .questions) m)))) 0 _
       (passed-first _ _ (passed-second _ _ table-use)) m (omega arith) (omega arith)
+
+  -- check 16
+  pub roles-low : LowRoles (t .roles)
+  unfolding useFault rolesFault
+  roles-low =
+      record {
+        narrow = λ m l. omega (arith, ltb-false 99 (leftOf (t .roles) m) (or-false _ _ (low m l) .0));
+        wide = λ m l. omega (arith, ltb-false 99 (rightOf (t .roles) m) (or-false _ _ (low m l) .1));
+      }
+    where
+      low : (m : ℕ) → m < pairsOf (t .roles) → or (ltb 99 (leftOf (t .roles) m)) (ltb 99 (rightOf (t .roles) m)) ≡ false
+      low m l =
+          passed-at _ (λ m. or (ltb 99 (leftOf (t .roles) m)) (ltb 99 (rightOf (t .roles) m))) 0 _
+          (passed-first _ _ (passed-second _ _ (passed-second _ _ table-use))) m (omega arith) (omega arith)
 
   pub wellFormed : WellFormed t
   wellFormed =
@@ -261,6 +287,8 @@ module _ (t : Tables) (h : tableFault t ≡ Done) where
         few-questions = questions-few t table-concepts;
         few-variables = ltb-false _ _ (concept-limits t table-concepts .variables-fit);
         rising = concepts-rising t table-concepts;
+        low-roles = concepts-roles t table-concepts;
+        wide-low = roles-low .wide;
         numbered = concepts-numbered t table-concepts;
         left-known = inclusions-known t table-ids .left-known;
         right-known = inclusions-known t table-ids .right-known;

@@ -1,7 +1,7 @@
 -- The atoms' marks are right: what each pass adds, put together.
 use Prim.Native.Nat.{ℕ, zero, suc, _+_, _<_, _≤_}
 use mathlib.Core.Path.{_≡_, refl, sym, ap, ap₂, _∙_, subst}
-use mathlib.Core.List.{List, _∷_}
+use mathlib.Core.List.{List, [], _∷_}
 use mathlib.Core.Bool.{Bool, true, false, not, false≢true}
 use mathlib.Core.Logic.{⊎-elim}
 use native.Mathlib.Omega.{arith}
@@ -18,7 +18,7 @@ use Rattle.subsumption.specs.Inner.Tables.{rowOf}
 use Rattle.subsumption.specs.Tables.{Tables, tables, or, both, anyBelow, node, decode, countOf, pairsOf, leftOf, rightOf, tree, hasVariable}
 use Rattle.subsumption.specs.Atoms.{isAtomic, occurs, inInclusion, inQuestion, stands, twin, isLowest, isAtom, keep, atoms}
 use Rattle.subsumption.specs.Refusal.{orElse, refuseIf}
-use Rattle.subsumption.specs.Check.{inclusionFault, sidesFault, atomsFault, useFault}
+use Rattle.subsumption.specs.Check.{inclusionFault, sidesFault, rolesFault, atomsFault, useFault}
 use Rattle.subsumption.specs.Inner.Atoms.{Known, markAt, held, VariableSets, MarkedBy, inPair, onSide, onGroundRight, Spread, Narrowed, StandingMarks, AtomMarks, markedIds}
 use Rattle.subsumption.specs.Inner.Twins.{LowestTwins, Lowered}
 use Rattle.subsumption.specs.Inner.Check.{Used}
@@ -138,7 +138,7 @@ module _ (concepts inclusions questions sets : List ℕ) (a b c d e : List Bool)
 module _ (concepts inclusions questions firsts : List ℕ) (before after : List Bool) (standing : StandingMarks concepts inclusions questions before)
     (lowest : LowestTwins concepts firsts) (lowered : Lowered firsts (countOf concepts) before after) where
   abbrev t : Tables
-  t = tables concepts inclusions questions 0
+  t = tables concepts inclusions questions [] 0
 
   is-lowest : (p q : ℕ) → p < countOf concepts → getD firsts p 0 ≡ q → isLowest concepts q ≡ true
   is-lowest p q l e =
@@ -181,23 +181,23 @@ pub atoms-listed : (t : Tables) (marks : List Bool) → AtomMarks (t .concepts) 
 unfolding atoms isAtom stands
 atoms-listed t marks m = keep-as (markAt marks) (isAtom t) 0 (countOf (t .concepts)) (λ p l k. m .holds p (omega arith))
 
-module _ (t : Tables) (x y : Outcome) (n : ℕ) (marks : List Bool) (ex : x ≡ inclusionFault (t .concepts) (t .inclusions)) (hx : x ≡ Done)
-    (ey : y ≡ sidesFault (t .concepts) (t .questions)) (hy : y ≡ Done) (m : AtomMarks (t .concepts) (t .inclusions) (t .questions) marks)
+module _ (t : Tables) (x y w : Outcome) (n : ℕ) (marks : List Bool) (ex : x ≡ inclusionFault (t .concepts) (t .inclusions)) (hx : x ≡ Done)
+    (ey : y ≡ sidesFault (t .concepts) (t .questions)) (hy : y ≡ Done) (ew : w ≡ rolesFault (t .roles)) (hw : w ≡ Done) (m : AtomMarks (t .concepts) (t .inclusions) (t .questions) marks)
     (en : n ≡ length (markedIds marks (countOf (t .concepts)))) where
   counted : n ≡ length (atoms t)
   counted = en ∙ ap length (atoms-listed t marks m)
 
   pub use-many : (after : List Bool) → 64 < n → Used t after (Refused TooManyAtoms)
   unfolding useFault atomsFault orElse refuseIf
-  use-many after h = record { answered = rw (← ex, hx, ← ey, hy, ← counted, lt-ltb 64 n h); marked = λ e. absurd (let z : _≡_ {A = ℕ} 0 1 = cc e in omega arith) }
+  use-many after h = record { answered = rw (← ex, hx, ← ey, hy, ← ew, hw, ← counted, lt-ltb 64 n h); marked = λ e. absurd (let z : _≡_ {A = ℕ} 0 1 = cc e in omega arith) }
 
   pub use-few : n ≤ 64 → Used t marks Done
   unfolding useFault atomsFault orElse refuseIf
-  use-few h = record { answered = rw (← ex, hx, ← ey, hy, ← counted, le-ltb 64 n h); marked = λ e. m }
+  use-few h = record { answered = rw (← ex, hx, ← ey, hy, ← ew, hw, ← counted, le-ltb 64 n h); marked = λ e. m }
 
 pub use-refused : (t : Tables) (marks : List Bool) (r : Refusal) → Refused r ≡ useFault t → Used t marks (Refused r)
 use-refused t marks r e = record { answered = e; marked = λ h. absurd (let z : _≡_ {A = ℕ} 0 1 = cc h in omega arith) }
 
 pub used-few : (t : Tables) → useFault t ≡ Done → length (atoms t) ≤ 64
 unfolding useFault atomsFault
-used-few t h = ltb-false 64 _ (passed-if _ _ (passed-second _ _ (passed-second _ _ h)))
+used-few t h = ltb-false 64 _ (passed-if _ _ (passed-second _ _ (passed-second _ _ (passed-second _ _ h))))

@@ -20,6 +20,10 @@ pub record Canonical (t : Tables) (assignment : List ℕ) (I : Interpretation) (
   pub obeying :
       (x m : ℕ) → x < countOf (t .concepts) → m < pairsOf (t .inclusions)
       → Out x (leftOf (t .inclusions) m) → In x (rightOf (t .inclusions) m)
+  pub roles-obeyed :
+      (m : ℕ) → m < pairsOf (t .roles) → (x y : ℕ) → x < countOf (t .concepts) → y < countOf (t .concepts)
+      → List·Memᴰ (record { from = x; role = leftOf (t .roles) m; to = y }) (I .links)
+      → List·Memᴰ (record { from = x; role = rightOf (t .roles) m; to = y }) (I .links)
   pub name-in :
       (x c n : ℕ) → x < countOf (t .concepts) → c < countOf (t .concepts) → node (t .concepts) c ≡ nameAt n → In x c
       → List·Memᴰ (record { element = x; name = n }) (I .names)
@@ -116,10 +120,15 @@ module _ (t : Tables) (assignment : List ℕ) (wf : WellFormed t) (I : Interpret
       x k
 
   pub obeys : Obeys t I
-  obeys m l x k h =
-      let u : x < countOf (t .concepts) = omega (arith, canonical .size) in
-      ground-in _ x (wf .right-known m l) u (wf .right-ground m l)
-      (canonical .obeying x m u l (ground-out _ x (wf .left-known m l) u (wf .left-ground m l) h))
+  obeys =
+      record {
+        inclusions =
+            λ m l x k h.
+            let u : x < countOf (t .concepts) = omega (arith, canonical .size) in
+            ground-in _ x (wf .right-known m l) u (wf .right-ground m l)
+            (canonical .obeying x m u l (ground-out _ x (wf .left-known m l) u (wf .left-ground m l) h));
+        roles = λ m l x y k u. canonical .roles-obeyed m l x y (omega (arith, canonical .size)) (omega (arith, canonical .size));
+      }
 
   pub assigned-out : (c x : ℕ) → c < countOf (t .concepts) → x < countOf (t .concepts) → Member I (assigned t assignment I) (tree (t .concepts) c) x → Out x c
   assigned-out c x l k =

@@ -12,9 +12,11 @@ use Rattle.subsumption.specs.declared.refusal.Refusal.{Refusal}
 use Rattle.subsumption.specs.declared.decide.Decision.the-variants.{Yes, No}
 use Rattle.subsumption.specs.Tables.{Tables, tables, varAt, node, countOf}
 use Rattle.subsumption.specs.Atoms.{atoms}
+use Rattle.subsumption.specs.Roles.{wider}
 use Rattle.subsumption.specs.Refusal.{replyDone, replyRefused, replyWith, Replies}
 use Rattle.subsumption.specs.Check.{bufferFault, noConcept, aloneFault, tableFault, pairFault, assignmentFaultAt, assignmentFault}
 use Rattle.subsumption.specs.Inner.Columns.{has, Empty}
+use Rattle.subsumption.specs.Inner.Roles.{LowRoles}
 use Rattle.subsumption.specs.Inner.Settling.{chooseFrom}
 use Rattle.subsumption.specs.Inner.Closure.{Ready, Closed}
 use Rattle.subsumption.specs.Inner.Listing.{Accepted, Prepared, ForAccepted}
@@ -26,7 +28,7 @@ use Rattle.subsumption.proofs.Bools.{or-false, or-skip}
 use Rattle.subsumption.proofs.Refusals.{passed-first, passed-second, passed-if, done-if, stops, goes-on, both-done, refuses}
 use Rattle.subsumption.proofs.AtomLaws.{atom-known}
 use Rattle.subsumption.proofs.Chosen.{getD-member}
-use Rattle.subsumption.proofs.Accepted.{wellFormed, table-concepts, concepts-named}
+use Rattle.subsumption.proofs.Accepted.{wellFormed, table-concepts, concepts-named, roles-low}
 use Rattle.subsumption.proofs.ListingLaws.{pair-tables}
 use Rattle.subsumption.proofs.Closing.{nothing}
 use Rattle.subsumption.proofs.RowLaws.{table-of}
@@ -50,6 +52,7 @@ module _ (t : Tables) (assignment : List ℕ) (h : tableFault t ≡ Done) where
         left-known = wf .left-known;
         right-known = wf .right-known;
         low-names = concepts-named t (table-concepts t h);
+        low-roles = wf .low-roles;
         few-atoms = wf .few-atoms;
         atoms-known = λ q l. atom-known t (getD (atoms t) q 0) (getD-member (atoms t) q l);
       }
@@ -59,26 +62,26 @@ pub no-columns : Empty (replicate 576 0)
 no-columns = record { long = length-replicate {A = ℕ} 576 0; zeros = λ p h. getD-replicate 576 p 0 0 h }
 
 -- ---- what the accepted tables and their atoms give
-module _ (cs is qs : List ℕ) (v : ℕ) (assignment ids : List ℕ) (a : Accepted (tables cs is qs v) ids) where
+module _ (cs is qs rs : List ℕ) (v : ℕ) (assignment ids : List ℕ) (a : Accepted (tables cs is qs rs v) ids) where
   -- check 9, given the number of atoms
-  pub choices-fault : (r : Outcome) → r ≡ assignmentFaultAt (length ids) v assignment → r ≡ assignmentFault (tables cs is qs v) assignment
+  pub choices-fault : (r : Outcome) → r ≡ assignmentFaultAt (length ids) v assignment → r ≡ assignmentFault (tables cs is qs rs v) assignment
   unfolding assignmentFault
   choices-fault r f = f ∙ ap (λ (z : List ℕ). assignmentFaultAt (length z) v assignment) (a .listed)
 
   pub accepted-ready : (x : Outcome) → x ≡ assignmentFaultAt (length ids) v assignment → x ≡ Done → Ready cs is ids assignment
   accepted-ready x e f =
-      subst (λ (z : List ℕ). Ready cs is z assignment) (sym (a .listed)) (ready (tables cs is qs v) assignment (a .passed) (sym (choices-fault x e) ∙ f))
+      subst (λ (z : List ℕ). Ready cs is z assignment) (sym (a .listed)) (ready (tables cs is qs rs v) assignment (a .passed) (sym (choices-fault x e) ∙ f))
 
   pub accepted-columns :
-      (given columns : List ℕ) → Empty given → Closed cs is (chooseFrom ids assignment) given columns → ColumnsOf (tables cs is qs v) assignment columns
+      (given columns : List ℕ) → Empty given → Closed cs is (wider rs) (chooseFrom ids assignment) given columns → ColumnsOf (tables cs is qs rs v) assignment columns
   accepted-columns given columns E c =
-      let wf = wellFormed (tables cs is qs v) (a .passed) in
-      closed-exactly (tables cs is qs v) assignment given columns wf
+      let wf = wellFormed (tables cs is qs rs v) (a .passed) in
+      closed-exactly (tables cs is qs rs v) assignment given columns wf
       (λ i j l k m. absurd (nothing given E i j (omega (arith, wf .few)) (omega (arith, wf .few)) m))
-      (subst (λ (z : List ℕ). Closed cs is (chooseFrom z assignment) given columns) (a .listed) c)
+      (subst (λ (z : List ℕ). Closed cs is (wider rs) (chooseFrom z assignment) given columns) (a .listed) c)
 
 -- the same for tables accepted with some questions
-module _ (cs is : List ℕ) (v : ℕ) (ids : List ℕ) (p : Prepared cs is v ids) where
+module _ (cs is rs : List ℕ) (v : ℕ) (ids : List ℕ) (p : Prepared cs is rs v ids) where
   pub few-atoms : length ids ≤ 64
   few-atoms = omega (arith, ap length (p .accepted .listed), wellFormed _ (p .accepted .passed) .few-atoms)
 
@@ -90,8 +93,11 @@ module _ (cs is : List ℕ) (v : ℕ) (ids : List ℕ) (p : Prepared cs is v ids
       let wf = wellFormed _ (p .accepted .passed) in
       omega (arith, wf .numbered j k e, wf .few-variables)
 
+  pub prepared-roles : LowRoles rs
+  prepared-roles = roles-low _ (p .accepted .passed)
+
   pub prepared-ready : (assignment : List ℕ) (x : Outcome) → x ≡ assignmentFaultAt (length ids) v assignment → x ≡ Done → Ready cs is ids assignment
-  prepared-ready assignment x e f = accepted-ready cs is (p .questions) v assignment ids (p .accepted) x e f
+  prepared-ready assignment x e f = accepted-ready cs is (p .questions) rs v assignment ids (p .accepted) x e f
 
 -- what an asked pair's checks leave
 module _ (t : Tables) (assignment : List ℕ) (left right : ℕ) (h : decidingFault t assignment left right ≡ Done) where
@@ -164,29 +170,29 @@ module _ (t : Tables) (assignment before : List ℕ) where
   unfolding writingFault
   table-refused r e = wrote-refused r (stops (Refused r) _ _ r e refl)
 
-module _ (cs is : List ℕ) (v : ℕ) (ids assignment before : List ℕ) (x : Outcome) (ex : x ≡ assignmentFaultAt (length ids) v assignment) where
-  pub put-choices : (r : Refusal) → x ≡ Refused r → ForAccepted cs is v ids (λ t. Wrote t assignment before before (replyRefused r))
+module _ (cs is rs : List ℕ) (v : ℕ) (ids assignment before : List ℕ) (x : Outcome) (ex : x ≡ assignmentFaultAt (length ids) v assignment) where
+  pub put-choices : (r : Refusal) → x ≡ Refused r → ForAccepted cs is rs v ids (λ t. Wrote t assignment before before (replyRefused r))
   unfolding writingFault
   put-choices r h qs a =
-      wrote-refused (tables cs is qs v) assignment before r
-      (goes-on Done _ _ _ (sym (a .passed)) refl (stops x _ _ r (choices-fault cs is qs v assignment ids a x ex) h))
+      wrote-refused (tables cs is qs rs v) assignment before r
+      (goes-on Done _ _ _ (sym (a .passed)) refl (stops x _ _ r (choices-fault cs is qs rs v assignment ids a x ex) h))
 
   module _ (hx : x ≡ Done) (y : Outcome) (ey : y ≡ bufferFault (countOf cs * 24) (length before)) where
-    pub put-room : (r : Refusal) → y ≡ Refused r → ForAccepted cs is v ids (λ t. Wrote t assignment before before (replyRefused r))
+    pub put-room : (r : Refusal) → y ≡ Refused r → ForAccepted cs is rs v ids (λ t. Wrote t assignment before before (replyRefused r))
     unfolding writingFault rowStart
     put-room r h qs a =
-        wrote-refused (tables cs is qs v) assignment before r
-        (goes-on Done _ _ _ (sym (a .passed)) refl (goes-on x _ _ _ (choices-fault cs is qs v assignment ids a x ex) hx (refuses y _ r ey h)))
+        wrote-refused (tables cs is qs rs v) assignment before r
+        (goes-on Done _ _ _ (sym (a .passed)) refl (goes-on x _ _ _ (choices-fault cs is qs rs v assignment ids a x ex) hx (refuses y _ r ey h)))
 
     pub put-done :
-        (columns after : List ℕ) (marks : ℕ) → y ≡ Done → Closed cs is (chooseFrom ids assignment) (replicate 576 0) columns → Written columns (countOf cs) before after
-        → marks ≡ total (λ j. counted (λ i. has columns i j) (countOf cs)) (countOf cs) → ForAccepted cs is v ids (λ t. Wrote t assignment before after (replyDone marks))
+        (columns after : List ℕ) (marks : ℕ) → y ≡ Done → Closed cs is (wider rs) (chooseFrom ids assignment) (replicate 576 0) columns → Written columns (countOf cs) before after
+        → marks ≡ total (λ j. counted (λ i. has columns i j) (countOf cs)) (countOf cs) → ForAccepted cs is rs v ids (λ t. Wrote t assignment before after (replyDone marks))
     unfolding writingFault rowStart
     put-done columns after marks hy c w n qs a =
-        wrote-done (tables cs is qs v) assignment before after marks
-        (goes-on Done _ _ _ (sym (a .passed)) refl (both-done x _ y _ (choices-fault cs is qs v assignment ids a x ex) hx ey hy))
-        (table-written (tables cs is qs v) assignment before columns after (a .passed) (accepted-columns cs is qs v assignment ids a _ columns no-columns c) w)
-        (n ∙ marks-counted columns (countOf cs) before after (wellFormed (tables cs is qs v) (a .passed) .few) w)
+        wrote-done (tables cs is qs rs v) assignment before after marks
+        (goes-on Done _ _ _ (sym (a .passed)) refl (both-done x _ y _ (choices-fault cs is qs rs v assignment ids a x ex) hx ey hy))
+        (table-written (tables cs is qs rs v) assignment before columns after (a .passed) (accepted-columns cs is qs rs v assignment ids a _ columns no-columns c) w)
+        (n ∙ marks-counted columns (countOf cs) before after (wellFormed (tables cs is qs rs v) (a .passed) .few) w)
 
 -- ---- deciding
 module _ (t : Tables) (assignment : List ℕ) (left right : ℕ) where
@@ -194,27 +200,27 @@ module _ (t : Tables) (assignment : List ℕ) (left right : ℕ) where
   unfolding decidingFault
   pair-refused r e = decides-refused t assignment left right r (stops (Refused r) _ _ r e refl)
 
-module _ (cs is : List ℕ) (v : ℕ) (ids assignment : List ℕ) (left right : ℕ) (l : left < countOf cs) (k : right < countOf cs)
+module _ (cs is rs : List ℕ) (v : ℕ) (ids assignment : List ℕ) (left right : ℕ) (l : left < countOf cs) (k : right < countOf cs)
     (x : Outcome) (ex : x ≡ assignmentFaultAt (length ids) v assignment) where
-  pair-passes : (qs : List ℕ) → tableFault (tables cs is qs v) ≡ Done → pairFault (tables cs is qs v) left right ≡ Done
+  pair-passes : (qs : List ℕ) → tableFault (tables cs is qs rs v) ≡ Done → pairFault (tables cs is qs rs v) left right ≡ Done
   unfolding tableFault pairFault aloneFault noConcept
   pair-passes qs h =
       sym (goes-on _ _ _ Done refl (passed-first _ _ h)
       (goes-on _ _ _ Done (done-if _ _ (or-skip _ _ (ap not (lt-ltb _ _ l)) ∙ ap not (lt-ltb _ _ k))) refl (sym (passed-second _ _ h))))
 
-  pub known-fault : (qs : List ℕ) → Accepted (tables cs is qs v) ids → x ≡ decidingFault (tables cs is qs v) assignment left right
+  pub known-fault : (qs : List ℕ) → Accepted (tables cs is qs rs v) ids → x ≡ decidingFault (tables cs is qs rs v) assignment left right
   unfolding decidingFault
-  known-fault qs a = goes-on Done _ _ _ (sym (pair-passes qs (a .passed))) refl (choices-fault cs is qs v assignment ids a x ex)
+  known-fault qs a = goes-on Done _ _ _ (sym (pair-passes qs (a .passed))) refl (choices-fault cs is qs rs v assignment ids a x ex)
 
-  pub known-refused : (r : Refusal) → x ≡ Refused r → ForAccepted cs is v ids (λ t. Decides t assignment left right (replyRefused r))
-  known-refused r h qs a = decides-refused (tables cs is qs v) assignment left right r (refuses x _ r (known-fault qs a) h)
+  pub known-refused : (r : Refusal) → x ≡ Refused r → ForAccepted cs is rs v ids (λ t. Decides t assignment left right (replyRefused r))
+  known-refused r h qs a = decides-refused (tables cs is qs rs v) assignment left right r (refuses x _ r (known-fault qs a) h)
 
-  module _ (hx : x ≡ Done) (columns : List ℕ) (c : Closed cs is (chooseFrom ids assignment) (replicate 576 0) columns) (b : Bool) (e : b ≡ has columns left right) where
-    known : (qs : List ℕ) (a : Accepted (tables cs is qs v) ids) → decidingFault (tables cs is qs v) assignment left right ≡ Done
+  module _ (hx : x ≡ Done) (columns : List ℕ) (c : Closed cs is (wider rs) (chooseFrom ids assignment) (replicate 576 0) columns) (b : Bool) (e : b ≡ has columns left right) where
+    known : (qs : List ℕ) (a : Accepted (tables cs is qs rs v) ids) → decidingFault (tables cs is qs rs v) assignment left right ≡ Done
     known qs a = sym (known-fault qs a) ∙ hx
 
-    pub known-yes : b ≡ true → ForAccepted cs is v ids (λ t. Decides t assignment left right (decisionReply Yes))
-    known-yes y qs a = decides-yes (tables cs is qs v) assignment left right columns (accepted-columns cs is qs v assignment ids a _ columns no-columns c) (known qs a) b e y
+    pub known-yes : b ≡ true → ForAccepted cs is rs v ids (λ t. Decides t assignment left right (decisionReply Yes))
+    known-yes y qs a = decides-yes (tables cs is qs rs v) assignment left right columns (accepted-columns cs is qs rs v assignment ids a _ columns no-columns c) (known qs a) b e y
 
-    pub known-no : b ≡ false → ForAccepted cs is v ids (λ t. Decides t assignment left right (decisionReply No))
-    known-no n qs a = decides-no (tables cs is qs v) assignment left right columns (accepted-columns cs is qs v assignment ids a _ columns no-columns c) (known qs a) b e n
+    pub known-no : b ≡ false → ForAccepted cs is rs v ids (λ t. Decides t assignment left right (decisionReply No))
+    known-no n qs a = decides-no (tables cs is qs rs v) assignment left right columns (accepted-columns cs is qs rs v assignment ids a _ columns no-columns c) (known qs a) b e n

@@ -16,6 +16,7 @@ use borrow.Author.Tests.{lt-ltb}
 use Rattle.subsumption.specs.declared.refusal.Outcome.the-variants.{Done}
 use Rattle.subsumption.specs.declared.refusal.Refusal.the-variants.{BadAssignment}
 use Rattle.subsumption.specs.Tables.{Tables, tables, countOf}
+use Rattle.subsumption.specs.Roles.{wider}
 use Rattle.subsumption.specs.Atoms.{atoms, bit}
 use Rattle.subsumption.specs.Check.{tableFault, assignmentFault}
 use Rattle.subsumption.specs.Subsumption.{Subsumed}
@@ -152,23 +153,23 @@ grounded t choices before after held h C M K = record { long = K .long; sound = 
         (sym (M .holds j k) ∙ ap (markAt held) (sym c) ∙ u .column-free (i % 64) e)
         (C .sound i j l k (u .was (i % 64) e))
 
-module _ (cs is : List ℕ) (v : ℕ) (ids : List ℕ) where
-  pub nothing-ready : Prepared cs is v ids → Ready cs is ids (take v zeros)
+module _ (cs is rs : List ℕ) (v : ℕ) (ids : List ℕ) where
+  pub nothing-ready : Prepared cs is rs v ids → Ready cs is ids (take v zeros)
   nothing-ready p =
       subst (λ (z : List ℕ). Ready cs is z (take v zeros)) (sym (p .accepted .listed)) (ready _ (take v zeros) (p .accepted .passed) (nothing-chosen _ (p .accepted .passed)))
 
-  pub few-variables : Prepared cs is v ids → v ≤ 8
+  pub few-variables : Prepared cs is rs v ids → v ≤ 8
   few-variables p = wellFormed _ (p .accepted .passed) .few-variables
 
-  pub layered : Prepared cs is v ids → Layered cs
+  pub layered : Prepared cs is rs v ids → Layered cs
   layered p = concepts-layered _ (table-concepts _ (p .accepted .passed))
 
   pub grounded-for :
-      (before columns after : List ℕ) (held : List Bool) → before ≡ replicate 576 0 → Closed cs is (chooseFrom ids (take v zeros)) before columns
-      → VariableMarks cs held → AllKept held columns after → ForAccepted cs is v ids (λ t. Grounded t after)
+      (before columns after : List ℕ) (held : List Bool) → before ≡ replicate 576 0 → Closed cs is (wider rs) (chooseFrom ids (take v zeros)) before columns
+      → VariableMarks cs held → AllKept held columns after → ForAccepted cs is rs v ids (λ t. Grounded t after)
   grounded-for before columns after held e c M K qs a =
-      grounded (tables cs is qs v) (take v zeros) columns after held (a .passed)
-      (accepted-columns cs is qs v (take v zeros) ids a before columns (subst Empty (sym e) no-columns) c) M K
+      grounded (tables cs is qs rs v) (take v zeros) columns after held (a .passed)
+      (accepted-columns cs is qs rs v (take v zeros) ids a before columns (subst Empty (sym e) no-columns) c) M K
 
 -- ---- a copy
 pub record CopiedTo (from to : List ℕ) (p : ℕ) : Type 0 where
@@ -194,15 +195,15 @@ pub copied-done : (from to : List ℕ) (p : ℕ) → length from ≡ 576 → Cop
 copied-done from to p h C l = ext-getD 0 to from (C .long ∙ sym h) (λ q k. C .each q (omega (arith, C .long)))
 
 -- ---- closing from there
-module _ (cs is qs : List ℕ) (v : ℕ) (ids assignment : List ℕ) (e : ids ≡ atoms (tables cs is qs v)) (h : tableFault (tables cs is qs v) ≡ Done)
-    (k : assignmentFault (tables cs is qs v) assignment ≡ Done) where
+module _ (cs is qs rs : List ℕ) (v : ℕ) (ids assignment : List ℕ) (e : ids ≡ atoms (tables cs is qs rs v)) (h : tableFault (tables cs is qs rs v) ≡ Done)
+    (k : assignmentFault (tables cs is qs rs v) assignment ≡ Done) where
   pub ready-over : Ready cs is ids assignment
-  ready-over = subst (λ (z : List ℕ). Ready cs is z assignment) (sym e) (ready (tables cs is qs v) assignment h k)
+  ready-over = subst (λ (z : List ℕ). Ready cs is z assignment) (sym e) (ready (tables cs is qs rs v) assignment h k)
 
   pub closed-over :
-      (ground given columns : List ℕ) → Grounded (tables cs is qs v) ground → given ≡ ground → Closed cs is (chooseFrom ids assignment) given columns
-      → ColumnsOf (tables cs is qs v) assignment columns
+      (ground given columns : List ℕ) → Grounded (tables cs is qs rs v) ground → given ≡ ground → Closed cs is (wider rs) (chooseFrom ids assignment) given columns
+      → ColumnsOf (tables cs is qs rs v) assignment columns
   closed-over ground given columns G f c =
-      closed-exactly (tables cs is qs v) assignment given columns (wellFormed (tables cs is qs v) h)
+      closed-exactly (tables cs is qs rs v) assignment given columns (wellFormed (tables cs is qs rs v) h)
       (λ i j l m b. G .sound assignment k i j l m (ap (λ (z : List ℕ). has z i j) (sym f) ∙ b))
-      (subst (λ (z : List ℕ). Closed cs is (chooseFrom z assignment) given columns) e c)
+      (subst (λ (z : List ℕ). Closed cs is (wider rs) (chooseFrom z assignment) given columns) e c)

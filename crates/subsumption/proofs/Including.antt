@@ -26,12 +26,12 @@ module _ (inclusions : List ℕ) where
     pub within : m ≤ pairsOf inclusions
     pub long : length after ≡ length before
     pub passed :
-        (concepts : List ℕ) (choose : ℕ → List ℕ) → LeftKnown concepts inclusions
-        → Pass concepts inclusions choose (λ l. (k : ℕ) → k < m → Step concepts k l) before after changed
+        (concepts : List ℕ) (wide : ℕ → ℕ → Bool) (choose : ℕ → List ℕ) → LeftKnown concepts inclusions
+        → Pass concepts inclusions wide choose (λ l. (k : ℕ) → k < m → Step concepts k l) before after changed
 
   pub included-first : (columns : List ℕ) → Included columns columns false 0
   included-first columns =
-      record { within = omega arith; long = refl; passed = λ concepts choose K. loop-first (Step concepts) columns }
+      record { within = omega arith; long = refl; passed = λ concepts wide choose K. loop-first (Step concepts) columns }
 
   pub included-more :
       {before mid after : List ℕ} {a b : Bool} {m : ℕ} → Included before mid a m → m < pairsOf inclusions
@@ -42,12 +42,12 @@ module _ (inclusions : List ℕ) where
         within = omega arith;
         long = t .long ∙ I .long;
         passed =
-            λ concepts choose K.
-            loop-more (Step concepts) m (I .passed concepts choose K)
+            λ concepts wide choose K.
+            loop-more (Step concepts) m (I .passed concepts wide choose K)
             (flow-pass (leftOf inclusions m) (rightOf inclusions m) (K .few) (K .left m h) (λ g i l w. flow-included i m l h w) t);
       }
 
   pub included-done :
       {before after : List ℕ} {changed : Bool} {m : ℕ} → Included before after changed m → pairsOf inclusions ≤ m
       → IncludePass inclusions before after changed
-  included-done {m = m} I h concepts choose K = loop-done (Step concepts) m (pairsOf inclusions) h (I .passed concepts choose K)
+  included-done {m = m} I h concepts wide choose K = loop-done (Step concepts) m (pairsOf inclusions) h (I .passed concepts wide choose K)

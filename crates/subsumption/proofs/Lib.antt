@@ -9,6 +9,7 @@ pub mod Refusals
 pub mod Replies
 pub mod Depth
 pub mod VariableLaws
+pub mod RoleLaws
 pub mod Trees
 pub mod Inward
 pub mod Occurs
@@ -44,5 +45,6 @@ pub mod Linking
 pub mod Closing
 pub mod RowLaws
 pub mod MarkLaws
+pub mod RoleSetLaws
 pub mod GroundLaws
 pub mod Blocks

@@ -20,29 +20,33 @@ pub even-rows : (width limit : ℕ) (numbers : List ℕ) → length numbers % wi
 unfolding unfit or
 even-rows width limit numbers h = rw (eq-eqb (length numbers % width) 0 h)
 
-module _ (cs is qs : List ℕ) (v : ℕ) where
-  pub limit-concepts : (a : Bool) → a ≡ unfit 3 192 cs → a ≡ true → Refused (Limit 0) ≡ limitFault (tables cs is qs v)
+module _ (cs is qs rs : List ℕ) (v : ℕ) where
+  pub limit-concepts : (a : Bool) → a ≡ unfit 3 192 cs → a ≡ true → Refused (Limit 0) ≡ limitFault (tables cs is qs rs v)
   unfolding limitFault orElse refuseIf
   limit-concepts a ea ha = rw (← ea, ha)
 
-  pub limit-inclusions : (a b : Bool) → a ≡ unfit 3 192 cs → a ≡ false → b ≡ unfit 2 96 is → b ≡ true → Refused (Limit 1) ≡ limitFault (tables cs is qs v)
+  pub limit-inclusions : (a b : Bool) → a ≡ unfit 3 192 cs → a ≡ false → b ≡ unfit 2 96 is → b ≡ true → Refused (Limit 1) ≡ limitFault (tables cs is qs rs v)
   unfolding limitFault orElse refuseIf
   limit-inclusions a b ea ha eb hb = rw (← ea, ha, ← eb, hb)
 
   pub limit-questions :
       (a b c : Bool) → a ≡ unfit 3 192 cs → a ≡ false → b ≡ unfit 2 96 is → b ≡ false → c ≡ unfit 2 32 qs → c ≡ true
-      → Refused (Limit 2) ≡ limitFault (tables cs is qs v)
+      → Refused (Limit 2) ≡ limitFault (tables cs is qs rs v)
   unfolding limitFault orElse refuseIf
   limit-questions a b c ea ha eb hb ec hc = rw (← ea, ha, ← eb, hb, ← ec, hc)
 
   pub limit-variables :
       (a b c : Bool) → a ≡ unfit 3 192 cs → a ≡ false → b ≡ unfit 2 96 is → b ≡ false → c ≡ unfit 2 32 qs → c ≡ false
-      → 8 < v → Refused (Limit 3) ≡ limitFault (tables cs is qs v)
+      → 8 < v → Refused (Limit 3) ≡ limitFault (tables cs is qs rs v)
   unfolding limitFault orElse refuseIf
   limit-variables a b c ea ha eb hb ec hc h = rw (← ea, ha, ← eb, hb, ← ec, hc, lt-ltb 8 v h)
 
-  pub limit-none :
-      (a b c : Bool) → a ≡ unfit 3 192 cs → a ≡ false → b ≡ unfit 2 96 is → b ≡ false → c ≡ unfit 2 32 qs → c ≡ false
-      → v ≤ 8 → Done ≡ limitFault (tables cs is qs v)
-  unfolding limitFault orElse refuseIf
-  limit-none a b c ea ha eb hb ec hc h = rw (← ea, ha, ← eb, hb, ← ec, hc, le-ltb 8 v h)
+  module _ (a b c : Bool) (ea : a ≡ unfit 3 192 cs) (ha : a ≡ false) (eb : b ≡ unfit 2 96 is) (hb : b ≡ false) (ec : c ≡ unfit 2 32 qs) (hc : c ≡ false)
+      (h : v ≤ 8) (d : Bool) (ed : d ≡ unfit 2 32 rs) where
+    pub limit-roles : d ≡ true → Refused (Limit 4) ≡ limitFault (tables cs is qs rs v)
+    unfolding limitFault orElse refuseIf
+    limit-roles hd = rw (← ea, ha, ← eb, hb, ← ec, hc, le-ltb 8 v h, ← ed, hd)
+
+    pub limit-none : d ≡ false → Done ≡ limitFault (tables cs is qs rs v)
+    unfolding limitFault orElse refuseIf
+    limit-none hd = rw (← ea, ha, ← eb, hb, ← ec, hc, le-ltb 8 v h, ← ed, hd)

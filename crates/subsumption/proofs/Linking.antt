@@ -25,59 +25,68 @@ ready-nameable R = record { few = R .few; low = R .low-names }
 
 pub ready-inner : {concepts inclusions atoms assignment : List ℕ} → Ready concepts inclusions atoms assignment → Inner concepts
 ready-inner {concepts} R =
-    record { few = R .few; known = λ e r x h n. omega (arith, subst (λ (m : Node). Rising e m) n (R .rising e h)) }
+    record { few = R .few; known = λ e r x h n. omega (arith, subst (λ (m : Node). Rising e m) n (R .rising e h)); low = R .low-roles }
 
-module _ (concepts columns : List ℕ) (role inner e : ℕ) where
-  pub links-kind : (getD concepts (e * 3) 0 ≡ 2 → ⊥) → Links concepts columns role inner e false
+module _ (concepts columns : List ℕ) (counts : ℕ → Bool) (inner e : ℕ) where
+  pub links-kind : (getD concepts (e * 3) 0 ≡ 2 → ⊥) → Links concepts columns counts inner e false
   links-kind ne =
-      record { found = λ p. not-both false p refl; none = λ _ l. ne (exists-node concepts e role (l .from) (l .row) .0) }
+      record { found = λ p. not-both false p refl; none = λ _ l. ne (exists-node concepts e (l .narrow) (l .from) (l .row) .0) }
 
-  pub links-role : (getD concepts (e * 3 + 1) 0 ≡ role → ⊥) → Links concepts columns role inner e false
-  links-role ne =
-      record { found = λ p. not-both false p refl; none = λ _ l. ne (exists-node concepts e role (l .from) (l .row) .1) }
+  pub links-role : counts (getD concepts (e * 3 + 1) 0) ≡ false → Links concepts columns counts inner e false
+  links-role none′ =
+      record {
+        found = λ p. not-both false p refl;
+        none = λ _ l. not-both _ (ap counts (exists-node concepts e (l .narrow) (l .from) (l .row) .1) ∙ l .counting) none′;
+      }
 
   pub links-below :
-      (answer : Bool) → getD concepts (e * 3) 0 ≡ 2 → getD concepts (e * 3 + 1) 0 ≡ role
-      → answer ≡ has columns (getD concepts (e * 3 + 2) 0) inner → Links concepts columns role inner e answer
+      (answer : Bool) → getD concepts (e * 3) 0 ≡ 2 → counts (getD concepts (e * 3 + 1) 0) ≡ true
+      → answer ≡ has columns (getD concepts (e * 3 + 2) 0) inner → Links concepts columns counts inner e answer
   links-below answer kind of r =
       record {
         found =
             λ p.
             record {
+              narrow = getD concepts (e * 3 + 1) 0;
               from = getD concepts (e * 3 + 2) 0;
-              row = node-exists concepts e kind ∙ ap (λ (x : ℕ). existsAt x (getD concepts (e * 3 + 2) 0)) of;
+              row = node-exists concepts e kind;
+              counting = of;
               below = sym r ∙ p;
             };
         none =
             λ p l.
             not-both (has columns (getD concepts (e * 3 + 2) 0) inner)
-            (subst (λ (x : ℕ). has columns x inner ≡ true) (sym (exists-node concepts e role (l .from) (l .row) .2)) (l .below)) (sym r ∙ p);
+            (subst (λ (x : ℕ). has columns x inner ≡ true) (sym (exists-node concepts e (l .narrow) (l .from) (l .row) .2)) (l .below)) (sym r ∙ p);
       }
 
+module _ (concepts : List ℕ) (e : ℕ) where
   pub inner-low : Inner concepts → e < countOf concepts → getD concepts (e * 3) 0 ≡ 2 → getD concepts (e * 3 + 2) 0 < 192
   inner-low I h kind = omega (arith, I .known e _ _ h (node-exists concepts e kind), I .few)
 
-module _ (concepts columns : List ℕ) (role inner start : ℕ) where
+  pub role-low : Inner concepts → getD concepts (e * 3) 0 ≡ 2 → getD concepts (e * 3 + 1) 0 < 100
+  role-low I kind = I .low e _ _ (node-exists concepts e kind)
+
+module _ (concepts columns : List ℕ) (counts : ℕ → Bool) (inner start : ℕ) where
   pub record NoLink (e : ℕ) : Type 0 where
     pub from : start ≤ e
     pub within : e ≤ countOf concepts
-    pub none : (d : ℕ) → start ≤ d → d < e → Linkable concepts columns role inner d → ⊥
+    pub none : (d : ℕ) → start ≤ d → d < e → Linkable concepts columns counts inner d → ⊥
 
   pub no-link-first : start ≤ countOf concepts → NoLink start
   no-link-first h = record { from = omega arith; within = h; none = λ d p q l. omega arith }
 
-  pub no-link-more : (e : ℕ) (answer : Bool) → NoLink e → e < countOf concepts → Links concepts columns role inner e answer → answer ≡ false → NoLink (e + 1)
+  pub no-link-more : (e : ℕ) (answer : Bool) → NoLink e → e < countOf concepts → Links concepts columns counts inner e answer → answer ≡ false → NoLink (e + 1)
   no-link-more e answer N h L b =
       record { from = omega (arith, N .from); within = omega arith; none = λ d p q. go d p q (eqb d e) refl }
     where
-      go : (d : ℕ) → start ≤ d → d < e + 1 → (t : Bool) → eqb d e ≡ t → Linkable concepts columns role inner d → ⊥
-      go d p q true s l = L .none b (subst (λ (x : ℕ). Linkable concepts columns role inner x) (eqb-true d e s) l)
+      go : (d : ℕ) → start ≤ d → d < e + 1 → (t : Bool) → eqb d e ≡ t → Linkable concepts columns counts inner d → ⊥
+      go d p q true s l = L .none b (subst (λ (x : ℕ). Linkable concepts columns counts inner x) (eqb-true d e s) l)
       go d p q false s l = N .none d p (omega (arith, eqb-false d e s)) l
 
-  pub next-found : (e : ℕ) (answer : Bool) → NoLink e → e < countOf concepts → Links concepts columns role inner e answer → answer ≡ true → NextLink concepts columns role inner start e
+  pub next-found : (e : ℕ) (answer : Bool) → NoLink e → e < countOf concepts → Links concepts columns counts inner e answer → answer ≡ true → NextLink concepts columns counts inner start e
   next-found e answer N h L b = record { from = N .from; within = N .within; none = N .none; found = λ _. L .found b }
 
-  pub next-none : (e : ℕ) → NoLink e → countOf concepts ≤ e → NextLink concepts columns role inner start (countOf concepts)
+  pub next-none : (e : ℕ) → NoLink e → countOf concepts ≤ e → NextLink concepts columns counts inner start (countOf concepts)
   next-none e N h =
       record {
         from = omega (arith, N .from, N .within);
@@ -88,14 +97,14 @@ module _ (concepts columns : List ℕ) (role inner start : ℕ) where
 
 -- only existentials link
 pub no-link-onward :
-    (concepts columns : List ℕ) (role inner start e n : ℕ) → NoLink concepts columns role inner start e → OnwardFrom concepts e n → NoLink concepts columns role inner start n
-no-link-onward concepts columns role inner start e n N O =
+    (concepts columns : List ℕ) (counts : ℕ → Bool) (inner start e n : ℕ) → NoLink concepts columns counts inner start e → OnwardFrom concepts e n → NoLink concepts columns counts inner start n
+no-link-onward concepts columns counts inner start e n N O =
     record {
       from = omega (arith, N .from, O .from);
       within = O .within;
       none =
           λ d p q l.
-          ⊎-elim (λ (u : e ≤ d). O .none d role (l .from) u q (l .row)) (λ u. N .none d p u l) (le-or-lt e d);
+          ⊎-elim (λ (u : e ≤ d). O .none d (l .narrow) (l .from) u q (l .row)) (λ u. N .none d p u l) (le-or-lt e d);
     }
 
 -- where the existentials are, from the last row down
@@ -149,22 +158,22 @@ pub onward-all : (concepts onward : List ℕ) (e : ℕ) → e ≤ 0 → OnwardTo
 onward-all concepts onward e h O = record { long = O .long; each = λ d a b. O .each d (omega arith) b }
 
 -- the loop over what links to f
-pub record Linked (concepts : List ℕ) (f : ℕ) (before after : List ℕ) (changed : Bool) (e : ℕ) : Type 0 where
+pub record Linked (concepts : List ℕ) (wide : ℕ → ℕ → Bool) (f : ℕ) (before after : List ℕ) (changed : Bool) (e : ℕ) : Type 0 where
   pub within : e ≤ countOf concepts
   pub long : length after ≡ length before
   pub passed :
-      LinkPass concepts
-      (λ l. (d : ℕ) → d < e → Linkable concepts l (getD concepts (f * 3 + 1) 0) (getD concepts (f * 3 + 2) 0) d → Into (countOf concepts) l d f)
+      LinkPass concepts wide
+      (λ l. (d : ℕ) → d < e → Linkable concepts l (λ r. wide r (getD concepts (f * 3 + 1) 0)) (getD concepts (f * 3 + 2) 0) d → Into (countOf concepts) l d f)
       before after changed
-  pub next : e < countOf concepts → Linkable concepts after (getD concepts (f * 3 + 1) 0) (getD concepts (f * 3 + 2) 0) e
+  pub next : e < countOf concepts → Linkable concepts after (λ r. wide r (getD concepts (f * 3 + 1) 0)) (getD concepts (f * 3 + 2) 0) e
 
-module _ (concepts : List ℕ) (f : ℕ) where
-  pub not-linked : (columns : List ℕ) → (getD concepts (f * 3) 0 ≡ 2 → ⊥) → LinkPass concepts (LinkedTo concepts f) columns columns false
+module _ (concepts : List ℕ) (wide : ℕ → ℕ → Bool) (f : ℕ) where
+  pub not-linked : (columns : List ℕ) → (getD concepts (f * 3) 0 ≡ 2 → ⊥) → LinkPass concepts wide (LinkedTo concepts wide f) columns columns false
   not-linked columns ne inclusions choose = pass-none (λ e r y h n l. absurd (ne (exists-node concepts f r y n .0)))
 
   pub linked-first :
-      (columns : List ℕ) (e : ℕ) → NextLink concepts columns (getD concepts (f * 3 + 1) 0) (getD concepts (f * 3 + 2) 0) 0 e
-      → Linked concepts f columns columns false e
+      (columns : List ℕ) (e : ℕ) → NextLink concepts columns (λ r. wide r (getD concepts (f * 3 + 1) 0)) (getD concepts (f * 3 + 2) 0) 0 e
+      → Linked concepts wide f columns columns false e
   linked-first columns e N =
       record {
         within = N .within;
@@ -174,46 +183,46 @@ module _ (concepts : List ℕ) (f : ℕ) where
       }
 
   pub linked-done :
-      (before after : List ℕ) (changed : Bool) (e : ℕ) → Linked concepts f before after changed e → countOf concepts ≤ e
-      → LinkPass concepts (LinkedTo concepts f) before after changed
+      (before after : List ℕ) (changed : Bool) (e : ℕ) → Linked concepts wide f before after changed e → countOf concepts ≤ e
+      → LinkPass concepts wide (LinkedTo concepts wide f) before after changed
   linked-done before after changed e L h inclusions choose =
       pass-as (L .passed inclusions choose)
       (λ q d r y l n k.
       let m : (getD concepts (f * 3) 0 ≡ 2) × (getD concepts (f * 3 + 1) 0 ≡ r) × (getD concepts (f * 3 + 2) 0 ≡ y) = exists-node concepts f r y n in
       q d (omega arith)
-      (subst (λ (x : ℕ). Linkable concepts before x (getD concepts (f * 3 + 2) 0) d) (sym (m .1))
-      (subst (λ (x : ℕ). Linkable concepts before r x d) (sym (m .2)) k)))
+      (subst (λ (x : ℕ). Linkable concepts before (λ z. wide z x) (getD concepts (f * 3 + 2) 0) d) (sym (m .1))
+      (subst (λ (x : ℕ). Linkable concepts before (λ z. wide z r) x d) (sym (m .2)) k)))
 
   module _ (I : Inner concepts) (inside : f < countOf concepts) (kind : getD concepts (f * 3) 0 ≡ 2)
-      (before mid after : List ℕ) (a b : Bool) (e g : ℕ) (L : Linked concepts f before mid a e)
+      (before mid after : List ℕ) (a b : Bool) (e g : ℕ) (L : Linked concepts wide f before mid a e)
       (h : e < countOf concepts) (T : Takes mid after (λ j. j ≡ f) (λ i. has mid i e ≡ true) b)
-      (N : NextLink concepts after (getD concepts (f * 3 + 1) 0) (getD concepts (f * 3 + 2) 0) (e + 1) g) where
-    linked-step : LinkPass concepts (λ l. Into (countOf concepts) l e f) mid after b
+      (N : NextLink concepts after (λ r. wide r (getD concepts (f * 3 + 1) 0)) (getD concepts (f * 3 + 2) 0) (e + 1) g) where
+    linked-step : LinkPass concepts wide (λ l. Into (countOf concepts) l e f) mid after b
     linked-step inclusions choose =
         step-pass (I .few) T
         (λ g′ s i j l _ p q.
         let k = L .next h in
         let n : node concepts f ≡ existsAt (getD concepts (f * 3 + 1) 0) (getD concepts (f * 3 + 2) 0) = node-exists concepts f kind in
-        subst (λ (x : ℕ). Flow concepts inclusions choose g′ i x) (sym p)
-        (flow-linked i e f (getD concepts (f * 3 + 1) 0) (k .from) (getD concepts (f * 3 + 2) 0) l h inside (k .row) n
+        subst (λ (x : ℕ). Flow concepts inclusions wide choose g′ i x) (sym p)
+        (flow-linked i e f (k .narrow) (getD concepts (f * 3 + 1) 0) (k .from) (getD concepts (f * 3 + 2) 0) l h inside (k .row) n (k .counting)
         (s (k .from) (getD concepts (f * 3 + 2) 0) (I .known e _ _ h (k .row)) (I .known f _ _ inside n) (k .below))
         (s i e l h q)))
         (λ w i l u. w i f l refl u)
 
-    pub linked-more : Linked concepts f before after (a || b) g
+    pub linked-more : Linked concepts wide f before after (a || b) g
     linked-more =
         record {
           within = N .within;
           long = T .long ∙ L .long;
-          passed = λ inclusions choose. pass-as (pass-seen {Q′ = λ l. (d : ℕ) → e + 1 ≤ d → d < g → Linkable concepts l (getD concepts (f * 3 + 1) 0) (getD concepts (f * 3 + 2) 0) d → ⊥} (pass-then (L .passed inclusions choose) (linked-step inclusions choose)) (N .none)) (λ q d l k. go q d l k (eqb d e) refl (ltb d e) refl);
+          passed = λ inclusions choose. pass-as (pass-seen {Q′ = λ l. (d : ℕ) → e + 1 ≤ d → d < g → Linkable concepts l (λ r. wide r (getD concepts (f * 3 + 1) 0)) (getD concepts (f * 3 + 2) 0) d → ⊥} (pass-then (L .passed inclusions choose) (linked-step inclusions choose)) (N .none)) (λ q d l k. go q d l k (eqb d e) refl (ltb d e) refl);
           next = N .found;
         }
       where
         go :
-            (((d : ℕ) → d < e → Linkable concepts before (getD concepts (f * 3 + 1) 0) (getD concepts (f * 3 + 2) 0) d → Into (countOf concepts) before d f)
+            (((d : ℕ) → d < e → Linkable concepts before (λ r. wide r (getD concepts (f * 3 + 1) 0)) (getD concepts (f * 3 + 2) 0) d → Into (countOf concepts) before d f)
             × Into (countOf concepts) before e f)
-            × ((d : ℕ) → e + 1 ≤ d → d < g → Linkable concepts before (getD concepts (f * 3 + 1) 0) (getD concepts (f * 3 + 2) 0) d → ⊥)
-            → (d : ℕ) → d < g → Linkable concepts before (getD concepts (f * 3 + 1) 0) (getD concepts (f * 3 + 2) 0) d
+            × ((d : ℕ) → e + 1 ≤ d → d < g → Linkable concepts before (λ r. wide r (getD concepts (f * 3 + 1) 0)) (getD concepts (f * 3 + 2) 0) d → ⊥)
+            → (d : ℕ) → d < g → Linkable concepts before (λ r. wide r (getD concepts (f * 3 + 1) 0)) (getD concepts (f * 3 + 2) 0) d
             → (t : Bool) → eqb d e ≡ t → (u : Bool) → ltb d e ≡ u → Into (countOf concepts) before d f
         go q d l k true s u v = subst (λ (x : ℕ). Into (countOf concepts) before x f) (sym (eqb-true d e s)) (q .0 .1)
         go q d l k false s true v = q .0 .0 d (ltb-true d e v) k

@@ -191,5 +191,5 @@ module _ (t : Tables) (left right : ℕ) (before after : List ℕ) (r : Listed) 
   unfolding askedFault
   asked-few k h = accepted-by t (pairFault t left right) before after r long e w (pair-tables t left right) k h .1
 
-pub prepared : (cs is qs : List ℕ) (v : ℕ) (ids : List ℕ) → Accepted (tables cs is qs v) ids → Prepared cs is v ids
-prepared cs is qs v ids a = record { questions = qs; accepted = a }
+pub prepared : (cs is qs rs : List ℕ) (v : ℕ) (ids : List ℕ) → Accepted (tables cs is qs rs v) ids → Prepared cs is rs v ids
+prepared cs is qs rs v ids a = record { questions = qs; accepted = a }

@@ -11,19 +11,19 @@ use Rattle.subsumption.specs.Inner.Columns.{has, Into, Takes}
 use Rattle.subsumption.specs.Inner.Closure.{Flow, Sound, Pass}
 use Rattle.subsumption.proofs.Columns.{any-true, any-false, not-both, falls}
 
-module _ {concepts inclusions : List ℕ} {choose : ℕ → List ℕ} where
-  pub pass-none : {Q : List ℕ → Type 0} {columns : List ℕ} → Q columns → Pass concepts inclusions choose Q columns columns false
+module _ {concepts inclusions : List ℕ} {wide : ℕ → ℕ → Bool} {choose : ℕ → List ℕ} where
+  pub pass-none : {Q : List ℕ → Type 0} {columns : List ℕ} → Q columns → Pass concepts inclusions wide choose Q columns columns false
   pass-none q = record { long = refl; sound = λ g s. s; same = λ e. refl; less = λ e. not-both true refl (sym e); quiet = λ e. q }
 
   pub pass-as :
-      {Q Q′ : List ℕ → Type 0} {before after : List ℕ} {changed : Bool} → Pass concepts inclusions choose Q before after changed
-      → (Q before → Q′ before) → Pass concepts inclusions choose Q′ before after changed
+      {Q Q′ : List ℕ → Type 0} {before after : List ℕ} {changed : Bool} → Pass concepts inclusions wide choose Q before after changed
+      → (Q before → Q′ before) → Pass concepts inclusions wide choose Q′ before after changed
   pass-as p f = record { long = p .long; sound = p .sound; same = p .same; less = p .less; quiet = λ e. f (p .quiet e) }
 
   -- what is seen of the columns after a pass
   pub pass-seen :
-      {Q Q′ : List ℕ → Type 0} {before after : List ℕ} {changed : Bool} → Pass concepts inclusions choose Q before after changed
-      → Q′ after → Pass concepts inclusions choose (λ l. Q l × Q′ l) before after changed
+      {Q Q′ : List ℕ → Type 0} {before after : List ℕ} {changed : Bool} → Pass concepts inclusions wide choose Q before after changed
+      → Q′ after → Pass concepts inclusions wide choose (λ l. Q l × Q′ l) before after changed
   pass-seen {Q} {Q′} p q =
       record {
         long = p .long;
@@ -35,8 +35,8 @@ module _ {concepts inclusions : List ℕ} {choose : ℕ → List ℕ} where
 
   -- a pass that changed something owes nothing
   pub pass-busy :
-      {Q Q′ : List ℕ → Type 0} {before after : List ℕ} {changed : Bool} → Pass concepts inclusions choose Q before after changed
-      → changed ≡ true → Pass concepts inclusions choose Q′ before after true
+      {Q Q′ : List ℕ → Type 0} {before after : List ℕ} {changed : Bool} → Pass concepts inclusions wide choose Q before after changed
+      → changed ≡ true → Pass concepts inclusions wide choose Q′ before after true
   pass-busy p b =
       record {
         long = p .long;
@@ -47,8 +47,8 @@ module _ {concepts inclusions : List ℕ} {choose : ℕ → List ℕ} where
       }
 
   pub pass-then :
-      {Q Q′ : List ℕ → Type 0} {before mid after : List ℕ} {a b : Bool} → Pass concepts inclusions choose Q before mid a
-      → Pass concepts inclusions choose Q′ mid after b → Pass concepts inclusions choose (λ l. Q l × Q′ l) before after (a || b)
+      {Q Q′ : List ℕ → Type 0} {before mid after : List ℕ} {a b : Bool} → Pass concepts inclusions wide choose Q before mid a
+      → Pass concepts inclusions wide choose Q′ mid after b → Pass concepts inclusions wide choose (λ l. Q l × Q′ l) before after (a || b)
   pass-then {Q} {Q′} {before} {mid} {after} {a} {b} p q =
       record {
         long = q .long ∙ p .long;
@@ -67,10 +67,10 @@ module _ {concepts inclusions : List ℕ} {choose : ℕ → List ℕ} where
   pub step-pass :
       {Q : List ℕ → Type 0} {before after : List ℕ} {to add : ℕ → Type 0} {changed : Bool} → countOf concepts ≤ 192
       → Takes before after to add changed
-      → ((g : List ℕ) → Sound concepts inclusions choose g before → (i j : ℕ) → i < countOf concepts → j < countOf concepts → to j → add i
-      → Flow concepts inclusions choose g i j)
+      → ((g : List ℕ) → Sound concepts inclusions wide choose g before → (i j : ℕ) → i < countOf concepts → j < countOf concepts → to j → add i
+      → Flow concepts inclusions wide choose g i j)
       → (((i j : ℕ) → i < countOf concepts → to j → add i → has before i j ≡ true) → Q before)
-      → Pass concepts inclusions choose Q before after changed
+      → Pass concepts inclusions wide choose Q before after changed
   step-pass few t flows done =
       record {
         long = t .long;
@@ -82,28 +82,28 @@ module _ {concepts inclusions : List ℕ} {choose : ℕ → List ℕ} where
 
   pub flow-pass :
       {before after : List ℕ} {changed : Bool} (from to : ℕ) → countOf concepts ≤ 192 → from < countOf concepts
-      → ((g : List ℕ) (i : ℕ) → i < countOf concepts → Flow concepts inclusions choose g i from → Flow concepts inclusions choose g i to)
+      → ((g : List ℕ) (i : ℕ) → i < countOf concepts → Flow concepts inclusions wide choose g i from → Flow concepts inclusions wide choose g i to)
       → Takes before after (λ j. j ≡ to) (λ i. has before i from ≡ true) changed
-      → Pass concepts inclusions choose (λ l. Into (countOf concepts) l from to) before after changed
+      → Pass concepts inclusions wide choose (λ l. Into (countOf concepts) l from to) before after changed
   flow-pass from to few h flows t =
       step-pass few t
-      (λ g s i j l _ e u. subst (λ (x : ℕ). Flow concepts inclusions choose g i x) (sym e) (flows g i l (s i from l h u)))
+      (λ g s i j l _ e u. subst (λ (x : ℕ). Flow concepts inclusions wide choose g i x) (sym e) (flows g i l (s i from l h u)))
       (λ f i l u. f i to l refl u)
 
   -- a loop of passes, each owing S of its number
   pub loop-first :
       (S : ℕ → List ℕ → Type 0) (columns : List ℕ)
-      → Pass concepts inclusions choose (λ l. (k : ℕ) → k < 0 → S k l) columns columns false
+      → Pass concepts inclusions wide choose (λ l. (k : ℕ) → k < 0 → S k l) columns columns false
   loop-first S columns = pass-none (λ k h. absurd (omega arith))
 
   pub loop-more :
       (S : ℕ → List ℕ → Type 0) (i : ℕ) {before mid after : List ℕ} {a b : Bool}
-      → Pass concepts inclusions choose (λ l. (k : ℕ) → k < i → S k l) before mid a → Pass concepts inclusions choose (S i) mid after b
-      → Pass concepts inclusions choose (λ l. (k : ℕ) → k < i + 1 → S k l) before after (a || b)
+      → Pass concepts inclusions wide choose (λ l. (k : ℕ) → k < i → S k l) before mid a → Pass concepts inclusions wide choose (S i) mid after b
+      → Pass concepts inclusions wide choose (λ l. (k : ℕ) → k < i + 1 → S k l) before after (a || b)
   loop-more S i {before} p q = pass-as (pass-then p q) (λ u. below-more (λ k. S k before) i (u .0) (u .1))
 
   pub loop-done :
       (S : ℕ → List ℕ → Type 0) (i n : ℕ) {before after : List ℕ} {a : Bool} → n ≤ i
-      → Pass concepts inclusions choose (λ l. (k : ℕ) → k < i → S k l) before after a
-      → Pass concepts inclusions choose (λ l. (k : ℕ) → k < n → S k l) before after a
+      → Pass concepts inclusions wide choose (λ l. (k : ℕ) → k < i → S k l) before after a
+      → Pass concepts inclusions wide choose (λ l. (k : ℕ) → k < n → S k l) before after a
   loop-done S i n h p = pass-as p (λ u k l. u k (omega arith))

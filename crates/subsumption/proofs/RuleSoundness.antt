@@ -5,6 +5,7 @@ use mathlib.Core.List.{List}
 use mathlib.Core.Bool.{Bool, true}
 use Rattle.subsumption.specs.Tables.{Tables, countOf, rightOf}
 use Rattle.subsumption.specs.Atoms.{chosen}
+use Rattle.subsumption.specs.Roles.{wider}
 use Rattle.subsumption.specs.Subsumption.{assigned, Subsumed}
 use Rattle.subsumption.specs.Rules.{follows}
 use Rattle.subsumption.specs.Inner.Closure.{Steps}
@@ -13,7 +14,7 @@ use Rattle.subsumption.proofs.Soundness.{subsumed-same, subsumed-trans,
 use Rattle.subsumption.proofs.Rules.{Rules, follows-elim}
 
 module _ (t : Tables) (assignment : List ℕ) (wf : WellFormed t) where
-  steps : Steps (t .concepts) (t .inclusions) (chosen t assignment) (Subsumed t assignment)
+  steps : Steps (t .concepts) (t .inclusions) (wider (t .roles)) (chosen t assignment) (Subsumed t assignment)
   steps = subsumed-steps t assignment wf
 
   same : (i : ℕ) → Subsumed t assignment i i
@@ -31,7 +32,7 @@ module _ (t : Tables) (assignment : List ℕ) (wf : WellFormed t) where
         first = λ i j a b l k e s. trans i a j (steps .first i i a b l l e (same i)) s;
         second = λ i j a b l k e s. trans i b j (steps .second i i a b l l e (same i)) s;
         meet = steps .meet;
-        linked = λ i j r a b l k e f s. steps .linked i i j r a b l l k e f s (same i);
+        linked = λ i j r q a b l k e f w s. steps .linked i i j r q a b l l k e f w s (same i);
         included = λ i j m l k u p q. trans i (rightOf (t .inclusions) m) j (steps .included i m l u p) q;
         chooses = λ i j v p l k e m s. trans i p j (steps .chooses i i v p l l e m (same i)) s;
         all-chosen = steps .all-chosen;

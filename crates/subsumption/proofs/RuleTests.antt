@@ -74,20 +74,20 @@ onBoth-elim test (existsAt r j) h = absurd (false≢true h)
 onBoth-elim test (varAt k) h = absurd (false≢true h)
 
 pub onInner-elim :
-    (test : ℕ → ℕ → Bool) (a b : Node) → onInner test a b ≡ true
-    → (r : ℕ) × (i : ℕ) × (j : ℕ) × (a ≡ existsAt r i) × (b ≡ existsAt r j) × (test i j ≡ true)
+    (wide test : ℕ → ℕ → Bool) (a b : Node) → onInner wide test a b ≡ true
+    → (r : ℕ) × (s : ℕ) × (i : ℕ) × (j : ℕ) × (a ≡ existsAt r i) × (b ≡ existsAt s j) × (wide r s ≡ true) × (test i j ≡ true)
 unfolding onInner
-onInner-elim test (existsAt r i) (existsAt s j) h =
+onInner-elim wide test (existsAt r i) (existsAt s j) h =
     let (e, k) = both-true _ _ h in
-    (r, i, j, refl, ap (λ (z : ℕ). existsAt z j) (sym (eqb-true r s e)), k)
-onInner-elim test (existsAt r i) topAt h = absurd (false≢true h)
-onInner-elim test (existsAt r i) (nameAt n) h = absurd (false≢true h)
-onInner-elim test (existsAt r i) (andAt j k) h = absurd (false≢true h)
-onInner-elim test (existsAt r i) (varAt k) h = absurd (false≢true h)
-onInner-elim test topAt b h = absurd (false≢true h)
-onInner-elim test (nameAt n) b h = absurd (false≢true h)
-onInner-elim test (andAt i j) b h = absurd (false≢true h)
-onInner-elim test (varAt k) b h = absurd (false≢true h)
+    (r, s, i, j, refl, refl, e, k)
+onInner-elim wide test (existsAt r i) topAt h = absurd (false≢true h)
+onInner-elim wide test (existsAt r i) (nameAt n) h = absurd (false≢true h)
+onInner-elim wide test (existsAt r i) (andAt j k) h = absurd (false≢true h)
+onInner-elim wide test (existsAt r i) (varAt k) h = absurd (false≢true h)
+onInner-elim wide test topAt b h = absurd (false≢true h)
+onInner-elim wide test (nameAt n) b h = absurd (false≢true h)
+onInner-elim wide test (andAt i j) b h = absurd (false≢true h)
+onInner-elim wide test (varAt k) b h = absurd (false≢true h)
 
 pub onVariable-elim : (test : ℕ → Bool) (a : Node) → onVariable test a ≡ true → (k : ℕ) × (a ≡ varAt k) × (test k ≡ true)
 unfolding onVariable

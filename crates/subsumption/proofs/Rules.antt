@@ -7,6 +7,7 @@ use mathlib.Core.Logic.{⊎-elim}
 use borrow.Author.Tests.{eqb-true, eq-eqb, ltb-true, lt-ltb}
 use Rattle.subsumption.specs.Tables.{Tables, both, topAt, nameAt, existsAt, andAt, varAt, node, countOf, pairsOf, leftOf, rightOf}
 use Rattle.subsumption.specs.Atoms.{chosen}
+use Rattle.subsumption.specs.Roles.{wider}
 use Rattle.subsumption.specs.Rules.{every, contains, sameName, isTop, onPicked, onBoth, onInner, onVariable, byRule, follows}
 use Rattle.subsumption.proofs.Bools.{or-cases, or-first, or-second, both-true, both-intro}
 use Rattle.subsumption.proofs.WellFormed.{WellFormed}
@@ -26,8 +27,8 @@ pub record Rules (t : Tables) (assignment : List ℕ) (R : ℕ → ℕ → Type 
   pub meet :
       (i j a b : ℕ) → i < countOf (t .concepts) → j < countOf (t .concepts) → node (t .concepts) j ≡ andAt a b → R i a → R i b → R i j
   pub linked :
-      (i j r a b : ℕ) → i < countOf (t .concepts) → j < countOf (t .concepts)
-      → node (t .concepts) i ≡ existsAt r a → node (t .concepts) j ≡ existsAt r b → R a b → R i j
+      (i j r s a b : ℕ) → i < countOf (t .concepts) → j < countOf (t .concepts)
+      → node (t .concepts) i ≡ existsAt r a → node (t .concepts) j ≡ existsAt s b → wider (t .roles) r s ≡ true → R a b → R i j
   pub included :
       (i j m : ℕ) → i < countOf (t .concepts) → j < countOf (t .concepts) → m < pairsOf (t .inclusions)
       → R i (leftOf (t .inclusions) m) → R (rightOf (t .inclusions) m) j → R i j
@@ -60,8 +61,8 @@ module _ (t : Tables) (assignment : List ℕ) (wf : WellFormed t) (R : ℕ → �
         let (a, b, e, u, v) = onBoth-elim _ _ (both-true _ _ h .1) in
         rules .meet i j a b l k e (holds i a l (known .first j a b e k) u) (holds i b l (known .second j a b e k) v)
     byRule-elim (suc (suc (suc (suc (suc zero))))) extra h =
-        let (r, a, b, e, f, u) = onInner-elim proved _ _ (both-true _ _ h .1) in
-        rules .linked i j r a b l k e f (holds a b (known .inner i r a e l) (known .inner j r b f k) u)
+        let (r, s, a, b, e, f, w, u) = onInner-elim (wider (t .roles)) proved _ _ (both-true _ _ h .1) in
+        rules .linked i j r s a b l k e f w (holds a b (known .inner i r a e l) (known .inner j s b f k) u)
     byRule-elim (suc (suc (suc (suc (suc (suc zero)))))) extra h =
         let (e, u) = both-true _ _ h in
         let (p, q) = both-true _ _ u in
@@ -116,10 +117,10 @@ module _ (t : Tables) (assignment : List ℕ) (proved : ℕ → ℕ → Bool) (i
   follows-meet a b e h u = follows-intro 4 0 (both-intro _ _ refl (ap (onBoth (proved i)) e ∙ both-intro _ _ h u))
 
   pub follows-linked :
-      (r a b : ℕ) → node (t .concepts) i ≡ existsAt r a → node (t .concepts) j ≡ existsAt r b → proved a b ≡ true
+      (r s a b : ℕ) → node (t .concepts) i ≡ existsAt r a → node (t .concepts) j ≡ existsAt s b → wider (t .roles) r s ≡ true → proved a b ≡ true
       → follows t assignment proved 5 i j 0 ≡ true
   unfolding byRule onInner
-  follows-linked r a b e f h = follows-intro 5 0 (both-intro _ _ refl (ap₂ (onInner proved) e f ∙ both-intro _ _ (eq-eqb r r refl) h))
+  follows-linked r s a b e f w h = follows-intro 5 0 (both-intro _ _ refl (ap₂ (onInner (wider (t .roles)) proved) e f ∙ both-intro _ _ w h))
 
   pub follows-included :
       (m : ℕ) → m < pairsOf (t .inclusions) → proved i (leftOf (t .inclusions) m) ≡ true → proved (rightOf (t .inclusions) m) j ≡ true
@@ -155,7 +156,7 @@ follows-rules t assignment marks closed =
       first = λ i j a b l k e h. closed 3 i j 0 (follows-first t assignment marks i j l k a b e h);
       second = λ i j a b l k e h. closed 3 i j 1 (follows-second t assignment marks i j l k a b e h);
       meet = λ i j a b l k e h u. closed 4 i j 0 (follows-meet t assignment marks i j l k a b e h u);
-      linked = λ i j r a b l k e f h. closed 5 i j 0 (follows-linked t assignment marks i j l k r a b e f h);
+      linked = λ i j r s a b l k e f w h. closed 5 i j 0 (follows-linked t assignment marks i j l k r s a b e f w h);
       included = λ i j m l k u h v. closed 6 i j m (follows-included t assignment marks i j l k m u h v);
       chooses = λ i j v p l k e m h. closed 7 i j p (follows-chooses t assignment marks i j l k v p e m h);
       all-chosen = λ i j v l k e h. closed 8 i j 0 (follows-all-chosen t assignment marks i j l k v e h);

@@ -55,34 +55,34 @@ module _ (concepts atoms assignment firsts : List ℕ) (R : Settleable concepts 
       record { same = s; by = subst (λ (x : Node). SettledBy (countOf concepts) (chooseFrom atoms assignment) (getD firsts j 0) j columns x) (sym e) b }
 
   marked :
-      {inclusions before after : List ℕ} {changed : Bool} → Takes before after (λ x. x ≡ j) (λ i. i ≡ j) changed
-      → Pass concepts inclusions (chooseFrom atoms assignment) (λ l. has l j j ≡ true) before after changed
-  marked {inclusions} t =
+      {inclusions : List ℕ} {wide : ℕ → ℕ → Bool} {before after : List ℕ} {changed : Bool} → Takes before after (λ x. x ≡ j) (λ i. i ≡ j) changed
+      → Pass concepts inclusions wide (chooseFrom atoms assignment) (λ l. has l j j ≡ true) before after changed
+  marked {inclusions} {wide} t =
       step-pass (R .few) t
-      (λ g s i k h l p q. subst (λ (x : ℕ). Flow concepts inclusions (chooseFrom atoms assignment) g x k) (sym q)
-      (subst (λ (x : ℕ). Flow concepts inclusions (chooseFrom atoms assignment) g j x) (sym p) (flow-same j inside)))
+      (λ g s i k h l p q. subst (λ (x : ℕ). Flow concepts inclusions wide (chooseFrom atoms assignment) g x k) (sym q)
+      (subst (λ (x : ℕ). Flow concepts inclusions wide (chooseFrom atoms assignment) g j x) (sym p) (flow-same j inside)))
       (λ f. f j j inside refl refl)
 
   pub settle-exists :
       (before after : List ℕ) (own : Bool) → getD concepts (j * 3) 0 ≡ 2 → Takes before after (λ x. x ≡ j) (λ i. i ≡ j) own → SettledPass before after own
-  settle-exists before after own e t inclusions = pass-as (marked t) (λ q. settled (node-exists concepts j e) q tt)
+  settle-exists before after own e t inclusions wide = pass-as (marked t) (λ q. settled (node-exists concepts j e) q tt)
 
   pub settle-top :
       (before one after : List ℕ) (own a : Bool) → node concepts j ≡ topAt → Takes before one (λ x. x ≡ j) (λ i. i ≡ j) own
       → Takes one after (λ x. x ≡ j) (λ i. Unit {0}) a → SettledPass before after (own || a)
-  settle-top before one after own a e t u inclusions = pass-as (pass-then (marked t) filled) (λ q. settled e (q .0) (q .1))
+  settle-top before one after own a e t u inclusions wide = pass-as (pass-then (marked t) filled) (λ q. settled e (q .0) (q .1))
     where
-      filled : Pass concepts inclusions (chooseFrom atoms assignment) (λ l. (i : ℕ) → i < countOf concepts → has l i j ≡ true) one after a
+      filled : Pass concepts inclusions wide (chooseFrom atoms assignment) (λ l. (i : ℕ) → i < countOf concepts → has l i j ≡ true) one after a
       filled =
           step-pass (R .few) u
-          (λ g s i k h l p _. subst (λ (x : ℕ). Flow concepts inclusions (chooseFrom atoms assignment) g i x) (sym p) (flow-top i j h inside e))
+          (λ g s i k h l p _. subst (λ (x : ℕ). Flow concepts inclusions wide (chooseFrom atoms assignment) g i x) (sym p) (flow-top i j h inside e))
           (λ f i h. f i j h refl tt)
 
   pub settle-name :
       (before one two after : List ℕ) (own a b : Bool) → getD concepts (j * 3) 0 ≡ 1 → Takes before one (λ x. x ≡ j) (λ i. i ≡ j) own
       → Takes one two (λ x. x ≡ getD firsts j 0) (λ i. has one i j ≡ true) a
       → Takes two after (λ x. x ≡ j) (λ i. has two i (getD firsts j 0) ≡ true) b → SettledPass before after ((own || a) || b)
-  settle-name before one two after own a b kind t u v inclusions =
+  settle-name before one two after own a b kind t u v inclusions wide =
       pass-as (pass-then (pass-then (marked t) there) back) (λ q. settled e (q .0 .0) (q .0 .1, q .1))
     where
       e : node concepts j ≡ nameAt (getD concepts (j * 3 + 1) 0)
@@ -94,10 +94,10 @@ module _ (concepts atoms assignment firsts : List ℕ) (R : Settleable concepts 
       known : getD firsts j 0 < countOf concepts
       known = omega (arith, F .each j inside .low)
 
-      there : Pass concepts inclusions (chooseFrom atoms assignment) (λ l. Into (countOf concepts) l j (getD firsts j 0)) one two a
+      there : Pass concepts inclusions wide (chooseFrom atoms assignment) (λ l. Into (countOf concepts) l j (getD firsts j 0)) one two a
       there = flow-pass j (getD firsts j 0) (R .few) inside (λ g i h w. flow-named i j (getD firsts j 0) _ h inside known e f w) u
 
-      back : Pass concepts inclusions (chooseFrom atoms assignment) (λ l. Into (countOf concepts) l (getD firsts j 0) j) two after b
+      back : Pass concepts inclusions wide (chooseFrom atoms assignment) (λ l. Into (countOf concepts) l (getD firsts j 0) j) two after b
       back = flow-pass (getD firsts j 0) j (R .few) known (λ g i h w. flow-named i (getD firsts j 0) j _ h known inside f e w) v
 
   pub settle-and :
@@ -107,7 +107,7 @@ module _ (concepts atoms assignment firsts : List ℕ) (R : Settleable concepts 
       → Takes three after (λ x. x ≡ j)
       (λ i. (has three i (getD concepts (j * 3 + 1) 0) ≡ true) × (has three i (getD concepts (j * 3 + 2) 0) ≡ true)) c
       → SettledPass before after (((own || a) || b) || c)
-  settle-and before one two three after own a b c kind t u v w inclusions =
+  settle-and before one two three after own a b c kind t u v w inclusions wide =
       pass-as (pass-then (pass-then (pass-then (marked t) left) right) both)
       (λ q. settled e (q .0 .0 .0) (q .0 .0 .1, q .0 .1, q .1))
     where
@@ -126,19 +126,19 @@ module _ (concepts atoms assignment firsts : List ℕ) (R : Settleable concepts 
       y-known : y < countOf concepts
       y-known = omega (arith, rising R j inside e .1)
 
-      left : Pass concepts inclusions (chooseFrom atoms assignment) (λ l. Into (countOf concepts) l j x) one two a
+      left : Pass concepts inclusions wide (chooseFrom atoms assignment) (λ l. Into (countOf concepts) l j x) one two a
       left = flow-pass j x (R .few) inside (λ g i h z. flow-first i j x y h inside e z) u
 
-      right : Pass concepts inclusions (chooseFrom atoms assignment) (λ l. Into (countOf concepts) l j y) two three b
+      right : Pass concepts inclusions wide (chooseFrom atoms assignment) (λ l. Into (countOf concepts) l j y) two three b
       right = flow-pass j y (R .few) inside (λ g i h z. flow-second i j x y h inside e z) v
 
       both :
-          Pass concepts inclusions (chooseFrom atoms assignment)
+          Pass concepts inclusions wide (chooseFrom atoms assignment)
           (λ l. (i : ℕ) → i < countOf concepts → has l i x ≡ true → has l i y ≡ true → has l i j ≡ true) three after c
       both =
           step-pass (R .few) w
           (λ g s i k h l p q.
-          subst (λ (z : ℕ). Flow concepts inclusions (chooseFrom atoms assignment) g i z) (sym p)
+          subst (λ (z : ℕ). Flow concepts inclusions wide (chooseFrom atoms assignment) g i z) (sym p)
           (flow-meet i j x y h inside e (s i x h x-known (q .0)) (s i y h y-known (q .1))))
           (λ f i h p q. f i j h refl (p, q))
 
@@ -148,7 +148,7 @@ module _ (concepts atoms assignment firsts : List ℕ) (R : Settleable concepts 
       → Takes two after (λ x. x ≡ j)
       (λ i. (p : ℕ) → List·Memᴰ p (pick atoms (getD assignment (getD concepts (j * 3 + 1) 0) 0)) → has two i p ≡ true) b
       → SettledPass before after ((own || a) || b)
-  settle-var before one two after own a b kind t u v inclusions =
+  settle-var before one two after own a b kind t u v inclusions wide =
       pass-as (pass-then (pass-then (marked t) down) up) (λ q. settled e (q .0 .0) (q .0 .1, q .1))
     where
       k : ℕ
@@ -163,18 +163,18 @@ module _ (concepts atoms assignment firsts : List ℕ) (R : Settleable concepts 
           subst (λ (y : ℕ). y < countOf concepts) (c .found) (R .atoms-known (c .place) (c .before))
 
       down :
-          Pass concepts inclusions (chooseFrom atoms assignment)
+          Pass concepts inclusions wide (chooseFrom atoms assignment)
           (λ l. (p : ℕ) → List·Memᴰ p (chooseFrom atoms assignment k) → Into (countOf concepts) l j p) one two a
       down =
           step-pass (R .few) u (λ g s i p h l m q. flow-chooses i j k p h inside e m (s i j h inside q)) (λ f p m i h q. f i p h m q)
 
       up :
-          Pass concepts inclusions (chooseFrom atoms assignment)
+          Pass concepts inclusions wide (chooseFrom atoms assignment)
           (λ l. (i : ℕ) → i < countOf concepts → ((p : ℕ) → List·Memᴰ p (chooseFrom atoms assignment k) → has l i p ≡ true) → has l i j ≡ true)
           two after b
       up =
           step-pass (R .few) v
           (λ g s i x h l p q.
-          subst (λ (z : ℕ). Flow concepts inclusions (chooseFrom atoms assignment) g i z) (sym p)
+          subst (λ (z : ℕ). Flow concepts inclusions wide (chooseFrom atoms assignment) g i z) (sym p)
           (flow-all-chosen i j k h inside e (λ z m. s i z h (chosen-known z m) (q z m))))
           (λ f i h q. f i j h refl q)

@@ -3,7 +3,7 @@ use Prim.Native.Nat.{ℕ, _*_, _<_, _≤_}
 use mathlib.Core.Path.{_≡_}
 use mathlib.Core.Bool.{false}
 use lib.ListN.{length}
-use Rattle.subsumption.specs.Tables.{Tables, both, varAt, node, countOf, pairsOf, leftOf, rightOf, tree, hasVariable}
+use Rattle.subsumption.specs.Tables.{Tables, both, existsAt, varAt, node, countOf, pairsOf, leftOf, rightOf, tree, hasVariable}
 use Rattle.subsumption.specs.Atoms.{atoms}
 use Rattle.subsumption.specs.Inner.Tables.{Rising}
 
@@ -16,6 +16,8 @@ pub record WellFormed (t : Tables) : Type 0 where
   pub few-questions : pairsOf (t .questions) ≤ 32
   pub few-variables : t .variables ≤ 8
   pub rising : (i : ℕ) → Rising i (node (t .concepts) i)
+  pub low-roles : (i r j : ℕ) → node (t .concepts) i ≡ existsAt r j → r < 100
+  pub wide-low : (m : ℕ) → m < pairsOf (t .roles) → rightOf (t .roles) m < 100
   pub numbered : (i k : ℕ) → node (t .concepts) i ≡ varAt k → k < t .variables
   pub left-known : (m : ℕ) → m < pairsOf (t .inclusions) → leftOf (t .inclusions) m < countOf (t .concepts)
   pub right-known : (m : ℕ) → m < pairsOf (t .inclusions) → rightOf (t .inclusions) m < countOf (t .concepts)

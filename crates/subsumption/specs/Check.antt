@@ -4,7 +4,7 @@ use mathlib.Core.List.{List}
 use mathlib.Core.Bool.{Bool, true, false, not}
 use lib.Dec.{eqb, ltb}
 use lib.ListN.{length, getD}
-use Rattle.subsumption.specs.declared.refusal.Refusal.the-variants.{Limit, Malformed, ForwardId, NoConcept, VariableInInclusion, VariablesOnBothSides, TooManyAtoms, BufferTooShort, BadAssignment}
+use Rattle.subsumption.specs.declared.refusal.Refusal.the-variants.{Limit, Malformed, ForwardId, NoConcept, VariableInInclusion, VariablesOnBothSides, TooManyAtoms, BufferTooShort, BadAssignment, BadRole}
 use Rattle.subsumption.specs.declared.refusal.Outcome.{Outcome}
 use Rattle.subsumption.specs.Tables.{Tables, or, both, Node, topAt, nameAt, existsAt, andAt, varAt, node, countOf, pairsOf, leftOf, rightOf, tree, hasVariable}
 use Rattle.subsumption.specs.Atoms.{atoms}
@@ -19,7 +19,8 @@ limitFault t =
     orElse (refuseIf (unfit 3 192 (t .concepts)) (Limit 0))
     (orElse (refuseIf (unfit 2 96 (t .inclusions)) (Limit 1))
     (orElse (refuseIf (unfit 2 32 (t .questions)) (Limit 2))
-    (refuseIf (ltb 8 (t .variables)) (Limit 3))))
+    (orElse (refuseIf (ltb 8 (t .variables)) (Limit 3))
+    (refuseIf (unfit 2 32 (t .roles)) (Limit 4)))))
 
 -- Check 2: unknown kind, number out of range, unused field not 0. Inner ids are left to check 3.
 unfoldable pub malformedRow : ℕ → ℕ → ℕ → ℕ → Bool
@@ -72,6 +73,10 @@ sidesFault concepts questions =
     (λ m. both (hasVariable (tree concepts (leftOf questions m))) (hasVariable (tree concepts (rightOf questions m))))
     0 (pairsOf questions)
 
+-- Check 16, between 6 and 7: a role over 99.
+unfoldable pub rolesFault : List ℕ → Outcome
+rolesFault roles = firstAt BadRole (λ m. or (ltb 99 (leftOf roles m)) (ltb 99 (rightOf roles m))) 0 (pairsOf roles)
+
 -- Check 7: over 64 atoms.
 unfoldable pub atomsFault : Tables → Outcome
 atomsFault t = refuseIf (ltb 64 (length (atoms t))) TooManyAtoms
@@ -86,9 +91,11 @@ idFault t =
     (pairsFault (pairsOf (t .inclusions)) (countOf (t .concepts)) (t .questions))
 
 unfoldable pub useFault : Tables → Outcome
-useFault t = orElse (inclusionFault (t .concepts) (t .inclusions)) (orElse (sidesFault (t .concepts) (t .questions)) (atomsFault t))
+useFault t =
+    orElse (inclusionFault (t .concepts) (t .inclusions))
+    (orElse (sidesFault (t .concepts) (t .questions)) (orElse (rolesFault (t .roles)) (atomsFault t)))
 
--- The checks 1 to 7 of the tables.
+-- The checks 1 to 6, 16 and 7 of the tables.
 unfoldable pub tableFault : Tables → Outcome
 tableFault t = orElse (conceptFault t) (orElse (idFault t) (useFault t))
 

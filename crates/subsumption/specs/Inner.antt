@@ -5,6 +5,7 @@ pub mod Twins
 pub mod Check
 pub mod Listing
 pub mod Columns
+pub mod Roles
 pub mod Names
 pub mod Settling
 pub mod Links

@@ -2,6 +2,7 @@
 -- definitions of private contracts, and proofs/ the laws.
 pub mod Tables
 pub mod Atoms
+pub mod Roles
 pub mod Subsumption
 pub mod Rules
 pub mod Variables

@@ -5,6 +5,7 @@ use mathlib.Core.Bool.{Bool, true, false}
 use lib.Dec.{eqb, ltb}
 use Rattle.subsumption.specs.Tables.{Tables, or, both, Node, topAt, nameAt, existsAt, andAt, varAt, node, countOf, pairsOf, leftOf, rightOf}
 use Rattle.subsumption.specs.Atoms.{chosen}
+use Rattle.subsumption.specs.Roles.{wider}
 
 unfoldable pub every : (ℕ → Bool) → List ℕ → Bool
 every test [] = true
@@ -51,17 +52,17 @@ onBoth test (nameAt n) = false
 onBoth test (existsAt r j) = false
 onBoth test (varAt k) = false
 
--- "some" of two rows of one role: the inner ids pass
-unfoldable pub onInner : (ℕ → ℕ → Bool) → Node → Node → Bool
-onInner test (existsAt r i) (existsAt s j) = both (eqb r s) (test i j)
-onInner test (existsAt r i) topAt = false
-onInner test (existsAt r i) (nameAt n) = false
-onInner test (existsAt r i) (andAt j k) = false
-onInner test (existsAt r i) (varAt k) = false
-onInner test topAt m = false
-onInner test (nameAt n) m = false
-onInner test (andAt i j) m = false
-onInner test (varAt k) m = false
+-- "some" of two rows, the first of a role that counts as the second's: the inner ids pass
+unfoldable pub onInner : (ℕ → ℕ → Bool) → (ℕ → ℕ → Bool) → Node → Node → Bool
+onInner wide test (existsAt r i) (existsAt s j) = both (wide r s) (test i j)
+onInner wide test (existsAt r i) topAt = false
+onInner wide test (existsAt r i) (nameAt n) = false
+onInner wide test (existsAt r i) (andAt j k) = false
+onInner wide test (existsAt r i) (varAt k) = false
+onInner wide test topAt m = false
+onInner wide test (nameAt n) m = false
+onInner wide test (andAt i j) m = false
+onInner wide test (varAt k) m = false
 
 -- of a variable, its number passes
 unfoldable pub onVariable : (ℕ → Bool) → Node → Bool
@@ -81,7 +82,7 @@ module _ (t : Tables) (assignment : List ℕ) (proved : ℕ → ℕ → Bool) wh
   byRule (suc (suc (suc zero))) left right extra = onPicked extra (λ i. proved i right) (node (t .concepts) left)
   byRule (suc (suc (suc (suc zero)))) left right extra = both (eqb extra 0) (onBoth (λ j. proved left j) (node (t .concepts) right))
   byRule (suc (suc (suc (suc (suc zero))))) left right extra =
-      both (eqb extra 0) (onInner proved (node (t .concepts) left) (node (t .concepts) right))
+      both (eqb extra 0) (onInner (wider (t .roles)) proved (node (t .concepts) left) (node (t .concepts) right))
   byRule (suc (suc (suc (suc (suc (suc zero)))))) left right extra =
       both (ltb extra (pairsOf (t .inclusions)))
       (both (proved left (leftOf (t .inclusions) extra)) (proved (rightOf (t .inclusions) extra) right))

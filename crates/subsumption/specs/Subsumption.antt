@@ -39,10 +39,15 @@ Included I ρ c d = (x : ℕ) → x < I .size → Member I ρ c x → Member I �
 abbrev pub noVariables : Reading
 noVariables k x = Unit {0}
 
-abbrev pub Obeys : Tables → Interpretation → Type 0
-Obeys t I =
-    (m : ℕ) → m < pairsOf (t .inclusions)
-    → Included I noVariables (tree (t .concepts) (leftOf (t .inclusions) m)) (tree (t .concepts) (rightOf (t .inclusions) m))
+-- The interpretation obeys both tables: each inclusion, and each pair of roles, whose narrow links are links of the wide role too.
+pub record Obeys (t : Tables) (I : Interpretation) : Type 0 where
+  pub inclusions :
+      (m : ℕ) → m < pairsOf (t .inclusions)
+      → Included I noVariables (tree (t .concepts) (leftOf (t .inclusions) m)) (tree (t .concepts) (rightOf (t .inclusions) m))
+  pub roles :
+      (m : ℕ) → m < pairsOf (t .roles) → (x y : ℕ) → x < I .size → y < I .size
+      → List·Memᴰ (record { from = x; role = leftOf (t .roles) m; to = y }) (I .links)
+      → List·Memᴰ (record { from = x; role = rightOf (t .roles) m; to = y }) (I .links)
 
 -- Variables read by an assignment: an element belongs to a variable when it belongs to every atom chosen for it.
 abbrev pub assigned : Tables → List ℕ → Interpretation → Reading

@@ -6,15 +6,17 @@ use lib.Bits.{bitOr}
 use lib.Dec.{eqb}
 use lib.ListN.{length, getD}
 
--- The three tables and the number of variables (01: blanks).
+-- The four tables and the number of variables (01: blanks).
 pub record Tables : Type 0 where
   pub concepts : List ℕ
   pub inclusions : List ℕ
   pub questions : List ℕ
+  pub roles : List ℕ
   pub variables : ℕ
 
-abbrev pub tables : List ℕ → List ℕ → List ℕ → ℕ → Tables
-tables concepts inclusions questions variables = record { concepts = concepts; inclusions = inclusions; questions = questions; variables = variables }
+abbrev pub tables : List ℕ → List ℕ → List ℕ → List ℕ → ℕ → Tables
+tables concepts inclusions questions roles variables =
+    record { concepts = concepts; inclusions = inclusions; questions = questions; roles = roles; variables = variables }
 
 unfoldable pub or : Bool → Bool → Bool
 or true b = true
@@ -56,7 +58,7 @@ countOf concepts = length concepts / 3
 abbrev pub pairsOf : List ℕ → ℕ
 pairsOf pairs = length pairs / 2
 
--- An inclusion or a question is a pair of ids: its left is below its right.
+-- An inclusion or a question is a pair of ids: its left is below its right. A pair of roles is (narrow, wide).
 abbrev pub leftOf : List ℕ → ℕ → ℕ
 leftOf pairs m = getD pairs (m * 2) 0
 

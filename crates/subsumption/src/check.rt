@@ -9,6 +9,7 @@ use crate::limits::INCLUSIONS;
 use crate::limits::LAST_NAME;
 use crate::limits::LAST_ROLE;
 use crate::limits::QUESTIONS;
+use crate::limits::ROLE_PAIRS;
 use crate::limits::VARIABLES;
 use crate::refusal::Outcome;
 use crate::refusal::Refusal;
@@ -22,7 +23,7 @@ ghost use lib.Dec.{ltb};
 ghost use lib.ListN.{replicate};
 ghost use Rattle.subsumption.specs.Tables.{tables, decode, countOf};
 ghost use Rattle.subsumption.specs.Refusal.{replyOf};
-ghost use Rattle.subsumption.specs.Check.{unfit, limitFault, malformedRow, malformedFault, forward, forwardFault, noConcept, pairsFault, aloneFault, bufferFault, conceptFault, idFault, inclusionFault, sidesFault, tableFault, assignmentFaultAt};
+ghost use Rattle.subsumption.specs.Check.{unfit, limitFault, malformedRow, malformedFault, forward, forwardFault, noConcept, pairsFault, aloneFault, bufferFault, conceptFault, idFault, inclusionFault, sidesFault, rolesFault, tableFault, assignmentFaultAt};
 ghost use Rattle.subsumption.specs.Inner.Atoms.{VariableSets, Known};
 ghost use Rattle.subsumption.specs.Inner.Check.{Used};
 ghost use Rattle.subsumption.specs.declared.refusal.Outcome.the-variants.{Done};
@@ -38,8 +39,14 @@ fn is_unfit(numbers: &[u16], width: usize, limit: usize) -> bool
     limit < numbers.len() / width
 }
 
-fn check_limits(concepts: &[u16], inclusions: &[u16], questions: &[u16], variables: u16) -> Outcome
-    ensures { λ r. ⌜ r ≡ limitFault (tables (now (concepts .entry)) (now (inclusions .entry)) (now (questions .entry)) variables) ⌝ }
+fn check_limits(
+    concepts: &[u16],
+    inclusions: &[u16],
+    questions: &[u16],
+    roles: &[u16],
+    variables: u16,
+) -> Outcome
+    ensures { λ r. ⌜ r ≡ limitFault (tables (now (concepts .entry)) (now (inclusions .entry)) (now (questions .entry)) (now (roles .entry)) variables) ⌝ }
 {
     if is_unfit(concepts, 3, CONCEPTS) {
         return Outcome::Refused(Refusal::Limit(0));
@@ -52,6 +59,9 @@ fn check_limits(concepts: &[u16], inclusions: &[u16], questions: &[u16], variabl
     }
     if VARIABLES < variables {
         return Outcome::Refused(Refusal::Limit(3));
+    }
+    if is_unfit(roles, 2, ROLE_PAIRS) {
+        return Outcome::Refused(Refusal::Limit(4));
     }
     Outcome::Done
 }
@@ -182,11 +192,12 @@ pub fn check_concepts(
     concepts: &[u16],
     inclusions: &[u16],
     questions: &[u16],
+    roles: &[u16],
     variables: u16,
 ) -> Outcome
-    ensures { λ r. ⌜ r ≡ conceptFault (tables (now (concepts .entry)) (now (inclusions .entry)) (now (questions .entry)) variables) ⌝ }
+    ensures { λ r. ⌜ r ≡ conceptFault (tables (now (concepts .entry)) (now (inclusions .entry)) (now (questions .entry)) (now (roles .entry)) variables) ⌝ }
 {
-    let limits = check_limits(concepts, inclusions, questions, variables);
+    let limits = check_limits(concepts, inclusions, questions, roles, variables);
     if let Outcome::Refused(r) = limits {
         return Outcome::Refused(r);
     }
@@ -198,9 +209,15 @@ pub fn check_concepts(
 }
 
 // Check 4 of the tables.
-pub fn check_ids(concepts: &[u16], inclusions: &[u16], questions: &[u16], variables: u16) -> Outcome
-    requires { ⌜ conceptFault (tables (now concepts) (now inclusions) (now questions) variables) ≡ Done ⌝ }
-    ensures { λ r. ⌜ r ≡ idFault (tables (now (concepts .entry)) (now (inclusions .entry)) (now (questions .entry)) variables) ⌝ }
+pub fn check_ids(
+    concepts: &[u16],
+    inclusions: &[u16],
+    questions: &[u16],
+    roles: &[u16],
+    variables: u16,
+) -> Outcome
+    requires { ⌜ conceptFault (tables (now concepts) (now inclusions) (now questions) (now roles) variables) ≡ Done ⌝ }
+    ensures { λ r. ⌜ r ≡ idFault (tables (now (concepts .entry)) (now (inclusions .entry)) (now (questions .entry)) (now (roles .entry)) variables) ⌝ }
 {
     let count = concepts.len() / 3;
     let first = check_pairs(0, count, inclusions);
@@ -252,18 +269,35 @@ fn check_sides(concepts: &[u16], questions: &[u16], sets: &[u8]) -> Outcome
     Outcome::Done
 }
 
-// Checks 5 to 7. The atoms are marked on the way, for whoever lists them.
+// Check 16: a role over 99.
+fn check_roles(roles: &[u16]) -> Outcome
+    ensures { λ r. ⌜ r ≡ rolesFault (now (roles .entry)) ⌝ }
+{
+    let rows = roles.len() / 2;
+    let mut m: usize = 0;
+    while m < rows {
+        let pair = pair_at(roles, m);
+        if either(LAST_ROLE < pair.left, LAST_ROLE < pair.right) {
+            return Outcome::Refused(Refusal::BadRole(m));
+        }
+        m += 1;
+    }
+    Outcome::Done
+}
+
+// Checks 5, 6, 16 and 7. The atoms are marked on the way, for whoever lists them.
 pub fn check_use(
     concepts: &[u16],
     inclusions: &[u16],
     questions: &[u16],
+    roles: &[u16],
     variables: u16,
     marks: &mut [bool],
 ) -> Outcome
-    requires { ⌜ conceptFault (tables (now concepts) (now inclusions) (now questions) variables) ≡ Done ⌝ }
-    requires { ⌜ idFault (tables (now concepts) (now inclusions) (now questions) variables) ≡ Done ⌝ }
+    requires { ⌜ conceptFault (tables (now concepts) (now inclusions) (now questions) (now roles) variables) ≡ Done ⌝ }
+    requires { ⌜ idFault (tables (now concepts) (now inclusions) (now questions) (now roles) variables) ≡ Done ⌝ }
     requires { ⌜ now marks ≡ replicate 192 false ⌝ }
-    ensures { λ r. ⌜ Used (tables (now (concepts .entry)) (now (inclusions .entry)) (now (questions .entry)) variables) (now (marks .exit)) r ⌝ }
+    ensures { λ r. ⌜ Used (tables (now (concepts .entry)) (now (inclusions .entry)) (now (questions .entry)) (now (roles .entry)) variables) (now (marks .exit)) r ⌝ }
 {
     let mut sets = [0u8; CONCEPTS];
     write_sets(concepts, &mut sets);
@@ -273,6 +307,10 @@ pub fn check_use(
     }
     let sides = check_sides(concepts, questions, &sets);
     if let Outcome::Refused(r) = sides {
+        return Outcome::Refused(r);
+    }
+    let wide = check_roles(roles);
+    if let Outcome::Refused(r) = wide {
         return Outcome::Refused(r);
     }
     mark_atoms(concepts, inclusions, questions, &sets, marks);
@@ -287,20 +325,28 @@ pub fn check_tables(
     concepts: &[u16],
     inclusions: &[u16],
     questions: &[u16],
+    roles: &[u16],
     variables: u16,
 ) -> Outcome
-    ensures { λ r. ⌜ replyOf r ≡ replyOf (tableFault (tables (now (concepts .entry)) (now (inclusions .entry)) (now (questions .entry)) variables)) ⌝ }
+    ensures { λ r. ⌜ replyOf r ≡ replyOf (tableFault (tables (now (concepts .entry)) (now (inclusions .entry)) (now (questions .entry)) (now (roles .entry)) variables)) ⌝ }
 {
-    let rows = check_concepts(concepts, inclusions, questions, variables);
+    let rows = check_concepts(concepts, inclusions, questions, roles, variables);
     if let Outcome::Refused(r) = rows {
         return Outcome::Refused(r);
     }
-    let ids = check_ids(concepts, inclusions, questions, variables);
+    let ids = check_ids(concepts, inclusions, questions, roles, variables);
     if let Outcome::Refused(r) = ids {
         return Outcome::Refused(r);
     }
     let mut marks = [false; CONCEPTS];
-    check_use(concepts, inclusions, questions, variables, &mut marks)
+    check_use(
+        concepts,
+        inclusions,
+        questions,
+        roles,
+        variables,
+        &mut marks,
+    )
 }
 
 // A choice has a bit past the atoms.

@@ -10,8 +10,12 @@ use crate::closure::links::note_onward;
 use crate::closure::names::note_firsts;
 use crate::closure::settling::settle_all;
 use crate::limits::CONCEPTS;
+use crate::limits::ROLE_WORDS;
+use crate::roles::note_roles;
 ghost use mathlib.Core.Path.{_≡_};
 ghost use lib.ListN.{length};
+ghost use Rattle.subsumption.specs.Roles.{wider};
+ghost use Rattle.subsumption.specs.Inner.Roles.{inSet, LowRoles};
 ghost use Rattle.subsumption.specs.Inner.Names.{Firsts};
 ghost use Rattle.subsumption.specs.Inner.Settling.{chooseFrom};
 ghost use Rattle.subsumption.specs.Inner.Links.{Onward};
@@ -44,14 +48,16 @@ fn round(
     assignment: &[u64],
     firsts: &[u16],
     onward: &[u16],
+    into: &[u64],
     columns: &mut [u64],
 ) -> bool
     requires { ⌜ Ready (now concepts) (now inclusions) (now atoms) (now assignment) ⌝ }
     requires { ⌜ Firsts (now concepts) (now firsts) ⌝ }
     requires { ⌜ length (now columns) ≡ 576 ⌝ }
     requires { ⌜ Onward (now concepts) (now onward) ⌝ }
-    ensures { λ r. ⌜ Pass (now (concepts .entry)) (now (inclusions .entry)) (chooseFrom (now (atoms .entry)) (now (assignment .entry)))
-        (AllTaken (now (concepts .entry)) (now (inclusions .entry)) (chooseFrom (now (atoms .entry)) (now (assignment .entry))) (now (firsts .entry)))
+    requires { ⌜ length (now into) ≡ 200 ⌝ }
+    ensures { λ r. ⌜ Pass (now (concepts .entry)) (now (inclusions .entry)) (inSet (now (into .entry))) (chooseFrom (now (atoms .entry)) (now (assignment .entry)))
+        (AllTaken (now (concepts .entry)) (now (inclusions .entry)) (inSet (now (into .entry))) (chooseFrom (now (atoms .entry)) (now (assignment .entry))) (now (firsts .entry)))
         (now (columns .entry)) (now (columns .exit)) r ⌝ }
 {
     let a = settle_all(concepts, atoms, assignment, firsts, columns);
@@ -59,25 +65,29 @@ fn round(
     if a | b {
         return true;
     }
-    link_all(concepts, onward, columns)
+    link_all(concepts, onward, into, columns)
 }
 
 // Closes the columns from what they hold.
 pub fn close(
     concepts: &[u16],
     inclusions: &[u16],
+    roles: &[u16],
     atoms: &[u16],
     assignment: &[u64],
     columns: &mut [u64],
 )
     requires { ⌜ Ready (now concepts) (now inclusions) (now atoms) (now assignment) ⌝ }
+    requires { ⌜ LowRoles (now roles) ⌝ }
     requires { ⌜ length (now columns) ≡ 576 ⌝ }
-    ensures { λ r. ⌜ Closed (now (concepts .entry)) (now (inclusions .entry)) (chooseFrom (now (atoms .entry)) (now (assignment .entry))) (now (columns .entry)) (now (columns .exit)) ⌝ }
+    ensures { λ r. ⌜ Closed (now (concepts .entry)) (now (inclusions .entry)) (wider (now (roles .entry))) (chooseFrom (now (atoms .entry)) (now (assignment .entry))) (now (columns .entry)) (now (columns .exit)) ⌝ }
 {
     let mut firsts = [0u16; CONCEPTS];
     note_firsts(concepts, &mut firsts);
     let mut onward = [0u16; CONCEPTS + 1];
     note_onward(concepts, &mut onward);
+    let mut into = [0u64; ROLE_WORDS];
+    note_roles(roles, &mut into);
     let mut busy = true;
     while busy {
         busy = round(
@@ -87,6 +97,7 @@ pub fn close(
             assignment,
             &firsts,
             &onward,
+            &into,
             columns,
         );
     }

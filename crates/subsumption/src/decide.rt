@@ -23,22 +23,23 @@ pub enum Decision {
 pub fn decide_known(
     concepts: &[u16],
     inclusions: &[u16],
+    roles: &[u16],
     atoms: &[u16],
     variables: u16,
     assignment: &[u64],
     left: u16,
     right: u16,
 ) -> Decision
-    requires { ⌜ Prepared (now concepts) (now inclusions) variables (now atoms) ⌝ }
+    requires { ⌜ Prepared (now concepts) (now inclusions) (now roles) variables (now atoms) ⌝ }
     requires { ⌜ (left < countOf (now concepts)) × (right < countOf (now concepts)) ⌝ }
-    ensures { λ r. ⌜ ForAccepted (now (concepts .entry)) (now (inclusions .entry)) variables (now (atoms .entry)) (λ t. Decides t (now (assignment .entry)) left right (decisionReply r)) ⌝ }
+    ensures { λ r. ⌜ ForAccepted (now (concepts .entry)) (now (inclusions .entry)) (now (roles .entry)) variables (now (atoms .entry)) (λ t. Decides t (now (assignment .entry)) left right (decisionReply r)) ⌝ }
 {
     let choices = check_assignment(assignment, variables, atoms.len());
     if let Outcome::Refused(r) = choices {
         return Decision::Rejected(r);
     }
     let mut columns = [0u64; WORDS];
-    close(concepts, inclusions, atoms, assignment, &mut columns);
+    close(concepts, inclusions, roles, atoms, assignment, &mut columns);
     if below(&columns, left as usize, right as usize) {
         return Decision::Yes;
     }
@@ -50,18 +51,20 @@ pub fn decide_pair(
     concepts: &[u16],
     inclusions: &[u16],
     questions: &[u16],
+    roles: &[u16],
     variables: u16,
     assignment: &[u64],
     left: u16,
     right: u16,
 ) -> Decision
-    ensures { λ r. ⌜ Decides (tables (now (concepts .entry)) (now (inclusions .entry)) (now (questions .entry)) variables) (now (assignment .entry)) left right (decisionReply r) ⌝ }
+    ensures { λ r. ⌜ Decides (tables (now (concepts .entry)) (now (inclusions .entry)) (now (questions .entry)) (now (roles .entry)) variables) (now (assignment .entry)) left right (decisionReply r) ⌝ }
 {
     let mut ids = [0u16; ATOMS];
     let listed = list_asked(
         concepts,
         inclusions,
         questions,
+        roles,
         variables,
         left,
         right,
@@ -72,6 +75,7 @@ pub fn decide_pair(
         Listed::Atoms(count) => decide_known(
             concepts,
             inclusions,
+            roles,
             &ids[..count],
             variables,
             assignment,

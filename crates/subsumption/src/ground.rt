@@ -77,17 +77,18 @@ fn keep_free(held: &[bool], columns: &mut [u64])
 pub fn close_ground(
     concepts: &[u16],
     inclusions: &[u16],
+    roles: &[u16],
     ids: &[u16],
     variables: u16,
     columns: &mut [u64],
 )
-    requires { ⌜ Prepared (now concepts) (now inclusions) variables (now ids) ⌝ }
+    requires { ⌜ Prepared (now concepts) (now inclusions) (now roles) variables (now ids) ⌝ }
     requires { ⌜ now columns ≡ replicate 576 0 ⌝ }
-    ensures { λ _. ⌜ ForAccepted (now (concepts .entry)) (now (inclusions .entry)) variables (now (ids .entry)) (λ t. Grounded t (now (columns .exit))) ⌝ }
+    ensures { λ _. ⌜ ForAccepted (now (concepts .entry)) (now (inclusions .entry)) (now (roles .entry)) variables (now (ids .entry)) (λ t. Grounded t (now (columns .exit))) ⌝ }
 {
     let nothing = [0u64; 8];
     let count = variables as usize;
-    close(concepts, inclusions, ids, &nothing[..count], columns);
+    close(concepts, inclusions, roles, ids, &nothing[..count], columns);
     let mut held = [false; CONCEPTS];
     mark_variables(concepts, &mut held);
     keep_free(&held, columns);
@@ -110,19 +111,20 @@ pub fn close_over(
     concepts: &[u16],
     inclusions: &[u16],
     questions: &[u16],
+    roles: &[u16],
     variables: u16,
     ids: &[u16],
     ground: &[u64],
     assignment: &[u64],
     columns: &mut [u64],
 )
-    requires { ⌜ tableFault (tables (now concepts) (now inclusions) (now questions) variables) ≡ Done ⌝ }
-    requires { ⌜ assignmentFault (tables (now concepts) (now inclusions) (now questions) variables) (now assignment) ≡ Done ⌝ }
-    requires { ⌜ now ids ≡ atoms (tables (now concepts) (now inclusions) (now questions) variables) ⌝ }
-    requires { ⌜ Grounded (tables (now concepts) (now inclusions) (now questions) variables) (now ground) ⌝ }
+    requires { ⌜ tableFault (tables (now concepts) (now inclusions) (now questions) (now roles) variables) ≡ Done ⌝ }
+    requires { ⌜ assignmentFault (tables (now concepts) (now inclusions) (now questions) (now roles) variables) (now assignment) ≡ Done ⌝ }
+    requires { ⌜ now ids ≡ atoms (tables (now concepts) (now inclusions) (now questions) (now roles) variables) ⌝ }
+    requires { ⌜ Grounded (tables (now concepts) (now inclusions) (now questions) (now roles) variables) (now ground) ⌝ }
     requires { ⌜ length (now columns) ≡ 576 ⌝ }
-    ensures { λ _. ⌜ ColumnsOf (tables (now (concepts .entry)) (now (inclusions .entry)) (now (questions .entry)) variables) (now (assignment .entry)) (now (columns .exit)) ⌝ }
+    ensures { λ _. ⌜ ColumnsOf (tables (now (concepts .entry)) (now (inclusions .entry)) (now (questions .entry)) (now (roles .entry)) variables) (now (assignment .entry)) (now (columns .exit)) ⌝ }
 {
     copy_columns(ground, columns);
-    close(concepts, inclusions, ids, assignment, columns);
+    close(concepts, inclusions, roles, ids, assignment, columns);
 }

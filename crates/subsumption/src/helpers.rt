@@ -7,6 +7,8 @@ pub use crate::decide::decide_known;
 pub use crate::ground::close_ground;
 pub use crate::ground::close_over;
 pub use crate::listing::list_asked;
+pub use crate::roles::counts;
+pub use crate::roles::note_roles;
 pub use crate::tables::Pair;
 pub use crate::tables::Row;
 pub use crate::tables::pair_at;

@@ -10,6 +10,7 @@ pub mod helpers;
 pub mod limits;
 mod listing;
 pub mod refusal;
+mod roles;
 mod rows;
 mod table;
 mod tables;

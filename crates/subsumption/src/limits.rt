@@ -7,6 +7,8 @@ pub const QUESTIONS: usize = 32;
 
 pub const VARIABLES: u16 = 8;
 
+pub const ROLE_PAIRS: usize = 32;
+
 pub const ATOMS: usize = 64;
 
 pub const NAMES: usize = 1000;
@@ -14,6 +16,9 @@ pub const NAMES: usize = 1000;
 pub const LAST_NAME: u16 = 999;
 
 pub const LAST_ROLE: u16 = 99;
+
+// Of the roles, the words: two a role.
+pub const ROLE_WORDS: usize = 200;
 
 // Of the subsumption table, the bytes of a row.
 pub const ROW_BYTES: usize = 24;

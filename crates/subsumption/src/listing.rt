@@ -28,16 +28,24 @@ fn list_used(
     concepts: &[u16],
     inclusions: &[u16],
     questions: &[u16],
+    roles: &[u16],
     variables: u16,
     out: &mut [u16],
 ) -> Listed
-    requires { ⌜ conceptFault (tables (now concepts) (now inclusions) (now questions) variables) ≡ Done ⌝ }
-    requires { ⌜ idFault (tables (now concepts) (now inclusions) (now questions) variables) ≡ Done ⌝ }
-    ensures { λ r. ⌜ listedReply r ≡ replyWith (usedFault (tables (now (concepts .entry)) (now (inclusions .entry)) (now (questions .entry)) variables) (length (now (out .entry)))) (length (atoms (tables (now (concepts .entry)) (now (inclusions .entry)) (now (questions .entry)) variables))) ⌝ }
-    ensures { λ r. ⌜ now (out .exit) ≡ listedIn (usedFault (tables (now (concepts .entry)) (now (inclusions .entry)) (now (questions .entry)) variables) (length (now (out .entry)))) (tables (now (concepts .entry)) (now (inclusions .entry)) (now (questions .entry)) variables) (now (out .entry)) ⌝ }
+    requires { ⌜ conceptFault (tables (now concepts) (now inclusions) (now questions) (now roles) variables) ≡ Done ⌝ }
+    requires { ⌜ idFault (tables (now concepts) (now inclusions) (now questions) (now roles) variables) ≡ Done ⌝ }
+    ensures { λ r. ⌜ listedReply r ≡ replyWith (usedFault (tables (now (concepts .entry)) (now (inclusions .entry)) (now (questions .entry)) (now (roles .entry)) variables) (length (now (out .entry)))) (length (atoms (tables (now (concepts .entry)) (now (inclusions .entry)) (now (questions .entry)) (now (roles .entry)) variables))) ⌝ }
+    ensures { λ r. ⌜ now (out .exit) ≡ listedIn (usedFault (tables (now (concepts .entry)) (now (inclusions .entry)) (now (questions .entry)) (now (roles .entry)) variables) (length (now (out .entry)))) (tables (now (concepts .entry)) (now (inclusions .entry)) (now (questions .entry)) (now (roles .entry)) variables) (now (out .entry)) ⌝ }
 {
     let mut marks = [false; CONCEPTS];
-    let used = check_use(concepts, inclusions, questions, variables, &mut marks);
+    let used = check_use(
+        concepts,
+        inclusions,
+        questions,
+        roles,
+        variables,
+        &mut marks,
+    );
     if let Outcome::Refused(r) = used {
         return Listed::Rejected(r);
     }
@@ -52,21 +60,22 @@ pub fn list_atoms(
     concepts: &[u16],
     inclusions: &[u16],
     questions: &[u16],
+    roles: &[u16],
     variables: u16,
     out: &mut [u16],
 ) -> Listed
-    ensures { λ r. ⌜ listedReply r ≡ replyWith (listingFault (tables (now (concepts .entry)) (now (inclusions .entry)) (now (questions .entry)) variables) (length (now (out .entry)))) (length (atoms (tables (now (concepts .entry)) (now (inclusions .entry)) (now (questions .entry)) variables))) ⌝ }
-    ensures { λ r. ⌜ now (out .exit) ≡ listedIn (listingFault (tables (now (concepts .entry)) (now (inclusions .entry)) (now (questions .entry)) variables) (length (now (out .entry)))) (tables (now (concepts .entry)) (now (inclusions .entry)) (now (questions .entry)) variables) (now (out .entry)) ⌝ }
+    ensures { λ r. ⌜ listedReply r ≡ replyWith (listingFault (tables (now (concepts .entry)) (now (inclusions .entry)) (now (questions .entry)) (now (roles .entry)) variables) (length (now (out .entry)))) (length (atoms (tables (now (concepts .entry)) (now (inclusions .entry)) (now (questions .entry)) (now (roles .entry)) variables))) ⌝ }
+    ensures { λ r. ⌜ now (out .exit) ≡ listedIn (listingFault (tables (now (concepts .entry)) (now (inclusions .entry)) (now (questions .entry)) (now (roles .entry)) variables) (length (now (out .entry)))) (tables (now (concepts .entry)) (now (inclusions .entry)) (now (questions .entry)) (now (roles .entry)) variables) (now (out .entry)) ⌝ }
 {
-    let rows = check_concepts(concepts, inclusions, questions, variables);
+    let rows = check_concepts(concepts, inclusions, questions, roles, variables);
     if let Outcome::Refused(r) = rows {
         return Listed::Rejected(r);
     }
-    let ids = check_ids(concepts, inclusions, questions, variables);
+    let ids = check_ids(concepts, inclusions, questions, roles, variables);
     if let Outcome::Refused(r) = ids {
         return Listed::Rejected(r);
     }
-    list_used(concepts, inclusions, questions, variables, out)
+    list_used(concepts, inclusions, questions, roles, variables, out)
 }
 
 // The same with a pair given alone, which check 4 judges at place 0.
@@ -74,15 +83,16 @@ pub fn list_asked(
     concepts: &[u16],
     inclusions: &[u16],
     questions: &[u16],
+    roles: &[u16],
     variables: u16,
     left: u16,
     right: u16,
     out: &mut [u16],
 ) -> Listed
-    ensures { λ r. ⌜ listedReply r ≡ replyWith (askedFault (tables (now (concepts .entry)) (now (inclusions .entry)) (now (questions .entry)) variables) left right (length (now (out .entry)))) (length (atoms (tables (now (concepts .entry)) (now (inclusions .entry)) (now (questions .entry)) variables))) ⌝ }
-    ensures { λ r. ⌜ now (out .exit) ≡ listedIn (askedFault (tables (now (concepts .entry)) (now (inclusions .entry)) (now (questions .entry)) variables) left right (length (now (out .entry)))) (tables (now (concepts .entry)) (now (inclusions .entry)) (now (questions .entry)) variables) (now (out .entry)) ⌝ }
+    ensures { λ r. ⌜ listedReply r ≡ replyWith (askedFault (tables (now (concepts .entry)) (now (inclusions .entry)) (now (questions .entry)) (now (roles .entry)) variables) left right (length (now (out .entry)))) (length (atoms (tables (now (concepts .entry)) (now (inclusions .entry)) (now (questions .entry)) (now (roles .entry)) variables))) ⌝ }
+    ensures { λ r. ⌜ now (out .exit) ≡ listedIn (askedFault (tables (now (concepts .entry)) (now (inclusions .entry)) (now (questions .entry)) (now (roles .entry)) variables) left right (length (now (out .entry)))) (tables (now (concepts .entry)) (now (inclusions .entry)) (now (questions .entry)) (now (roles .entry)) variables) (now (out .entry)) ⌝ }
 {
-    let rows = check_concepts(concepts, inclusions, questions, variables);
+    let rows = check_concepts(concepts, inclusions, questions, roles, variables);
     if let Outcome::Refused(r) = rows {
         return Listed::Rejected(r);
     }
@@ -90,9 +100,9 @@ pub fn list_asked(
     if let Outcome::Refused(r) = alone {
         return Listed::Rejected(r);
     }
-    let ids = check_ids(concepts, inclusions, questions, variables);
+    let ids = check_ids(concepts, inclusions, questions, roles, variables);
     if let Outcome::Refused(r) = ids {
         return Listed::Rejected(r);
     }
-    list_used(concepts, inclusions, questions, variables, out)
+    list_used(concepts, inclusions, questions, roles, variables, out)
 }

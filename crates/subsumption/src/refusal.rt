@@ -17,6 +17,7 @@ pub enum Refusal {
     NotSubsumed,
     BadDerivation(usize),
     BadText(usize),
+    BadRole(usize),
 }
 
 // What an operation answers that has nothing to give but its work.
@@ -85,6 +86,10 @@ pub fn code_of(r: Refusal) -> Code
         },
         Refusal::BadText(p) => Code {
             number: 13,
+            place: p,
+        },
+        Refusal::BadRole(p) => Code {
+            number: 16,
             place: p,
         },
     }

@@ -24,13 +24,14 @@ pub enum Tabled {
 fn put_table(
     concepts: &[u16],
     inclusions: &[u16],
+    roles: &[u16],
     atoms: &[u16],
     variables: u16,
     assignment: &[u64],
     out: &mut [u8],
 ) -> Tabled
-    requires { ⌜ Prepared (now concepts) (now inclusions) variables (now atoms) ⌝ }
-    ensures { λ r. ⌜ ForAccepted (now (concepts .entry)) (now (inclusions .entry)) variables (now (atoms .entry)) (λ t. Wrote t (now (assignment .entry)) (now (out .entry)) (now (out .exit)) (tabledReply r)) ⌝ }
+    requires { ⌜ Prepared (now concepts) (now inclusions) (now roles) variables (now atoms) ⌝ }
+    ensures { λ r. ⌜ ForAccepted (now (concepts .entry)) (now (inclusions .entry)) (now (roles .entry)) variables (now (atoms .entry)) (λ t. Wrote t (now (assignment .entry)) (now (out .entry)) (now (out .exit)) (tabledReply r)) ⌝ }
 {
     let choices = check_assignment(assignment, variables, atoms.len());
     if let Outcome::Refused(r) = choices {
@@ -42,7 +43,7 @@ fn put_table(
         return Tabled::Rejected(r);
     }
     let mut columns = [0u64; WORDS];
-    close(concepts, inclusions, atoms, assignment, &mut columns);
+    close(concepts, inclusions, roles, atoms, assignment, &mut columns);
     write_rows(&columns, count, out);
     Tabled::Marks(count_pairs(&columns, count))
 }
@@ -52,19 +53,21 @@ pub fn write_table(
     concepts: &[u16],
     inclusions: &[u16],
     questions: &[u16],
+    roles: &[u16],
     variables: u16,
     assignment: &[u64],
     out: &mut [u8],
 ) -> Tabled
-    ensures { λ r. ⌜ Wrote (tables (now (concepts .entry)) (now (inclusions .entry)) (now (questions .entry)) variables) (now (assignment .entry)) (now (out .entry)) (now (out .exit)) (tabledReply r) ⌝ }
+    ensures { λ r. ⌜ Wrote (tables (now (concepts .entry)) (now (inclusions .entry)) (now (questions .entry)) (now (roles .entry)) variables) (now (assignment .entry)) (now (out .entry)) (now (out .exit)) (tabledReply r) ⌝ }
 {
     let mut ids = [0u16; ATOMS];
-    let listed = list_atoms(concepts, inclusions, questions, variables, &mut ids);
+    let listed = list_atoms(concepts, inclusions, questions, roles, variables, &mut ids);
     match listed {
         Listed::Rejected(r) => Tabled::Rejected(r),
         Listed::Atoms(count) => put_table(
             concepts,
             inclusions,
+            roles,
             &ids[..count],
             variables,
             assignment,

@@ -58,8 +58,15 @@ pub fn write_sets(concepts: &[u16], sets: &mut [u8])
 }
 
 // The set of one concept of accepted tables.
-fn set_at(concepts: &[u16], inclusions: &[u16], atoms: &[u16], variables: u16, id: u16) -> u8
-    requires { ⌜ Prepared (now concepts) (now inclusions) variables (now atoms) ⌝ }
+fn set_at(
+    concepts: &[u16],
+    inclusions: &[u16],
+    roles: &[u16],
+    atoms: &[u16],
+    variables: u16,
+    id: u16,
+) -> u8
+    requires { ⌜ Prepared (now concepts) (now inclusions) (now roles) variables (now atoms) ⌝ }
     requires { ⌜ id < countOf (now concepts) ⌝ }
     ensures { λ r. ⌜ r ≡ variablesOf (tree (now (concepts .entry)) id) ⌝ }
 {
@@ -73,18 +80,29 @@ pub fn variables_in(
     concepts: &[u16],
     inclusions: &[u16],
     questions: &[u16],
+    roles: &[u16],
     variables: u16,
     id: u16,
 ) -> VariableSet
-    ensures { λ r. ⌜ variablesReply r ≡ replyWith (pairFault (tables (now (concepts .entry)) (now (inclusions .entry)) (now (questions .entry)) variables) id id) (variablesOf (tree (now (concepts .entry)) id)) ⌝ }
+    ensures { λ r. ⌜ variablesReply r ≡ replyWith (pairFault (tables (now (concepts .entry)) (now (inclusions .entry)) (now (questions .entry)) (now (roles .entry)) variables) id id) (variablesOf (tree (now (concepts .entry)) id)) ⌝ }
 {
     let mut ids = [0u16; ATOMS];
-    let listed = list_asked(concepts, inclusions, questions, variables, id, id, &mut ids);
+    let listed = list_asked(
+        concepts,
+        inclusions,
+        questions,
+        roles,
+        variables,
+        id,
+        id,
+        &mut ids,
+    );
     match listed {
         Listed::Rejected(r) => VariableSet::Rejected(r),
         Listed::Atoms(count) => VariableSet::Set(set_at(
             concepts,
             inclusions,
+            roles,
             &ids[..count],
             variables,
             id,

@@ -3,6 +3,8 @@ use Rattle.capi.proofs.Answers.{same-answer}
 use borrow.Author.Needs.{needs}
 use Rattle.capi.proofs.hc_atoms.Statement.{statement}
 use Rattle.capi.proofs.hc_atoms.Tie as tie
+use Rattle.capi.proofs.answer_of.Reads as answer-of-reads
+use Rattle.subsumption.proofs.list_atoms.Reads as list-atoms-reads
 
 list-atoms-requires : tie.Need-list-atoms-requires
 list-atoms-requires c κs = search needs

@@ -3,6 +3,8 @@ use Rattle.capi.proofs.Answers.{same-answer}
 use borrow.Author.Needs.{needs}
 use Rattle.capi.proofs.hc_blanks.Statement.{statement}
 use Rattle.capi.proofs.hc_blanks.Tie as tie
+use Rattle.capi.proofs.answer_of.Reads as answer-of-reads
+use Rattle.subsumption.proofs.variables_in.Reads as variables-in-reads
 
 variables-in-requires : tie.Need-variables-in-requires
 variables-in-requires c κs = search needs

@@ -2,6 +2,8 @@ use mathlib.Core.Path.{_∙_}
 use borrow.Author.Needs.{needs}
 use Rattle.capi.proofs.hc_check.Statement.{statement}
 use Rattle.capi.proofs.hc_check.Tie as tie
+use Rattle.capi.proofs.answer_of.Reads as answer-of-reads
+use Rattle.subsumption.proofs.check_tables.Reads as check-tables-reads
 
 check-tables-requires : tie.Need-check-tables-requires
 check-tables-requires c κs = search needs

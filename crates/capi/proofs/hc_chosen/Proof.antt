@@ -3,6 +3,8 @@ use Rattle.capi.proofs.Answers.{same-answer}
 use borrow.Author.Needs.{needs}
 use Rattle.capi.proofs.hc_chosen.Statement.{statement}
 use Rattle.capi.proofs.hc_chosen.Tie as tie
+use Rattle.capi.proofs.answer_of.Reads as answer-of-reads
+use Rattle.matching.proofs.put_chosen.Reads as put-chosen-reads
 
 put-chosen-requires : tie.Need-put-chosen-requires
 put-chosen-requires c κs = search needs

@@ -25,13 +25,13 @@ same-length : tie.Need-same-length
 same-length c = search needs
 
 returns : tie.Need-returns
-returns c = wrote-as (tables (c .before .before .before .before .before .before .before .before .before .before .before .before .before .args .concepts .now) (c .before .before .before .before .before .before .before .before .before .before .before .before .before .args .inclusions .now) (c .before .before .before .before .before .before .before .before .before .before .before .before .before .args .questions .now) (c .before .before .before .before .before .before .before .before .before .before .before .before .before .args .variables)) (c .before .before .before .before .before .before .before .before .before .before .before .before .before .args .assignment .now) (c .before .before .before .before .before .before .before .before .before .before .before .before .before .args .out .now) _ 0 0 (c .answer-of .result) (c .before .before .before .before .before .before .write-table .result) _ (c .before .before .before .before .before .before .write-table .ensures) (c .before .before .answer .given .1) (c .answer-of .ensures)
+returns c = wrote-as (tables (c .before .before .before .before .before .before .before .before .before .before .before .before .before .before .args .concepts .now) (c .before .before .before .before .before .before .before .before .before .before .before .before .before .before .args .inclusions .now) (c .before .before .before .before .before .before .before .before .before .before .before .before .before .before .args .questions .now) (c .before .before .before .before .before .before .before .before .before .before .before .before .before .before .args .roles .now) (c .before .before .before .before .before .before .before .before .before .before .before .before .before .before .args .variables)) (c .before .before .before .before .before .before .before .before .before .before .before .before .before .before .args .assignment .now) (c .before .before .before .before .before .before .before .before .before .before .before .before .before .before .args .out .now) _ 0 0 (c .answer-of .result) (c .before .before .before .before .before .before .write-table .result) _ (c .before .before .before .before .before .before .write-table .ensures) (c .before .before .answer .given .1) (c .answer-of .ensures)
 
 same-length-2 : tie.Need-same-length-2
 same-length-2 c = search needs
 
 returns-2 : tie.Need-returns-2
-returns-2 c = wrote-as (tables (c .before .before .before .before .before .before .before .before .before .before .before .before .before .args .concepts .now) (c .before .before .before .before .before .before .before .before .before .before .before .before .before .args .inclusions .now) (c .before .before .before .before .before .before .before .before .before .before .before .before .before .args .questions .now) (c .before .before .before .before .before .before .before .before .before .before .before .before .before .args .variables)) (c .before .before .before .before .before .before .before .before .before .before .before .before .before .args .assignment .now) (c .before .before .before .before .before .before .before .before .before .before .before .before .before .args .out .now) _ 0 0 (c .answer-of2 .result) (c .before .before .before .before .before .before .write-table .result) _ (c .before .before .before .before .before .before .write-table .ensures) (c .before .before .answer2 .given .1) (c .answer-of2 .ensures)
+returns-2 c = wrote-as (tables (c .before .before .before .before .before .before .before .before .before .before .before .before .before .before .args .concepts .now) (c .before .before .before .before .before .before .before .before .before .before .before .before .before .before .args .inclusions .now) (c .before .before .before .before .before .before .before .before .before .before .before .before .before .before .args .questions .now) (c .before .before .before .before .before .before .before .before .before .before .before .before .before .before .args .roles .now) (c .before .before .before .before .before .before .before .before .before .before .before .before .before .before .args .variables)) (c .before .before .before .before .before .before .before .before .before .before .before .before .before .before .args .assignment .now) (c .before .before .before .before .before .before .before .before .before .before .before .before .before .before .args .out .now) _ 0 0 (c .answer-of2 .result) (c .before .before .before .before .before .before .write-table .result) _ (c .before .before .before .before .before .before .write-table .ensures) (c .before .before .answer2 .given .1) (c .answer-of2 .ensures)
 
 pub hc-subsumption-table-spec : {M : Type 1} → statement M
 hc-subsumption-table-spec =

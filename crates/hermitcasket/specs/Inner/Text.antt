@@ -11,9 +11,9 @@ use Rattle.hermitcasket.specs.declared.text.Section.{Section}
 use Rattle.hermitcasket.specs.declared.text.Section.the-variants.{Through, Faulty}
 use Rattle.hermitcasket.specs.declared.text.Read.{Read}
 use Rattle.hermitcasket.specs.declared.text.Read.the-variants.{Problem, Rejected}
+use Rattle.hermitcasket.specs.Lines.{questionsKey, belowKey}
 use Rattle.subsumption.specs.Tables.{Tables, tables}
-use Rattle.hermitcasket.specs.Lines.{questionsKey}
-use Rattle.hermitcasket.specs.Text.{Line, pairAt, Part, part, faulty, Judged, accepted, refused, Onward, countAt, sectionAt, judgeEnd}
+use Rattle.hermitcasket.specs.Text.{pairAt, Part, part, faulty, Judged, accepted, refused, Onward, countAt, sectionAt, judgeEnd, judgeConcepts}
 
 -- The numbers read stand in front, and so many bytes are used.
 unfoldable pub partOf : Lines → ℕ → List ℕ → ℕ → List ℕ → Part
@@ -46,12 +46,12 @@ pub record Counts (key : List ℕ) (limit table at : ℕ) (rest : List ℕ) (r :
   pub judged : (go : ℕ → Onward) → countAt key limit table go at rest ≡ countedThen r go at rest
   pub fits : SectionFits r limit (length rest)
 
-pub record Sectioned (key : List ℕ) (limit table : ℕ) (line : List ℕ → Line) (width at : ℕ) (rest : List ℕ) (r : Section) (out : List ℕ) : Type 0 where
-  pub judged : (go : List ℕ → Onward) → sectionAt key limit table line go at rest ≡ sectionThen r width out go at rest
+pub record Sectioned (section : (List ℕ → Onward) → Onward) (limit width at : ℕ) (rest : List ℕ) (r : Section) (out : List ℕ) : Type 0 where
+  pub judged : (go : List ℕ → Onward) → section go at rest ≡ sectionThen r width out go at rest
   pub fits : SectionFits r limit (length rest)
 
 pub record Last (at : ℕ) (rest : List ℕ) (r : Section) (out : List ℕ) : Type 0 where
-  pub judged : (t : List ℕ → Tables) → sectionAt questionsKey 32 2 pairAt (λ questions. judgeEnd (t questions)) at rest ≡ lastThen r out t
+  pub judged : (t : List ℕ → Tables) → sectionAt questionsKey 32 2 (pairAt belowKey) (λ questions. judgeEnd (t questions)) at rest ≡ lastThen r out t
   pub fits : SectionFits r 32 (length rest)
 
 unfoldable pub faultOf : Section → Refusal
@@ -59,10 +59,16 @@ faultOf (Through count used) = BadText used
 faultOf (Faulty r) = r
 
 -- The tables stand in front of the arrays.
-unfoldable pub judgedBy : Read → List ℕ → List ℕ → List ℕ → Judged
-judgedBy (Problem variables c i q) concepts inclusions questions = accepted (tables (take (c * 3) concepts) (take (i * 2) inclusions) (take (q * 2) questions) variables)
-judgedBy (Rejected r) concepts inclusions questions = refused r
+unfoldable pub judgedBy : Read → List ℕ → List ℕ → List ℕ → List ℕ → Judged
+judgedBy (Problem variables c i q r) concepts inclusions questions roles =
+    accepted (tables (take (c * 3) concepts) (take (i * 2) inclusions) (take (q * 2) questions) (take (r * 2) roles) variables)
+judgedBy (Rejected r) concepts inclusions questions roles = refused r
 
 abbrev pub ReadFits : Read → Type 0
-ReadFits (Problem variables c i q) = (variables ≤ 8) × (c ≤ 192) × (i ≤ 96) × (q ≤ 32)
+ReadFits (Problem variables c i q r) = (variables ≤ 8) × (c ≤ 192) × (i ≤ 96) × (q ≤ 32) × (r ≤ 32)
 ReadFits (Rejected r) = Unit
+
+-- The tables behind the section of the roles: so they are judged for any array that has so many pairs in front.
+pub record TablesRead (variables pairs at : ℕ) (rest : List ℕ) (r : Read) (concepts inclusions questions : List ℕ) : Type 0 where
+  pub judged : (roles : List ℕ) → judgeConcepts variables (take (pairs * 2) roles) at rest ≡ judgedBy r concepts inclusions questions roles
+  pub fits : ReadFits r

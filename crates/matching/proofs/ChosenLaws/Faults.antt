@@ -17,7 +17,7 @@ use Rattle.subsumption.specs.declared.refusal.Code.{Code}
 use Rattle.subsumption.specs.Tables.{Tables}
 use Rattle.subsumption.specs.Atoms.{atoms, pick, chosen}
 use Rattle.subsumption.specs.Refusal.{codeOf, replyDone, replyRefused, replyWith, replyOf, orElse, refuseIf, firstAt}
-use Rattle.subsumption.specs.Check.{limitFault, malformedFault, forwardFault, pairsFault, inclusionFault, sidesFault, atomsFault, conceptFault, idFault, useFault, tableFault, assignmentFaultAt, assignmentFault, bufferFault}
+use Rattle.subsumption.specs.Check.{limitFault, malformedFault, forwardFault, pairsFault, inclusionFault, sidesFault, rolesFault, atomsFault, conceptFault, idFault, useFault, tableFault, assignmentFaultAt, assignmentFault, bufferFault}
 use Rattle.subsumption.specs.Inner.Listing.{Accepted}
 use Rattle.subsumption.specs.Inner.Atoms.{inFront}
 use Rattle.subsumption.proofs.Refusals.{stops, goes-on, refused-lt, done-le, passed-first, passed-second, passed-if, passed-at}
@@ -59,7 +59,8 @@ limit-first : (t : Tables) → Refuses IsFirst (limitFault t)
 unfolding limitFault
 limit-first t =
     refuses-or IsFirst _ _ (refuses-if IsFirst _ _ refl)
-    (refuses-or IsFirst _ _ (refuses-if IsFirst _ _ refl) (refuses-or IsFirst _ _ (refuses-if IsFirst _ _ refl) (refuses-if IsFirst _ _ refl)))
+    (refuses-or IsFirst _ _ (refuses-if IsFirst _ _ refl)
+    (refuses-or IsFirst _ _ (refuses-if IsFirst _ _ refl) (refuses-or IsFirst _ _ (refuses-if IsFirst _ _ refl) (refuses-if IsFirst _ _ refl))))
 
 concepts-later : (t : Tables) → Refuses IsLater (orElse (malformedFault (t .concepts) (t .variables)) (forwardFault (t .concepts)))
 unfolding malformedFault forwardFault
@@ -70,10 +71,11 @@ unfolding pairsFault
 pairs-later before count pairs = refuses-at IsLater _ _ _ _ (λ i e. omega arith)
 
 use-later : (t : Tables) → Refuses IsLater (useFault t)
-unfolding useFault inclusionFault sidesFault atomsFault
+unfolding useFault inclusionFault sidesFault rolesFault atomsFault
 use-later t =
     refuses-or IsLater _ _ (refuses-at IsLater _ _ _ _ (λ i e. omega arith))
-    (refuses-or IsLater _ _ (refuses-at IsLater _ _ _ _ (λ i e. omega arith)) (refuses-if IsLater _ _ (λ e. omega arith)))
+    (refuses-or IsLater _ _ (refuses-at IsLater _ _ _ _ (λ i e. omega arith))
+    (refuses-or IsLater _ _ (refuses-at IsLater _ _ _ _ (λ i e. omega arith)) (refuses-if IsLater _ _ (λ e. omega arith))))
 
 rest-later : (t : Tables) → Refuses IsLater (orElse (orElse (malformedFault (t .concepts) (t .variables)) (forwardFault (t .concepts))) (orElse (idFault t) (useFault t)))
 unfolding idFault

@@ -13,8 +13,10 @@ use Rattle.subsumption.specs.Inner.Tables.{rowOf, Rising}
 use Rattle.subsumption.specs.Atoms.{atoms, chosen, pick}
 use Rattle.subsumption.specs.Inner.Closure.{Ready}
 use Rattle.subsumption.specs.Inner.Atoms.{Known}
+use Rattle.subsumption.specs.Roles.{wider}
+use Rattle.subsumption.specs.Inner.Roles.{inSet}
 use Rattle.subsumption.specs.Rules.{every, contains, sameName, isTop, onPicked, onBoth, onInner, onVariable, byRule}
-use Rattle.matching.specs.Inner.Derivation.{seen, nodeOf, KnownAtoms, Numbered, ByRule}
+use Rattle.matching.specs.Inner.Derivation.{LowRole, seen, nodeOf, KnownAtoms, Numbered, ByRule}
 
 row-node : (concepts : List ℕ) (i : ℕ) (row : Row) → row ≡ rowOf concepts i → nodeOf row ≡ node concepts i
 unfolding node
@@ -34,9 +36,34 @@ numbered-of assignment (existsAt s j) h = tt
 numbered-of assignment (andAt j k) h = tt
 numbered-of assignment (varAt k) h = h k refl
 
+-- rule 5 by the sets of roles
+inner-agree :
+    (wide wide′ : ℕ → ℕ → Bool) → ((r s : ℕ) → r < 100 → s < 100 → wide r s ≡ wide′ r s) → (test : ℕ → ℕ → Bool) (m n : Node) → LowRole m → LowRole n
+    → onInner wide test m n ≡ onInner wide′ test m n
+unfolding onInner
+inner-agree wide wide′ same test topAt m u w = refl
+inner-agree wide wide′ same test (nameAt n) m u w = refl
+inner-agree wide wide′ same test (existsAt r i) topAt u w = refl
+inner-agree wide wide′ same test (existsAt r i) (nameAt m) u w = refl
+inner-agree wide wide′ same test (existsAt r i) (existsAt s y) u w = ap (λ (z : Bool). both z (test i y)) (same r s u w)
+inner-agree wide wide′ same test (existsAt r i) (andAt x y) u w = refl
+inner-agree wide wide′ same test (existsAt r i) (varAt z) u w = refl
+inner-agree wide wide′ same test (andAt i j) m u w = refl
+inner-agree wide wide′ same test (varAt k) m u w = refl
+
 module _ (concepts inclusions ids assignment : List ℕ) (ready : Ready concepts inclusions ids assignment) where
   pub row-rising : (i : ℕ) (row : Row) → i < countOf concepts → row ≡ rowOf concepts i → Rising (countOf concepts) (nodeOf row)
   row-rising i row h e = subst (Rising (countOf concepts)) (sym (row-node concepts i row e)) (rising-up (countOf concepts) i (node concepts i) h (ready .rising i h))
+
+  pub row-low : (i : ℕ) (row : Row) → row ≡ rowOf concepts i → LowRole (nodeOf row)
+  row-low i row e = subst LowRole (sym (row-node concepts i row e)) (go (node concepts i) refl)
+    where
+      go : (m : Node) → node concepts i ≡ m → LowRole m
+      go topAt e = tt
+      go (nameAt n) e = tt
+      go (existsAt r j) e = ready .low-roles i r j e
+      go (andAt j k) e = tt
+      go (varAt k) e = tt
 
   pub row-numbered : (i : ℕ) (row : Row) → row ≡ rowOf concepts i → Numbered assignment (nodeOf row)
   row-numbered i row e = subst (Numbered assignment) (sym (row-node concepts i row e)) (numbered-of assignment (node concepts i) (ready .numbered i))
@@ -47,25 +74,25 @@ module _ (concepts inclusions ids assignment : List ℕ) (ready : Ready concepts
   pub inclusions-in : Known (countOf concepts) inclusions
   inclusions-in = record { left-known = ready .left-known; right-known = ready .right-known }
 
-module _ (concepts inclusions ids assignment : List ℕ) (marks : List Bool) (left right extra : ℕ) where
+module _ (concepts inclusions into ids assignment : List ℕ) (marks : List Bool) (left right extra : ℕ) where
   proved : ℕ → ℕ → Bool
   proved = seen (countOf concepts) marks
 
   module _ (rule : ℕ) (l r : Row) (x : Bool) (p : l ≡ rowOf concepts left) (q : r ≡ rowOf concepts right) where
-    pub rule-member : rule ≡ 3 → x ≡ onPicked extra (λ i. seen (countOf concepts) marks i right) (nodeOf l) → ByRule concepts inclusions ids assignment marks rule left right extra x
+    pub rule-member : rule ≡ 3 → x ≡ onPicked extra (λ i. seen (countOf concepts) marks i right) (nodeOf l) → ByRule concepts inclusions into ids assignment marks rule left right extra x
     unfolding byRule
     rule-member e h t of =
         rw (e, of .concepts-are) (h ∙ ap (onPicked extra (λ i. seen (countOf concepts) marks i right)) (row-node concepts left l p))
 
     pub rule-inclusion :
         rule ≡ 6 → x ≡ both (ltb extra (pairsOf inclusions)) (both (seen (countOf concepts) marks left (leftOf inclusions extra)) (seen (countOf concepts) marks (rightOf inclusions extra) right))
-        → ByRule concepts inclusions ids assignment marks rule left right extra x
+        → ByRule concepts inclusions into ids assignment marks rule left right extra x
     unfolding byRule
     rule-inclusion e h t of = rw (e, of .inclusions-are) h
 
     pub rule-choice :
         rule ≡ 7 → x ≡ onVariable (λ k. both (contains extra (pick ids (getD assignment k 0))) (seen (countOf concepts) marks extra right)) (nodeOf l)
-        → ByRule concepts inclusions ids assignment marks rule left right extra x
+        → ByRule concepts inclusions into ids assignment marks rule left right extra x
     unfolding byRule chosen
     rule-choice e h t of =
         rw e
@@ -73,27 +100,31 @@ module _ (concepts inclusions ids assignment : List ℕ) (marks : List Bool) (le
         (subst (λ (z : List ℕ). x ≡ onVariable (λ k. both (contains extra (pick z (getD assignment k 0))) (seen (countOf concepts) marks extra right)) (node concepts left)) (sym (of .atoms-are))
         (h ∙ ap (onVariable (λ k. both (contains extra (pick ids (getD assignment k 0))) (seen (countOf concepts) marks extra right))) (row-node concepts left l p))))
 
-    pub rule-name : rule ≡ 1 → extra ≡ 0 → x ≡ or (eqb left right) (sameName (nodeOf l) (nodeOf r)) → ByRule concepts inclusions ids assignment marks rule left right extra x
+    pub rule-name : rule ≡ 1 → extra ≡ 0 → x ≡ or (eqb left right) (sameName (nodeOf l) (nodeOf r)) → ByRule concepts inclusions into ids assignment marks rule left right extra x
     unfolding byRule both
     rule-name e f h t of =
         rw (e, f, of .concepts-are) (h ∙ ap₂ (λ a b. or (eqb left right) (sameName a b)) (row-node concepts left l p) (row-node concepts right r q))
 
-    pub rule-top : rule ≡ 2 → extra ≡ 0 → x ≡ isTop (nodeOf r) → ByRule concepts inclusions ids assignment marks rule left right extra x
+    pub rule-top : rule ≡ 2 → extra ≡ 0 → x ≡ isTop (nodeOf r) → ByRule concepts inclusions into ids assignment marks rule left right extra x
     unfolding byRule both
     rule-top e f h t of = rw (e, f, of .concepts-are) (h ∙ ap isTop (row-node concepts right r q))
 
-    pub rule-both : rule ≡ 4 → extra ≡ 0 → x ≡ onBoth (λ j. seen (countOf concepts) marks left j) (nodeOf r) → ByRule concepts inclusions ids assignment marks rule left right extra x
+    pub rule-both : rule ≡ 4 → extra ≡ 0 → x ≡ onBoth (λ j. seen (countOf concepts) marks left j) (nodeOf r) → ByRule concepts inclusions into ids assignment marks rule left right extra x
     unfolding byRule both
     rule-both e f h t of = rw (e, f, of .concepts-are) (h ∙ ap (onBoth (λ j. seen (countOf concepts) marks left j)) (row-node concepts right r q))
 
-    pub rule-inner : rule ≡ 5 → extra ≡ 0 → x ≡ onInner (seen (countOf concepts) marks) (nodeOf l) (nodeOf r) → ByRule concepts inclusions ids assignment marks rule left right extra x
+    pub rule-inner :
+        LowRole (nodeOf l) → LowRole (nodeOf r) → rule ≡ 5 → extra ≡ 0 → x ≡ onInner (inSet into) (seen (countOf concepts) marks) (nodeOf l) (nodeOf r)
+        → ByRule concepts inclusions into ids assignment marks rule left right extra x
     unfolding byRule both
-    rule-inner e f h t of =
-        rw (e, f, of .concepts-are) (h ∙ ap₂ (onInner (seen (countOf concepts) marks)) (row-node concepts left l p) (row-node concepts right r q))
+    rule-inner u w e f h t of =
+        rw (e, f, of .concepts-are)
+        (h ∙ inner-agree (inSet into) (wider (t .roles)) (of .roles-are .each) (seen (countOf concepts) marks) (nodeOf l) (nodeOf r) u w
+        ∙ ap₂ (onInner (wider (t .roles)) (seen (countOf concepts) marks)) (row-node concepts left l p) (row-node concepts right r q))
 
     pub rule-all :
         rule ≡ 8 → extra ≡ 0 → x ≡ onVariable (λ k. every (λ p. seen (countOf concepts) marks left p) (pick ids (getD assignment k 0))) (nodeOf r)
-        → ByRule concepts inclusions ids assignment marks rule left right extra x
+        → ByRule concepts inclusions into ids assignment marks rule left right extra x
     unfolding byRule both chosen
     rule-all e f h t of =
         rw (e, f)
@@ -103,7 +134,7 @@ module _ (concepts inclusions ids assignment : List ℕ) (marks : List Bool) (le
 
   -- the other rules ask that the extra is 0
   pub rule-extra :
-      (rule : ℕ) → (rule ≡ 3 → ⊥) → (rule ≡ 6 → ⊥) → (rule ≡ 7 → ⊥) → (extra ≡ 0 → ⊥) → ByRule concepts inclusions ids assignment marks rule left right extra false
+      (rule : ℕ) → (rule ≡ 3 → ⊥) → (rule ≡ 6 → ⊥) → (rule ≡ 7 → ⊥) → (extra ≡ 0 → ⊥) → ByRule concepts inclusions into ids assignment marks rule left right extra false
   unfolding byRule both
   rule-extra zero a b c ne t of = refl
   rule-extra (suc zero) a b c ne t of = rw (ne-eqb extra 0 ne)
@@ -118,7 +149,7 @@ module _ (concepts inclusions ids assignment : List ℕ) (marks : List Bool) (le
 
   pub rule-unknown :
       (rule : ℕ) → (rule ≡ 3 → ⊥) → (rule ≡ 6 → ⊥) → (rule ≡ 7 → ⊥) → (rule ≡ 1 → ⊥) → (rule ≡ 2 → ⊥) → (rule ≡ 4 → ⊥) → (rule ≡ 5 → ⊥) → (rule ≡ 8 → ⊥)
-      → ByRule concepts inclusions ids assignment marks rule left right extra false
+      → ByRule concepts inclusions into ids assignment marks rule left right extra false
   unfolding byRule
   rule-unknown zero a b c d e f g h t of = refl
   rule-unknown (suc zero) a b c d e f g h t of = absurd (d refl)

@@ -9,6 +9,7 @@ use Rattle.subsumption.specs.Tables.{Tables, both, Node, topAt, nameAt, existsA
 use Rattle.subsumption.specs.Atoms.{chosen}
 use Rattle.subsumption.specs.Inner.Tables.{Rising}
 use Rattle.subsumption.specs.Inner.Closure.{Ready}
+use Rattle.subsumption.specs.Roles.{wider}
 use Rattle.subsumption.specs.Rules.{every, contains, onPicked, onBoth, onInner, onVariable, byRule, follows}
 use Rattle.subsumption.proofs.Bools.{both-true, both-intro, same-bool}
 use Rattle.subsumption.proofs.Chosen.{chosen-known}
@@ -31,9 +32,9 @@ pub onBoth-intro : (test : ℕ → Bool) (m : Node) (a b : ℕ) → m ≡ andAt 
 unfolding onBoth
 onBoth-intro test m a b e u v = rw e (both-intro _ _ u v)
 
-pub onInner-intro : (test : ℕ → ℕ → Bool) (m n : Node) (r a b : ℕ) → m ≡ existsAt r a → n ≡ existsAt r b → test a b ≡ true → onInner test m n ≡ true
+pub onInner-intro : (wide test : ℕ → ℕ → Bool) (m n : Node) (r s a b : ℕ) → m ≡ existsAt r a → n ≡ existsAt s b → wide r s ≡ true → test a b ≡ true → onInner wide test m n ≡ true
 unfolding onInner
-onInner-intro test m n r a b e f u = rw (e, f) (both-intro _ _ (eq-eqb r r refl) u)
+onInner-intro wide test m n r s a b e f w u = rw (e, f) (both-intro _ _ w u)
 
 pub onVariable-intro : (test : ℕ → Bool) (m : Node) (k : ℕ) → m ≡ varAt k → test k ≡ true → onVariable test m ≡ true
 unfolding onVariable
@@ -57,8 +58,8 @@ ready-reads t ids assignment r =
       right-known = r .right-known;
     }
 
-pub of-reads : (t : Tables) (concepts inclusions ids assignment : List ℕ) → Of t concepts inclusions ids → Ready concepts inclusions ids assignment → Reads t
-of-reads t concepts inclusions ids assignment of r =
+pub of-reads : (t : Tables) (concepts inclusions into ids assignment : List ℕ) → Of t concepts inclusions into ids → Ready concepts inclusions ids assignment → Reads t
+of-reads t concepts inclusions into ids assignment of r =
     ready-reads t ids assignment
     (subst (λ (z : List ℕ). Ready z (t .inclusions) ids assignment) (sym (of .concepts-are))
     (subst (λ (z : List ℕ). Ready concepts z ids assignment) (sym (of .inclusions-are)) r))
@@ -81,9 +82,9 @@ module _ (t : Tables) (assignment : List ℕ) (reads : Reads t) (p q : ℕ → �
         (onBoth-intro (λ b. q i b) _ a b e (more i a l (reads .and-left j a b k e) u) (more i b l (reads .and-right j a b k e) v))
     byRule-mono (suc (suc (suc (suc (suc zero))))) extra h =
         let (z, s) = both-true _ _ h in
-        let (r, a, b, e, f, u) = onInner-elim p _ _ s in
+        let (r, q′, a, b, e, f, w, u) = onInner-elim (wider (t .roles)) p _ _ s in
         both-intro _ _ z
-        (onInner-intro q _ _ r a b e f (more a b (reads .inner i r a l e) (reads .inner j r b k f) u))
+        (onInner-intro (wider (t .roles)) q _ _ r q′ a b e f w (more a b (reads .inner i r a l e) (reads .inner j q′ b k f) u))
     byRule-mono (suc (suc (suc (suc (suc (suc zero)))))) extra h =
         let (e, u) = both-true _ _ h in
         let (x, y) = both-true _ _ u in

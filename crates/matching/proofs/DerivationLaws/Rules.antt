@@ -17,7 +17,7 @@ use Rattle.subsumption.specs.Rules.{every, contains, sameName, isTop, onPicked,
 use Rattle.subsumption.proofs.Bools.{both-none, both-skip, last-cases}
 use Rattle.subsumption.proofs.Chosen.{pick-member, pick-intro}
 use Rattle.subsumption.proofs.RuleTests.{every-elim, every-intro, contains-elim, contains-intro}
-use Rattle.matching.specs.Inner.Derivation.{KnownAtoms, Numbered}
+use Rattle.matching.specs.Inner.Derivation.{LowRole, KnownAtoms, Numbered}
 
 -- ---- rule 1
 module _ (left right lk la lb rk ra rb : ℕ) where
@@ -123,12 +123,12 @@ module _ (k a b : ℕ) where
   both-first test x e f g = rw e (rw (both-none (test a) (test b) (sym f ∙ g)) refl)
 
 -- ---- rule 5
-module _ (test : ℕ → ℕ → Bool) (lk la lb rk ra rb : ℕ) where
-  pub inner-left : (lk ≡ 2 → ⊥) → false ≡ onInner test (decode lk la lb) (decode rk ra rb)
+module _ (wide test : ℕ → ℕ → Bool) (lk la lb rk ra rb : ℕ) where
+  pub inner-left : (lk ≡ 2 → ⊥) → false ≡ onInner wide test (decode lk la lb) (decode rk ra rb)
   unfolding decode onInner
   inner-left h = go lk h
     where
-      go : (k : ℕ) → (k ≡ 2 → ⊥) → false ≡ onInner test (decode k la lb) (decode rk ra rb)
+      go : (k : ℕ) → (k ≡ 2 → ⊥) → false ≡ onInner wide test (decode k la lb) (decode rk ra rb)
       go zero h = refl
       go (suc zero) h = refl
       go (suc (suc zero)) h = absurd (h refl)
@@ -136,11 +136,11 @@ module _ (test : ℕ → ℕ → Bool) (lk la lb rk ra rb : ℕ) where
       go (suc (suc (suc (suc zero)))) h = refl
       go (suc (suc (suc (suc (suc k))))) h = refl
 
-  pub inner-right : lk ≡ 2 → (rk ≡ 2 → ⊥) → false ≡ onInner test (decode lk la lb) (decode rk ra rb)
+  pub inner-right : lk ≡ 2 → (rk ≡ 2 → ⊥) → false ≡ onInner wide test (decode lk la lb) (decode rk ra rb)
   unfolding decode onInner
   inner-right e h = rw e (go rk h)
     where
-      go : (k : ℕ) → (k ≡ 2 → ⊥) → false ≡ onInner test (decode 2 la lb) (decode k ra rb)
+      go : (k : ℕ) → (k ≡ 2 → ⊥) → false ≡ onInner wide test (decode 2 la lb) (decode k ra rb)
       go zero h = refl
       go (suc zero) h = refl
       go (suc (suc zero)) h = absurd (h refl)
@@ -148,13 +148,17 @@ module _ (test : ℕ → ℕ → Bool) (lk la lb rk ra rb : ℕ) where
       go (suc (suc (suc (suc zero)))) h = refl
       go (suc (suc (suc (suc (suc k))))) h = refl
 
-  pub inner-role : lk ≡ 2 → rk ≡ 2 → (la ≡ ra → ⊥) → false ≡ onInner test (decode lk la lb) (decode rk ra rb)
+  pub inner-role : (c : Bool) → lk ≡ 2 → rk ≡ 2 → c ≡ wide la ra → c ≡ false → false ≡ onInner wide test (decode lk la lb) (decode rk ra rb)
   unfolding decode onInner both
-  inner-role e f h = rw (e, f, ne-eqb la ra h)
+  inner-role c e f g h = rw (e, f, ← g, h)
 
-  pub inner-mark : (r : Bool) → lk ≡ 2 → rk ≡ 2 → la ≡ ra → r ≡ test lb rb → r ≡ onInner test (decode lk la lb) (decode rk ra rb)
+  pub inner-mark : (r c : Bool) → lk ≡ 2 → rk ≡ 2 → c ≡ wide la ra → c ≡ true → r ≡ test lb rb → r ≡ onInner wide test (decode lk la lb) (decode rk ra rb)
   unfolding decode onInner both
-  inner-mark r e f g h = rw (e, f, eq-eqb la ra g) h
+  inner-mark r c e f g h k = rw (e, f, ← g, h) k
+
+pub exists-low : (k a b : ℕ) → k ≡ 2 → LowRole (decode k a b) → a < 100
+unfolding decode
+exists-low k a b e h = subst (λ (z : ℕ). LowRole (decode z a b)) e h
 
 pub exists-rising : (count k a b : ℕ) → k ≡ 2 → Rising count (decode k a b) → b < count
 unfolding decode

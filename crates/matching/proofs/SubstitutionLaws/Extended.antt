@@ -1,16 +1,21 @@
 -- An interpretation with one more element for each concept of a list, which any element may reach.
 use Prim.Native.Nat.{ℕ, _+_, _<_}
 use mathlib.Core.Path.{_≡_, refl, sym, ap, _∙_, subst}
-use mathlib.Core.List.{List, [], _∷_, _++_, List·Memᴰ, List·Memᴰ·head, List·Memᴰ·tail, List·Memᴰ·not-nil, List·Memᴰ·append-cases, List·Memᴰ·eq-of-singleton, Memᴰ·append-left, Memᴰ·append-right}
+use mathlib.Core.List.{List, [], _∷_, _++_, List·Memᴰ, List·Memᴰ·head, List·Memᴰ·tail, List·Memᴰ·not-nil, List·Memᴰ·cases-cons, List·Memᴰ·append-cases, List·Memᴰ·eq-of-singleton, Memᴰ·append-left, Memᴰ·append-right}
 use mathlib.Core.Bool.{Bool, true}
 use mathlib.Core.Logic.{_⊎_, inl, inr, ⊎-elim}
+use native.Mathlib.Omega.{arith}
 use lib.Dec.{ltb}
 use lib.ListN.{length}
 use borrow.Author.Tests.{ltb-true, lt-ltb}
 use Rattle.subsumption.specs.Tables.{both, Concept, top, name, exists, and, var}
 use Rattle.subsumption.specs.Subsumption.{Named, Linked, Interpretation}
 use Rattle.subsumption.proofs.Bools.{both-true, both-intro}
-use Rattle.subsumption.proofs.ModelRows.{gather, gather-in, gather-out, onlyIf, onlyIf-in, onlyIf-out}
+use Rattle.subsumption.specs.Atoms.{keep}
+use Rattle.subsumption.specs.Roles.{wider}
+use Rattle.subsumption.proofs.ModelRows.{gather, gather-in, gather-out, onlyIf, onlyIf-in, onlyIf-out, linksTo, linksTo-in, linksTo-out}
+use Rattle.subsumption.proofs.Keep.{keep-member, keep-intro}
+use Rattle.subsumption.proofs.RoleLaws.{wider-refl}
 use Rattle.matching.proofs.SubstitutionLaws.Parts.{conceptAt}
 
 module _ {A : Type 0} (test : A → Bool) where
@@ -41,12 +46,13 @@ nameBy z (exists r c) = []
 nameBy z (and c d) = []
 nameBy z (var k) = []
 
-unfoldable pub linkBy : ℕ → ℕ → Concept → List Linked
-linkBy z w top = []
-linkBy z w (name n) = []
-linkBy z w (exists r c) = record { from = z; role = r; to = w } ∷ []
-linkBy z w (and c d) = []
-linkBy z w (var k) = []
+-- a link under the concept's role and under every wider one of the tables' range; the role itself may be past that
+unfoldable pub linkBy : List ℕ → ℕ → ℕ → Concept → List Linked
+linkBy roles z w top = []
+linkBy roles z w (name n) = []
+linkBy roles z w (exists r c) = record { from = z; role = r; to = w } ∷ linksTo z w (keep (wider roles r) 0 100)
+linkBy roles z w (and c d) = []
+linkBy roles z w (var k) = []
 
 unfoldable pub ownNames : Interpretation → List Named
 ownNames I = sift (λ o. ltb (o .element) (I .size)) (I .names)
@@ -55,14 +61,14 @@ unfoldable pub ownLinks : Interpretation → List Linked
 ownLinks I = sift (λ o. both (ltb (o .from) (I .size)) (ltb (o .to) (I .size))) (I .links)
 
 -- z reaches the concept at j: it has its name, and its link to each element y that the inner concept is below
-module _ (I : Interpretation) (E : List Concept) (inner reach : ℕ → ℕ → Bool) where
+module _ (roles : List ℕ) (I : Interpretation) (E : List Concept) (inner reach : ℕ → ℕ → Bool) where
   unfoldable pub newNames : List Named
   newNames = gather (λ z. gather (λ j. onlyIf (reach z j) (nameBy z (conceptAt E j))) (length E)) (I .size + length E)
 
   unfoldable pub newLinks : List Linked
   newLinks =
       gather
-      (λ z. gather (λ j. gather (λ y. onlyIf (both (reach z j) (inner j y)) (linkBy z (I .size + y) (conceptAt E j))) (length E)) (length E))
+      (λ z. gather (λ j. gather (λ y. onlyIf (both (reach z j) (inner j y)) (linkBy roles z (I .size + y) (conceptAt E j))) (length E)) (length E))
       (I .size + length E)
 
   abbrev pub extended : Interpretation
@@ -90,6 +96,16 @@ module _ (I : Interpretation) (E : List Concept) (inner reach : ℕ → ℕ → 
   link-new z j r y c l k u e h i =
       Memᴰ·append-right (ownLinks I)
       (gather-in _ _ z l (gather-in _ _ j k (gather-in _ _ y u (onlyIf-in _ (both-intro _ _ h i) (rw e (List·Memᴰ·head refl))))))
+
+  pub link-wider :
+      (z j r s y : ℕ) (c : Concept) → z < extended .size → j < length E → y < length E → conceptAt E j ≡ exists r c → reach z j ≡ true → inner j y ≡ true
+      → wider roles r s ≡ true → s < 100 → List·Memᴰ (record { from = z; role = s; to = I .size + y }) (extended .links)
+  unfolding newLinks linkBy
+  link-wider z j r s y c l k u e h i w v =
+      Memᴰ·append-right (ownLinks I)
+      (gather-in _ _ z l (gather-in _ _ j k (gather-in _ _ y u
+      (onlyIf-in _ (both-intro _ _ h i)
+      (rw e (List·Memᴰ·tail (linksTo-in z (I .size + y) s _ (keep-intro (wider roles r) 0 100 s (record { low = omega arith; high = omega arith; passes = w })))))))))
 
   pub record NewName (z n : ℕ) : Type 0 where
     pub by : ℕ
@@ -135,7 +151,9 @@ module _ (I : Interpretation) (E : List Concept) (inner reach : ℕ → ℕ → 
     pub inward : inner by into ≡ true
     pub there : w ≡ I .size + into
     pub concept : Concept
-    pub linked : conceptAt E by ≡ exists r concept
+    pub narrow : ℕ
+    pub linked : conceptAt E by ≡ exists narrow concept
+    pub widened : wider roles narrow r ≡ true
 
   pub link-cases :
       (z r w : ℕ) → List·Memᴰ (record { from = z; role = r; to = w }) (extended .links)
@@ -147,22 +165,28 @@ module _ (I : Interpretation) (E : List Concept) (inner reach : ℕ → ℕ → 
     where
       go :
           (a j y : ℕ) → j < length E → y < length E → reach a j ≡ true → inner j y ≡ true → (c : Concept) → conceptAt E j ≡ c
-          → List·Memᴰ (record { from = z; role = r; to = w }) (linkBy a (I .size + y) c) → NewLink z r w
+          → List·Memᴰ (record { from = z; role = r; to = w }) (linkBy roles a (I .size + y) c) → NewLink z r w
       go a j y l k t i top e m = absurd (List·Memᴰ·not-nil m)
       go a j y l k t i (name n) e m = absurd (List·Memᴰ·not-nil m)
       go a j y l k t i (exists s c) e m =
-          let u = List·Memᴰ·eq-of-singleton m in
-          record {
-            by = j;
-            known = l;
-            reached = ap (λ (o : Linked). reach (o .from) j) u ∙ t;
-            into = y;
-            into-known = k;
-            inward = i;
-            there = ap (λ (o : Linked). o .to) u;
-            concept = c;
-            linked = e ∙ ap (λ (o : Linked). exists (o .role) c) (sym u);
-          }
+          ⊎-elim (λ (u : _≡_ {A = Linked} (record { from = z; role = r; to = w }) (record { from = a; role = s; to = I .size + y })). made s u (wider-refl roles s))
+          (λ n. let (q, v, u) = linksTo-out a (I .size + y) _ n in made q u (keep-member (wider roles s) 0 100 q v .passes)) (List·Memᴰ·cases-cons m)
+        where
+          made : (q : ℕ) → _≡_ {A = Linked} (record { from = z; role = r; to = w }) (record { from = a; role = q; to = I .size + y }) → wider roles s q ≡ true → NewLink z r w
+          made q u v =
+              record {
+                by = j;
+                known = l;
+                reached = ap (λ (o : Linked). reach (o .from) j) u ∙ t;
+                into = y;
+                into-known = k;
+                inward = i;
+                there = ap (λ (o : Linked). o .to) u;
+                concept = c;
+                narrow = s;
+                linked = e;
+                widened = ap (λ (o : Linked). wider roles s (o .role)) u ∙ v;
+              }
       go a j y l k t i (and c d) e m = absurd (List·Memᴰ·not-nil m)
       go a j y l k t i (var n) e m = absurd (List·Memᴰ·not-nil m)
 

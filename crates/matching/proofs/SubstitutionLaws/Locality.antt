@@ -11,13 +11,14 @@ use borrow.Author.Tests.{lt-ltb, le-ltb}
 use Rattle.subsumption.specs.declared.refusal.Outcome.the-variants.{Done}
 use Rattle.subsumption.specs.Tables.{Tables, both, anyBelow, Node, topAt, nameAt, existsAt, andAt, varAt, node, countOf, pairsOf, leftOf, rightOf, Concept, tree, hasVariable}
 use Rattle.subsumption.specs.Atoms.{occurs, isAtomic, inInclusion, inQuestion, stands, atoms, bit, chosen}
-use Rattle.subsumption.specs.Subsumption.{Interpretation, noVariables, assigned, Obeys, SubsumedBy, Subsumed}
+use Rattle.subsumption.specs.Subsumption.{Linked, Interpretation, Included, noVariables, assigned, Obeys, SubsumedBy, Subsumed}
 use Rattle.subsumption.specs.Rules.{every}
 use Rattle.subsumption.specs.Check.{tableFault, assignmentFault}
 use Rattle.subsumption.proofs.Bools.{or-first, or-second, both-true, both-intro, anyBelow-intro, anyBelow-elim, le-or-lt}
 use Rattle.subsumption.proofs.WellFormed.{WellFormed}
 use Rattle.subsumption.proofs.Accepted.{wellFormed}
 use Rattle.subsumption.proofs.Depth.{by-smaller}
+use Rattle.subsumption.proofs.RoleLaws.{wider-trans, wider-pair}
 use Rattle.subsumption.proofs.Trees.{tree-top, tree-name, tree-exists, tree-and, tree-var, inner-exists, inner-and}
 use Rattle.subsumption.proofs.Inward.{Ground}
 use Rattle.subsumption.proofs.Occurs.{occurs-self, occurs-exists, occurs-first, occurs-second, occurs-le}
@@ -34,7 +35,7 @@ use Rattle.matching.proofs.SubstitutionLaws.Members.{isMember, member-t
 use Rattle.matching.proofs.SubstitutionLaws.Assigning.{assignmentOf, assignmentOf-length, assignmentOf-accepted, assignmentOf-bit}
 use Rattle.matching.proofs.SubstitutionLaws.Parts.{Closed, parts, parts-self, append-closed, gather-closed, place, conceptAt}
 use Rattle.matching.proofs.SubstitutionLaws.Conjoined.{asSubstitution, solves-by-substitution}
-use Rattle.matching.proofs.SubstitutionLaws.Extended.{extended}
+use Rattle.matching.proofs.SubstitutionLaws.Extended.{extended, link-old, link-wider, link-cases}
 use Rattle.matching.proofs.SubstitutionLaws.Reached.{Below, innerOf, Each, Numbered, old-in, reached-in, Holds, old-out, included-still}
 
 module _ (t : Tables) (wf : WellFormed t) where
@@ -190,24 +191,42 @@ module _ (t : Tables) (wf : WellFormed t) (σ : ℕ → Concept) (bits below inn
     atom-holds I p a =
         subst (HoldsOf I) (a .same) (λ k x lk l h b. test-member I (tree (t .concepts) (a .atom)) x (every-elim _ _ h (a .atom) (taken k (a .atom) lk (a .listed) b)))
 
-    still-obeys : (I : Interpretation) → Obeys t I → Obeys t (extended I E inner (reach I))
-    still-obeys I obeys m l =
+    still-included :
+        (I : Interpretation) → Obeys t I → (m : ℕ) → m < pairsOf (t .inclusions)
+        → Included (extended (t .roles) I E inner (reach I)) noVariables (tree (t .concepts) (leftOf (t .inclusions) m)) (tree (t .concepts) (rightOf (t .inclusions) m))
+    still-included I obeys m l =
         included-still t I E (concepts-closed t σ) inner (reach I) inner-decides (new I) (t .variables) σ (of I) (old I) (tree (t .concepts) (leftOf (t .inclusions) m))
         (tree (t .concepts) (rightOf (t .inclusions) m)) (each-id t wf _ _ (λ p o a. atom-holds I p (left-atom t wf m p l o a)))
-        (numbered t wf (rightOf (t .inclusions) m)) (id-in t σ _ (wf .right-known m l)) (obeys m l) (λ K o. o m l)
+        (numbered t wf (rightOf (t .inclusions) m)) (id-in t σ _ (wf .right-known m l)) (obeys .inclusions m l) (λ K o. o .inclusions m l)
+
+    -- old links by the interpretation, new ones because they stand under all wider roles
+    still-wide :
+        (I : Interpretation) → Obeys t I → (m : ℕ) → m < pairsOf (t .roles) → (x y : ℕ) → x < extended (t .roles) I E inner (reach I) .size
+        → List·Memᴰ (record { from = x; role = leftOf (t .roles) m; to = y }) (extended (t .roles) I E inner (reach I) .links)
+        → List·Memᴰ (record { from = x; role = rightOf (t .roles) m; to = y }) (extended (t .roles) I E inner (reach I) .links)
+    still-wide I obeys m l x y k h =
+        ⊎-elim (λ (p, q, n). link-old (t .roles) I E inner (reach I) x (rightOf (t .roles) m) y p q (obeys .roles m l x y p q n))
+        (λ o.
+        subst (λ (z : ℕ). List·Memᴰ (record { from = x; role = rightOf (t .roles) m; to = z }) (extended (t .roles) I E inner (reach I) .links)) (sym (o .there))
+        (link-wider (t .roles) I E inner (reach I) x (o .by) (o .narrow) (rightOf (t .roles) m) (o .into) (o .concept) k (o .known) (o .into-known) (o .linked) (o .reached) (o .inward)
+        (wider-trans (t .roles) (o .narrow) (leftOf (t .roles) m) (rightOf (t .roles) m) (o .widened) (wider-pair (t .roles) m l)) (wf .wide-low m l)))
+        (link-cases (t .roles) I E inner (reach I) x (leftOf (t .roles) m) y h)
+
+    still-obeys : (I : Interpretation) → Obeys t I → Obeys t (extended (t .roles) I E inner (reach I))
+    still-obeys I obeys = record { inclusions = still-included I obeys; roles = λ m l x y k u. still-wide I obeys m l x y k }
 
     -- A question with a ground right side.
     ground-right : (m : ℕ) → m < pairsOf (t .questions) → Ground (t .concepts) (rightOf (t .questions) m) → SubsumedBy t (substituted σ) (leftOf (t .questions) m) (rightOf (t .questions) m) → Subsumed t α (leftOf (t .questions) m) (rightOf (t .questions) m)
     unfolding of
     ground-right m l g s I obeys x k h =
         let r = tree (t .concepts) (rightOf (t .questions) m) in
-        let K = extended I E inner (reach I) in
+        let K = extended (t .roles) I E inner (reach I) in
         member-ground I noVariables (assigned t α I) r g x
         (old-out t I E (concepts-closed t σ) inner (reach I) inner-decides (new I) (t .variables) σ (of I) (old I) r
         (each-id t wf _ _ (λ p o a. atom-holds I p (right-atom t wf m p l g o a))) x k
         (member-ground K (substituted σ K) noVariables r g x
         (s K (still-obeys I obeys) x (omega arith)
-        (old-in I E inner (reach I) (assigned t α I) (substituted σ K) (t .variables)
+        (old-in (t .roles) I E inner (reach I) (assigned t α I) (substituted σ K) (t .variables)
         (λ v z lv lz a.
         reached-in t I E (concepts-closed t σ) inner (reach I) inner-decides (new I) (σ v) (variable-in t σ v lv) z (omega arith)
         (λ j u b. forced I v z j lv lz u (every-intro _ _ (λ p n. member-test I (tree (t .concepts) p) z (a p n))) b))

@@ -177,12 +177,12 @@ numbers :
     → follows t assignment p r l s e ≡ follows t assignment p r' l' s' e'
 numbers t assignment p r r' l l' s s' e e' a b c d = cc
 
-module _ (t : Tables) (concepts inclusions ids assignment : List ℕ) (left right : ℕ) (marks needed : List Bool) (notes before after : List ℕ) (n w : ℕ)
-    (of : Of t concepts inclusions ids) (r : Ready concepts inclusions ids assignment) (d : NotedTo concepts inclusions ids assignment left right marks notes n)
-    (g : Enough concepts inclusions ids assignment needed notes 0 n) (a : seen (countOf concepts) needed left right ≡ true)
+module _ (t : Tables) (concepts inclusions into ids assignment : List ℕ) (left right : ℕ) (marks needed : List Bool) (notes before after : List ℕ) (n w : ℕ)
+    (of : Of t concepts inclusions into ids) (r : Ready concepts inclusions ids assignment) (d : NotedTo concepts inclusions into ids assignment left right marks notes n)
+    (g : Enough concepts inclusions into ids assignment needed notes 0 n) (a : seen (countOf concepts) needed left right ≡ true)
     (c : Copied (countOf concepts) needed notes before after n w) (room : w * 4 ≤ length before) where
   reads : Reads t
-  reads = of-reads t concepts inclusions ids assignment of r
+  reads = of-reads t concepts inclusions into ids assignment of r
 
   below : (i : ℕ) → i < countOf (t .concepts) → i < countOf concepts
   below i h = subst (λ (z : List ℕ). i < countOf z) (of .concepts-are) h

@@ -62,8 +62,8 @@ started-some (suc from) h = omega arith
 pub measure-less : (a b from to : ℕ) → a + 1 ≡ b → a * 2 + started to < b * 2 + started from
 measure-less a b from to e = omega (arith, started-low to)
 
-module _ (concepts inclusions ids assignment : List ℕ) where
-  pub noted-none : (marks : List Bool) (notes : List ℕ) → Blank (countOf concepts) marks → Noted concepts inclusions ids assignment marks notes 0
+module _ (concepts inclusions into ids assignment : List ℕ) where
+  pub noted-none : (marks : List Bool) (notes : List ℕ) → Blank (countOf concepts) marks → Noted concepts inclusions into ids assignment marks notes 0
   noted-none marks notes b =
       record {
         marked = marks-none (countOf concepts) marks notes (b .square) (b .none);
@@ -75,8 +75,8 @@ module _ (concepts inclusions ids assignment : List ℕ) where
       }
 
   -- ---- one more line
-  module _ (marks : List Bool) (notes : List ℕ) (n : ℕ) (d : Noted concepts inclusions ids assignment marks notes n) (rule left right extra : ℕ)
-      (w : New concepts inclusions ids assignment marks rule left right extra) where
+  module _ (marks : List Bool) (notes : List ℕ) (n : ℕ) (d : Noted concepts inclusions into ids assignment marks notes n) (rule left right extra : ℕ)
+      (w : New concepts inclusions into ids assignment marks rule left right extra) where
     pub unset-less : unset (set marks (left * countOf concepts + right) true) + 1 ≡ unset marks
     unfolding seen
     unset-less = unset-set marks (left * countOf concepts + right) (cell-room (countOf concepts) marks left right (d .marked .square) (w .left-known) (w .right-known)) (w .fresh)
@@ -99,9 +99,9 @@ module _ (concepts inclusions ids assignment : List ℕ) where
           (subst (λ (z : ℕ). provedBy notes' n left z ≡ false) (sym (s .right-is))
           (sym (marked-same .same left right (w .left-known) (w .right-known)) ∙ w .fresh))
 
-      new-line : LineTest concepts inclusions ids assignment notes' n true
+      new-line : LineTest concepts inclusions into ids assignment notes' n true
       new-line =
-          line-rule concepts inclusions ids assignment marks notes' n r marked-same rule left right extra true (sym (s .rule-is)) (sym (s .left-is)) (sym (s .right-is)) (sym (s .extra-is))
+          line-rule concepts inclusions into ids assignment marks notes' n r marked-same rule left right extra true (sym (s .rule-is)) (sym (s .left-is)) (sym (s .right-is)) (sym (s .extra-is))
           (w .left-known) (w .right-known) (w .gives .by)
 
       old-left : (k : ℕ) → k < n → leftAt notes' k ≡ leftAt notes k
@@ -116,7 +116,7 @@ module _ (concepts inclusions ids assignment : List ℕ) where
           (subst (λ (z : ℕ). provedBy notes' k (leftAt notes k) z ≡ false) (sym (old-right k h))
           (proved-agree notes' notes n agree _ _ k (omega arith) ∙ d .fresh k h))
 
-      pub noted-more : Noted concepts inclusions ids assignment marks' notes' (n + 1)
+      pub noted-more : Noted concepts inclusions into ids assignment marks' notes' (n + 1)
       noted-more =
           record {
             marked = marks-more (countOf concepts) marks notes' n marked-same left right marks' (sym (s .left-is)) (sym (s .right-is)) (w .left-known) (w .right-known) e;
@@ -128,7 +128,7 @@ module _ (concepts inclusions ids assignment : List ℕ) where
             fresh = λ k h. ⊎-elim (λ (u : k ≡ n). subst (λ (z : ℕ). provedBy notes' z (leftAt notes' z) (rightAt notes' z) ≡ false) (sym u) new-fresh)
                 (λ u. old-fresh k u) (last-cases k n (omega arith));
             follow = λ k h t of. ⊎-elim (λ (u : k ≡ n). subst (λ (z : ℕ). lineFollows t assignment notes' z ≡ true) (sym u) (sym (new-line .tells t of)))
-                (λ u. line-agree notes' notes n agree t assignment (of-reads t concepts inclusions ids assignment of r) k u ∙ d .follow k u t of) (last-cases k n (omega arith));
+                (λ u. line-agree notes' notes n agree t assignment (of-reads t concepts inclusions into ids assignment of r) k u ∙ d .follow k u t of) (last-cases k n (omega arith));
           }
 
       asked-pair : (a b : ℕ) (x : Bool) → x ≡ both (eqb a left) (eqb b right) → pairAt notes' a b n ≡ x
@@ -136,7 +136,7 @@ module _ (concepts inclusions ids assignment : List ℕ) where
       asked-pair a b x f = rw (s .left-is, s .right-is) (sym f)
 
       -- the asked pair is the new one
-      pub noted-last : (a b : ℕ) (x : Bool) → x ≡ both (eqb a left) (eqb b right) → x ≡ true → NotedTo concepts inclusions ids assignment a b marks' notes' (n + 1)
+      pub noted-last : (a b : ℕ) (x : Bool) → x ≡ both (eqb a left) (eqb b right) → x ≡ true → NotedTo concepts inclusions into ids assignment a b marks' notes' (n + 1)
       noted-last a b x f g =
           let q : n + 1 - 1 ≡ n = omega arith in
           record { noted = noted-more; some = omega arith; last = subst (λ (z : ℕ). pairAt notes' a b z ≡ true) (sym q) (asked-pair a b x f ∙ g) }
@@ -150,7 +150,7 @@ module _ (concepts inclusions ids assignment : List ℕ) where
 
   -- a whole scan found nothing: the marks are closed under the rules
   pub scan-closed :
-      (left right : ℕ) (marks : List Bool) (asked : Asked concepts inclusions ids assignment left right) → QuietFrom concepts inclusions ids assignment marks 0 (countOf concepts * countOf concepts)
+      (left right : ℕ) (marks : List Bool) (asked : Asked concepts inclusions into ids assignment left right) → QuietFrom concepts inclusions into ids assignment marks 0 (countOf concepts * countOf concepts)
       → seen (countOf concepts) marks left right ≡ true
   unfolding follows
   scan-closed left right marks asked q =
@@ -170,18 +170,18 @@ module _ (concepts inclusions ids assignment : List ℕ) where
               let kj = subst (λ (z : List ℕ). j < countOf z) (asked .of .concepts-are) (ltb-true j (countOf (asked .t .concepts)) k) in
               absurd (true≢false (sym s ∙ q .each i j li kj (omega arith) (cell-below (countOf concepts) i j li kj) .none e (asked .t) (asked .of) rule extra))
 
-  module _ (marks : List Bool) (from : ℕ) (x : Next) (h : Found concepts inclusions ids assignment marks from x) where
-    pub found-line : (rule left right extra : ℕ) → x ≡ Line rule left right extra → New concepts inclusions ids assignment marks rule left right extra
-    found-line rule left right extra e = subst (Found concepts inclusions ids assignment marks from) e h
+  module _ (marks : List Bool) (from : ℕ) (x : Next) (h : Found concepts inclusions into ids assignment marks from x) where
+    pub found-line : (rule left right extra : ℕ) → x ≡ Line rule left right extra → New concepts inclusions into ids assignment marks rule left right extra
+    found-line rule left right extra e = subst (Found concepts inclusions into ids assignment marks from) e h
 
-    found-nothing : x ≡ Nothing → QuietFrom concepts inclusions ids assignment marks from (countOf concepts * countOf concepts)
-    found-nothing e = subst (Found concepts inclusions ids assignment marks from) e h
+    found-nothing : x ≡ Nothing → QuietFrom concepts inclusions into ids assignment marks from (countOf concepts * countOf concepts)
+    found-nothing e = subst (Found concepts inclusions into ids assignment marks from) e h
 
     -- no scan from the first cell on finds nothing
     pub scan-stops :
-        (left right : ℕ) (notes : List ℕ) → Asked concepts inclusions ids assignment left right → seen (countOf concepts) marks left right ≡ false → x ≡ Nothing → from ≡ 0
-        → NotedTo concepts inclusions ids assignment left right marks notes 0
+        (left right : ℕ) (notes : List ℕ) → Asked concepts inclusions into ids assignment left right → seen (countOf concepts) marks left right ≡ false → x ≡ Nothing → from ≡ 0
+        → NotedTo concepts inclusions into ids assignment left right marks notes 0
     scan-stops left right notes asked g e f =
         absurd
         (true≢false
-        (sym (scan-closed left right marks asked (subst (λ (z : ℕ). QuietFrom concepts inclusions ids assignment marks z (countOf concepts * countOf concepts)) f (found-nothing e))) ∙ g))
+        (sym (scan-closed left right marks asked (subst (λ (z : ℕ). QuietFrom concepts inclusions into ids assignment marks z (countOf concepts * countOf concepts)) f (found-nothing e))) ∙ g))

@@ -13,6 +13,7 @@ use Rattle.subsumption.specs.declared.tables.Pair.{Pair}
 use Rattle.subsumption.specs.Tables.{Tables, both, Node, topAt, nameAt, existsAt, andAt, varAt, node, countOf, pairsOf, leftOf, rightOf}
 use Rattle.subsumption.specs.Inner.Tables.{rowOf, pairOf}
 use Rattle.subsumption.specs.Atoms.{chosen, pick}
+use Rattle.subsumption.specs.Roles.{wider}
 use Rattle.subsumption.specs.Rules.{every, contains, onPicked, byRule}
 use Rattle.subsumption.proofs.Bools.{both-true, both-intro, eq-or-ne}
 use Rattle.subsumption.proofs.Nodes.{var-node, and-node, exists-node}
@@ -216,26 +217,26 @@ premise-free t assignment p q left right extra (suc (suc (suc (suc (suc (suc (su
 premise-free t assignment p q left right extra (suc (suc (suc (suc (suc (suc (suc (suc zero)))))))) c d e f g h u = absurd (h refl)
 premise-free t assignment p q left right extra (suc (suc (suc (suc (suc (suc (suc (suc (suc rule))))))))) c d e f g h u = u
 
-module _ (concepts inclusions ids assignment : List ℕ) (rule left right extra : ℕ) (before after : List Bool) where
+module _ (concepts inclusions into ids assignment : List ℕ) (rule left right extra : ℕ) (before after : List Bool) where
   -- the line breaks its rule, or has no premises
   pub record Free : Type 0 where
     pub each :
-        (t : Tables) → Of t concepts inclusions ids → (p q : ℕ → ℕ → Bool) → byRule t assignment p rule left right extra ≡ true
+        (t : Tables) → Of t concepts inclusions into ids → (p q : ℕ → ℕ → Bool) → byRule t assignment p rule left right extra ≡ true
         → byRule t assignment q rule left right extra ≡ true
 
-  free-needs : Square (countOf concepts) before → Free → Needs concepts inclusions ids assignment rule left right extra before before
+  free-needs : Square (countOf concepts) before → Free → Needs concepts inclusions into ids assignment rule left right extra before before
   free-needs s f =
       record { grown = grown-same (countOf concepts) before s; serves = λ t of p h. f .each t of p _ h; only = λ t of p h i j u v e. inl e }
 
   -- the line uses just these two pairs
   pub record Uses (a b c d : ℕ) : Type 0 where
-    pub first : (t : Tables) → Of t concepts inclusions ids → (p : ℕ → ℕ → Bool) → byRule t assignment p rule left right extra ≡ true → p a b ≡ true
-    pub second : (t : Tables) → Of t concepts inclusions ids → (p : ℕ → ℕ → Bool) → byRule t assignment p rule left right extra ≡ true → p c d ≡ true
+    pub first : (t : Tables) → Of t concepts inclusions into ids → (p : ℕ → ℕ → Bool) → byRule t assignment p rule left right extra ≡ true → p a b ≡ true
+    pub second : (t : Tables) → Of t concepts inclusions into ids → (p : ℕ → ℕ → Bool) → byRule t assignment p rule left right extra ≡ true → p c d ≡ true
     pub again :
-        (t : Tables) → Of t concepts inclusions ids → (p q : ℕ → ℕ → Bool) → byRule t assignment p rule left right extra ≡ true → q a b ≡ true → q c d ≡ true
+        (t : Tables) → Of t concepts inclusions into ids → (p q : ℕ → ℕ → Bool) → byRule t assignment p rule left right extra ≡ true → q a b ≡ true → q c d ≡ true
         → byRule t assignment q rule left right extra ≡ true
 
-  two-needs : (a b c d : ℕ) → Uses a b c d → TwoMarked (countOf concepts) before after a b c d → Needs concepts inclusions ids assignment rule left right extra before after
+  two-needs : (a b c d : ℕ) → Uses a b c d → TwoMarked (countOf concepts) before after a b c d → Needs concepts inclusions into ids assignment rule left right extra before after
   two-needs a b c d u m =
       record {
         grown = m .grown;
@@ -248,14 +249,14 @@ module _ (concepts inclusions ids assignment : List ℕ) (rule left right extra 
 
   if-needs :
       (shape : Type 0) (a b c d : ℕ) → shape ⊎ (shape → ⊥) → (shape → Uses a b c d) → ((shape → ⊥) → Free) → Square (countOf concepts) before
-      → MarkedIf shape (countOf concepts) before after a b c d → Needs concepts inclusions ids assignment rule left right extra before after
+      → MarkedIf shape (countOf concepts) before after a b c d → Needs concepts inclusions into ids assignment rule left right extra before after
   if-needs shape a b c d known u f s m =
       ⊎-elim (λ y. two-needs a b c d (u y) (m .hit y))
-      (λ n. subst (λ (z : List Bool). Needs concepts inclusions ids assignment rule left right extra before z) (sym (m .miss n)) (free-needs s (f n))) known
+      (λ n. subst (λ (z : List Bool). Needs concepts inclusions into ids assignment rule left right extra before z) (sym (m .miss n)) (free-needs s (f n))) known
 
   -- ---- rule 3
   module _ (l : Row) (e : rule ≡ 3) (f : l ≡ rowOf concepts left) where
-    and-row : (t : Tables) → Of t concepts inclusions ids → (a b : ℕ) → node (t .concepts) left ≡ andAt a b → (l .kind ≡ 3) × (l .a ≡ a) × (l .b ≡ b)
+    and-row : (t : Tables) → Of t concepts inclusions into ids → (a b : ℕ) → node (t .concepts) left ≡ andAt a b → (l .kind ≡ 3) × (l .a ≡ a) × (l .b ≡ b)
     and-row t of a b q =
         let w = and-node concepts left a b (subst (λ (z : List ℕ). node z left ≡ andAt a b) (of .concepts-are) q) in
         (ap (λ (z : Row). z .kind) f ∙ w .0, ap (λ (z : Row). z .a) f ∙ w .1, ap (λ (z : Row). z .b) f ∙ w .2)
@@ -287,7 +288,7 @@ module _ (concepts inclusions ids assignment : List ℕ) (rule left right extra 
 
     pub member-needs :
         Square (countOf concepts) before → MarkedIf (l .kind ≡ 3) (countOf concepts) before after (innerAt extra (l .a) (l .b)) right (innerAt extra (l .a) (l .b)) right
-        → Needs concepts inclusions ids assignment rule left right extra before after
+        → Needs concepts inclusions into ids assignment rule left right extra before after
     member-needs s m =
         if-needs (l .kind ≡ 3) _ _ _ _ (eq-or-ne (l .kind) 3)
         (λ _.
@@ -297,7 +298,7 @@ module _ (concepts inclusions ids assignment : List ℕ) (rule left right extra 
 
   -- ---- rule 4
   module _ (r : Row) (e : rule ≡ 4) (f : r ≡ rowOf concepts right) where
-    meet-row : (t : Tables) → Of t concepts inclusions ids → (a b : ℕ) → node (t .concepts) right ≡ andAt a b → (r .kind ≡ 3) × (r .a ≡ a) × (r .b ≡ b)
+    meet-row : (t : Tables) → Of t concepts inclusions into ids → (a b : ℕ) → node (t .concepts) right ≡ andAt a b → (r .kind ≡ 3) × (r .a ≡ a) × (r .b ≡ b)
     meet-row t of a b q =
         let w = and-node concepts right a b (subst (λ (z : List ℕ). node z right ≡ andAt a b) (of .concepts-are) q) in
         (ap (λ (z : Row). z .kind) f ∙ w .0, ap (λ (z : Row). z .a) f ∙ w .1, ap (λ (z : Row). z .b) f ∙ w .2)
@@ -321,17 +322,17 @@ module _ (concepts inclusions ids assignment : List ℕ) (rule left right extra 
 
     pub both-needs :
         Square (countOf concepts) before → MarkedIf (r .kind ≡ 3) (countOf concepts) before after left (r .a) left (r .b)
-        → Needs concepts inclusions ids assignment rule left right extra before after
+        → Needs concepts inclusions into ids assignment rule left right extra before after
     both-needs s m = if-needs (r .kind ≡ 3) _ _ _ _ (eq-or-ne (r .kind) 3) (λ _. both-uses) both-free s m
 
   -- ---- rule 5
   module _ (l r : Row) (e : rule ≡ 5) (f : l ≡ rowOf concepts left) (g : r ≡ rowOf concepts right) where
-    left-row : (t : Tables) → Of t concepts inclusions ids → (o a : ℕ) → node (t .concepts) left ≡ existsAt o a → (l .kind ≡ 2) × (l .b ≡ a)
+    left-row : (t : Tables) → Of t concepts inclusions into ids → (o a : ℕ) → node (t .concepts) left ≡ existsAt o a → (l .kind ≡ 2) × (l .b ≡ a)
     left-row t of o a q =
         let w = exists-node concepts left o a (subst (λ (z : List ℕ). node z left ≡ existsAt o a) (of .concepts-are) q) in
         (ap (λ (z : Row). z .kind) f ∙ w .0, ap (λ (z : Row). z .b) f ∙ w .2)
 
-    right-row : (t : Tables) → Of t concepts inclusions ids → (o b : ℕ) → node (t .concepts) right ≡ existsAt o b → (r .kind ≡ 2) × (r .b ≡ b)
+    right-row : (t : Tables) → Of t concepts inclusions into ids → (o b : ℕ) → node (t .concepts) right ≡ existsAt o b → (r .kind ≡ 2) × (r .b ≡ b)
     right-row t of o b q =
         let w = exists-node concepts right o b (subst (λ (z : List ℕ). node z right ≡ existsAt o b) (of .concepts-are) q) in
         (ap (λ (z : Row). z .kind) g ∙ w .0, ap (λ (z : Row). z .b) g ∙ w .2)
@@ -341,15 +342,15 @@ module _ (concepts inclusions ids assignment : List ℕ) (rule left right extra 
     inner-free ne =
         record {
           each = λ t of p q h.
-              let (o, a, b, s, k, _) = onInner-elim p _ _ (both-true _ _ (rw e at h) .1) in
-              absurd (ne (left-row t of o a s .0, right-row t of o b k .0));
+              let (o, v, a, b, s, k, _, _) = onInner-elim (wider (t .roles)) p _ _ (both-true _ _ (rw e at h) .1) in
+              absurd (ne (left-row t of o a s .0, right-row t of v b k .0));
         }
 
-    inner-pair : (t : Tables) → Of t concepts inclusions ids → (p : ℕ → ℕ → Bool) → byRule t assignment p rule left right extra ≡ true → p (l .b) (r .b) ≡ true
+    inner-pair : (t : Tables) → Of t concepts inclusions into ids → (p : ℕ → ℕ → Bool) → byRule t assignment p rule left right extra ≡ true → p (l .b) (r .b) ≡ true
     unfolding byRule
     inner-pair t of p h =
-        let (o, a, b, s, k, u) = onInner-elim p _ _ (both-true _ _ (rw e at h) .1) in
-        ap₂ p (left-row t of o a s .1) (right-row t of o b k .1) ∙ u
+        let (o, v, a, b, s, k, _, u) = onInner-elim (wider (t .roles)) p _ _ (both-true _ _ (rw e at h) .1) in
+        ap₂ p (left-row t of o a s .1) (right-row t of v b k .1) ∙ u
 
     inner-uses : Uses (l .b) (r .b) (l .b) (r .b)
     unfolding byRule
@@ -359,13 +360,13 @@ module _ (concepts inclusions ids assignment : List ℕ) (rule left right extra 
           second = inner-pair;
           again = λ t of p q h x y.
               let (z, w) = both-true _ _ (rw e at h) in
-              let (o, a, b, s, k, _) = onInner-elim p _ _ w in
-              rw e (both-intro _ _ z (onInner-intro q _ _ o a b s k (ap₂ q (sym (left-row t of o a s .1)) (sym (right-row t of o b k .1)) ∙ x)));
+              let (o, v, a, b, s, k, c, _) = onInner-elim (wider (t .roles)) p _ _ w in
+              rw e (both-intro _ _ z (onInner-intro (wider (t .roles)) q _ _ o v a b s k c (ap₂ q (sym (left-row t of o a s .1)) (sym (right-row t of v b k .1)) ∙ x)));
         }
 
     pub inner-needs :
         Square (countOf concepts) before → MarkedIf ((l .kind ≡ 2) × (r .kind ≡ 2)) (countOf concepts) before after (l .b) (r .b) (l .b) (r .b)
-        → Needs concepts inclusions ids assignment rule left right extra before after
+        → Needs concepts inclusions into ids assignment rule left right extra before after
     inner-needs s m = if-needs ((l .kind ≡ 2) × (r .kind ≡ 2)) _ _ _ _ (both-or-not _ _ _ _) (λ _. inner-uses) inner-free s m
 
   -- ---- rule 6
@@ -379,10 +380,10 @@ module _ (concepts inclusions ids assignment : List ℕ) (rule left right extra 
               absurd (n (subst (λ (z : List ℕ). extra < pairsOf z) (of .inclusions-are) m));
         }
 
-    pair-left : (t : Tables) → Of t concepts inclusions ids → leftOf inclusions extra ≡ leftOf (t .inclusions) extra
+    pair-left : (t : Tables) → Of t concepts inclusions into ids → leftOf inclusions extra ≡ leftOf (t .inclusions) extra
     pair-left t of = ap (λ (z : List ℕ). leftOf z extra) (sym (of .inclusions-are))
 
-    pair-right : (t : Tables) → Of t concepts inclusions ids → rightOf inclusions extra ≡ rightOf (t .inclusions) extra
+    pair-right : (t : Tables) → Of t concepts inclusions into ids → rightOf inclusions extra ≡ rightOf (t .inclusions) extra
     pair-right t of = ap (λ (z : List ℕ). rightOf z extra) (sym (of .inclusions-are))
 
     inclusion-uses : Uses left (leftOf inclusions extra) (rightOf inclusions extra) right
@@ -398,7 +399,7 @@ module _ (concepts inclusions ids assignment : List ℕ) (rule left right extra 
 
     pub inclusion-needs :
         Square (countOf concepts) before → MarkedIf (extra < pairsOf inclusions) (countOf concepts) before after left (leftOf inclusions extra) (rightOf inclusions extra) right
-        → Needs concepts inclusions ids assignment rule left right extra before after
+        → Needs concepts inclusions into ids assignment rule left right extra before after
     inclusion-needs s m = if-needs (extra < pairsOf inclusions) _ _ _ _ (lt-or-not _ _) (λ _. inclusion-uses) inclusion-free s m
 
   -- ---- rule 7
@@ -413,7 +414,7 @@ module _ (concepts inclusions ids assignment : List ℕ) (rule left right extra 
               absurd (n (subst (λ (z : List ℕ). extra < countOf z) (of .concepts-are) k));
         }
 
-    choice-first : (t : Tables) → Of t concepts inclusions ids → (p : ℕ → ℕ → Bool) → byRule t assignment p rule left right extra ≡ true → p extra right ≡ true
+    choice-first : (t : Tables) → Of t concepts inclusions into ids → (p : ℕ → ℕ → Bool) → byRule t assignment p rule left right extra ≡ true → p extra right ≡ true
     unfolding byRule
     choice-first t of p h = let (v, _, u) = onVariable-elim _ _ (rw e at h) in both-true _ _ u .1
 
@@ -430,12 +431,12 @@ module _ (concepts inclusions ids assignment : List ℕ) (rule left right extra 
 
     pub choice-needs :
         Square (countOf concepts) before → MarkedIf (extra < countOf concepts) (countOf concepts) before after extra right extra right
-        → Needs concepts inclusions ids assignment rule left right extra before after
+        → Needs concepts inclusions into ids assignment rule left right extra before after
     choice-needs s m = if-needs (extra < countOf concepts) _ _ _ _ (lt-or-not _ _) (λ _. choice-uses) choice-free s m
 
   -- ---- rule 8
   module _ (r : Row) (e : rule ≡ 8) (f : r ≡ rowOf concepts right) where
-    var-row : (t : Tables) → Of t concepts inclusions ids → (v : ℕ) → node (t .concepts) right ≡ varAt v → (r .kind ≡ 4) × (r .a ≡ v)
+    var-row : (t : Tables) → Of t concepts inclusions into ids → (v : ℕ) → node (t .concepts) right ≡ varAt v → (r .kind ≡ 4) × (r .a ≡ v)
     var-row t of v q =
         let w = var-node concepts right v (subst (λ (z : List ℕ). node z right ≡ varAt v) (of .concepts-are) q) in
         (ap (λ (z : Row). z .kind) f ∙ w .0, ap (λ (z : Row). z .a) f ∙ w .1)
@@ -445,16 +446,16 @@ module _ (concepts inclusions ids assignment : List ℕ) (rule left right extra 
     all-free ne =
         record { each = λ t of p q h. let (v, s, _) = onVariable-elim _ _ (both-true _ _ (rw e at h) .1) in absurd (ne (var-row t of v s .0)) }
 
-    member-of : (t : Tables) → Of t concepts inclusions ids → (v x : ℕ) → r .a ≡ v → List·Memᴰ x (pick ids (getD assignment (r .a) 0)) → List·Memᴰ x (chosen t assignment v)
+    member-of : (t : Tables) → Of t concepts inclusions into ids → (v x : ℕ) → r .a ≡ v → List·Memᴰ x (pick ids (getD assignment (r .a) 0)) → List·Memᴰ x (chosen t assignment v)
     unfolding chosen
     member-of t of v x y k = subst (λ (z : List ℕ). List·Memᴰ x (pick z (getD assignment v 0))) (sym (of .atoms-are)) (subst (λ (z : ℕ). List·Memᴰ x (pick ids (getD assignment z 0))) y k)
 
-    of-member : (t : Tables) → Of t concepts inclusions ids → (v x : ℕ) → r .a ≡ v → List·Memᴰ x (chosen t assignment v) → List·Memᴰ x (pick ids (getD assignment (r .a) 0))
+    of-member : (t : Tables) → Of t concepts inclusions into ids → (v x : ℕ) → r .a ≡ v → List·Memᴰ x (chosen t assignment v) → List·Memᴰ x (pick ids (getD assignment (r .a) 0))
     unfolding chosen
     of-member t of v x y k = subst (λ (z : ℕ). List·Memᴰ x (pick ids (getD assignment z 0))) (sym y) (subst (λ (z : List ℕ). List·Memᴰ x (pick z (getD assignment v 0))) (of .atoms-are) k)
 
     all-marked :
-        AllMarked ids (getD assignment (r .a) 0) (countOf concepts) before after left → Needs concepts inclusions ids assignment rule left right extra before after
+        AllMarked ids (getD assignment (r .a) 0) (countOf concepts) before after left → Needs concepts inclusions into ids assignment rule left right extra before after
     unfolding byRule
     all-marked m =
         record {
@@ -475,14 +476,14 @@ module _ (concepts inclusions ids assignment : List ℕ) (rule left right extra 
 
     pub all-needs :
         Square (countOf concepts) before → AllMarkedIf (r .kind ≡ 4) ids (getD assignment (r .a) 0) (countOf concepts) before after left
-        → Needs concepts inclusions ids assignment rule left right extra before after
+        → Needs concepts inclusions into ids assignment rule left right extra before after
     all-needs s m =
         ⊎-elim (λ y. all-marked (m .hit y))
-        (λ n. subst (λ (z : List Bool). Needs concepts inclusions ids assignment rule left right extra before z) (sym (m .miss n)) (free-needs s (all-free n))) (eq-or-ne (r .kind) 4)
+        (λ n. subst (λ (z : List Bool). Needs concepts inclusions into ids assignment rule left right extra before z) (sym (m .miss n)) (free-needs s (all-free n))) (eq-or-ne (r .kind) 4)
 
   -- ---- the others have no premises
   pub none-needs :
       (rule ≡ 3 → ⊥) → (rule ≡ 4 → ⊥) → (rule ≡ 5 → ⊥) → (rule ≡ 6 → ⊥) → (rule ≡ 7 → ⊥) → (rule ≡ 8 → ⊥) → Square (countOf concepts) before
-      → Needs concepts inclusions ids assignment rule left right extra before before
+      → Needs concepts inclusions into ids assignment rule left right extra before before
   none-needs c d e f g h s =
       free-needs s (record { each = λ t of p q u. premise-free t assignment p q left right extra rule c d e f g h u })

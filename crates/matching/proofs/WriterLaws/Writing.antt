@@ -16,6 +16,7 @@ use Rattle.subsumption.specs.declared.decide.Decision.the-variants.{Yes, No, Re
 use Rattle.subsumption.specs.Tables.{Tables, tables, countOf}
 use Rattle.subsumption.specs.Subsumption.{Subsumed}
 use Rattle.subsumption.specs.Refusal.{Reply, replyDone, replyRefused, Replies}
+use Rattle.subsumption.specs.Inner.Roles.{RoleSets}
 use Rattle.subsumption.specs.Check.{bufferFault, pairFault, assignmentFaultAt}
 use Rattle.subsumption.specs.Decide.{decidingFault, decisionReply, Tells, Decides}
 use Rattle.subsumption.specs.Inner.Listing.{Accepted, Prepared, ForAccepted}
@@ -31,34 +32,34 @@ use Rattle.matching.proofs.DerivationLaws.Cells.{square-small}
 use Rattle.matching.proofs.DerivationLaws.Lines.{accepted-of}
 use Rattle.matching.proofs.WriterLaws.Copies.{derivation-written}
 
-pub noted-few : (concepts inclusions ids assignment : List ℕ) (left right : ℕ) (marks : List Bool) (notes : List ℕ) (n : ℕ) → NotedTo concepts inclusions ids assignment left right marks notes n → n ≤ countOf concepts * countOf concepts
-noted-few concepts inclusions ids assignment left right marks notes n d = omega (arith, d .noted .room)
+pub noted-few : (concepts inclusions into ids assignment : List ℕ) (left right : ℕ) (marks : List Bool) (notes : List ℕ) (n : ℕ) → NotedTo concepts inclusions into ids assignment left right marks notes n → n ≤ countOf concepts * countOf concepts
+noted-few concepts inclusions into ids assignment left right marks notes n d = omega (arith, d .noted .room)
 
 pub lines-written :
-    (concepts inclusions ids assignment : List ℕ) (left right : ℕ) (marks needed : List Bool) (notes before after : List ℕ) (n w : ℕ)
-    → Grounds concepts inclusions ids assignment → NotedTo concepts inclusions ids assignment left right marks notes n
-    → Enough concepts inclusions ids assignment needed notes 0 n → seen (countOf concepts) needed left right ≡ true
+    (concepts inclusions into ids assignment : List ℕ) (left right : ℕ) (marks needed : List Bool) (notes before after : List ℕ) (n w : ℕ)
+    → Grounds concepts inclusions ids assignment → NotedTo concepts inclusions into ids assignment left right marks notes n
+    → Enough concepts inclusions into ids assignment needed notes 0 n → seen (countOf concepts) needed left right ≡ true
     → Copied (countOf concepts) needed notes before after n w → countOf concepts * countOf concepts * 4 ≤ length before
-    → WrittenFor concepts inclusions ids assignment left right before after w
-lines-written concepts inclusions ids assignment left right marks needed notes before after n w g d e a c l =
+    → WrittenFor concepts inclusions into ids assignment left right before after w
+lines-written concepts inclusions into ids assignment left right marks needed notes before after n w g d e a c l =
     record {
       each = λ t of.
-          derivation-written t concepts inclusions ids assignment left right marks needed notes before after n w of (g .ready) d e a c
+          derivation-written t concepts inclusions into ids assignment left right marks needed notes before after n w of (g .ready) d e a c
           (omega (arith, c .few, d .noted .room));
     }
 
 -- ---- what is lent to the lines' writer
-module _ (cs is : List ℕ) (v : ℕ) (ids assignment : List ℕ) (p : Prepared cs is v ids) (x : Outcome) (e : x ≡ assignmentFaultAt (length ids) v assignment) (h : x ≡ Done) where
+module _ (cs is rs : List ℕ) (v : ℕ) (ids assignment : List ℕ) (p : Prepared cs is rs v ids) (x : Outcome) (e : x ≡ assignmentFaultAt (length ids) v assignment) (h : x ≡ Done) where
   pub known-grounds : Grounds cs is ids assignment
   known-grounds =
-      record { ready = prepared-ready cs is v ids p assignment x e h; few-pairs = omega (arith, wellFormed _ (p .accepted .passed) .few-inclusions) }
+      record { ready = prepared-ready cs is rs v ids p assignment x e h; few-pairs = omega (arith, wellFormed _ (p .accepted .passed) .few-inclusions) }
 
   pub known-asked :
-      (left right : ℕ) → left < countOf cs → right < countOf cs → Subsumed (tables cs is (p .questions) v) assignment left right → Asked cs is ids assignment left right
-  known-asked left right l k s =
+      (into : List ℕ) → RoleSets rs into → (left right : ℕ) → left < countOf cs → right < countOf cs → Subsumed (tables cs is (p .questions) rs v) assignment left right → Asked cs is into ids assignment left right
+  known-asked into S left right l k s =
       record {
-        t = tables cs is (p .questions) v;
-        of = accepted-of _ ids (p .accepted);
+        t = tables cs is (p .questions) rs v;
+        of = accepted-of _ into ids (p .accepted) S;
         accepted = p .accepted .passed;
         left-known = l;
         right-known = k;
@@ -105,35 +106,35 @@ module _ (t : Tables) (assignment : List ℕ) (left right : ℕ) (before : List 
       decided reply d = subst (λ (z : Outcome). Replies z (Tells t assignment left right) reply) (sym a ∙ f) d
 
 -- the same for tables accepted with any questions
-module _ (cs is : List ℕ) (v : ℕ) (ids assignment : List ℕ) (left right : ℕ) (l : left < countOf cs) (k : right < countOf cs) (before : List ℕ)
+module _ (cs is rs : List ℕ) (v : ℕ) (ids assignment : List ℕ) (left right : ℕ) (l : left < countOf cs) (k : right < countOf cs) (before : List ℕ)
     (x : Outcome) (e : x ≡ assignmentFaultAt (length ids) v assignment) where
-  fault-is : (qs : List ℕ) (a : Accepted (tables cs is qs v) ids) → x ≡ decidingFault (tables cs is qs v) assignment left right
-  fault-is qs a = known-fault cs is v ids assignment left right l k x e qs a
+  fault-is : (qs : List ℕ) (a : Accepted (tables cs is qs rs v) ids) → x ≡ decidingFault (tables cs is qs rs v) assignment left right
+  fault-is qs a = known-fault cs is rs v ids assignment left right l k x e qs a
 
-  pub known-stops : (r : Refusal) → x ≡ Refused r → ForAccepted cs is v ids (λ t. Derives t assignment left right before before (replyRefused r))
+  pub known-stops : (r : Refusal) → x ≡ Refused r → ForAccepted cs is rs v ids (λ t. Derives t assignment left right before before (replyRefused r))
   known-stops r h qs a = derive-stops _ assignment left right before x (fault-is qs a) r h
 
   module _ (h : x ≡ Done) where
     pub known-short :
         length before < countOf cs * countOf cs * 4
-        → ForAccepted cs is v ids (λ t. Derives t assignment left right before before (replyRefused (BufferTooShort (countOf cs * countOf cs * 4))))
+        → ForAccepted cs is rs v ids (λ t. Derives t assignment left right before before (replyRefused (BufferTooShort (countOf cs * countOf cs * 4))))
     known-short s qs a = derive-short _ assignment left right before x (fault-is qs a) h s
 
-    module _ (room : countOf cs * countOf cs * 4 ≤ length before) (d : Decision) (dec : ForAccepted cs is v ids (λ t. Decides t assignment left right (decisionReply d))) where
-      said : (qs : List ℕ) (a : Accepted (tables cs is qs v) ids) (y : Decision) → d ≡ y → Replies Done (Tells (tables cs is qs v) assignment left right) (decisionReply y)
-      said qs a y s = subst (λ (z : Decision). Replies Done (Tells (tables cs is qs v) assignment left right) (decisionReply z)) s (decided _ assignment left right before x (fault-is qs a) h _ (dec qs a))
+    module _ (room : countOf cs * countOf cs * 4 ≤ length before) (d : Decision) (dec : ForAccepted cs is rs v ids (λ t. Decides t assignment left right (decisionReply d))) where
+      said : (qs : List ℕ) (a : Accepted (tables cs is qs rs v) ids) (y : Decision) → d ≡ y → Replies Done (Tells (tables cs is qs rs v) assignment left right) (decisionReply y)
+      said qs a y s = subst (λ (z : Decision). Replies Done (Tells (tables cs is qs rs v) assignment left right) (decisionReply z)) s (decided _ assignment left right before x (fault-is qs a) h _ (dec qs a))
 
-      pub known-subsumed : d ≡ Yes → ForAccepted cs is v ids (λ t. Subsumed t assignment left right)
+      pub known-subsumed : d ≡ Yes → ForAccepted cs is rs v ids (λ t. Subsumed t assignment left right)
       known-subsumed s qs a = said qs a Yes s .1
 
       pub known-lines :
-          (after : List ℕ) (n : ℕ) → d ≡ Yes → WrittenFor cs is ids assignment left right before after n
-          → ForAccepted cs is v ids (λ t. Derives t assignment left right before after (replyDone n))
-      known-lines after n s w qs a =
-          derive-lines _ assignment left right before x (fault-is qs a) h room after n (known-subsumed s qs a) (w .each _ (accepted-of _ ids a))
+          (into : List ℕ) → RoleSets rs into → (after : List ℕ) (n : ℕ) → d ≡ Yes → WrittenFor cs is into ids assignment left right before after n
+          → ForAccepted cs is rs v ids (λ t. Derives t assignment left right before after (replyDone n))
+      known-lines into S after n s w qs a =
+          derive-lines _ assignment left right before x (fault-is qs a) h room after n (known-subsumed s qs a) (w .each _ (accepted-of _ into ids a S))
 
-      pub known-not : d ≡ No → ForAccepted cs is v ids (λ t. Derives t assignment left right before before (replyRefused NotSubsumed))
+      pub known-not : d ≡ No → ForAccepted cs is rs v ids (λ t. Derives t assignment left right before before (replyRefused NotSubsumed))
       known-not s qs a = derive-not _ assignment left right before x (fault-is qs a) h room (said qs a No s .1)
 
-      pub known-never : (r : Refusal) → d ≡ Undecided r → ForAccepted cs is v ids (λ t. Derives t assignment left right before before (replyRefused r))
+      pub known-never : (r : Refusal) → d ≡ Undecided r → ForAccepted cs is rs v ids (λ t. Derives t assignment left right before before (replyRefused r))
       known-never r s qs a = not-done r _ (said qs a (Undecided r) s .0)

@@ -47,26 +47,26 @@ pub record Blank (count : ℕ) (marks : List Bool) : Type 0 where
   pub all : unset marks ≡ count * count
 
 -- the asked pair is subsumed
-pub record Asked (concepts inclusions ids assignment : List ℕ) (left right : ℕ) : Type 0 where
+pub record Asked (concepts inclusions into ids assignment : List ℕ) (left right : ℕ) : Type 0 where
   pub t : Tables
-  pub of : Of t concepts inclusions ids
+  pub of : Of t concepts inclusions into ids
   pub accepted : tableFault t ≡ Done
   pub left-known : left < countOf concepts
   pub right-known : right < countOf concepts
   pub subsumed : Subsumed t assignment left right
 
 -- n lines are noted: each follows from earlier ones, no pair twice, and just their pairs are marked
-pub record Noted (concepts inclusions ids assignment : List ℕ) (marks : List Bool) (notes : List ℕ) (n : ℕ) : Type 0 where
+pub record Noted (concepts inclusions into ids assignment : List ℕ) (marks : List Bool) (notes : List ℕ) (n : ℕ) : Type 0 where
   pub marked : MarksOf (countOf concepts) marks notes n
   pub room : n + unset marks ≡ countOf concepts * countOf concepts
   pub left-known : (k : ℕ) → k < n → leftAt notes k < countOf concepts
   pub right-known : (k : ℕ) → k < n → rightAt notes k < countOf concepts
   pub fresh : (k : ℕ) → k < n → provedBy notes k (leftAt notes k) (rightAt notes k) ≡ false
-  pub follow : (k : ℕ) → k < n → (t : Tables) → Of t concepts inclusions ids → lineFollows t assignment notes k ≡ true
+  pub follow : (k : ℕ) → k < n → (t : Tables) → Of t concepts inclusions into ids → lineFollows t assignment notes k ≡ true
 
 -- the asked pair is noted last
-pub record NotedTo (concepts inclusions ids assignment : List ℕ) (left right : ℕ) (marks : List Bool) (notes : List ℕ) (n : ℕ) : Type 0 where
-  pub noted : Noted concepts inclusions ids assignment marks notes n
+pub record NotedTo (concepts inclusions into ids assignment : List ℕ) (left right : ℕ) (marks : List Bool) (notes : List ℕ) (n : ℕ) : Type 0 where
+  pub noted : Noted concepts inclusions into ids assignment marks notes n
   pub some : 0 < n
   pub last : pairAt notes left right (n - 1) ≡ true
 
@@ -93,5 +93,5 @@ pub record Copied (count : ℕ) (needed : List Bool) (notes before after : List 
   pub last-right : 0 < k → seen count needed (leftAt notes (k - 1)) (rightAt notes (k - 1)) ≡ true → rightAt after (w - 1) ≡ rightAt notes (k - 1)
 
 -- the lines are a derivation of the pair, for all tables with these concepts, inclusions and atoms
-pub record WrittenFor (concepts inclusions ids assignment : List ℕ) (left right : ℕ) (before after : List ℕ) (n : ℕ) : Type 0 where
-  pub each : (t : Tables) → Of t concepts inclusions ids → DerivationOf t assignment left right before after n
+pub record WrittenFor (concepts inclusions into ids assignment : List ℕ) (left right : ℕ) (before after : List ℕ) (n : ℕ) : Type 0 where
+  pub each : (t : Tables) → Of t concepts inclusions into ids → DerivationOf t assignment left right before after n

@@ -2,6 +2,7 @@
 use crate::derivation::marks::has_mark;
 use crate::derivation::marks::number_at;
 use subsumption::helpers::Row;
+use subsumption::helpers::counts;
 use subsumption::helpers::pair_at;
 use subsumption::helpers::row_at;
 ghost use mathlib.Core.Path.{_≡_};
@@ -14,7 +15,8 @@ ghost use Rattle.subsumption.specs.Inner.Atoms.{Known};
 ghost use Rattle.subsumption.specs.Inner.Tables.{Rising};
 ghost use Rattle.subsumption.specs.Inner.Closure.{Ready};
 ghost use Rattle.subsumption.specs.Rules.{every, contains, sameName, isTop, onPicked, onBoth, onInner, onVariable};
-ghost use Rattle.matching.specs.Inner.Derivation.{Square, seen, nodeOf, KnownAtoms, Numbered, ByRule};
+ghost use Rattle.matching.specs.Inner.Derivation.{Square, seen, nodeOf, KnownAtoms, Numbered, LowRole, ByRule};
+ghost use Rattle.subsumption.specs.Inner.Roles.{inSet};
 
 // Rule 1.
 fn by_name(left: usize, right: usize, l: Row, r: Row) -> bool
@@ -78,11 +80,14 @@ fn by_both(marks: &[bool], count: usize, left: usize, r: Row) -> bool
 }
 
 // Rule 5.
-fn by_inner(marks: &[bool], count: usize, l: Row, r: Row) -> bool
+fn by_inner(into: &[u64], marks: &[bool], count: usize, l: Row, r: Row) -> bool
+    requires { ⌜ length (now into) ≡ 200 ⌝ }
+    requires { ⌜ LowRole (nodeOf l) ⌝ }
+    requires { ⌜ LowRole (nodeOf r) ⌝ }
     requires { ⌜ Square count (now marks) ⌝ }
     requires { ⌜ Rising count (nodeOf l) ⌝ }
     requires { ⌜ Rising count (nodeOf r) ⌝ }
-    ensures { λ x. ⌜ x ≡ onInner (seen count (now (marks .entry))) (nodeOf l) (nodeOf r) ⌝ }
+    ensures { λ x. ⌜ x ≡ onInner (inSet (now (into .entry))) (seen count (now (marks .entry))) (nodeOf l) (nodeOf r) ⌝ }
 {
     if l.kind != 2 {
         return false;
@@ -90,10 +95,10 @@ fn by_inner(marks: &[bool], count: usize, l: Row, r: Row) -> bool
     if r.kind != 2 {
         return false;
     }
-    if l.a != r.a {
-        return false;
+    if counts(into, l.a as usize, r.a as usize) {
+        return has_mark(marks, count, l.b as usize, r.b as usize);
     }
-    has_mark(marks, count, l.b as usize, r.b as usize)
+    false
 }
 
 // Rule 6.
@@ -219,6 +224,7 @@ fn by_all(
 pub fn by_rule(
     concepts: &[u16],
     inclusions: &[u16],
+    into: &[u64],
     atoms: &[u16],
     assignment: &[u64],
     marks: &[bool],
@@ -228,9 +234,10 @@ pub fn by_rule(
     extra: usize,
 ) -> bool
     requires { ⌜ Ready (now concepts) (now inclusions) (now atoms) (now assignment) ⌝ }
+    requires { ⌜ length (now into) ≡ 200 ⌝ }
     requires { ⌜ Square (countOf (now concepts)) (now marks) ⌝ }
     requires { ⌜ (left < countOf (now concepts)) × (right < countOf (now concepts)) ⌝ }
-    ensures { λ x. ⌜ ByRule (now (concepts .entry)) (now (inclusions .entry)) (now (atoms .entry)) (now (assignment .entry)) (now (marks .entry)) rule left right extra x ⌝ }
+    ensures { λ x. ⌜ ByRule (now (concepts .entry)) (now (inclusions .entry)) (now (into .entry)) (now (atoms .entry)) (now (assignment .entry)) (now (marks .entry)) rule left right extra x ⌝ }
 {
     let count = concepts.len() / 3;
     let l = row_at(concepts, left);
@@ -257,7 +264,7 @@ pub fn by_rule(
         return by_both(marks, count, left, r);
     }
     if rule == 5 {
-        return by_inner(marks, count, l, r);
+        return by_inner(into, marks, count, l, r);
     }
     if rule == 8 {
         return by_all(atoms, assignment, marks, count, left, r);

@@ -15,6 +15,7 @@ pub fn first_solution(
     concepts: &[u16],
     inclusions: &[u16],
     questions: &[u16],
+    roles: &[u16],
     variables: u16,
     atoms: &[u16],
     ground: &[u64],
@@ -22,11 +23,11 @@ pub fn first_solution(
     start: Interval,
     known: [u64; 8],
 ) -> [u64; 8]
-    requires { ⌜ Prepared (tables (now concepts) (now inclusions) (now questions) variables) (now atoms) (now ground) ⌝ }
-    requires { ⌜ Nogoods (tables (now concepts) (now inclusions) (now questions) variables) (now store) ⌝ }
-    requires { ⌜ IntervalOf (tables (now concepts) (now inclusions) (now questions) variables) (start .low) (start .high) ⌝ }
-    requires { ⌜ SolutionIn (tables (now concepts) (now inclusions) (now questions) variables) (start .low) (start .high) known ⌝ }
-    ensures { λ r. ⌜ FirstIn (tables (now (concepts .entry)) (now (inclusions .entry)) (now (questions .entry)) variables) (start .low) (start .high) r ⌝ }
+    requires { ⌜ Prepared (tables (now concepts) (now inclusions) (now questions) (now roles) variables) (now atoms) (now ground) ⌝ }
+    requires { ⌜ Nogoods (tables (now concepts) (now inclusions) (now questions) (now roles) variables) (now store) ⌝ }
+    requires { ⌜ IntervalOf (tables (now concepts) (now inclusions) (now questions) (now roles) variables) (start .low) (start .high) ⌝ }
+    requires { ⌜ SolutionIn (tables (now concepts) (now inclusions) (now questions) (now roles) variables) (start .low) (start .high) known ⌝ }
+    ensures { λ r. ⌜ FirstIn (tables (now (concepts .entry)) (now (inclusions .entry)) (now (questions .entry)) (now (roles .entry)) variables) (start .low) (start .high) r ⌝ }
 {
     let full = start.high;
     let mut interval = start;
@@ -47,6 +48,7 @@ pub fn first_solution(
             concepts,
             inclusions,
             questions,
+            roles,
             variables,
             atoms,
             ground,

@@ -45,21 +45,23 @@ pub fn questions_hold(
     concepts: &[u16],
     inclusions: &[u16],
     questions: &[u16],
+    roles: &[u16],
     variables: u16,
     atoms: &[u16],
     ground: &[u64],
     assignment: &[u64],
     right: bool,
 ) -> bool
-    requires { ⌜ Prepared (tables (now concepts) (now inclusions) (now questions) variables) (now atoms) (now ground) ⌝ }
-    requires { ⌜ assignmentFault (tables (now concepts) (now inclusions) (now questions) variables) (now assignment) ≡ Done ⌝ }
-    ensures { λ r. ⌜ Decided (Hold (tables (now (concepts .entry)) (now (inclusions .entry)) (now (questions .entry)) variables) (now (assignment .entry)) right) r ⌝ }
+    requires { ⌜ Prepared (tables (now concepts) (now inclusions) (now questions) (now roles) variables) (now atoms) (now ground) ⌝ }
+    requires { ⌜ assignmentFault (tables (now concepts) (now inclusions) (now questions) (now roles) variables) (now assignment) ≡ Done ⌝ }
+    ensures { λ r. ⌜ Decided (Hold (tables (now (concepts .entry)) (now (inclusions .entry)) (now (questions .entry)) (now (roles .entry)) variables) (now (assignment .entry)) right) r ⌝ }
 {
     let mut columns = [0u64; WORDS];
     close_over(
         concepts,
         inclusions,
         questions,
+        roles,
         variables,
         atoms,
         ground,

@@ -48,6 +48,7 @@ fn try_low(
     concepts: &[u16],
     inclusions: &[u16],
     questions: &[u16],
+    roles: &[u16],
     variables: u16,
     atoms: &[u16],
     ground: &[u64],
@@ -55,11 +56,11 @@ fn try_low(
     store: &mut [u64],
     low: [u64; 8],
 ) -> Answer
-    requires { ⌜ Prepared (tables (now concepts) (now inclusions) (now questions) variables) (now atoms) (now ground) ⌝ }
-    requires { ⌜ IntervalOf (tables (now concepts) (now inclusions) (now questions) variables) low full ⌝ }
-    requires { ⌜ Nogoods (tables (now concepts) (now inclusions) (now questions) variables) (now store) ⌝ }
-    ensures { λ r. ⌜ Answers (tables (now (concepts .entry)) (now (inclusions .entry)) (now (questions .entry)) variables) low low (r .found) (r .low) (r .high) ⌝ }
-    ensures { λ _. ⌜ Nogoods (tables (now (concepts .entry)) (now (inclusions .entry)) (now (questions .entry)) variables) (now (store .exit)) ⌝ }
+    requires { ⌜ Prepared (tables (now concepts) (now inclusions) (now questions) (now roles) variables) (now atoms) (now ground) ⌝ }
+    requires { ⌜ IntervalOf (tables (now concepts) (now inclusions) (now questions) (now roles) variables) low full ⌝ }
+    requires { ⌜ Nogoods (tables (now concepts) (now inclusions) (now questions) (now roles) variables) (now store) ⌝ }
+    ensures { λ r. ⌜ Answers (tables (now (concepts .entry)) (now (inclusions .entry)) (now (questions .entry)) (now (roles .entry)) variables) low low (r .found) (r .low) (r .high) ⌝ }
+    ensures { λ _. ⌜ Nogoods (tables (now (concepts .entry)) (now (inclusions .entry)) (now (questions .entry)) (now (roles .entry)) variables) (now (store .exit)) ⌝ }
 {
     let n = variables as usize;
     let empty = [0u64; 8];
@@ -67,6 +68,7 @@ fn try_low(
         concepts,
         inclusions,
         questions,
+        roles,
         variables,
         atoms,
         ground,
@@ -77,6 +79,7 @@ fn try_low(
             concepts,
             inclusions,
             questions,
+            roles,
             variables,
             atoms,
             ground,
@@ -96,6 +99,7 @@ fn try_low(
         concepts,
         inclusions,
         questions,
+        roles,
         variables,
         atoms,
         ground,
@@ -106,6 +110,7 @@ fn try_low(
             concepts,
             inclusions,
             questions,
+            roles,
             variables,
             atoms,
             ground,
@@ -154,6 +159,7 @@ fn step_by_test(
     concepts: &[u16],
     inclusions: &[u16],
     questions: &[u16],
+    roles: &[u16],
     variables: u16,
     atoms: &[u16],
     ground: &[u64],
@@ -161,12 +167,12 @@ fn step_by_test(
     store: &mut [u64],
     interval: Interval,
 ) -> Step
-    requires { ⌜ Prepared (tables (now concepts) (now inclusions) (now questions) variables) (now atoms) (now ground) ⌝ }
-    requires { ⌜ IntervalOf (tables (now concepts) (now inclusions) (now questions) variables) (interval .low) (interval .high) ⌝ }
-    requires { ⌜ IntervalOf (tables (now concepts) (now inclusions) (now questions) variables) (interval .high) full ⌝ }
-    requires { ⌜ Nogoods (tables (now concepts) (now inclusions) (now questions) variables) (now store) ⌝ }
-    ensures { λ r. ⌜ Stepped (tables (now (concepts .entry)) (now (inclusions .entry)) (now (questions .entry)) variables) (interval .low) (interval .high) (r .done) (r .found) (r .low) (r .high) (r .pair) ⌝ }
-    ensures { λ _. ⌜ Nogoods (tables (now (concepts .entry)) (now (inclusions .entry)) (now (questions .entry)) variables) (now (store .exit)) ⌝ }
+    requires { ⌜ Prepared (tables (now concepts) (now inclusions) (now questions) (now roles) variables) (now atoms) (now ground) ⌝ }
+    requires { ⌜ IntervalOf (tables (now concepts) (now inclusions) (now questions) (now roles) variables) (interval .low) (interval .high) ⌝ }
+    requires { ⌜ IntervalOf (tables (now concepts) (now inclusions) (now questions) (now roles) variables) (interval .high) full ⌝ }
+    requires { ⌜ Nogoods (tables (now concepts) (now inclusions) (now questions) (now roles) variables) (now store) ⌝ }
+    ensures { λ r. ⌜ Stepped (tables (now (concepts .entry)) (now (inclusions .entry)) (now (questions .entry)) (now (roles .entry)) variables) (interval .low) (interval .high) (r .done) (r .found) (r .low) (r .high) (r .pair) ⌝ }
+    ensures { λ _. ⌜ Nogoods (tables (now (concepts .entry)) (now (inclusions .entry)) (now (questions .entry)) (now (roles .entry)) variables) (now (store .exit)) ⌝ }
 {
     let low = interval.low;
     let high = interval.high;
@@ -174,6 +180,7 @@ fn step_by_test(
         concepts,
         inclusions,
         questions,
+        roles,
         variables,
         atoms,
         ground,
@@ -258,6 +265,7 @@ fn next_step(
     concepts: &[u16],
     inclusions: &[u16],
     questions: &[u16],
+    roles: &[u16],
     variables: u16,
     atoms: &[u16],
     ground: &[u64],
@@ -265,12 +273,12 @@ fn next_step(
     store: &mut [u64],
     interval: Interval,
 ) -> Step
-    requires { ⌜ Prepared (tables (now concepts) (now inclusions) (now questions) variables) (now atoms) (now ground) ⌝ }
-    requires { ⌜ IntervalOf (tables (now concepts) (now inclusions) (now questions) variables) (interval .low) (interval .high) ⌝ }
-    requires { ⌜ IntervalOf (tables (now concepts) (now inclusions) (now questions) variables) (interval .high) full ⌝ }
-    requires { ⌜ Nogoods (tables (now concepts) (now inclusions) (now questions) variables) (now store) ⌝ }
-    ensures { λ r. ⌜ Stepped (tables (now (concepts .entry)) (now (inclusions .entry)) (now (questions .entry)) variables) (interval .low) (interval .high) (r .done) (r .found) (r .low) (r .high) (r .pair) ⌝ }
-    ensures { λ _. ⌜ Nogoods (tables (now (concepts .entry)) (now (inclusions .entry)) (now (questions .entry)) variables) (now (store .exit)) ⌝ }
+    requires { ⌜ Prepared (tables (now concepts) (now inclusions) (now questions) (now roles) variables) (now atoms) (now ground) ⌝ }
+    requires { ⌜ IntervalOf (tables (now concepts) (now inclusions) (now questions) (now roles) variables) (interval .low) (interval .high) ⌝ }
+    requires { ⌜ IntervalOf (tables (now concepts) (now inclusions) (now questions) (now roles) variables) (interval .high) full ⌝ }
+    requires { ⌜ Nogoods (tables (now concepts) (now inclusions) (now questions) (now roles) variables) (now store) ⌝ }
+    ensures { λ r. ⌜ Stepped (tables (now (concepts .entry)) (now (inclusions .entry)) (now (questions .entry)) (now (roles .entry)) variables) (interval .low) (interval .high) (r .done) (r .found) (r .low) (r .high) (r .pair) ⌝ }
+    ensures { λ _. ⌜ Nogoods (tables (now (concepts .entry)) (now (inclusions .entry)) (now (questions .entry)) (now (roles .entry)) variables) (now (store .exit)) ⌝ }
 {
     let hint = choose(store, interval);
     let known = look_up(store, hint.place, interval);
@@ -299,6 +307,7 @@ fn next_step(
         concepts,
         inclusions,
         questions,
+        roles,
         variables,
         atoms,
         ground,
@@ -332,6 +341,7 @@ pub fn some_solution(
     concepts: &[u16],
     inclusions: &[u16],
     questions: &[u16],
+    roles: &[u16],
     variables: u16,
     atoms: &[u16],
     ground: &[u64],
@@ -339,17 +349,18 @@ pub fn some_solution(
     store: &mut [u64],
     interval: Interval,
 ) -> Answer
-    requires { ⌜ Prepared (tables (now concepts) (now inclusions) (now questions) variables) (now atoms) (now ground) ⌝ }
-    requires { ⌜ IntervalOf (tables (now concepts) (now inclusions) (now questions) variables) (interval .low) (interval .high) ⌝ }
-    requires { ⌜ IntervalOf (tables (now concepts) (now inclusions) (now questions) variables) (interval .high) full ⌝ }
-    requires { ⌜ Nogoods (tables (now concepts) (now inclusions) (now questions) variables) (now store) ⌝ }
-    ensures { λ r. ⌜ Answers (tables (now (concepts .entry)) (now (inclusions .entry)) (now (questions .entry)) variables) (interval .low) (interval .high) (r .found) (r .low) (r .high) ⌝ }
-    ensures { λ _. ⌜ Nogoods (tables (now (concepts .entry)) (now (inclusions .entry)) (now (questions .entry)) variables) (now (store .exit)) ⌝ }
+    requires { ⌜ Prepared (tables (now concepts) (now inclusions) (now questions) (now roles) variables) (now atoms) (now ground) ⌝ }
+    requires { ⌜ IntervalOf (tables (now concepts) (now inclusions) (now questions) (now roles) variables) (interval .low) (interval .high) ⌝ }
+    requires { ⌜ IntervalOf (tables (now concepts) (now inclusions) (now questions) (now roles) variables) (interval .high) full ⌝ }
+    requires { ⌜ Nogoods (tables (now concepts) (now inclusions) (now questions) (now roles) variables) (now store) ⌝ }
+    ensures { λ r. ⌜ Answers (tables (now (concepts .entry)) (now (inclusions .entry)) (now (questions .entry)) (now (roles .entry)) variables) (interval .low) (interval .high) (r .found) (r .low) (r .high) ⌝ }
+    ensures { λ _. ⌜ Nogoods (tables (now (concepts .entry)) (now (inclusions .entry)) (now (questions .entry)) (now (roles .entry)) variables) (now (store .exit)) ⌝ }
 {
     let step = next_step(
         concepts,
         inclusions,
         questions,
+        roles,
         variables,
         atoms,
         ground,
@@ -370,6 +381,7 @@ pub fn some_solution(
         concepts,
         inclusions,
         questions,
+        roles,
         variables,
         atoms,
         ground,
@@ -386,6 +398,7 @@ pub fn some_solution(
         concepts,
         inclusions,
         questions,
+        roles,
         variables,
         atoms,
         ground,

@@ -93,6 +93,7 @@ pub fn widen(
     concepts: &[u16],
     inclusions: &[u16],
     questions: &[u16],
+    roles: &[u16],
     variables: u16,
     atoms: &[u16],
     ground: &[u64],
@@ -101,11 +102,11 @@ pub fn widen(
     target: [u64; 8],
     right: bool,
 ) -> [u64; 8]
-    requires { ⌜ Prepared (tables (now concepts) (now inclusions) (now questions) variables) (now atoms) (now ground) ⌝ }
-    requires { ⌜ IntervalOf (tables (now concepts) (now inclusions) (now questions) variables) choice full ⌝ }
-    requires { ⌜ IntervalOf (tables (now concepts) (now inclusions) (now questions) variables) target full ⌝ }
-    requires { ⌜ Decided (Hold (tables (now concepts) (now inclusions) (now questions) variables) (take variables choice) right) false ⌝ }
-    ensures { λ r. ⌜ Widened (tables (now (concepts .entry)) (now (inclusions .entry)) (now (questions .entry)) variables) choice target right r ⌝ }
+    requires { ⌜ Prepared (tables (now concepts) (now inclusions) (now questions) (now roles) variables) (now atoms) (now ground) ⌝ }
+    requires { ⌜ IntervalOf (tables (now concepts) (now inclusions) (now questions) (now roles) variables) choice full ⌝ }
+    requires { ⌜ IntervalOf (tables (now concepts) (now inclusions) (now questions) (now roles) variables) target full ⌝ }
+    requires { ⌜ Decided (Hold (tables (now concepts) (now inclusions) (now questions) (now roles) variables) (take variables choice) right) false ⌝ }
+    ensures { λ r. ⌜ Widened (tables (now (concepts .entry)) (now (inclusions .entry)) (now (questions .entry)) (now (roles .entry)) variables) choice target right r ⌝ }
 {
     let n = variables as usize;
     let mut failing = choice;
@@ -124,6 +125,7 @@ pub fn widen(
             concepts,
             inclusions,
             questions,
+            roles,
             variables,
             atoms,
             ground,

@@ -4,6 +4,8 @@ use crate::derivation::rules::by_rule;
 use subsumption::helpers::row_at;
 ghost use Prim.Native.Nat.{_<_, _≤_};
 ghost use Rattle.subsumption.specs.Tables.{countOf, pairsOf};
+ghost use mathlib.Core.Path.{_≡_};
+ghost use lib.ListN.{length};
 ghost use Rattle.matching.specs.Inner.Derivation.{Square};
 ghost use Rattle.matching.specs.Inner.Writer.{Grounds};
 ghost use Rattle.matching.specs.Inner.Writer.Explain.{ExtraBound, Tried, Explained, Found};
@@ -51,6 +53,7 @@ fn extras(concepts: &[u16], inclusions: &[u16], rule: usize, left: usize) -> usi
 fn try_rule(
     concepts: &[u16],
     inclusions: &[u16],
+    into: &[u64],
     atoms: &[u16],
     assignment: &[u64],
     marks: &[bool],
@@ -59,10 +62,11 @@ fn try_rule(
     right: usize,
 ) -> Extra
     requires { ⌜ Grounds (now concepts) (now inclusions) (now atoms) (now assignment) ⌝ }
+    requires { ⌜ length (now into) ≡ 200 ⌝ }
     requires { ⌜ Square (countOf (now concepts)) (now marks) ⌝ }
     requires { ⌜ (left < countOf (now concepts)) × (right < countOf (now concepts)) ⌝ }
     requires { ⌜ rule < 9 ⌝ }
-    ensures { λ r. ⌜ Tried (now (concepts .entry)) (now (inclusions .entry)) (now (atoms .entry)) (now (assignment .entry)) (now (marks .entry)) rule left right r ⌝ }
+    ensures { λ r. ⌜ Tried (now (concepts .entry)) (now (inclusions .entry)) (now (into .entry)) (now (atoms .entry)) (now (assignment .entry)) (now (marks .entry)) rule left right r ⌝ }
 {
     let bound = extras(concepts, inclusions, rule, left);
     let mut extra = 0;
@@ -70,6 +74,7 @@ fn try_rule(
         if by_rule(
             concepts,
             inclusions,
+            into,
             atoms,
             assignment,
             marks,
@@ -89,6 +94,7 @@ fn try_rule(
 fn explain(
     concepts: &[u16],
     inclusions: &[u16],
+    into: &[u64],
     atoms: &[u16],
     assignment: &[u64],
     marks: &[bool],
@@ -96,15 +102,17 @@ fn explain(
     right: usize,
 ) -> Why
     requires { ⌜ Grounds (now concepts) (now inclusions) (now atoms) (now assignment) ⌝ }
+    requires { ⌜ length (now into) ≡ 200 ⌝ }
     requires { ⌜ Square (countOf (now concepts)) (now marks) ⌝ }
     requires { ⌜ (left < countOf (now concepts)) × (right < countOf (now concepts)) ⌝ }
-    ensures { λ r. ⌜ Explained (now (concepts .entry)) (now (inclusions .entry)) (now (atoms .entry)) (now (assignment .entry)) (now (marks .entry)) left right r ⌝ }
+    ensures { λ r. ⌜ Explained (now (concepts .entry)) (now (inclusions .entry)) (now (into .entry)) (now (atoms .entry)) (now (assignment .entry)) (now (marks .entry)) left right r ⌝ }
 {
     let mut rule = 1;
     while rule < 9 {
         let tried = try_rule(
             concepts,
             inclusions,
+            into,
             atoms,
             assignment,
             marks,
@@ -124,14 +132,16 @@ fn explain(
 pub fn next_line(
     concepts: &[u16],
     inclusions: &[u16],
+    into: &[u64],
     atoms: &[u16],
     assignment: &[u64],
     marks: &[bool],
     from: usize,
 ) -> Next
     requires { ⌜ Grounds (now concepts) (now inclusions) (now atoms) (now assignment) ⌝ }
+    requires { ⌜ length (now into) ≡ 200 ⌝ }
     requires { ⌜ Square (countOf (now concepts)) (now marks) ⌝ }
-    ensures { λ r. ⌜ Found (now (concepts .entry)) (now (inclusions .entry)) (now (atoms .entry)) (now (assignment .entry)) (now (marks .entry)) from r ⌝ }
+    ensures { λ r. ⌜ Found (now (concepts .entry)) (now (inclusions .entry)) (now (into .entry)) (now (atoms .entry)) (now (assignment .entry)) (now (marks .entry)) from r ⌝ }
 {
     let count = concepts.len() / 3;
     let size = count * count;
@@ -143,7 +153,16 @@ pub fn next_line(
         if has_mark(marks, count, left, right) {
             continue;
         }
-        let why = explain(concepts, inclusions, atoms, assignment, marks, left, right);
+        let why = explain(
+            concepts,
+            inclusions,
+            into,
+            atoms,
+            assignment,
+            marks,
+            left,
+            right,
+        );
         if let Why::By(rule, extra) = why {
             return Next::Line(rule, left, right, extra);
         }

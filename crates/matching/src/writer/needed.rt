@@ -154,6 +154,7 @@ fn need_all(
 fn need_premises(
     concepts: &[u16],
     inclusions: &[u16],
+    into: &[u64],
     atoms: &[u16],
     assignment: &[u64],
     needed: &mut [bool],
@@ -165,7 +166,7 @@ fn need_premises(
     requires { ⌜ Grounds (now concepts) (now inclusions) (now atoms) (now assignment) ⌝ }
     requires { ⌜ Square (countOf (now concepts)) (now needed) ⌝ }
     requires { ⌜ (left < countOf (now concepts)) × (right < countOf (now concepts)) ⌝ }
-    ensures { λ _. ⌜ Needs (now (concepts .entry)) (now (inclusions .entry)) (now (atoms .entry)) (now (assignment .entry)) rule left right extra (now (needed .entry)) (now (needed .exit)) ⌝ }
+    ensures { λ _. ⌜ Needs (now (concepts .entry)) (now (inclusions .entry)) (now (into .entry)) (now (atoms .entry)) (now (assignment .entry)) rule left right extra (now (needed .entry)) (now (needed .exit)) ⌝ }
 {
     let count = concepts.len() / 3;
     let l = row_at(concepts, left);
@@ -199,6 +200,7 @@ fn need_premises(
 pub fn need_lines(
     concepts: &[u16],
     inclusions: &[u16],
+    into: &[u64],
     atoms: &[u16],
     assignment: &[u64],
     notes: &[u16],
@@ -207,11 +209,11 @@ pub fn need_lines(
     needed: &mut [bool],
 )
     requires { ⌜ Grounds (now concepts) (now inclusions) (now atoms) (now assignment) ⌝ }
-    requires { ⌜ Noted (now concepts) (now inclusions) (now atoms) (now assignment) (now marks) (now notes) n ⌝ }
+    requires { ⌜ Noted (now concepts) (now inclusions) (now into) (now atoms) (now assignment) (now marks) (now notes) n ⌝ }
     requires { ⌜ Square (countOf (now concepts)) (now needed) ⌝ }
     requires { ⌜ n * 4 ≤ length (now notes) ⌝ }
     ensures { λ _. ⌜ Grown (countOf (now (concepts .entry))) (now (needed .entry)) (now (needed .exit)) ⌝ }
-    ensures { λ _. ⌜ Enough (now (concepts .entry)) (now (inclusions .entry)) (now (atoms .entry)) (now (assignment .entry)) (now (needed .exit)) (now (notes .entry)) 0 n ⌝ }
+    ensures { λ _. ⌜ Enough (now (concepts .entry)) (now (inclusions .entry)) (now (into .entry)) (now (atoms .entry)) (now (assignment .entry)) (now (needed .exit)) (now (notes .entry)) 0 n ⌝ }
 {
     let count = concepts.len() / 3;
     let mut k = n;
@@ -225,6 +227,7 @@ pub fn need_lines(
             need_premises(
                 concepts,
                 inclusions,
+                into,
                 atoms,
                 assignment,
                 needed,

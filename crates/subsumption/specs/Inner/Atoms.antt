@@ -1,7 +1,7 @@
 -- What the passes over marks of ids promise (src/atoms.rt).
 use Prim.Native.Nat.{ℕ, _*_, _<_, _≤_, _^_}
 use mathlib.Core.Path.{_≡_}
-use mathlib.Core.List.{List, _++_}
+use mathlib.Core.List.{List, [], _++_}
 use mathlib.Core.Bool.{Bool, true, false, not}
 use lib.Bits.{bitOr}
 use lib.Dec.{eqb}
@@ -90,14 +90,14 @@ pub record Narrowed (concepts : List ℕ) (before after : List Bool) : Type 0 wh
   pub long : length after ≡ 192
   pub marks : (p : ℕ) → p < countOf concepts → markAt after p ≡ both (isAtomic (node concepts p)) (markAt before p)
 
--- neither reads the number of variables
+-- neither reads roles and the number of variables
 pub record StandingMarks (concepts inclusions questions : List ℕ) (marks : List Bool) : Type 0 where
   pub long : length marks ≡ 192
-  pub holds : (p : ℕ) → p < countOf concepts → markAt marks p ≡ stands (tables concepts inclusions questions 0) p
+  pub holds : (p : ℕ) → p < countOf concepts → markAt marks p ≡ stands (tables concepts inclusions questions [] 0) p
 
 pub record AtomMarks (concepts inclusions questions : List ℕ) (marks : List Bool) : Type 0 where
   pub long : length marks ≡ 192
-  pub holds : (p : ℕ) → p < countOf concepts → markAt marks p ≡ isAtom (tables concepts inclusions questions 0) p
+  pub holds : (p : ℕ) → p < countOf concepts → markAt marks p ≡ isAtom (tables concepts inclusions questions [] 0) p
 
 -- the marked ids below count, rising
 abbrev pub markedIds : List Bool → ℕ → List ℕ

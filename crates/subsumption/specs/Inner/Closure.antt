@@ -20,6 +20,7 @@ pub record Ready (concepts inclusions atoms assignment : List ℕ) : Type 0 wher
   pub left-known : (m : ℕ) → m < pairsOf inclusions → leftOf inclusions m < countOf concepts
   pub right-known : (m : ℕ) → m < pairsOf inclusions → rightOf inclusions m < countOf concepts
   pub low-names : (i n : ℕ) → node concepts i ≡ nameAt n → n < 1000
+  pub low-roles : (i r x : ℕ) → node concepts i ≡ existsAt r x → r < 100
   pub few-atoms : length atoms ≤ 64
   pub atoms-known : (q : ℕ) → q < length atoms → getD atoms q 0 < countOf concepts
 
@@ -37,7 +38,7 @@ abbrev pub AllIncluded : List ℕ → List ℕ → List ℕ → Type 0
 AllIncluded concepts inclusions columns =
     (m : ℕ) → m < pairsOf inclusions → Into (countOf concepts) columns (leftOf inclusions m) (rightOf inclusions m)
 
-module _ (concepts inclusions : List ℕ) (choose : ℕ → List ℕ) where
+module _ (concepts inclusions : List ℕ) (wide : ℕ → ℕ → Bool) (choose : ℕ → List ℕ) where
   -- a relation on ids that takes every step
   pub record Steps (R : ℕ → ℕ → Type 0) : Type 0 where
     pub same : (j : ℕ) → j < countOf concepts → R j j
@@ -50,8 +51,8 @@ module _ (concepts inclusions : List ℕ) (choose : ℕ → List ℕ) where
     pub meet : (i j a b : ℕ) → i < countOf concepts → j < countOf concepts → node concepts j ≡ andAt a b → R i a → R i b → R i j
     pub included : (i m : ℕ) → i < countOf concepts → m < pairsOf inclusions → R i (leftOf inclusions m) → R i (rightOf inclusions m)
     pub linked :
-        (i e f r x y : ℕ) → i < countOf concepts → e < countOf concepts → f < countOf concepts
-        → node concepts e ≡ existsAt r x → node concepts f ≡ existsAt r y → R x y → R i e → R i f
+        (i e f r s x y : ℕ) → i < countOf concepts → e < countOf concepts → f < countOf concepts
+        → node concepts e ≡ existsAt r x → node concepts f ≡ existsAt s y → wide r s ≡ true → R x y → R i e → R i f
     pub chooses :
         (i v k p : ℕ) → i < countOf concepts → v < countOf concepts → node concepts v ≡ varAt k → List·Memᴰ p (choose k) → R i v → R i p
     pub all-chosen :
@@ -70,8 +71,8 @@ module _ (concepts inclusions : List ℕ) (choose : ℕ → List ℕ) where
     flow-meet : (i j a b : ℕ) → i < countOf concepts → j < countOf concepts → node concepts j ≡ andAt a b → Flow given i a → Flow given i b → Flow given i j
     flow-included : (i m : ℕ) → i < countOf concepts → m < pairsOf inclusions → Flow given i (leftOf inclusions m) → Flow given i (rightOf inclusions m)
     flow-linked :
-        (i e f r x y : ℕ) → i < countOf concepts → e < countOf concepts → f < countOf concepts
-        → node concepts e ≡ existsAt r x → node concepts f ≡ existsAt r y → Flow given x y → Flow given i e → Flow given i f
+        (i e f r s x y : ℕ) → i < countOf concepts → e < countOf concepts → f < countOf concepts
+        → node concepts e ≡ existsAt r x → node concepts f ≡ existsAt s y → wide r s ≡ true → Flow given x y → Flow given i e → Flow given i f
     flow-chooses :
         (i v k p : ℕ) → i < countOf concepts → v < countOf concepts → node concepts v ≡ varAt k → List·Memᴰ p (choose k) → Flow given i v → Flow given i p
     flow-all-chosen :
@@ -99,17 +100,18 @@ module _ (concepts inclusions : List ℕ) (choose : ℕ → List ℕ) where
   pub record AllTaken (firsts columns : List ℕ) : Type 0 where
     pub settled : AllSettled concepts firsts choose columns
     pub included : AllIncluded concepts inclusions columns
-    pub linked : AllLinked concepts columns
+    pub linked : AllLinked concepts wide columns
 
 -- The passes of the steps that do not read all tables: whatever the others are.
 abbrev pub SettlePass : List ℕ → (ℕ → List ℕ) → (List ℕ → Type 0) → List ℕ → List ℕ → Bool → Type 0
-SettlePass concepts choose Quiet before after changed = (inclusions : List ℕ) → Pass concepts inclusions choose Quiet before after changed
+SettlePass concepts choose Quiet before after changed =
+    (inclusions : List ℕ) (wide : ℕ → ℕ → Bool) → Pass concepts inclusions wide choose Quiet before after changed
 
-abbrev pub LinkPass : List ℕ → (List ℕ → Type 0) → List ℕ → List ℕ → Bool → Type 0
-LinkPass concepts Quiet before after changed =
-    (inclusions : List ℕ) (choose : ℕ → List ℕ) → Pass concepts inclusions choose Quiet before after changed
+abbrev pub LinkPass : List ℕ → (ℕ → ℕ → Bool) → (List ℕ → Type 0) → List ℕ → List ℕ → Bool → Type 0
+LinkPass concepts wide Quiet before after changed =
+    (inclusions : List ℕ) (choose : ℕ → List ℕ) → Pass concepts inclusions wide choose Quiet before after changed
 
 abbrev pub IncludePass : List ℕ → List ℕ → List ℕ → Bool → Type 0
 IncludePass inclusions before after changed =
-    (concepts : List ℕ) (choose : ℕ → List ℕ) → LeftKnown concepts inclusions
-    → Pass concepts inclusions choose (AllIncluded concepts inclusions) before after changed
+    (concepts : List ℕ) (wide : ℕ → ℕ → Bool) (choose : ℕ → List ℕ) → LeftKnown concepts inclusions
+    → Pass concepts inclusions wide choose (AllIncluded concepts inclusions) before after changed

@@ -15,14 +15,14 @@ pub record Accepted (t : Tables) (ids : List ℕ) : Type 0 where
   pub listed : ids ≡ atoms t
 
 -- They are so with some questions. What is left to do reads no question.
-pub record Prepared (concepts inclusions : List ℕ) (variables : ℕ) (ids : List ℕ) : Type 0 where
+pub record Prepared (concepts inclusions roles : List ℕ) (variables : ℕ) (ids : List ℕ) : Type 0 where
   pub questions : List ℕ
-  pub accepted : Accepted (tables concepts inclusions questions variables) ids
+  pub accepted : Accepted (tables concepts inclusions questions roles variables) ids
 
 -- Whatever questions they are accepted with.
-abbrev pub ForAccepted : List ℕ → List ℕ → ℕ → List ℕ → (Tables → Type 0) → Type 0
-ForAccepted concepts inclusions variables ids Holds =
-    (questions : List ℕ) → Accepted (tables concepts inclusions questions variables) ids → Holds (tables concepts inclusions questions variables)
+abbrev pub ForAccepted : List ℕ → List ℕ → List ℕ → ℕ → List ℕ → (Tables → Type 0) → Type 0
+ForAccepted concepts inclusions roles variables ids Holds =
+    (questions : List ℕ) → Accepted (tables concepts inclusions questions roles variables) ids → Holds (tables concepts inclusions questions roles variables)
 
 -- Listing the atoms of tables with an asked pair.
 unfoldable pub askedFault : Tables → ℕ → ℕ → ℕ → Outcome

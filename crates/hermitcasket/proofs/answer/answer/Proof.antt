@@ -5,6 +5,9 @@ use Rattle.hermitcasket.proofs.ProgramLaws.{read-fits, text-answered, t
 use borrow.Author.Needs.{needs}
 use Rattle.hermitcasket.proofs.answer.answer.Statement.{statement}
 use Rattle.hermitcasket.proofs.answer.answer.Tie as tie
+use Rattle.hermitcasket.proofs.answer.answer_refused.Reads as answer-refused-reads
+use Rattle.hermitcasket.proofs.answer.answer_tables.Reads as answer-tables-reads
+use Rattle.hermitcasket.proofs.text.read_text.Reads as read-text-reads
 
 slice-aggregate-read-text : tie.Need-slice-aggregate-read-text
 slice-aggregate-read-text c = search needs
@@ -15,6 +18,9 @@ slice-aggregate-read-text-2 c = search needs
 slice-aggregate-read-text-3 : tie.Need-slice-aggregate-read-text-3
 slice-aggregate-read-text-3 c = search needs
 
+slice-aggregate-read-text-4 : tie.Need-slice-aggregate-read-text-4
+slice-aggregate-read-text-4 c = search needs
+
 read-text-requires : tie.Need-read-text-requires
 read-text-requires c κs = search needs
 
@@ -22,34 +28,43 @@ enum-known-read : tie.Need-enum-known-read
 enum-known-read c = search needs
 
 mul-n : tie.Need-mul-n
-mul-n c = omega (arith, read-fits _ (c .before .before .before .before .before .before .read-text .ensures .1) _ _ _ _ (c .before .read .given .1))
+mul-n c = omega (arith, read-fits _ (c .before .before .before .before .before .before .before .read-text .ensures .1) _ _ _ _ _ (c .before .read .given .1))
 
 mul-m : tie.Need-mul-m
-mul-m c = omega (arith, read-fits _ (c .before .before .before .before .before .before .read-text .ensures .1) _ _ _ _ (c .before .read .given .1))
+mul-m c = omega (arith, read-fits _ (c .before .before .before .before .before .before .before .read-text .ensures .1) _ _ _ _ _ (c .before .read .given .1))
 
 mul-k : tie.Need-mul-k
-mul-k c = omega (arith, read-fits _ (c .before .before .before .before .before .before .read-text .ensures .1) _ _ _ _ (c .before .read .given .1))
+mul-k c = omega (arith, read-fits _ (c .before .before .before .before .before .before .before .read-text .ensures .1) _ _ _ _ _ (c .before .read .given .1))
+
+mul-l : tie.Need-mul-l
+mul-l c = omega (arith, read-fits _ (c .before .before .before .before .before .before .before .read-text .ensures .1) _ _ _ _ _ (c .before .read .given .1))
 
 array-share-prefix-concepts : tie.Need-array-share-prefix-concepts
-array-share-prefix-concepts c = omega (arith, read-fits _ (c .before .before .before .before .before .before .read-text .ensures .1) _ _ _ _ (c .before .read .given .1), c .before .before .before .before .before .before .read-text .kept)
+array-share-prefix-concepts c = omega (arith, read-fits _ (c .before .before .before .before .before .before .before .read-text .ensures .1) _ _ _ _ _ (c .before .read .given .1), c .before .before .before .before .before .before .before .read-text .kept)
 
 slice-aggregate-answer-tables : tie.Need-slice-aggregate-answer-tables
-slice-aggregate-answer-tables c = sym (length-take-le _ _ (omega (arith, read-fits _ (c .before .before .before .before .before .before .before .read-text .ensures .1) _ _ _ _ (c .before .before .read .given .1), c .before .before .before .before .before .before .before .read-text .kept)))
+slice-aggregate-answer-tables c = sym (length-take-le _ _ (omega (arith, read-fits _ (c .before .before .before .before .before .before .before .before .read-text .ensures .1) _ _ _ _ _ (c .before .before .read .given .1), c .before .before .before .before .before .before .before .before .read-text .kept)))
 
 array-share-prefix-inclusions : tie.Need-array-share-prefix-inclusions
-array-share-prefix-inclusions c = omega (arith, read-fits _ (c .before .before .before .before .before .before .before .read-text .ensures .1) _ _ _ _ (c .before .before .read .given .1), c .before .before .before .before .before .before .before .read-text .kept)
+array-share-prefix-inclusions c = omega (arith, read-fits _ (c .before .before .before .before .before .before .before .before .read-text .ensures .1) _ _ _ _ _ (c .before .before .read .given .1), c .before .before .before .before .before .before .before .before .read-text .kept)
 
 slice-aggregate-answer-tables-2 : tie.Need-slice-aggregate-answer-tables-2
-slice-aggregate-answer-tables-2 c = sym (length-take-le _ _ (omega (arith, read-fits _ (c .before .before .before .before .before .before .before .before .read-text .ensures .1) _ _ _ _ (c .before .before .before .read .given .1), c .before .before .before .before .before .before .before .before .read-text .kept)))
+slice-aggregate-answer-tables-2 c = sym (length-take-le _ _ (omega (arith, read-fits _ (c .before .before .before .before .before .before .before .before .before .read-text .ensures .1) _ _ _ _ _ (c .before .before .before .read .given .1), c .before .before .before .before .before .before .before .before .before .read-text .kept)))
 
 array-share-prefix-questions : tie.Need-array-share-prefix-questions
-array-share-prefix-questions c = omega (arith, read-fits _ (c .before .before .before .before .before .before .before .before .read-text .ensures .1) _ _ _ _ (c .before .before .before .read .given .1), c .before .before .before .before .before .before .before .before .read-text .kept)
+array-share-prefix-questions c = omega (arith, read-fits _ (c .before .before .before .before .before .before .before .before .before .read-text .ensures .1) _ _ _ _ _ (c .before .before .before .read .given .1), c .before .before .before .before .before .before .before .before .before .read-text .kept)
 
 slice-aggregate-answer-tables-3 : tie.Need-slice-aggregate-answer-tables-3
-slice-aggregate-answer-tables-3 c = sym (length-take-le _ _ (omega (arith, read-fits _ (c .before .before .before .before .before .before .before .before .before .read-text .ensures .1) _ _ _ _ (c .before .before .before .before .read .given .1), c .before .before .before .before .before .before .before .before .before .read-text .kept)))
+slice-aggregate-answer-tables-3 c = sym (length-take-le _ _ (omega (arith, read-fits _ (c .before .before .before .before .before .before .before .before .before .before .read-text .ensures .1) _ _ _ _ _ (c .before .before .before .before .read .given .1), c .before .before .before .before .before .before .before .before .before .before .read-text .kept)))
+
+array-share-prefix-roles : tie.Need-array-share-prefix-roles
+array-share-prefix-roles c = omega (arith, read-fits _ (c .before .before .before .before .before .before .before .before .before .before .read-text .ensures .1) _ _ _ _ _ (c .before .before .before .before .read .given .1), c .before .before .before .before .before .before .before .before .before .before .read-text .kept)
+
+slice-aggregate-answer-tables-4 : tie.Need-slice-aggregate-answer-tables-4
+slice-aggregate-answer-tables-4 c = sym (length-take-le _ _ (omega (arith, read-fits _ (c .before .before .before .before .before .before .before .before .before .before .before .read-text .ensures .1) _ _ _ _ _ (c .before .before .before .before .before .read .given .1), c .before .before .before .before .before .before .before .before .before .before .before .read-text .kept)))
 
 answer-tables-requires : tie.Need-answer-tables-requires
-answer-tables-requires c κs = (read-fits _ (c .before .before .before .before .before .before .before .before .before .before .read-text .ensures .1) _ _ _ _ (c .before .before .before .before .before .read .given .1) .0, c .before .before .before .before .before .before .before .before .before .before .before .before .before .before .before .before .pre)
+answer-tables-requires c κs = (read-fits _ (c .before .before .before .before .before .before .before .before .before .before .before .before .read-text .ensures .1) _ _ _ _ _ (c .before .before .before .before .before .before .read .given .1) .0, c .before .before .before .before .before .before .before .before .before .before .before .before .before .before .before .before .before .before .before .pre)
 
 enum-known-read-2 : tie.Need-enum-known-read-2
 enum-known-read-2 c = search needs
@@ -76,17 +91,21 @@ answer-spec =
     slice-aggregate-read-text
     slice-aggregate-read-text-2
     slice-aggregate-read-text-3
+    slice-aggregate-read-text-4
     read-text-requires
     enum-known-read
     mul-n
     mul-m
     mul-k
+    mul-l
     array-share-prefix-concepts
     slice-aggregate-answer-tables
     array-share-prefix-inclusions
     slice-aggregate-answer-tables-2
     array-share-prefix-questions
     slice-aggregate-answer-tables-3
+    array-share-prefix-roles
+    slice-aggregate-answer-tables-4
     answer-tables-requires
     enum-known-read-2
     answer-refused-requires

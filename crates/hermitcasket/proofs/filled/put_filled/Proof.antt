@@ -7,51 +7,42 @@ use Rattle.hermitcasket.proofs.WriteLaws.{room-1, room-2, room-3, wrote
 use borrow.Author.Needs.{needs}
 use Rattle.hermitcasket.proofs.filled.put_filled.Statement.{statement}
 use Rattle.hermitcasket.proofs.filled.put_filled.Tie as tie
+use Rattle.hermitcasket.proofs.filled.put_fills.Reads as put-fills-reads
+use Rattle.hermitcasket.proofs.print.put_bytes.Reads as put-bytes-reads
+use Rattle.hermitcasket.proofs.print.put_line.Reads as put-line-reads
 
 slice-aggregate-put-bytes : tie.Need-slice-aggregate-put-bytes
 slice-aggregate-put-bytes c = search needs
 
 put-bytes-requires : tie.Need-put-bytes-requires
 unfolding filledText
-put-bytes-requires c κs =
-    let s = c .before .before .before .before .before .before .before in
-    let a = s .args in
-    let blanks = numberText variablesKey (length (a .assignment .now)) in
-    let fills = fillsText (atoms (tables (a .concepts .now) (a .inclusions .now) (a .questions .now) (a .variables))) (a .assignment .now) in
-    room-1 (a .out .now) 0 filledLine blanks fills (s .pre .1 .1)
+put-bytes-requires c κs = let blanks = numberText variablesKey (length (c .before .before .before .before .before .before .before .before .args .assignment .now)) in
+    let fills = fillsText (atoms (tables (c .before .before .before .before .before .before .before .before .args .concepts .now) (c .before .before .before .before .before .before .before .before .args .inclusions .now) (c .before .before .before .before .before .before .before .before .args .questions .now) (c .before .before .before .before .before .before .before .before .args .roles .now) (c .before .before .before .before .before .before .before .before .args .variables))) (c .before .before .before .before .before .before .before .before .args .assignment .now) in
+    room-1 (c .before .before .before .before .before .before .before .before .args .out .now) 0 filledLine blanks fills (c .before .before .before .before .before .before .before .before .pre .1 .1)
 
 slice-aggregate-put-line : tie.Need-slice-aggregate-put-line
 slice-aggregate-put-line c = search needs
 
 put-line-requires : tie.Need-put-line-requires
 unfolding filledText
-put-line-requires c κs =
-    let s = c .before .before .before .before .before .before .before .before .before .before .before .before in
-    let a = s .args in
-    let blanks = numberText variablesKey (length (a .assignment .now)) in
-    let fills = fillsText (atoms (tables (a .concepts .now) (a .inclusions .now) (a .questions .now) (a .variables))) (a .assignment .now) in
-    room-2 _ 0 filledLine blanks fills (s .pre .1 .1) _ _ (c .before .before .before .before .put-bytes .ensures)
+put-line-requires c κs = let blanks = numberText variablesKey (length (c .before .before .before .before .before .before .before .before .before .before .before .before .before .args .assignment .now)) in
+    let fills = fillsText (atoms (tables (c .before .before .before .before .before .before .before .before .before .before .before .before .before .args .concepts .now) (c .before .before .before .before .before .before .before .before .before .before .before .before .before .args .inclusions .now) (c .before .before .before .before .before .before .before .before .before .before .before .before .before .args .questions .now) (c .before .before .before .before .before .before .before .before .before .before .before .before .before .args .roles .now) (c .before .before .before .before .before .before .before .before .before .before .before .before .before .args .variables))) (c .before .before .before .before .before .before .before .before .before .before .before .before .before .args .assignment .now) in
+    room-2 _ 0 filledLine blanks fills (c .before .before .before .before .before .before .before .before .before .before .before .before .before .pre .1 .1) _ _ (c .before .before .before .before .put-bytes .ensures)
 
 put-fills-requires : tie.Need-put-fills-requires
 unfolding filledText
-put-fills-requires c κs =
-    let s = c .before .before .before .before .before .before .before .before .before .before .before .before .before .before .before .before in
-    let a = s .args in
-    let blanks = numberText variablesKey (length (a .assignment .now)) in
-    let fills = fillsText (atoms (tables (a .concepts .now) (a .inclusions .now) (a .questions .now) (a .variables))) (a .assignment .now) in
-    (s .pre .0, (s .pre .1 .0, room-3 _ 0 filledLine blanks fills (s .pre .1 .1) _ _ (c .before .before .before .before .before .before .before .before .put-bytes .ensures) _ _ (c .before .before .before .put-line .ensures)))
+put-fills-requires c κs = let blanks = numberText variablesKey (length (c .before .before .before .before .before .before .before .before .before .before .before .before .before .before .before .before .before .args .assignment .now)) in
+    let fills = fillsText (atoms (tables (c .before .before .before .before .before .before .before .before .before .before .before .before .before .before .before .before .before .args .concepts .now) (c .before .before .before .before .before .before .before .before .before .before .before .before .before .before .before .before .before .args .inclusions .now) (c .before .before .before .before .before .before .before .before .before .before .before .before .before .before .before .before .before .args .questions .now) (c .before .before .before .before .before .before .before .before .before .before .before .before .before .before .before .before .before .args .roles .now) (c .before .before .before .before .before .before .before .before .before .before .before .before .before .before .before .before .before .args .variables))) (c .before .before .before .before .before .before .before .before .before .before .before .before .before .before .before .before .before .args .assignment .now) in
+    (c .before .before .before .before .before .before .before .before .before .before .before .before .before .before .before .before .before .pre .0, (c .before .before .before .before .before .before .before .before .before .before .before .before .before .before .before .before .before .pre .1 .0, room-3 _ 0 filledLine blanks fills (c .before .before .before .before .before .before .before .before .before .before .before .before .before .before .before .before .before .pre .1 .1) _ _ (c .before .before .before .before .before .before .before .before .put-bytes .ensures) _ _ (c .before .before .before .put-line .ensures)))
 
 same-length : tie.Need-same-length
 same-length c = search needs
 
 returns : tie.Need-returns
 unfolding filledText
-returns c =
-    let s = c .before .before .before .before .before .before .before .before .before .before .before .before .before .before .before .before .before .before .before in
-    let a = s .args in
-    let blanks = numberText variablesKey (length (a .assignment .now)) in
-    let fills = fillsText (atoms (tables (a .concepts .now) (a .inclusions .now) (a .questions .now) (a .variables))) (a .assignment .now) in
-    wrote-three _ 0 filledLine blanks fills (s .pre .1 .1) _ _ (c .before .before .before .before .before .before .before .before .before .before .before .put-bytes .ensures) _ _ (c .before .before .before .before .before .before .put-line .ensures) _ _ (c .before .before .put-fills .ensures)
+returns c = let blanks = numberText variablesKey (length (c .before .before .before .before .before .before .before .before .before .before .before .before .before .before .before .before .before .before .before .before .args .assignment .now)) in
+    let fills = fillsText (atoms (tables (c .before .before .before .before .before .before .before .before .before .before .before .before .before .before .before .before .before .before .before .before .args .concepts .now) (c .before .before .before .before .before .before .before .before .before .before .before .before .before .before .before .before .before .before .before .before .args .inclusions .now) (c .before .before .before .before .before .before .before .before .before .before .before .before .before .before .before .before .before .before .before .before .args .questions .now) (c .before .before .before .before .before .before .before .before .before .before .before .before .before .before .before .before .before .before .before .before .args .roles .now) (c .before .before .before .before .before .before .before .before .before .before .before .before .before .before .before .before .before .before .before .before .args .variables))) (c .before .before .before .before .before .before .before .before .before .before .before .before .before .before .before .before .before .before .before .before .args .assignment .now) in
+    wrote-three _ 0 filledLine blanks fills (c .before .before .before .before .before .before .before .before .before .before .before .before .before .before .before .before .before .before .before .before .pre .1 .1) _ _ (c .before .before .before .before .before .before .before .before .before .before .before .put-bytes .ensures) _ _ (c .before .before .before .before .before .before .put-line .ensures) _ _ (c .before .before .put-fills .ensures)
 
 pub put-filled-spec : {M : Type 1} → statement M
 put-filled-spec =

@@ -4,20 +4,19 @@ use Rattle.subsumption.specs.Tables.{tables}
 use Rattle.hermitcasket.proofs.FillLaws.{Printed, printed-none, fillsLeft, fill-room, fills-more, fills-done}
 use Rattle.hermitcasket.proofs.filled.put_fills.Statement.{statement}
 use Rattle.hermitcasket.proofs.filled.put_fills.Tie as tie
+use Rattle.hermitcasket.proofs.filled.put_variable.Reads as put-variable-reads
 
 abbrev Inv-loop : tie.InvT-loop
-Inv-loop concepts inclusions questions variables assignment at out₀ end₀ k₀ out end k = (k ≤ variables) × Printed (fillsLeft (tables concepts inclusions questions variables) assignment) out₀ at out end k
+Inv-loop concepts inclusions questions roles variables assignment at out₀ end₀ k₀ out end k = (k ≤ variables) × Printed (fillsLeft (tables concepts inclusions questions roles variables) assignment) out₀ at out end k
 
 abbrev μ-loop : tie.MeasureT-loop
-μ-loop concepts inclusions questions variables assignment at out₀ end₀ k₀ out end k = variables - k
+μ-loop concepts inclusions questions roles variables assignment at out₀ end₀ k₀ out end k = variables - k
 
 loop-holds : tie.Need-loop-holds Inv-loop μ-loop
 loop-holds c = (omega arith, printed-none _ _ _)
 
 put-variable-requires : tie.Need-put-variable-requires Inv-loop μ-loop
-put-variable-requires c κs =
-    let s = c .before .before .before .before .before .before .before .before in
-    (s .pre .0, (s .pre .1 .0, (omega arith, fill-room (tables (s .args .concepts .now) (s .args .inclusions .now) (s .args .questions .now) (s .args .variables)) _ (s .pre .1 .0) _ _ _ _ _ (c .before .before .loop .inv .1) (omega arith) (s .pre .1 .1))))
+put-variable-requires c κs = (c .before .before .before .before .before .before .before .before .before .pre .0, (c .before .before .before .before .before .before .before .before .before .pre .1 .0, (omega arith, fill-room (tables (c .before .before .before .before .before .before .before .before .before .args .concepts .now) (c .before .before .before .before .before .before .before .before .before .args .inclusions .now) (c .before .before .before .before .before .before .before .before .before .args .questions .now) (c .before .before .before .before .before .before .before .before .before .args .roles .now) (c .before .before .before .before .before .before .before .before .before .args .variables)) _ (c .before .before .before .before .before .before .before .before .before .pre .1 .0) _ _ _ _ _ (c .before .before .loop .inv .1) (omega arith) (c .before .before .before .before .before .before .before .before .before .pre .1 .1))))
 
 add-k : tie.Need-add-k Inv-loop μ-loop
 add-k c = omega arith
@@ -26,9 +25,7 @@ loop-less : tie.Need-loop-less Inv-loop μ-loop
 loop-less c = omega arith
 
 loop-again : tie.Need-loop-again Inv-loop μ-loop
-loop-again c =
-    let s = c .before .before .before .before .before .before .before .before .before .before .before in
-    (omega arith, fills-more _ _ (s .pre .1 .0) _ _ _ _ _ (c .before .before .before .before .before .loop .inv .1) (omega arith) (s .pre .1 .1) _ _ (c .before .before .put-variable .ensures))
+loop-again c = (omega arith, fills-more _ _ (c .before .before .before .before .before .before .before .before .before .before .before .before .pre .1 .0) _ _ _ _ _ (c .before .before .before .before .before .loop .inv .1) (omega arith) (c .before .before .before .before .before .before .before .before .before .before .before .before .pre .1 .1) _ _ (c .before .before .put-variable .ensures))
 
 same-length : tie.Need-same-length Inv-loop μ-loop
 same-length c = c .before .loop .inv .1 .long

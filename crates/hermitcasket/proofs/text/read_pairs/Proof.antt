@@ -1,4 +1,4 @@
-use Prim.Native.Nat.{_+_, _-_, _≤_}
+use Prim.Native.Nat.{_-_}
 use mathlib.Core.Path.{_≡_, refl}
 use native.Mathlib.Omega.{arith}
 use borrow.Author.Needs.{needs}
@@ -9,16 +9,16 @@ use Rattle.hermitcasket.proofs.text.read_pairs.Statement.{statement}
 use Rattle.hermitcasket.proofs.text.read_pairs.Tie as tie
 
 abbrev Inv-loop : tie.InvT-loop
-Inv-loop part at count out₀ rest₀ used₀ i₀ out rest used i = (length out ≡ length out₀) × Lined pairAt 2 count at part out rest i used
+Inv-loop part at key count out₀ rest₀ used₀ i₀ out rest used i = (length out ≡ length out₀) × Lined (pairAt key) 2 count at part out rest i used
 
 abbrev μ-loop : tie.MeasureT-loop
-μ-loop part at count out₀ rest₀ used₀ i₀ out rest used i = count - i
+μ-loop part at key count out₀ rest₀ used₀ i₀ out rest used i = count - i
 
 loop-holds : tie.Need-loop-holds Inv-loop μ-loop
 loop-holds c = (refl, lined-none _ _ _ _ _ _)
 
-below-line-requires : tie.Need-below-line-requires Inv-loop μ-loop
-below-line-requires c κs = search needs
+pair-line-requires : tie.Need-pair-line-requires Inv-loop μ-loop
+pair-line-requires c κs = search needs
 
 enum-known-line : tie.Need-enum-known-line Inv-loop μ-loop
 enum-known-line c = search needs
@@ -26,8 +26,8 @@ enum-known-line c = search needs
 enum-told : tie.Need-enum-told Inv-loop μ-loop
 enum-told c = search needs
 
-add-t15 : tie.Need-add-t15 Inv-loop μ-loop
-add-t15 c = search needs
+add-t16 : tie.Need-add-t16 Inv-loop μ-loop
+add-t16 c = search needs
 
 same-length : tie.Need-same-length Inv-loop μ-loop
 same-length c = search needs
@@ -57,10 +57,7 @@ behind-requires : tie.Need-behind-requires Inv-loop μ-loop
 behind-requires c κs = search pairs-within
 
 add-used : tie.Need-add-used Inv-loop μ-loop
-add-used c =
-    let s = c .before .before .before .before .before .before .before .before .before in
-    let h : c .before .before .before .before .before .before .loop .used + c .before .before .line .given .0 .1 .1 .0 ≤ length (s .args .part .now) = search pairs-used in
-    omega (arith, s .pre)
+add-used c = omega (arith, pairs-used _ _ _ _ _ _ _ (c .before .before .before .before .before .loop-test .taken) _ _ (c .before .before .before .before .before .before .loop .inv .1) (c .before .before .before .before .pair-line .ensures) _ _ _ (c .before .before .line .given .1), c .before .before .before .before .before .before .before .before .before .before .pre)
 
 add-i : tie.Need-add-i Inv-loop μ-loop
 add-i c = search needs
@@ -84,10 +81,10 @@ read-pairs-spec =
     Inv-loop
     μ-loop
     loop-holds
-    below-line-requires
+    pair-line-requires
     enum-known-line
     enum-told
-    add-t15
+    add-t16
     same-length
     returns
     mul-m

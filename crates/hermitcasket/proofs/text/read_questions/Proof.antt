@@ -1,11 +1,13 @@
-use native.Mathlib.Omega.{arith}
-use Rattle.hermitcasket.proofs.SectionLaws.{last-refused, last-within, last-more, last-through}
+use Rattle.hermitcasket.proofs.SectionLaws.{last-refused, last-more, last-through}
 use borrow.Author.Needs.{needs}
 use Rattle.hermitcasket.proofs.text.read_questions.Statement.{statement}
 use Rattle.hermitcasket.proofs.text.read_questions.Tie as tie
 
 slice-aggregate-read-section : tie.Need-slice-aggregate-read-section
 slice-aggregate-read-section c = search needs
+
+slice-aggregate-read-section-2 : tie.Need-slice-aggregate-read-section-2
+slice-aggregate-read-section-2 c = search needs
 
 read-section-requires : tie.Need-read-section-requires
 read-section-requires c κs = search needs
@@ -22,8 +24,8 @@ same-length c = search needs
 returns : tie.Need-returns
 returns c = search last-refused
 
-add-t14 : tie.Need-add-t14
-add-t14 c = omega (arith, last-within _ _ _ _ (c .before .before .before .before .before .before .read-section .ensures) _ _ (c .before .before .asked .given .1), c .before .before .before .before .before .before .before .before .before .before .before .pre)
+add-t17 : tie.Need-add-t17
+add-t17 c = search needs
 
 same-length-2 : tie.Need-same-length-2
 same-length-2 c = search needs
@@ -42,12 +44,13 @@ read-questions-spec =
     tie.close
     (tie.spec
     slice-aggregate-read-section
+    slice-aggregate-read-section-2
     read-section-requires
     enum-known-asked
     enum-told
     same-length
     returns
-    add-t14
+    add-t17
     same-length-2
     returns-2
     same-length-3

@@ -22,19 +22,18 @@ behind-requires : tie.Need-behind-requires
 behind-requires c κs = search counted-within
 
 add-read-pairs : tie.Need-add-read-pairs
-add-read-pairs c = omega (arith, counted-within _ _ _ _ _ _ (c .before .before .before .before .read-count .ensures) _ _ (c .before .before .counted .given .1), c .before .before .before .before .before .before .before .before .pre)
+add-read-pairs c = omega (arith, counted-within _ _ _ _ _ _ (c .before .before .before .before .read-count .ensures) _ _ (c .before .before .counted .given .1), c .before .before .before .before .before .before .before .before .before .pre)
 
 read-pairs-requires : tie.Need-read-pairs-requires
-read-pairs-requires c κs = (search lines-room, omega (arith, counted-few _ _ _ _ _ _ (c .before .before .before .before .before .read-count .ensures) _ _ (c .before .before .before .counted .given .1), c .before .before .before .before .before .before .before .before .before .pre))
+read-pairs-requires c κs = (search lines-room, (c .before .before .before .before .before .before .before .before .before .before .pre .1 .1 .0, omega (arith, counted-few _ _ _ _ _ _ (c .before .before .before .before .before .read-count .ensures) _ _ (c .before .before .before .counted .given .1), c .before .before .before .before .before .before .before .before .before .before .pre)))
 
 enum-known-lines : tie.Need-enum-known-lines
 enum-known-lines c = search needs
 
-add-t18 : tie.Need-add-t18
-add-t18 c =
-    let s = c .before .before .before .before .before .before .before .before .before .before .before .before .before .before .before in
-    let h : c .before .before .before .before .before .before .before .before .before .counted .given .0 .1 .0 + c .before .lines .given .0 .0 ≤ length (s .args .rest .now) = search lines-used in
-    omega (arith, s .good)
+add-t19 : tie.Need-add-t19
+add-t19 c =
+    let h : c .before .before .before .before .before .before .before .before .before .counted .given .0 .1 .0 + c .before .lines .given .0 .0 ≤ length (c .before .before .before .before .before .before .before .before .before .before .before .before .before .before .before .before .args .rest .now) = search lines-used in
+    omega (arith, c .before .before .before .before .before .before .before .before .before .before .before .before .before .before .before .before .good)
 
 enum-known-lines-2 : tie.Need-enum-known-lines-2
 enum-known-lines-2 c = search needs
@@ -63,7 +62,7 @@ read-section-spec =
     add-read-pairs
     read-pairs-requires
     enum-known-lines
-    add-t18
+    add-t19
     enum-known-lines-2
     same-length
     returns-2

@@ -1,5 +1,5 @@
 use native.Mathlib.Omega.{arith}
-use Rattle.hermitcasket.proofs.ReadLaws.{section-fits, section-room, fault-2, fault-3, fault-4, read-all, all-few}
+use Rattle.hermitcasket.proofs.ReadLaws.{section-fits, section-room, fault-3, fault-4, fault-5, read-all}
 use borrow.Author.Needs.{needs}
 use Rattle.hermitcasket.proofs.text.read_tables.Statement.{statement}
 use Rattle.hermitcasket.proofs.text.read_tables.Tie as tie
@@ -20,21 +20,22 @@ same-length : tie.Need-same-length
 same-length c = search needs
 
 returns : tie.Need-returns
-returns c = (search fault-2, tt)
+returns c = search fault-3
 
 behind-requires : tie.Need-behind-requires
-behind-requires c κs = section-fits _ _ _ _ _ _ _ _ _ (c .before .before .before .before .before .read-concepts .ensures) _ _ (c .before .rows .given .1) .1
+behind-requires c κs = section-fits _ _ _ _ _ _ _ (c .before .before .before .before .before .read-concepts .ensures) _ _ (c .before .rows .given .1) .1
 
 add-b : tie.Need-add-b
-add-b c = omega (arith, section-fits _ _ _ _ _ _ _ _ _ (c .before .before .before .before .before .before .read-concepts .ensures) _ _ (c .before .before .rows .given .1), c .before .before .before .before .before .before .before .before .before .before .before .before .pre)
+add-b c = omega (arith, section-fits _ _ _ _ _ _ _ (c .before .before .before .before .before .before .read-concepts .ensures) _ _ (c .before .before .rows .given .1), c .before .before .before .before .before .before .before .before .before .before .before .before .pre)
 
 slice-aggregate-read-section : tie.Need-slice-aggregate-read-section
 slice-aggregate-read-section c = search needs
 
+slice-aggregate-read-section-2 : tie.Need-slice-aggregate-read-section-2
+slice-aggregate-read-section-2 c = search needs
+
 read-section-requires : tie.Need-read-section-requires
-read-section-requires c κs =
-    let s = c .before .before .before .before .before .before .before .before .before .before .before .before .before .before in
-    (section-room _ _ _ _ _ _ _ _ _ (c .before .before .before .before .before .before .before .before .read-concepts .ensures) _ _ (c .before .before .before .before .rows .given .1) (s .pre .0) _ (c .before .before .behind .ensures), (omega arith, omega (arith, s .pre)))
+read-section-requires c κs = (section-room _ _ _ _ _ _ _ (c .before .before .before .before .before .before .before .before .before .read-concepts .ensures) _ _ (c .before .before .before .before .before .rows .given .1) (c .before .before .before .before .before .before .before .before .before .before .before .before .before .before .before .pre .0) _ (c .before .before .before .behind .ensures), (omega arith, (omega arith, omega (arith, c .before .before .before .before .before .before .before .before .before .before .before .before .before .before .before .pre))))
 
 enum-known-given : tie.Need-enum-known-given
 enum-known-given c = search needs
@@ -52,20 +53,18 @@ same-length-3 : tie.Need-same-length-3
 same-length-3 c = search needs
 
 returns-2 : tie.Need-returns-2
-returns-2 c = (search fault-3, tt)
+returns-2 c = search fault-4
 
 behind-requires-2 : tie.Need-behind-requires-2
-behind-requires-2 c κs = section-fits _ _ _ _ _ _ _ _ _ (c .before .before .before .before .before .read-section .ensures) _ _ (c .before .given .given .1) .1
+behind-requires-2 c κs = section-fits _ _ _ _ _ _ _ (c .before .before .before .before .before .read-section .ensures) _ _ (c .before .given .given .1) .1
 
 add-read-questions : tie.Need-add-read-questions
-add-read-questions c =
-    let s = c .before .before .before .before .before .before .before .before .before .before .before .before .before .before .before .before .before .before .before .before .before in
-    omega (arith, section-room _ _ _ _ _ _ _ _ _ (c .before .before .before .before .before .before .before .before .before .before .before .before .before .before .before .read-concepts .ensures) _ _ (c .before .before .before .before .before .before .before .before .before .before .before .rows .given .1) (s .pre .0) _ (c .before .before .before .before .before .before .before .before .before .behind .ensures), section-fits _ _ _ _ _ _ _ _ _ (c .before .before .before .before .before .before .read-section .ensures) _ _ (c .before .before .given .given .1))
+add-read-questions c = omega (arith, section-room _ _ _ _ _ _ _ (c .before .before .before .before .before .before .before .before .before .before .before .before .before .before .before .before .read-concepts .ensures) _ _ (c .before .before .before .before .before .before .before .before .before .before .before .before .rows .given .1) (c .before .before .before .before .before .before .before .before .before .before .before .before .before .before .before .before .before .before .before .before .before .before .pre .0) _ (c .before .before .before .before .before .before .before .before .before .before .behind .ensures), section-fits _ _ _ _ _ _ _ (c .before .before .before .before .before .before .read-section .ensures) _ _ (c .before .before .given .given .1))
 
 read-questions-requires : tie.Need-read-questions-requires
 read-questions-requires c κs =
-    let s = c .before .before .before .before .before .before .before .before .before .before .before .before .before .before .before .before .before .before .before .before .before .before in
-    (section-room _ _ _ _ _ _ _ _ _ (c .before .before .before .before .before .before .before .read-section .ensures) _ _ (c .before .before .before .given .given .1) (section-room _ _ _ _ _ _ _ _ _ (c .before .before .before .before .before .before .before .before .before .before .before .before .before .before .before .before .read-concepts .ensures) _ _ (c .before .before .before .before .before .before .before .before .before .before .before .before .rows .given .1) (s .pre .0) _ (c .before .before .before .before .before .before .before .before .before .before .behind .ensures)) _ (c .before .behind2 .ensures), omega (arith, s .pre))
+    let room = section-room _ _ _ _ _ _ _ (c .before .before .before .before .before .before .before .before .before .before .before .before .before .before .before .before .before .read-concepts .ensures) _ _ (c .before .before .before .before .before .before .before .before .before .before .before .before .before .rows .given .1) (c .before .before .before .before .before .before .before .before .before .before .before .before .before .before .before .before .before .before .before .before .before .before .before .pre .0) _ (c .before .before .before .before .before .before .before .before .before .before .before .behind .ensures) in
+    (section-room _ _ _ _ _ _ _ (c .before .before .before .before .before .before .before .read-section .ensures) _ _ (c .before .before .before .given .given .1) room _ (c .before .behind2 .ensures), omega (arith, c .before .before .before .before .before .before .before .before .before .before .before .before .before .before .before .before .before .before .before .before .before .before .before .pre))
 
 enum-known-asked : tie.Need-enum-known-asked
 enum-known-asked c = search needs
@@ -86,7 +85,7 @@ same-length-6 : tie.Need-same-length-6
 same-length-6 c = search needs
 
 returns-3 : tie.Need-returns-3
-returns-3 c = (fault-4 _ _ _ _ _ (c .before .before .before .before .before .before .before .before .before .before .before .before .before .before .before .before .before .before .before .before .before .before .read-concepts .ensures) _ _ (c .before .before .before .before .before .before .before .before .before .before .before .before .before .before .before .before .before .before .rows .given .1) _ (c .before .before .before .before .before .before .before .before .before .before .before .before .before .before .before .before .behind .ensures) _ _ (c .before .before .before .before .before .before .before .before .before .before .before .before .before .read-section .ensures) _ _ (c .before .before .before .before .before .before .before .before .before .given .given .1) _ (c .before .before .before .before .before .before .before .behind2 .ensures) _ _ (c .before .before .before .before .before .read-questions .ensures) _ _ (c .before .enum-told3 .given .1) (c .fault3 .ensures), tt)
+returns-3 c = fault-5 _ _ _ _ _ _ (c .before .before .before .before .before .before .before .before .before .before .before .before .before .before .before .before .before .before .before .before .before .before .before .read-concepts .ensures) _ _ (c .before .before .before .before .before .before .before .before .before .before .before .before .before .before .before .before .before .before .before .rows .given .1) _ (c .before .before .before .before .before .before .before .before .before .before .before .before .before .before .before .before .before .behind .ensures) _ _ (c .before .before .before .before .before .before .before .before .before .before .before .before .before .read-section .ensures) _ _ (c .before .before .before .before .before .before .before .before .before .given .given .1) _ (c .before .before .before .before .before .before .before .behind2 .ensures) _ _ (c .before .before .before .before .before .read-questions .ensures) _ _ (c .before .enum-told3 .given .1) (c .fault3 .ensures)
 
 same-length-7 : tie.Need-same-length-7
 same-length-7 c = search needs
@@ -98,7 +97,7 @@ same-length-9 : tie.Need-same-length-9
 same-length-9 c = search needs
 
 returns-4 : tie.Need-returns-4
-returns-4 c = (read-all _ _ _ _ _ (c .before .before .before .before .before .before .before .before .before .before .before .before .before .before .before .before .before .before .before .before .before .before .read-concepts .ensures) _ _ (c .before .before .before .before .before .before .before .before .before .before .before .before .before .before .before .before .before .before .rows .given .1) _ (c .before .before .before .before .before .before .before .before .before .before .before .before .before .before .before .before .behind .ensures) _ _ (c .before .before .before .before .before .before .before .before .before .before .before .before .before .read-section .ensures) _ _ (c .before .before .before .before .before .before .before .before .before .given .given .1) _ (c .before .before .before .before .before .before .before .behind2 .ensures) _ _ (c .before .before .before .before .before .read-questions .ensures) _ _ (c .before .asked .given .1), all-few _ _ _ _ _ (c .before .before .before .before .before .before .before .before .before .before .before .before .before .before .before .before .before .before .before .before .before .before .read-concepts .ensures) _ _ (c .before .before .before .before .before .before .before .before .before .before .before .before .before .before .before .before .before .before .rows .given .1) _ (c .before .before .before .before .before .before .before .before .before .before .before .before .before .before .before .before .behind .ensures) _ _ (c .before .before .before .before .before .before .before .before .before .before .before .before .before .read-section .ensures) _ _ (c .before .before .before .before .before .before .before .before .before .given .given .1) _ (c .before .before .before .before .before .before .before .behind2 .ensures) _ _ (c .before .before .before .before .before .read-questions .ensures) (c .before .before .before .before .before .before .before .before .before .before .before .before .before .before .before .before .before .before .before .before .before .before .before .before .before .before .before .before .pre .1 .0) _ _ (c .before .asked .given .1))
+returns-4 c = read-all _ _ _ _ _ _ (c .before .before .before .before .before .before .before .before .before .before .before .before .before .before .before .before .before .before .before .before .before .before .before .read-concepts .ensures) _ _ (c .before .before .before .before .before .before .before .before .before .before .before .before .before .before .before .before .before .before .before .rows .given .1) _ (c .before .before .before .before .before .before .before .before .before .before .before .before .before .before .before .before .before .behind .ensures) _ _ (c .before .before .before .before .before .before .before .before .before .before .before .before .before .read-section .ensures) _ _ (c .before .before .before .before .before .before .before .before .before .given .given .1) _ (c .before .before .before .before .before .before .before .behind2 .ensures) _ _ (c .before .before .before .before .before .read-questions .ensures) (c .before .before .before .before .before .before .before .before .before .before .before .before .before .before .before .before .before .before .before .before .before .before .before .before .before .before .before .before .before .pre .1 .0) (c .before .before .before .before .before .before .before .before .before .before .before .before .before .before .before .before .before .before .before .before .before .before .before .before .before .before .before .before .before .pre .1 .1 .0) _ _ (c .before .asked .given .1)
 
 pub read-tables-spec : {M : Type 1} → statement M
 read-tables-spec =
@@ -113,6 +112,7 @@ read-tables-spec =
     behind-requires
     add-b
     slice-aggregate-read-section
+    slice-aggregate-read-section-2
     read-section-requires
     enum-known-given
     enum-told-2

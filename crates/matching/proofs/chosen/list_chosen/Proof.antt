@@ -1,7 +1,9 @@
-use borrow.Author.Needs.{needs}
 use Rattle.matching.proofs.ChosenLaws.Faults.{handed}
+use borrow.Author.Needs.{needs}
 use Rattle.matching.proofs.chosen.list_chosen.Statement.{statement}
 use Rattle.matching.proofs.chosen.list_chosen.Tie as tie
+use Rattle.matching.proofs.chosen.put_chosen.Reads as put-chosen-reads
+use Rattle.matching.proofs.chosen.tell.Reads as tell-reads
 
 put-chosen-requires : tie.Need-put-chosen-requires
 put-chosen-requires c κs = search needs

@@ -2,26 +2,29 @@ use Rattle.matching.proofs.FindLaws.{buffer-refuses, finds-filled, find
 use Rattle.subsumption.proofs.Accepted.{wellFormed}
 use native.Mathlib.Omega.{arith}
 use mathlib.Core.Path.{refl}
+use borrow.Author.Needs.{needs}
 use Rattle.matching.proofs.find.find_known.Statement.{statement}
 use Rattle.matching.proofs.find.find_known.Tie as tie
+use Rattle.matching.proofs.find.find_first.Reads as find-first-reads
+use Rattle.matching.proofs.find.write_choice.Reads as write-choice-reads
 
 returns : tie.Need-returns
-returns c = buffer-refuses _ (c .before .before .before .before .before .before .args .out .now) (c .before .before .before .before .before .before .pre .passed) (c .if1 .taken)
+returns c = buffer-refuses _ (c .before .before .before .before .before .before .before .args .out .now) (c .before .before .before .before .before .before .before .pre .passed) (c .if1 .taken)
 
 find-first-requires : tie.Need-find-first-requires
-find-first-requires c κs = c .before .before .before .before .before .before .pre
+find-first-requires c κs = c .before .before .before .before .before .before .before .pre
 
 write-choice-requires : tie.Need-write-choice-requires
-write-choice-requires c κs = (wellFormed _ (c .before .before .before .before .before .before .before .before .before .before .pre .passed) .few-variables, c .before .before .before .before .if1 .left)
+write-choice-requires c κs = (wellFormed _ (c .before .before .before .before .before .before .before .before .before .before .before .pre .passed) .few-variables, c .before .before .before .before .if1 .left)
 
 same-length : tie.Need-same-length
 same-length c = omega arith
 
 returns-2 : tie.Need-returns-2
-returns-2 c = finds-filled _ _ _ (c .before .before .before .before .before .before .before .before .before .before .before .before .before .pre .passed) (c .before .before .before .before .before .before .before .if1 .left) (c .before .before .before .before .before .before .find-first .result .found) _ (c .before .before .before .before .before .before .find-first .ensures) (c .before .before .before .before .before .if2 .taken) (c .before .before .write-choice .ensures)
+returns-2 c = finds-filled _ _ _ (c .before .before .before .before .before .before .before .before .before .before .before .before .before .before .pre .passed) (c .before .before .before .before .before .before .before .if1 .left) (c .before .before .before .before .before .before .find-first .result .found) _ (c .before .before .before .before .before .before .find-first .ensures) (c .before .before .before .before .before .if2 .taken) (c .before .before .write-choice .ensures)
 
 returns-3 : tie.Need-returns-3
-returns-3 c = finds-nothing _ (c .before .before .before .before .before .before .before .before .args .out .now) _ (c .before .before .before .before .before .before .before .before .pre .passed) (c .before .before .if1 .left) (c .before .find-first .result .found) (c .before .find-first .result .choice) (c .before .find-first .ensures) (c .if2 .left) refl
+returns-3 c = finds-nothing _ (c .before .before .before .before .before .before .before .before .before .args .out .now) _ (c .before .before .before .before .before .before .before .before .before .pre .passed) (c .before .before .if1 .left) (c .before .find-first .result .found) (c .before .find-first .result .choice) (c .before .find-first .ensures) (c .if2 .left) refl
 
 pub find-known-spec : {M : Type 1} → statement M
 find-known-spec =

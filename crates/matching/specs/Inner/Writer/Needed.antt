@@ -47,18 +47,18 @@ pub record AllMarkedIf (shape : Type 0) (ids : List ℕ) (choice count : ℕ) (b
   pub miss : (shape → ⊥) → after ≡ before
 
 -- what the line uses is marked, and nothing else is new
-pub record Needs (concepts inclusions ids assignment : List ℕ) (rule left right extra : ℕ) (before after : List Bool) : Type 0 where
+pub record Needs (concepts inclusions into ids assignment : List ℕ) (rule left right extra : ℕ) (before after : List Bool) : Type 0 where
   pub grown : Grown (countOf concepts) before after
   pub serves :
-      (t : Tables) → Of t concepts inclusions ids → (p : ℕ → ℕ → Bool) → byRule t assignment p rule left right extra ≡ true
+      (t : Tables) → Of t concepts inclusions into ids → (p : ℕ → ℕ → Bool) → byRule t assignment p rule left right extra ≡ true
       → byRule t assignment (λ i j. both (p i j) (seen (countOf concepts) after i j)) rule left right extra ≡ true
   pub only :
-      (t : Tables) → Of t concepts inclusions ids → (p : ℕ → ℕ → Bool) → byRule t assignment p rule left right extra ≡ true
+      (t : Tables) → Of t concepts inclusions into ids → (p : ℕ → ℕ → Bool) → byRule t assignment p rule left right extra ≡ true
       → (i j : ℕ) → i < countOf concepts → j < countOf concepts → seen (countOf concepts) after i j ≡ true
       → (seen (countOf concepts) before i j ≡ true) ⊎ (p i j ≡ true)
 
 -- the needed pairs on earlier lines are enough for every needed line
-pub record Enough (concepts inclusions ids assignment : List ℕ) (needed : List Bool) (notes : List ℕ) (from n : ℕ) : Type 0 where
+pub record Enough (concepts inclusions into ids assignment : List ℕ) (needed : List Bool) (notes : List ℕ) (from n : ℕ) : Type 0 where
   pub each :
-      (k : ℕ) → from ≤ k → k < n → seen (countOf concepts) needed (leftAt notes k) (rightAt notes k) ≡ true → (t : Tables) → Of t concepts inclusions ids
+      (k : ℕ) → from ≤ k → k < n → seen (countOf concepts) needed (leftAt notes k) (rightAt notes k) ≡ true → (t : Tables) → Of t concepts inclusions into ids
       → follows t assignment (λ i j. both (provedBy notes k i j) (seen (countOf concepts) needed i j)) (ruleAt notes k) (leftAt notes k) (rightAt notes k) (extraAt notes k) ≡ true

@@ -5,6 +5,9 @@ use Rattle.subsumption.specs.Check.{tableFault}
 use borrow.Author.Needs.{needs}
 use Rattle.subsumption.proofs.check.check_tables.Statement.{statement}
 use Rattle.subsumption.proofs.check.check_tables.Tie as tie
+use Rattle.subsumption.proofs.check.check_concepts.Reads as check-concepts-reads
+use Rattle.subsumption.proofs.check.check_ids.Reads as check-ids-reads
+use Rattle.subsumption.proofs.check.check_use.Reads as check-use-reads
 
 check-concepts-requires : tie.Need-check-concepts-requires
 check-concepts-requires c κs = search needs

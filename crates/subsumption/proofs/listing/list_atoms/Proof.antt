@@ -3,6 +3,9 @@ use Rattle.subsumption.proofs.Refusals.{is-done}
 use borrow.Author.Needs.{needs}
 use Rattle.subsumption.proofs.listing.list_atoms.Statement.{statement}
 use Rattle.subsumption.proofs.listing.list_atoms.Tie as tie
+use Rattle.subsumption.proofs.check.check_concepts.Reads as check-concepts-reads
+use Rattle.subsumption.proofs.check.check_ids.Reads as check-ids-reads
+use Rattle.subsumption.proofs.listing.list_used.Reads as list-used-reads
 
 check-concepts-requires : tie.Need-check-concepts-requires
 check-concepts-requires c κs = search needs
@@ -35,7 +38,7 @@ same-length : tie.Need-same-length
 same-length c = search needs
 
 returns-3 : tie.Need-returns-3
-returns-3 c = let h = listing-used _ (c .before .before .before .before .before .before .before .before .before .before .before .before .before .before .args .out .now) _ (c .before .before .before .before .before .before .before .before .before .check-concepts .ensures) (c .before .before .before .before .before .before .before .enum-told .given .1) _ (c .before .before .before .before .before .before .check-ids .ensures) _ (c .before .before .list-used .result) (c .before .before .before .before .enum-told2 .given .1) (record { replied = c .before .before .list-used .ensures .0; written = c .before .before .list-used .ensures .1 }) in (h .replied, h .written)
+returns-3 c = let h = listing-used _ (c .before .before .before .before .before .before .before .before .before .before .before .before .before .before .before .args .out .now) _ (c .before .before .before .before .before .before .before .before .before .check-concepts .ensures) (c .before .before .before .before .before .before .before .enum-told .given .1) _ (c .before .before .before .before .before .before .check-ids .ensures) _ (c .before .before .list-used .result) (c .before .before .before .before .enum-told2 .given .1) (record { replied = c .before .before .list-used .ensures .0; written = c .before .before .list-used .ensures .1 }) in (h .replied, h .written)
 
 pub list-atoms-spec : {M : Type 1} → statement M
 list-atoms-spec =

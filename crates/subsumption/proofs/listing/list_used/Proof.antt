@@ -4,6 +4,8 @@ use Rattle.subsumption.proofs.ListingLaws.{used-refused, used-short, us
 use borrow.Author.Needs.{needs}
 use Rattle.subsumption.proofs.listing.list_used.Statement.{statement}
 use Rattle.subsumption.proofs.listing.list_used.Tie as tie
+use Rattle.subsumption.proofs.atoms.list_marks.Reads as list-marks-reads
+use Rattle.subsumption.proofs.check.check_use.Reads as check-use-reads
 
 slice-aggregate-check-use : tie.Need-slice-aggregate-check-use
 slice-aggregate-check-use c = search needs
@@ -27,7 +29,7 @@ slice-aggregate-list-marks : tie.Need-slice-aggregate-list-marks
 slice-aggregate-list-marks c = search needs
 
 list-marks-requires : tie.Need-list-marks-requires
-list-marks-requires c κs = (concepts-few _ (c .before .before .before .before .before .before .before .before .before .before .before .before .pre .0), (omega (arith, concepts-few _ (c .before .before .before .before .before .before .before .before .before .before .before .before .pre .0), c .before .before .before .before .before .before .check-use .ensures .marked (c .before .before .before .enum-told .given .1) .long), used-room _ (c .before .before .before .before .before .before .before .before .before .before .before .before .args .out .now) _ _ (c .before .before .before .before .before .before .check-use .ensures) (c .before .before .before .enum-told .given .1) (c .before .before .if1 .left)))
+list-marks-requires c κs = (concepts-few _ (c .before .before .before .before .before .before .before .before .before .before .before .before .before .pre .0), (omega (arith, concepts-few _ (c .before .before .before .before .before .before .before .before .before .before .before .before .before .pre .0), c .before .before .before .before .before .before .check-use .ensures .marked (c .before .before .before .enum-told .given .1) .long), used-room _ (c .before .before .before .before .before .before .before .before .before .before .before .before .before .args .out .now) _ _ (c .before .before .before .before .before .before .check-use .ensures) (c .before .before .before .enum-told .given .1) (c .before .before .if1 .left)))
 
 same-length : tie.Need-same-length
 same-length c = search needs

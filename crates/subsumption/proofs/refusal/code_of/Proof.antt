@@ -1,6 +1,8 @@
 use borrow.Author.Needs.{needs}
 use Rattle.subsumption.proofs.refusal.code_of.Statement.{statement}
 use Rattle.subsumption.proofs.refusal.code_of.Tie as tie
+use Rattle.subsumption.proofs.refusal.code_of.Reads as reads
+use Rattle.subsumption.proofs.refusal.code_of.Lts as lts
 
 enum-known-r : tie.Need-enum-known-r
 enum-known-r c = search needs
@@ -41,6 +43,9 @@ enum-known-r-9 c = search needs
 enum-known-r-10 : tie.Need-enum-known-r-10
 enum-known-r-10 c = search needs
 
+enum-known-r-11 : tie.Need-enum-known-r-11
+enum-known-r-11 c = search needs
+
 returns : tie.Need-returns
 returns c = cc
 
@@ -80,6 +85,9 @@ returns-12 c = cc
 returns-13 : tie.Need-returns-13
 returns-13 c = cc
 
+returns-14 : tie.Need-returns-14
+returns-14 c = cc
+
 pub code-of-spec : {M : Type 1} → statement M
 code-of-spec =
     tie.close
@@ -97,6 +105,7 @@ code-of-spec =
     enum-told-3
     enum-known-r-9
     enum-known-r-10
+    enum-known-r-11
     returns
     returns-2
     returns-3
@@ -109,4 +118,5 @@ code-of-spec =
     returns-10
     returns-11
     returns-12
-    returns-13)
+    returns-13
+    returns-14)

@@ -5,25 +5,19 @@ use native.Mathlib.Omega.{arith}
 use borrow.Author.Needs.{needs}
 use Rattle.subsumption.proofs.variables.set_at.Statement.{statement}
 use Rattle.subsumption.proofs.variables.set_at.Tie as tie
-use Rattle.subsumption.proofs.variables.set_at.Reads as reads
-use Rattle.subsumption.proofs.variables.set_at.Lts as lts
 use Rattle.subsumption.proofs.variables.write_sets.Reads as write-sets-reads
 
--- src/variables.rt:67:26
 slice-aggregate-write-sets : tie.Need-slice-aggregate-write-sets
 slice-aggregate-write-sets c = search needs
 
--- src/variables.rt:67:5
 write-sets-requires : tie.Need-write-sets-requires
-write-sets-requires c κs = (layered _ _ _ _ (c .before .before .before .before .pre .0), (few-numbers _ _ _ _ (c .before .before .before .before .pre .0), refl))
+write-sets-requires c κs = (layered _ _ _ _ _ (c .before .before .before .before .before .pre .0), (few-numbers _ _ _ _ _ (c .before .before .before .before .before .pre .0), refl))
 
--- src/variables.rt:68:5
 array-read-result : tie.Need-array-read-result
-array-read-result c = omega (arith, few-concepts _ _ _ _ (c .before .before .before .before .before .before .pre .0), c .before .before .before .before .before .before .pre .1)
+array-read-result c = omega (arith, few-concepts _ _ _ _ _ (c .before .before .before .before .before .before .before .pre .0), c .before .before .before .before .before .before .before .pre .1)
 
--- src/variables.rt:61:1
 returns : tie.Need-returns
-returns c = c .before .write-sets .ensures .each _ (c .before .before .before .before .before .before .pre .1)
+returns c = c .before .write-sets .ensures .each _ (c .before .before .before .before .before .before .before .pre .1)
 
 pub set-at-spec : {M : Type 1} → statement M
 set-at-spec =

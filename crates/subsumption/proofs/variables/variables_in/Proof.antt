@@ -8,44 +8,33 @@ use native.Mathlib.Omega.{arith}
 use borrow.Author.Needs.{needs}
 use Rattle.subsumption.proofs.variables.variables_in.Statement.{statement}
 use Rattle.subsumption.proofs.variables.variables_in.Tie as tie
-use Rattle.subsumption.proofs.variables.variables_in.Reads as reads
-use Rattle.subsumption.proofs.variables.variables_in.Lts as lts
 use Rattle.subsumption.proofs.listing.list_asked.Reads as list-asked-reads
 use Rattle.subsumption.proofs.variables.set_at.Reads as set-at-reads
 
--- src/variables.rt:89:9
 slice-aggregate-list-asked : tie.Need-slice-aggregate-list-asked
 slice-aggregate-list-asked c = search needs
 
--- src/variables.rt:82:9
 list-asked-requires : tie.Need-list-asked-requires
 list-asked-requires c κs = search needs
 
--- src/variables.rt:92:26
 enum-known-listed : tie.Need-enum-known-listed
 enum-known-listed c = search needs
 
--- src/variables.rt:93:23
 enum-known-listed-2 : tie.Need-enum-known-listed-2
 enum-known-listed-2 c = search needs
 
--- src/variables.rt:96:13
 array-share-prefix-ids : tie.Need-array-share-prefix-ids
-array-share-prefix-ids c = omega (arith, asked-few _ _ _ (replicate 64 0) _ (c .before .before .before .before .list-asked .result) refl (c .before .before .before .before .list-asked .ensures .0) (c .before .before .before .before .list-asked .ensures .1) _ (c .before .listed2 .given .1), c .before .before .before .before .list-asked .kept .1 .1 .1 .1 .1 .1 .0)
+array-share-prefix-ids c = omega (arith, asked-few _ _ _ (replicate 64 0) _ (c .before .before .before .before .list-asked .result) refl (c .before .before .before .before .list-asked .ensures .0) (c .before .before .before .before .list-asked .ensures .1) _ (c .before .listed2 .given .1), c .before .before .before .before .list-asked .kept .1 .1 .1 .1 .1 .1 .1 .0)
 
--- src/variables.rt:96:13
 slice-aggregate-set-at : tie.Need-slice-aggregate-set-at
-slice-aggregate-set-at c = sym (length-take-le _ _ (omega (arith, asked-few _ _ _ (replicate 64 0) _ (c .before .before .before .before .before .list-asked .result) refl (c .before .before .before .before .before .list-asked .ensures .0) (c .before .before .before .before .before .list-asked .ensures .1) _ (c .before .before .listed2 .given .1), c .before .before .before .before .before .list-asked .kept .1 .1 .1 .1 .1 .1 .0)))
+slice-aggregate-set-at c = sym (length-take-le _ _ (omega (arith, asked-few _ _ _ (replicate 64 0) _ (c .before .before .before .before .before .list-asked .result) refl (c .before .before .before .before .before .list-asked .ensures .0) (c .before .before .before .before .before .list-asked .ensures .1) _ (c .before .before .listed2 .given .1), c .before .before .before .before .before .list-asked .kept .1 .1 .1 .1 .1 .1 .1 .0)))
 
--- src/variables.rt:93:50
 set-at-requires : tie.Need-set-at-requires
-set-at-requires c κs = (prepared _ _ _ _ _ (asked-listed _ _ _ (replicate 64 0) _ (c .before .before .before .before .before .list-asked .result) refl (c .before .before .before .before .before .list-asked .ensures .0) (c .before .before .before .before .before .list-asked .ensures .1) _ (c .before .before .listed2 .given .1)), pair-left _ _ _ (asked-passed _ _ _ (replicate 64 0) _ (c .before .before .before .before .before .list-asked .result) refl (c .before .before .before .before .before .list-asked .ensures .0) (c .before .before .before .before .before .list-asked .ensures .1) _ (c .before .before .listed2 .given .1)))
+set-at-requires c κs = (prepared _ _ _ _ _ _ (asked-listed _ _ _ (replicate 64 0) _ (c .before .before .before .before .before .list-asked .result) refl (c .before .before .before .before .before .list-asked .ensures .0) (c .before .before .before .before .before .list-asked .ensures .1) _ (c .before .before .listed2 .given .1)), pair-left _ _ _ (asked-passed _ _ _ (replicate 64 0) _ (c .before .before .before .before .before .list-asked .result) refl (c .before .before .before .before .before .list-asked .ensures .0) (c .before .before .before .before .before .list-asked .ensures .1) _ (c .before .before .listed2 .given .1)))
 
--- src/variables.rt:72:1
 returns : tie.Need-returns
 returns c = with-refused _ _ _ (asked-rejected _ _ _ (replicate 64 0) _ (c .before .before .before .before .list-asked .result) refl (c .before .before .before .before .list-asked .ensures .0) (c .before .before .before .before .list-asked .ensures .1) _ (c .before .listed .given .1))
 
--- src/variables.rt:72:1
 returns-2 : tie.Need-returns-2
 returns-2 c = with-value _ _ _ (asked-passed _ _ _ (replicate 64 0) _ (c .before .before .before .before .before .before .list-asked .result) refl (c .before .before .before .before .before .before .list-asked .ensures .0) (c .before .before .before .before .before .before .list-asked .ensures .1) _ (c .before .before .before .listed2 .given .1)) (c .set-at .ensures)
 

@@ -22,19 +22,19 @@ use Rattle.matching.proofs.search.solve.next_step.Reads as next-step-re
 use Rattle.matching.proofs.search.solve.+some_solution.{statement}
 use Rattle.matching.proofs.search.solve.+some_solution.Tie.{close}
 
-abbrev μ-some-solution : Measures 6 some-solution-kinds.ps ℕ
-μ-some-solution κs a = openPairs (a .1 .1 .1 .1 .1 .1 .1 .1 .0 .low) (a .1 .1 .1 .1 .1 .1 .1 .1 .0 .high)
+abbrev μ-some-solution : Measures 7 some-solution-kinds.ps ℕ
+μ-some-solution κs a = openPairs (a .1 .1 .1 .1 .1 .1 .1 .1 .1 .0 .low) (a .1 .1 .1 .1 .1 .1 .1 .1 .1 .0 .high)
 
-abbrev some-solution-at : ℕ → In 6 some-solution-kinds.ps
+abbrev some-solution-at : ℕ → In 7 some-solution-kinds.ps
 some-solution-at t =
-    and 6 some-solution-kinds.ps (is 6 some-solution-kinds.ps μ-some-solution t) some-solution.Pre
+    and 7 some-solution-kinds.ps (is 7 some-solution-kinds.ps μ-some-solution t) some-solution.Pre
 
-abbrev some-solution-below : ℕ → In 6 some-solution-kinds.ps
+abbrev some-solution-below : ℕ → In 7 some-solution-kinds.ps
 some-solution-below t =
     and
-    6
+    7
     some-solution-kinds.ps
-    (falls 6 some-solution-kinds.ps _<_ μ-some-solution t)
+    (falls 7 some-solution-kinds.ps _<_ μ-some-solution t)
     some-solution.Pre
 
 some-solution-next-step-requires : (t : ℕ) → some-solution-lts.Need-next-step-requires (
@@ -53,7 +53,7 @@ some-solution-next-step-requires : (t : ℕ) → some-solution-lts.Need-next-ste
   add-reads.Asked,
   add-reads.Learnt,
 ) (some-solution-at t) some-solution.Post
-some-solution-next-step-requires t c κs = c .before .before .before .before .before .before .before .pre .1
+some-solution-next-step-requires t c κs = c .before .before .before .before .before .before .before .before .pre .1
 
 some-solution-same-length : (t : ℕ) → some-solution-lts.Need-same-length (
   next-step-reads.Asked,
@@ -71,7 +71,7 @@ some-solution-same-length : (t : ℕ) → some-solution-lts.Need-same-length (
   add-reads.Asked,
   add-reads.Learnt,
 ) (some-solution-at t) some-solution.Post
-some-solution-same-length t c = c .before .before .before .before .before .next-step .ensures .1 .room .long ∙ sym (c .before .before .before .before .before .before .before .before .before .before .before .before .before .pre .1 .1 .1 .1 .room .long)
+some-solution-same-length t c = c .before .before .before .before .before .next-step .ensures .1 .room .long ∙ sym (c .before .before .before .before .before .before .before .before .before .before .before .before .before .before .pre .1 .1 .1 .1 .room .long)
 
 some-solution-returns : (t : ℕ) → some-solution-lts.Need-returns (
   next-step-reads.Asked,
@@ -107,7 +107,7 @@ some-solution-take-requires : (t : ℕ) → some-solution-lts.Need-take-requires
   add-reads.Asked,
   add-reads.Learnt,
 ) (some-solution-at t) some-solution.Post
-some-solution-take-requires t c κs = let u = (stepped-split _ _ _ (c .before .before .before .before .before .next-step .result .done) (c .before .before .before .before .before .next-step .result .found) _ _ _ (c .before .before .before .before .before .next-step .ensures .0) (c .before .before .if1 .left)) in (c .before .before .before .before .before .before .before .before .before .before .before .before .before .pre .1 .1 .0 .low-long, (omega (arith, u .0), omega arith))
+some-solution-take-requires t c κs = let u = (stepped-split _ _ _ (c .before .before .before .before .before .next-step .result .done) (c .before .before .before .before .before .next-step .result .found) _ _ _ (c .before .before .before .before .before .next-step .ensures .0) (c .before .before .if1 .left)) in (c .before .before .before .before .before .before .before .before .before .before .before .before .before .before .pre .1 .1 .0 .low-long, (omega (arith, u .0), omega arith))
 
 some-solution-some-solution-requires : (t : ℕ) → some-solution-lts.Need-some-solution-requires (
   next-step-reads.Asked,
@@ -125,7 +125,7 @@ some-solution-some-solution-requires : (t : ℕ) → some-solution-lts.Need-some
   add-reads.Asked,
   add-reads.Learnt,
 ) (some-solution-at t) some-solution.Post
-some-solution-some-solution-requires t c κs = let u = (stepped-split _ _ _ (c .before .before .before .before .before .before .before .next-step .result .done) (c .before .before .before .before .before .before .before .next-step .result .found) _ _ _ (c .before .before .before .before .before .before .before .next-step .ensures .0) (c .before .before .before .before .if1 .left)) in (subst (λ (z : ℕ). openPairs (c .before .take .result .low) (c .before .take .result .high) < z) (c .before .before .before .before .before .before .before .before .before .before .before .before .before .before .before .pre .0) (take-less _ (c .before .before .before .before .before .before .before .before .before .before .before .before .before .before .before .pre .1 .0 .passed) _ _ (c .before .before .before .before .before .before .before .before .before .before .before .before .before .before .before .pre .1 .1 .0) _ (u .1) _ _ (c .before .take .ensures .0) (c .before .take .ensures .1) (u .0)), (c .before .before .before .before .before .before .before .before .before .before .before .before .before .before .before .pre .1 .0, (take-keeps _ (c .before .before .before .before .before .before .before .before .before .before .before .before .before .before .before .pre .1 .0 .passed) _ _ (c .before .before .before .before .before .before .before .before .before .before .before .before .before .before .before .pre .1 .1 .0) _ (u .1) _ _ (c .before .take .ensures .0) (c .before .take .ensures .1), (same-high _ _ _ _ (c .before .take .ensures .0) (c .before .before .before .before .before .before .before .before .before .before .before .before .before .before .before .pre .1 .1 .1 .0), c .before .before .before .before .before .before .before .next-step .ensures .1))))
+some-solution-some-solution-requires t c κs = let u = (stepped-split _ _ _ (c .before .before .before .before .before .before .before .next-step .result .done) (c .before .before .before .before .before .before .before .next-step .result .found) _ _ _ (c .before .before .before .before .before .before .before .next-step .ensures .0) (c .before .before .before .before .if1 .left)) in (subst (λ (z : ℕ). openPairs (c .before .take .result .low) (c .before .take .result .high) < z) (c .before .before .before .before .before .before .before .before .before .before .before .before .before .before .before .before .pre .0) (take-less _ (c .before .before .before .before .before .before .before .before .before .before .before .before .before .before .before .before .pre .1 .0 .passed) _ _ (c .before .before .before .before .before .before .before .before .before .before .before .before .before .before .before .before .pre .1 .1 .0) _ (u .1) _ _ (c .before .take .ensures .0) (c .before .take .ensures .1) (u .0)), (c .before .before .before .before .before .before .before .before .before .before .before .before .before .before .before .before .pre .1 .0, (take-keeps _ (c .before .before .before .before .before .before .before .before .before .before .before .before .before .before .before .before .pre .1 .0 .passed) _ _ (c .before .before .before .before .before .before .before .before .before .before .before .before .before .before .before .before .pre .1 .1 .0) _ (u .1) _ _ (c .before .take .ensures .0) (c .before .take .ensures .1), (same-high _ _ _ _ (c .before .take .ensures .0) (c .before .before .before .before .before .before .before .before .before .before .before .before .before .before .before .before .pre .1 .1 .1 .0), c .before .before .before .before .before .before .before .next-step .ensures .1))))
 
 some-solution-mul-has-bit : (t : ℕ) → some-solution-lts.Need-mul-has-bit (
   next-step-reads.Asked,
@@ -197,7 +197,7 @@ some-solution-same-length-2 : (t : ℕ) → some-solution-lts.Need-same-length-2
   add-reads.Asked,
   add-reads.Learnt,
 ) (some-solution-at t) some-solution.Post
-some-solution-same-length-2 t c = c .before .before .before .before .before .before .some-solution .ensures .1 .room .long ∙ sym (c .before .before .before .before .before .before .before .before .before .before .before .before .before .before .before .before .before .before .before .before .before .before .pre .1 .1 .1 .1 .room .long)
+some-solution-same-length-2 t c = c .before .before .before .before .before .before .some-solution .ensures .1 .room .long ∙ sym (c .before .before .before .before .before .before .before .before .before .before .before .before .before .before .before .before .before .before .before .before .before .before .before .pre .1 .1 .1 .1 .room .long)
 
 some-solution-returns-2 : (t : ℕ) → some-solution-lts.Need-returns-2 (
   next-step-reads.Asked,
@@ -215,7 +215,7 @@ some-solution-returns-2 : (t : ℕ) → some-solution-lts.Need-returns-2 (
   add-reads.Asked,
   add-reads.Learnt,
 ) (some-solution-at t) some-solution.Post
-some-solution-returns-2 t c = let u = (stepped-split _ _ _ (c .before .before .before .before .before .before .before .before .before .before .before .before .before .before .next-step .result .done) (c .before .before .before .before .before .before .before .before .before .before .before .before .before .before .next-step .result .found) _ _ _ (c .before .before .before .before .before .before .before .before .before .before .before .before .before .before .next-step .ensures .0) (c .before .before .before .before .before .before .before .before .before .before .before .if1 .left)) in (with-answers _ (c .before .before .before .before .before .before .before .before .before .before .before .before .before .before .before .before .before .before .before .before .before .before .pre .1 .0 .passed) _ _ (c .before .before .before .before .before .before .before .before .before .before .before .before .before .before .before .before .before .before .before .before .before .before .pre .1 .1 .0) _ (u .1) _ _ (c .before .before .before .before .before .before .before .before .take .ensures .0) (c .before .before .before .before .before .before .before .before .take .ensures .1) (c .before .before .before .before .before .before .some-solution .result .found) (c .before .before .has-bit .result) _ _ (c .before .before .before .before .before .before .some-solution .ensures .0) (c .before .before .has-bit .ensures) (c .if2 .taken), c .before .before .before .before .before .before .some-solution .ensures .1)
+some-solution-returns-2 t c = let u = (stepped-split _ _ _ (c .before .before .before .before .before .before .before .before .before .before .before .before .before .before .next-step .result .done) (c .before .before .before .before .before .before .before .before .before .before .before .before .before .before .next-step .result .found) _ _ _ (c .before .before .before .before .before .before .before .before .before .before .before .before .before .before .next-step .ensures .0) (c .before .before .before .before .before .before .before .before .before .before .before .if1 .left)) in (with-answers _ (c .before .before .before .before .before .before .before .before .before .before .before .before .before .before .before .before .before .before .before .before .before .before .before .pre .1 .0 .passed) _ _ (c .before .before .before .before .before .before .before .before .before .before .before .before .before .before .before .before .before .before .before .before .before .before .before .pre .1 .1 .0) _ (u .1) _ _ (c .before .before .before .before .before .before .before .before .take .ensures .0) (c .before .before .before .before .before .before .before .before .take .ensures .1) (c .before .before .before .before .before .before .some-solution .result .found) (c .before .before .has-bit .result) _ _ (c .before .before .before .before .before .before .some-solution .ensures .0) (c .before .before .has-bit .ensures) (c .if2 .taken), c .before .before .before .before .before .before .some-solution .ensures .1)
 
 some-solution-leave-requires : (t : ℕ) → some-solution-lts.Need-leave-requires (
   next-step-reads.Asked,
@@ -233,7 +233,7 @@ some-solution-leave-requires : (t : ℕ) → some-solution-lts.Need-leave-requir
   add-reads.Asked,
   add-reads.Learnt,
 ) (some-solution-at t) some-solution.Post
-some-solution-leave-requires t c κs = let u = (stepped-split _ _ _ (c .before .before .before .before .before .before .before .before .before .before .before .before .before .before .next-step .result .done) (c .before .before .before .before .before .before .before .before .before .before .before .before .before .before .next-step .result .found) _ _ _ (c .before .before .before .before .before .before .before .before .before .before .before .before .before .before .next-step .ensures .0) (c .before .before .before .before .before .before .before .before .before .before .before .if1 .left)) in (c .before .before .before .before .before .before .before .before .before .before .before .before .before .before .before .before .before .before .before .before .before .before .pre .1 .1 .0 .high-long, ((omega (arith, u .0), omega arith), open-high _ _ _ (u .1)))
+some-solution-leave-requires t c κs = let u = (stepped-split _ _ _ (c .before .before .before .before .before .before .before .before .before .before .before .before .before .before .next-step .result .done) (c .before .before .before .before .before .before .before .before .before .before .before .before .before .before .next-step .result .found) _ _ _ (c .before .before .before .before .before .before .before .before .before .before .before .before .before .before .next-step .ensures .0) (c .before .before .before .before .before .before .before .before .before .before .before .if1 .left)) in (c .before .before .before .before .before .before .before .before .before .before .before .before .before .before .before .before .before .before .before .before .before .before .before .pre .1 .1 .0 .high-long, ((omega (arith, u .0), omega arith), open-high _ _ _ (u .1)))
 
 some-solution-some-solution-requires-2 : (t : ℕ) → some-solution-lts.Need-some-solution-requires-2 (
   next-step-reads.Asked,
@@ -251,7 +251,7 @@ some-solution-some-solution-requires-2 : (t : ℕ) → some-solution-lts.Need-so
   add-reads.Asked,
   add-reads.Learnt,
 ) (some-solution-at t) some-solution.Post
-some-solution-some-solution-requires-2 t c κs = let u = (stepped-split _ _ _ (c .before .before .before .before .before .before .before .before .before .before .before .before .before .before .before .before .next-step .result .done) (c .before .before .before .before .before .before .before .before .before .before .before .before .before .before .before .before .next-step .result .found) _ _ _ (c .before .before .before .before .before .before .before .before .before .before .before .before .before .before .before .before .next-step .ensures .0) (c .before .before .before .before .before .before .before .before .before .before .before .before .before .if1 .left)) in (subst (λ (z : ℕ). openPairs (c .before .leave .result .low) (c .before .leave .result .high) < z) (c .before .before .before .before .before .before .before .before .before .before .before .before .before .before .before .before .before .before .before .before .before .before .before .before .pre .0) (leave-less _ (c .before .before .before .before .before .before .before .before .before .before .before .before .before .before .before .before .before .before .before .before .before .before .before .before .pre .1 .0 .passed) _ _ (c .before .before .before .before .before .before .before .before .before .before .before .before .before .before .before .before .before .before .before .before .before .before .before .before .pre .1 .1 .0) _ (u .1) _ _ (c .before .leave .ensures .0) (c .before .leave .ensures .1) (u .0)), (c .before .before .before .before .before .before .before .before .before .before .before .before .before .before .before .before .before .before .before .before .before .before .before .before .pre .1 .0, (leave-keeps _ (c .before .before .before .before .before .before .before .before .before .before .before .before .before .before .before .before .before .before .before .before .before .before .before .before .pre .1 .0 .passed) _ _ (c .before .before .before .before .before .before .before .before .before .before .before .before .before .before .before .before .before .before .before .before .before .before .before .before .pre .1 .1 .0) _ (u .1) _ _ (c .before .leave .ensures .0) (c .before .leave .ensures .1), (less-high _ _ _ _ _ _ (c .before .leave .ensures .1) (c .before .before .before .before .before .before .before .before .before .before .before .before .before .before .before .before .before .before .before .before .before .before .before .before .pre .1 .1 .1 .0), c .before .before .before .before .before .before .before .before .some-solution .ensures .1))))
+some-solution-some-solution-requires-2 t c κs = let u = (stepped-split _ _ _ (c .before .before .before .before .before .before .before .before .before .before .before .before .before .before .before .before .next-step .result .done) (c .before .before .before .before .before .before .before .before .before .before .before .before .before .before .before .before .next-step .result .found) _ _ _ (c .before .before .before .before .before .before .before .before .before .before .before .before .before .before .before .before .next-step .ensures .0) (c .before .before .before .before .before .before .before .before .before .before .before .before .before .if1 .left)) in (subst (λ (z : ℕ). openPairs (c .before .leave .result .low) (c .before .leave .result .high) < z) (c .before .before .before .before .before .before .before .before .before .before .before .before .before .before .before .before .before .before .before .before .before .before .before .before .before .pre .0) (leave-less _ (c .before .before .before .before .before .before .before .before .before .before .before .before .before .before .before .before .before .before .before .before .before .before .before .before .before .pre .1 .0 .passed) _ _ (c .before .before .before .before .before .before .before .before .before .before .before .before .before .before .before .before .before .before .before .before .before .before .before .before .before .pre .1 .1 .0) _ (u .1) _ _ (c .before .leave .ensures .0) (c .before .leave .ensures .1) (u .0)), (c .before .before .before .before .before .before .before .before .before .before .before .before .before .before .before .before .before .before .before .before .before .before .before .before .before .pre .1 .0, (leave-keeps _ (c .before .before .before .before .before .before .before .before .before .before .before .before .before .before .before .before .before .before .before .before .before .before .before .before .before .pre .1 .0 .passed) _ _ (c .before .before .before .before .before .before .before .before .before .before .before .before .before .before .before .before .before .before .before .before .before .before .before .before .before .pre .1 .1 .0) _ (u .1) _ _ (c .before .leave .ensures .0) (c .before .leave .ensures .1), (less-high _ _ _ _ _ _ (c .before .leave .ensures .1) (c .before .before .before .before .before .before .before .before .before .before .before .before .before .before .before .before .before .before .before .before .before .before .before .before .before .pre .1 .1 .1 .0), c .before .before .before .before .before .before .before .before .some-solution .ensures .1))))
 
 some-solution-mul-has-bit-2 : (t : ℕ) → some-solution-lts.Need-mul-has-bit-2 (
   next-step-reads.Asked,
@@ -323,7 +323,7 @@ some-solution-same-length-3 : (t : ℕ) → some-solution-lts.Need-same-length-3
   add-reads.Asked,
   add-reads.Learnt,
 ) (some-solution-at t) some-solution.Post
-some-solution-same-length-3 t c = c .before .before .before .before .before .before .some-solution2 .ensures .1 .room .long ∙ sym (c .before .before .before .before .before .before .before .before .before .before .before .before .before .before .before .before .before .before .before .before .before .before .before .before .before .before .before .before .before .before .before .pre .1 .1 .1 .1 .room .long)
+some-solution-same-length-3 t c = c .before .before .before .before .before .before .some-solution2 .ensures .1 .room .long ∙ sym (c .before .before .before .before .before .before .before .before .before .before .before .before .before .before .before .before .before .before .before .before .before .before .before .before .before .before .before .before .before .before .before .before .pre .1 .1 .1 .1 .room .long)
 
 some-solution-returns-3 : (t : ℕ) → some-solution-lts.Need-returns-3 (
   next-step-reads.Asked,
@@ -341,7 +341,7 @@ some-solution-returns-3 : (t : ℕ) → some-solution-lts.Need-returns-3 (
   add-reads.Asked,
   add-reads.Learnt,
 ) (some-solution-at t) some-solution.Post
-some-solution-returns-3 t c = let u = (stepped-split _ _ _ (c .before .before .before .before .before .before .before .before .before .before .before .before .before .before .before .before .before .before .before .before .before .before .before .next-step .result .done) (c .before .before .before .before .before .before .before .before .before .before .before .before .before .before .before .before .before .before .before .before .before .before .before .next-step .result .found) _ _ _ (c .before .before .before .before .before .before .before .before .before .before .before .before .before .before .before .before .before .before .before .before .before .before .before .next-step .ensures .0) (c .before .before .before .before .before .before .before .before .before .before .before .before .before .before .before .before .before .before .before .before .if1 .left)) in (without-answers _ (c .before .before .before .before .before .before .before .before .before .before .before .before .before .before .before .before .before .before .before .before .before .before .before .before .before .before .before .before .before .before .before .pre .1 .0 .passed) _ _ (c .before .before .before .before .before .before .before .before .before .before .before .before .before .before .before .before .before .before .before .before .before .before .before .before .before .before .before .before .before .before .before .pre .1 .1 .0) _ (u .1) _ _ (c .before .before .before .before .before .before .before .before .leave .ensures .0) (c .before .before .before .before .before .before .before .before .leave .ensures .1) (c .before .before .before .before .before .before .some-solution2 .result .found) (c .before .before .has-bit2 .result) _ _ (c .before .before .before .before .before .before .some-solution2 .ensures .0) (c .before .before .has-bit2 .ensures) (c .if3 .taken), c .before .before .before .before .before .before .some-solution2 .ensures .1)
+some-solution-returns-3 t c = let u = (stepped-split _ _ _ (c .before .before .before .before .before .before .before .before .before .before .before .before .before .before .before .before .before .before .before .before .before .before .before .next-step .result .done) (c .before .before .before .before .before .before .before .before .before .before .before .before .before .before .before .before .before .before .before .before .before .before .before .next-step .result .found) _ _ _ (c .before .before .before .before .before .before .before .before .before .before .before .before .before .before .before .before .before .before .before .before .before .before .before .next-step .ensures .0) (c .before .before .before .before .before .before .before .before .before .before .before .before .before .before .before .before .before .before .before .before .if1 .left)) in (without-answers _ (c .before .before .before .before .before .before .before .before .before .before .before .before .before .before .before .before .before .before .before .before .before .before .before .before .before .before .before .before .before .before .before .before .pre .1 .0 .passed) _ _ (c .before .before .before .before .before .before .before .before .before .before .before .before .before .before .before .before .before .before .before .before .before .before .before .before .before .before .before .before .before .before .before .before .pre .1 .1 .0) _ (u .1) _ _ (c .before .before .before .before .before .before .before .before .leave .ensures .0) (c .before .before .before .before .before .before .before .before .leave .ensures .1) (c .before .before .before .before .before .before .some-solution2 .result .found) (c .before .before .has-bit2 .result) _ _ (c .before .before .before .before .before .before .some-solution2 .ensures .0) (c .before .before .has-bit2 .ensures) (c .if3 .taken), c .before .before .before .before .before .before .some-solution2 .ensures .1)
 
 some-solution-merge-requires : (t : ℕ) → some-solution-lts.Need-merge-requires (
   next-step-reads.Asked,
@@ -395,7 +395,7 @@ some-solution-same-length-4 : (t : ℕ) → some-solution-lts.Need-same-length-4
   add-reads.Asked,
   add-reads.Learnt,
 ) (some-solution-at t) some-solution.Post
-some-solution-same-length-4 t c = c .before .before .add .ensures .room .long ∙ sym (c .before .before .before .before .before .before .before .before .before .before .before .before .before .before .before .before .before .before .before .before .before .before .before .before .before .before .before .before .before .before .before .before .before .before .before .before .before .before .pre .1 .1 .1 .1 .room .long)
+some-solution-same-length-4 t c = c .before .before .add .ensures .room .long ∙ sym (c .before .before .before .before .before .before .before .before .before .before .before .before .before .before .before .before .before .before .before .before .before .before .before .before .before .before .before .before .before .before .before .before .before .before .before .before .before .before .before .pre .1 .1 .1 .1 .room .long)
 
 some-solution-returns-4 : (t : ℕ) → some-solution-lts.Need-returns-4 (
   next-step-reads.Asked,
@@ -413,7 +413,7 @@ some-solution-returns-4 : (t : ℕ) → some-solution-lts.Need-returns-4 (
   add-reads.Asked,
   add-reads.Learnt,
 ) (some-solution-at t) some-solution.Post
-some-solution-returns-4 t c = let u = (stepped-split _ _ _ (c .before .before .before .before .before .before .before .before .before .before .before .before .before .before .before .before .before .before .before .before .before .before .before .before .before .before .before .before .before .before .next-step .result .done) (c .before .before .before .before .before .before .before .before .before .before .before .before .before .before .before .before .before .before .before .before .before .before .before .before .before .before .before .before .before .before .next-step .result .found) _ _ _ (c .before .before .before .before .before .before .before .before .before .before .before .before .before .before .before .before .before .before .before .before .before .before .before .before .before .before .before .before .before .before .next-step .ensures .0) (c .before .before .before .before .before .before .before .before .before .before .before .before .before .before .before .before .before .before .before .before .before .before .before .before .before .before .before .if1 .left)) in (merged-refutes _ (c .before .before .before .before .before .before .before .before .before .before .before .before .before .before .before .before .before .before .before .before .before .before .before .before .before .before .before .before .before .before .before .before .before .before .before .before .before .before .pre .1 .0 .passed) _ _ (c .before .before .before .before .before .before .before .before .before .before .before .before .before .before .before .before .before .before .before .before .before .before .before .before .before .before .before .before .before .before .before .before .before .before .before .before .before .before .pre .1 .1 .0) _ (u .1) _ _ (c .before .before .before .before .before .before .before .before .before .before .before .before .before .before .before .before .before .before .before .before .before .before .before .before .take .ensures .0) (c .before .before .before .before .before .before .before .before .before .before .before .before .before .before .before .before .before .before .before .before .before .before .before .before .take .ensures .1) _ _ (c .before .before .before .before .before .before .before .before .before .before .before .before .before .before .before .leave .ensures .0) (c .before .before .before .before .before .before .before .before .before .before .before .before .before .before .before .leave .ensures .1) _ _ _ _ (answers-none _ _ _ (c .before .before .before .before .before .before .before .before .before .before .before .before .before .before .before .before .before .before .before .before .before .before .some-solution .result .found) _ _ (c .before .before .before .before .before .before .before .before .before .before .before .before .before .before .before .before .before .before .before .before .before .before .some-solution .ensures .0) (any-false _ _ (c .before .before .before .before .before .before .before .before .before .before .before .before .before .before .before .before .if2 .left) .0)) (answers-none _ _ _ (c .before .before .before .before .before .before .before .before .before .before .before .before .before .some-solution2 .result .found) _ _ (c .before .before .before .before .before .before .before .before .before .before .before .before .before .some-solution2 .ensures .0) (any-false _ _ (c .before .before .before .before .before .before .before .if3 .left) .0)) _ _ (c .before .before .before .before .before .before .merge .ensures), nogoods-added _ _ _ _ _ (c .before .before .before .before .before .before .before .before .before .before .before .before .before .some-solution2 .ensures .1) ((merged-refutes _ (c .before .before .before .before .before .before .before .before .before .before .before .before .before .before .before .before .before .before .before .before .before .before .before .before .before .before .before .before .before .before .before .before .before .before .before .before .before .before .pre .1 .0 .passed) _ _ (c .before .before .before .before .before .before .before .before .before .before .before .before .before .before .before .before .before .before .before .before .before .before .before .before .before .before .before .before .before .before .before .before .before .before .before .before .before .before .pre .1 .1 .0) _ (u .1) _ _ (c .before .before .before .before .before .before .before .before .before .before .before .before .before .before .before .before .before .before .before .before .before .before .before .before .take .ensures .0) (c .before .before .before .before .before .before .before .before .before .before .before .before .before .before .before .before .before .before .before .before .before .before .before .before .take .ensures .1) _ _ (c .before .before .before .before .before .before .before .before .before .before .before .before .before .before .before .leave .ensures .0) (c .before .before .before .before .before .before .before .before .before .before .before .before .before .before .before .leave .ensures .1) _ _ _ _ (answers-none _ _ _ (c .before .before .before .before .before .before .before .before .before .before .before .before .before .before .before .before .before .before .before .before .before .before .some-solution .result .found) _ _ (c .before .before .before .before .before .before .before .before .before .before .before .before .before .before .before .before .before .before .before .before .before .before .some-solution .ensures .0) (any-false _ _ (c .before .before .before .before .before .before .before .before .before .before .before .before .before .before .before .before .if2 .left) .0)) (answers-none _ _ _ (c .before .before .before .before .before .before .before .before .before .before .before .before .before .some-solution2 .result .found) _ _ (c .before .before .before .before .before .before .before .before .before .before .before .before .before .some-solution2 .ensures .0) (any-false _ _ (c .before .before .before .before .before .before .before .if3 .left) .0)) _ _ (c .before .before .before .before .before .before .merge .ensures)) .none) (c .before .before .add .ensures))
+some-solution-returns-4 t c = let u = (stepped-split _ _ _ (c .before .before .before .before .before .before .before .before .before .before .before .before .before .before .before .before .before .before .before .before .before .before .before .before .before .before .before .before .before .before .next-step .result .done) (c .before .before .before .before .before .before .before .before .before .before .before .before .before .before .before .before .before .before .before .before .before .before .before .before .before .before .before .before .before .before .next-step .result .found) _ _ _ (c .before .before .before .before .before .before .before .before .before .before .before .before .before .before .before .before .before .before .before .before .before .before .before .before .before .before .before .before .before .before .next-step .ensures .0) (c .before .before .before .before .before .before .before .before .before .before .before .before .before .before .before .before .before .before .before .before .before .before .before .before .before .before .before .if1 .left)) in (merged-refutes _ (c .before .before .before .before .before .before .before .before .before .before .before .before .before .before .before .before .before .before .before .before .before .before .before .before .before .before .before .before .before .before .before .before .before .before .before .before .before .before .before .pre .1 .0 .passed) _ _ (c .before .before .before .before .before .before .before .before .before .before .before .before .before .before .before .before .before .before .before .before .before .before .before .before .before .before .before .before .before .before .before .before .before .before .before .before .before .before .before .pre .1 .1 .0) _ (u .1) _ _ (c .before .before .before .before .before .before .before .before .before .before .before .before .before .before .before .before .before .before .before .before .before .before .before .before .take .ensures .0) (c .before .before .before .before .before .before .before .before .before .before .before .before .before .before .before .before .before .before .before .before .before .before .before .before .take .ensures .1) _ _ (c .before .before .before .before .before .before .before .before .before .before .before .before .before .before .before .leave .ensures .0) (c .before .before .before .before .before .before .before .before .before .before .before .before .before .before .before .leave .ensures .1) _ _ _ _ (answers-none _ _ _ (c .before .before .before .before .before .before .before .before .before .before .before .before .before .before .before .before .before .before .before .before .before .before .some-solution .result .found) _ _ (c .before .before .before .before .before .before .before .before .before .before .before .before .before .before .before .before .before .before .before .before .before .before .some-solution .ensures .0) (any-false _ _ (c .before .before .before .before .before .before .before .before .before .before .before .before .before .before .before .before .if2 .left) .0)) (answers-none _ _ _ (c .before .before .before .before .before .before .before .before .before .before .before .before .before .some-solution2 .result .found) _ _ (c .before .before .before .before .before .before .before .before .before .before .before .before .before .some-solution2 .ensures .0) (any-false _ _ (c .before .before .before .before .before .before .before .if3 .left) .0)) _ _ (c .before .before .before .before .before .before .merge .ensures), nogoods-added _ _ _ _ _ (c .before .before .before .before .before .before .before .before .before .before .before .before .before .some-solution2 .ensures .1) ((merged-refutes _ (c .before .before .before .before .before .before .before .before .before .before .before .before .before .before .before .before .before .before .before .before .before .before .before .before .before .before .before .before .before .before .before .before .before .before .before .before .before .before .before .pre .1 .0 .passed) _ _ (c .before .before .before .before .before .before .before .before .before .before .before .before .before .before .before .before .before .before .before .before .before .before .before .before .before .before .before .before .before .before .before .before .before .before .before .before .before .before .before .pre .1 .1 .0) _ (u .1) _ _ (c .before .before .before .before .before .before .before .before .before .before .before .before .before .before .before .before .before .before .before .before .before .before .before .before .take .ensures .0) (c .before .before .before .before .before .before .before .before .before .before .before .before .before .before .before .before .before .before .before .before .before .before .before .before .take .ensures .1) _ _ (c .before .before .before .before .before .before .before .before .before .before .before .before .before .before .before .leave .ensures .0) (c .before .before .before .before .before .before .before .before .before .before .before .before .before .before .before .leave .ensures .1) _ _ _ _ (answers-none _ _ _ (c .before .before .before .before .before .before .before .before .before .before .before .before .before .before .before .before .before .before .before .before .before .before .some-solution .result .found) _ _ (c .before .before .before .before .before .before .before .before .before .before .before .before .before .before .before .before .before .before .before .before .before .before .some-solution .ensures .0) (any-false _ _ (c .before .before .before .before .before .before .before .before .before .before .before .before .before .before .before .before .if2 .left) .0)) (answers-none _ _ _ (c .before .before .before .before .before .before .before .before .before .before .before .before .before .some-solution2 .result .found) _ _ (c .before .before .before .before .before .before .before .before .before .before .before .before .before .some-solution2 .ensures .0) (any-false _ _ (c .before .before .before .before .before .before .before .if3 .left) .0)) _ _ (c .before .before .before .before .before .before .merge .ensures)) .none) (c .before .before .add .ensures))
 
 pub +some-solution-spec : {M : Type 1} → statement M
 +some-solution-spec = close μ-some-solution λ t. some-solution-lts.spec (

@@ -8,15 +8,20 @@ use mathlib.Core.Path.{sym}
 use Prim.Native.Nat.{_+_, _-_, _*_, _≤_}
 use Rattle.matching.proofs.search.widen.widen.Statement.{statement}
 use Rattle.matching.proofs.search.widen.widen.Tie as tie
+use Rattle.matching.proofs.search.questions.questions_hold.Reads as questions-hold-reads
+use Rattle.matching.proofs.search.widen.is_same.Reads as is-same-reads
+use Rattle.matching.proofs.search.widen.start_of.Reads as start-of-reads
+use Rattle.matching.proofs.search.widen.twice.Reads as twice-reads
+use Rattle.matching.proofs.search.widen.with_run.Reads as with-run-reads
 
 abbrev Inv-loop : tie.InvT-loop
-Inv-loop concepts inclusions questions variables atoms ground target right n failing₀ from₀ size₀ failing from size = Widened (tables concepts inclusions questions variables) failing₀ target right failing × (1 ≤ size) × (size ≤ 512)
+Inv-loop concepts inclusions questions roles variables atoms ground target right n failing₀ from₀ size₀ failing from size = Widened (tables concepts inclusions questions roles variables) failing₀ target right failing × (1 ≤ size) × (size ≤ 512)
 
 abbrev μ-loop : tie.MeasureT-loop
-μ-loop concepts inclusions questions variables atoms ground target right n failing₀ from₀ size₀ failing from size = (512 - from) * 1024 + size
+μ-loop concepts inclusions questions roles variables atoms ground target right n failing₀ from₀ size₀ failing from size = (512 - from) * 1024 + size
 
 loop-holds : tie.Need-loop-holds Inv-loop μ-loop
-loop-holds c = (widened-none _ (c .before .before .before .before .before .pre .0 .passed) _ _ _ (c .before .before .before .before .before .pre .1 .0) (c .before .before .before .before .before .pre .1 .1 .0) _ (c .before .before .before .before .before .pre .1 .1 .1), omega arith, omega arith)
+loop-holds c = (widened-none _ (c .before .before .before .before .before .before .pre .0 .passed) _ _ _ (c .before .before .before .before .before .before .pre .1 .0) (c .before .before .before .before .before .before .pre .1 .1 .0) _ (c .before .before .before .before .before .before .pre .1 .1 .1), omega arith, omega arith)
 
 sub-end : tie.Need-sub-end Inv-loop μ-loop
 sub-end c = omega arith
@@ -28,7 +33,7 @@ sub-with-run : tie.Need-sub-with-run Inv-loop μ-loop
 sub-with-run c = omega (arith, c .start-of .ensures)
 
 with-run-requires : tie.Need-with-run-requires Inv-loop μ-loop
-with-run-requires c κs = ((omega (arith, c .start-of .ensures), omega (arith, c .start-of .ensures)), (c .before .before .loop .inv .0 .mixed .long, c .before .before .before .before .before .before .before .before .pre .1 .1 .0 .low-long))
+with-run-requires c κs = ((omega (arith, c .start-of .ensures), omega (arith, c .start-of .ensures)), (c .before .before .loop .inv .0 .mixed .long, c .before .before .before .before .before .before .before .before .before .pre .1 .1 .0 .low-long))
 
 is-same-requires : tie.Need-is-same-requires Inv-loop μ-loop
 is-same-requires c κs = tt
@@ -46,13 +51,13 @@ loop-again : tie.Need-loop-again Inv-loop μ-loop
 loop-again c = (c .before .before .before .before .before .before .loop .inv .0, c .twice .ensures .0, c .twice .ensures .1)
 
 array-share-prefix-next : tie.Need-array-share-prefix-next Inv-loop μ-loop
-array-share-prefix-next c = next-fits _ (c .before .before .before .before .before .before .before .before .before .before .before .pre .0 .passed) _ _ _ (c .before .before .before .before .before .before .before .before .before .before .before .pre .1 .0) (c .before .before .before .before .before .before .before .before .before .before .before .pre .1 .1 .0) _ _ _ (c .before .before .before .before .before .loop .inv .0) (c .before .before .with-run .ensures)
+array-share-prefix-next c = next-fits _ (c .before .before .before .before .before .before .before .before .before .before .before .before .pre .0 .passed) _ _ _ (c .before .before .before .before .before .before .before .before .before .before .before .before .pre .1 .0) (c .before .before .before .before .before .before .before .before .before .before .before .before .pre .1 .1 .0) _ _ _ (c .before .before .before .before .before .loop .inv .0) (c .before .before .with-run .ensures)
 
 slice-aggregate-questions-hold : tie.Need-slice-aggregate-questions-hold Inv-loop μ-loop
-slice-aggregate-questions-hold c = sym (length-take-le _ _ (next-fits _ (c .before .before .before .before .before .before .before .before .before .before .before .before .pre .0 .passed) _ _ _ (c .before .before .before .before .before .before .before .before .before .before .before .before .pre .1 .0) (c .before .before .before .before .before .before .before .before .before .before .before .before .pre .1 .1 .0) _ _ _ (c .before .before .before .before .before .before .loop .inv .0) (c .before .before .before .with-run .ensures)))
+slice-aggregate-questions-hold c = sym (length-take-le _ _ (next-fits _ (c .before .before .before .before .before .before .before .before .before .before .before .before .before .pre .0 .passed) _ _ _ (c .before .before .before .before .before .before .before .before .before .before .before .before .before .pre .1 .0) (c .before .before .before .before .before .before .before .before .before .before .before .before .before .pre .1 .1 .0) _ _ _ (c .before .before .before .before .before .before .loop .inv .0) (c .before .before .before .with-run .ensures)))
 
 questions-hold-requires : tie.Need-questions-hold-requires Inv-loop μ-loop
-questions-hold-requires c κs = (c .before .before .before .before .before .before .before .before .before .before .before .before .pre .0, next-accepted _ (c .before .before .before .before .before .before .before .before .before .before .before .before .pre .0 .passed) _ _ _ (c .before .before .before .before .before .before .before .before .before .before .before .before .pre .1 .0) (c .before .before .before .before .before .before .before .before .before .before .before .before .pre .1 .1 .0) _ _ _ (c .before .before .before .before .before .before .loop .inv .0) (c .before .before .before .with-run .ensures))
+questions-hold-requires c κs = (c .before .before .before .before .before .before .before .before .before .before .before .before .before .pre .0, next-accepted _ (c .before .before .before .before .before .before .before .before .before .before .before .before .before .pre .0 .passed) _ _ _ (c .before .before .before .before .before .before .before .before .before .before .before .before .before .pre .1 .0) (c .before .before .before .before .before .before .before .before .before .before .before .before .before .pre .1 .1 .0) _ _ _ (c .before .before .before .before .before .before .loop .inv .0) (c .before .before .before .with-run .ensures))
 
 add-from-2 : tie.Need-add-from-2 Inv-loop μ-loop
 add-from-2 c = omega arith
@@ -64,7 +69,7 @@ loop-less-2 : tie.Need-loop-less-2 Inv-loop μ-loop
 loop-less-2 c = omega (arith, c .twice2 .ensures)
 
 loop-again-2 : tie.Need-loop-again-2 Inv-loop μ-loop
-loop-again-2 c = (widened-more _ (c .before .before .before .before .before .before .before .before .before .before .before .before .before .before .before .pre .0 .passed) _ _ _ (c .before .before .before .before .before .before .before .before .before .before .before .before .before .before .before .pre .1 .0) (c .before .before .before .before .before .before .before .before .before .before .before .before .before .before .before .pre .1 .1 .0) _ _ _ (c .before .before .before .before .before .before .before .before .before .loop .inv .0) (c .before .before .before .before .before .before .with-run .ensures) (c .before .before .questions-hold .result) (c .before .before .questions-hold .ensures) (not-true _ (c .before .if2 .taken)), c .twice2 .ensures .0, c .twice2 .ensures .1)
+loop-again-2 c = (widened-more _ (c .before .before .before .before .before .before .before .before .before .before .before .before .before .before .before .before .pre .0 .passed) _ _ _ (c .before .before .before .before .before .before .before .before .before .before .before .before .before .before .before .before .pre .1 .0) (c .before .before .before .before .before .before .before .before .before .before .before .before .before .before .before .before .pre .1 .1 .0) _ _ _ (c .before .before .before .before .before .before .before .before .before .loop .inv .0) (c .before .before .before .before .before .before .with-run .ensures) (c .before .before .questions-hold .result) (c .before .before .questions-hold .ensures) (not-true _ (c .before .if2 .taken)), c .twice2 .ensures .0, c .twice2 .ensures .1)
 
 add-from-3 : tie.Need-add-from-3 Inv-loop μ-loop
 add-from-3 c = omega arith

@@ -1,0 +1,27 @@
+use Rattle.subsumption.proofs.RoleSetLaws.{bit-read}
+use borrow.Author.Needs.{needs}
+use Rattle.subsumption.proofs.roles.counts.Statement.{statement}
+use Rattle.subsumption.proofs.roles.counts.Tie as tie
+
+mul-result : tie.Need-mul-result
+mul-result c = search needs
+
+add-result : tie.Need-add-result
+add-result c = search needs
+
+mul-result-2 : tie.Need-mul-result-2
+mul-result-2 c = search needs
+
+shared-slice-read-result : tie.Need-shared-slice-read-result
+shared-slice-read-result c = search needs
+
+shr-result : tie.Need-shr-result
+shr-result c = search needs
+
+returns : tie.Need-returns
+returns c = bit-read _ _ _
+
+pub counts-spec : {M : Type 1} → statement M
+counts-spec =
+    tie.close
+    (tie.spec mul-result add-result mul-result-2 shared-slice-read-result shr-result returns)
