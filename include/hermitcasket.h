@@ -31,9 +31,16 @@
  *             (4, blank, 0). Inner ids are smaller than the entry's own.
  * inclusions  two ids each: the left is below the right. No blank at any depth.
  * questions   two ids each. Blanks on one side at most.
+ * roles       two roles each, narrow and wide: every link of the narrow role counts as a link of
+ *             the wide one, through chains and circles of pairs too. Equal, reversed and repeated
+ *             pairs are allowed.
  * blanks      the number of blanks.
  *
- * At most 192 entries, 96 inclusions, 32 questions, 8 blanks, 64 parts; names to 999, roles to 99.
+ * At most 192 entries, 96 inclusions, 32 questions, 32 role pairs, 8 blanks, 64 parts; names to
+ * 999, roles to 99.
+ *
+ * One entry is below another when this is so in every stock that obeys the inclusions and the role
+ * pairs.
  *
  * The parts come from the ids of kinds 1 and 2 that stand, at any depth, in an inclusion or in a
  * blank-free right side of a question. Entries that are built alike (same kind, same name, role or
@@ -48,7 +55,8 @@
  *   2  the right is top; extra 0
  *   3  the left is "and"; its first (extra 0) or second (extra 1) inner id is below the right
  *   4  the right is "and"; the left is below both inner ids; extra 0
- *   5  two "some" entries of one role; inner below inner; extra 0
+ *   5  two "some" entries; the left one's role is the right one's or counts as it; inner below
+ *      inner; extra 0
  *   6  extra is an inclusion's place: the left is below its left, and its right below the right
  *   7  the left is a blank; extra is the id of a chosen part that is below the right
  *   8  the right is a blank; the left is below each chosen part; extra 0
@@ -56,12 +64,12 @@
  * Order of fillings: look at the pairs (blank, position), blank 0 first and positions rising. At
  * the first pair where two fillings differ, the one that leaves the part out is earlier.
  *
- * Refusals. Checks run in the order 1 to 7, then 9, 8, 11, 10; 12 comes last. Within one check
- * the lowest place wins.
+ * Refusals. Checks run in the order 1 to 6, 16, 7, then 9, 8, 11, 10; 12 comes last. Within one
+ * check the lowest place wins.
  *
  *   number  condition                                          place
  *   1       over a count limit, or a ragged table              0 entries, 1 inclusions,
- *                                                              2 questions, 3 blanks
+ *                                                              2 questions, 3 blanks, 4 roles
  *   2       unknown kind, number out of range, unused field    id
  *           not 0
  *   3       inner id not smaller                               id
@@ -77,6 +85,7 @@
  *   11      derivation wanted, pair not below                  0
  *   12      no lines or a ragged list; a line breaks its       0; line, from 0; count of lines
  *           rule; the last line is another pair
+ *   16      a role over 99 in the role pairs                   pair
  */
 #ifndef HERMITCASKET_H
 #define HERMITCASKET_H
@@ -99,12 +108,14 @@ typedef struct {
 hc_answer hc_check(const uint16_t *entries, size_t entries_len,
                    const uint16_t *inclusions, size_t inclusions_len,
                    const uint16_t *questions, size_t questions_len,
+                   const uint16_t *roles, size_t roles_len,
                    uint16_t blanks);
 
 /* Writes the parts' ids, rising, to the front of out, which wants 64 numbers. value: how many. */
 hc_answer hc_atoms(const uint16_t *entries, size_t entries_len,
                    const uint16_t *inclusions, size_t inclusions_len,
                    const uint16_t *questions, size_t questions_len,
+                   const uint16_t *roles, size_t roles_len,
                    uint16_t blanks,
                    uint16_t *out, size_t out_len);
 
@@ -113,6 +124,7 @@ hc_answer hc_atoms(const uint16_t *entries, size_t entries_len,
 hc_answer hc_blanks(const uint16_t *entries, size_t entries_len,
                     const uint16_t *inclusions, size_t inclusions_len,
                     const uint16_t *questions, size_t questions_len,
+                    const uint16_t *roles, size_t roles_len,
                     uint16_t blanks,
                     uint16_t id);
 
@@ -123,6 +135,7 @@ hc_answer hc_blanks(const uint16_t *entries, size_t entries_len,
 hc_answer hc_subsumption_table(const uint16_t *entries, size_t entries_len,
                                const uint16_t *inclusions, size_t inclusions_len,
                                const uint16_t *questions, size_t questions_len,
+                               const uint16_t *roles, size_t roles_len,
                                uint16_t blanks,
                                const uint64_t *filling, size_t filling_len,
                                uint8_t *out, size_t out_len);
@@ -132,6 +145,7 @@ hc_answer hc_subsumption_table(const uint16_t *entries, size_t entries_len,
 hc_answer hc_subsumed(const uint16_t *entries, size_t entries_len,
                       const uint16_t *inclusions, size_t inclusions_len,
                       const uint16_t *questions, size_t questions_len,
+                      const uint16_t *roles, size_t roles_len,
                       uint16_t blanks,
                       const uint64_t *filling, size_t filling_len,
                       uint16_t left, uint16_t right);
@@ -142,6 +156,7 @@ hc_answer hc_subsumed(const uint16_t *entries, size_t entries_len,
 hc_answer hc_match(const uint16_t *entries, size_t entries_len,
                    const uint16_t *inclusions, size_t inclusions_len,
                    const uint16_t *questions, size_t questions_len,
+                   const uint16_t *roles, size_t roles_len,
                    uint16_t blanks,
                    uint64_t *out, size_t out_len);
 
@@ -151,6 +166,7 @@ hc_answer hc_match(const uint16_t *entries, size_t entries_len,
 hc_answer hc_chosen(const uint16_t *entries, size_t entries_len,
                     const uint16_t *inclusions, size_t inclusions_len,
                     const uint16_t *questions, size_t questions_len,
+                    const uint16_t *roles, size_t roles_len,
                     uint16_t blanks,
                     const uint64_t *filling, size_t filling_len,
                     uint16_t blank, uint16_t *out, size_t out_len);
@@ -162,6 +178,7 @@ hc_answer hc_chosen(const uint16_t *entries, size_t entries_len,
 hc_answer hc_derive(const uint16_t *entries, size_t entries_len,
                     const uint16_t *inclusions, size_t inclusions_len,
                     const uint16_t *questions, size_t questions_len,
+                    const uint16_t *roles, size_t roles_len,
                     uint16_t blanks,
                     const uint64_t *filling, size_t filling_len,
                     uint16_t left, uint16_t right, uint16_t *out, size_t out_len);
@@ -171,6 +188,7 @@ hc_answer hc_derive(const uint16_t *entries, size_t entries_len,
 hc_answer hc_check_derivation(const uint16_t *entries, size_t entries_len,
                               const uint16_t *inclusions, size_t inclusions_len,
                               const uint16_t *questions, size_t questions_len,
+                              const uint16_t *roles, size_t roles_len,
                               uint16_t blanks,
                               const uint64_t *filling, size_t filling_len,
                               uint16_t left, uint16_t right,

@@ -46,26 +46,32 @@ fn check(told: &Option<Timed<Relation>>, rows: &[u8]) {
     }
 }
 
+/// Prints a line; `half` has the times for half as many entries.
+fn print_line(label: &str, tables: &Tables, half: Option<Times>, tools: &Tools) -> Times {
+    let (times, rows, marks) = compare(tables);
+    let konclude = tools.classify(tables);
+    check(&konclude, &rows);
+    let line = Line {
+        label,
+        tables,
+        answer: marks.to_string(),
+        times,
+        growth: half.map(|half| times.proved / half.proved),
+        konclude: told(&konclude),
+        clasp: String::new(),
+    };
+    line.print();
+    times
+}
+
+/// A line for each size, and one for the largest with 32 role pairs, which change no answer.
 fn print_lines(family: Family, tools: &Tools) {
     let mut before = None;
     for n in SIZES {
-        let tables = family.tables(n);
-        let (times, rows, marks) = compare(&tables);
-        let konclude = tools.classify(&tables);
-        check(&konclude, &rows);
-        let growth = before.map(|half: Times| times.proved / half.proved);
-        before = Some(times);
-        let line = Line {
-            label: family.label(),
-            tables: &tables,
-            answer: marks.to_string(),
-            times,
-            growth,
-            konclude: told(&konclude),
-            clasp: String::new(),
-        };
-        line.print();
+        before = Some(print_line(family.label(), &family.tables(n), before, tools));
     }
+    let label = format!("{}, 32 role pairs", family.label());
+    print_line(&label, &family.tables_with_role_pairs(SIZES[3]), None, tools);
 }
 
 pub fn print(tools: &Tools) {

@@ -1,4 +1,4 @@
-//! The checks 1 to 7 and 9, in one pass over each table.
+//! The checks 1 to 6, 16, 7 and 9, in one pass over each table.
 
 use crate::columns::{count_ones, each, has, insert, Set, EMPTY};
 
@@ -10,6 +10,7 @@ pub struct Input<'a> {
     pub concepts: &'a [u16],
     pub inclusions: &'a [u16],
     pub questions: &'a [u16],
+    pub roles: &'a [u16],
     pub variables: u16,
 }
 
@@ -34,6 +35,7 @@ pub fn accept(input: &Input, pair: Option<(u16, u16)>) -> Result<Accepted, Refus
     check_pairs(input, count, pair)?;
     let patterns = patterns(input, count);
     check_patterns(input, &patterns)?;
+    check_roles(input)?;
     let atoms = lowest_twins(input, &atoms_with_copies(input, count, &patterns));
     if count_ones(&atoms) > 64 {
         return Err((7, 64));
@@ -66,6 +68,8 @@ fn check_counts(input: &Input) -> Result<(), Refusal> {
         2
     } else if input.variables > 8 {
         3
+    } else if input.roles.len() % 2 != 0 || input.roles.len() > 2 * 32 {
+        4
     } else {
         return Ok(());
     };
@@ -144,6 +148,13 @@ fn check_patterns(input: &Input, patterns: &Set) -> Result<(), Refusal> {
     let mut questions = input.questions.chunks_exact(2);
     match questions.position(|p| pattern(p[0]) && pattern(p[1])) {
         Some(place) => Err((6, place as u64)),
+        None => Ok(()),
+    }
+}
+
+fn check_roles(input: &Input) -> Result<(), Refusal> {
+    match input.roles.iter().position(|&role| role >= 100) {
+        Some(at) => Err((16, at as u64 / 2)),
         None => Ok(()),
     }
 }

@@ -54,7 +54,7 @@ pub struct Columns {
     members: [Set; MOST],
     /// The existentials whose inner id is j.
     outer: [Set; MOST],
-    /// The existentials of one role.
+    /// The existentials whose role counts as this one.
     of_role: [Set; 100],
     role: [u8; MOST],
     inner_ids: Set,
@@ -104,6 +104,22 @@ impl Columns {
         }
         for pair in input.inclusions.chunks_exact(2) {
             insert(&mut self.edges[usize::from(pair[0])], usize::from(pair[1]));
+        }
+        self.widen(input.roles);
+    }
+
+    /// The existentials of the narrow role are of the wide one too, until no pair adds any.
+    fn widen(&mut self, roles: &[u16]) {
+        let mut grown = !roles.is_empty();
+        while grown {
+            grown = false;
+            for pair in roles.chunks_exact(2) {
+                let narrow = self.of_role[usize::from(pair[0])];
+                for (word, more) in self.of_role[usize::from(pair[1])].iter_mut().zip(narrow) {
+                    grown |= more & !*word != 0;
+                    *word |= more;
+                }
+            }
         }
     }
 
@@ -198,8 +214,8 @@ impl Columns {
         self.add(id, common);
     }
 
-    /// Column `inner` has new ids: existentials over them get an edge to the existentials of
-    /// their role over `inner`.
+    /// Column `inner` has new ids: existentials over them get an edge to the existentials over
+    /// `inner` of the roles that theirs counts as.
     fn lift(&mut self, inner: usize, column: Set) {
         let mut fresh = EMPTY;
         for block in 0..3 {

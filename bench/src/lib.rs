@@ -19,6 +19,7 @@ pub fn lend(tables: &Tables) -> Input<'_> {
         concepts: &tables.concepts,
         inclusions: &tables.inclusions,
         questions: &tables.questions,
+        roles: &tables.roles,
         variables: tables.variables,
     }
 }

@@ -53,6 +53,7 @@ pub fn print(tools: &Tools) {
     for seed in 1..4 {
         problems.extend(hard::at_the_limits(seed));
     }
+    problems.extend(hard::spread_over_roles(1));
     problems.iter().for_each(|problem| print_line(problem, tools));
 }
 

@@ -17,15 +17,21 @@ pub struct Input {
     lines: Vec<u16>,
 }
 
-/// The families of catalogues at full size, and hard problems.
+/// The families of catalogues at full size, without and with role pairs, and hard problems.
 pub fn inputs() -> Vec<Input> {
     let catalogue = |&family: &Family| (family.label().to_string(), family.tables(MAX_CONCEPTS));
+    let with_role_pairs = |&family: &Family| {
+        let label = format!("{}, 32 role pairs", family.label());
+        (label, family.tables_with_role_pairs(MAX_CONCEPTS))
+    };
     let mut problems = hard::with_harmless(60);
     problems.extend(hard::at_the_limits(1));
     problems.extend(hard::large_random_puzzles(1));
     problems.extend(hard::large_fixed_puzzles());
+    problems.extend(hard::spread_over_roles(1));
     let problem = |problem: Hard| (problem.label, problem.tables);
-    FAMILIES.iter().map(catalogue).chain(problems.into_iter().map(problem)).map(input).collect()
+    let catalogues = FAMILIES.iter().map(catalogue).chain(FAMILIES.iter().map(with_role_pairs));
+    catalogues.chain(problems.into_iter().map(problem)).map(input).collect()
 }
 
 /// With the first solution, or nothing chosen, and of some pairs the one with the longest

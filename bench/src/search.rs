@@ -20,8 +20,24 @@ pub fn find(tables: &Tables, out: &mut [u64]) -> Result<(), Refusal> {
     let closed = Columns::close(&input, &accepted, &[0; 8][..variables]);
     let mut atoms = Vec::new();
     each(accepted.atoms, |id| atoms.push(id));
-    let patterns = Patterns::new(tables, &atoms, |i, j| closed.holds(i, j));
+    let patterns = Patterns::new(tables, &atoms, wider(input.roles), |i, j| closed.holds(i, j));
     let first = matching::search(&patterns, variables).ok_or((10, 0))?;
     out[..variables].copy_from_slice(&first);
     Ok(())
+}
+
+/// For each role the roles that it counts as, as bits: one pair at a time, whoever counts as its
+/// narrow role counts from then on as what its wide role counts as. Nothing where there is no pair.
+fn wider(roles: &[u16]) -> Vec<u128> {
+    if roles.is_empty() {
+        return Vec::new();
+    }
+    let mut wider: Vec<u128> = (0..100).map(|role| 1 << role).collect();
+    for pair in roles.chunks_exact(2) {
+        let above = wider[usize::from(pair[1])];
+        for set in wider.iter_mut().filter(|set| **set >> pair[0] & 1 == 1) {
+            *set |= above;
+        }
+    }
+    wider
 }

@@ -50,7 +50,7 @@ pub fn told<A>(timed: &Option<Timed<A>>) -> String {
 }
 
 const COLUMNS: [Column; 11] = [
-    ("family", 42),
+    ("family", 57),
     ("entries", 7),
     ("blanks", 6),
     ("parts", 5),

@@ -6,11 +6,13 @@
 static const uint16_t entries[] = {1, 5, 0, 1, 7, 0, 2, 1, 0, 1, 9, 0, 4, 0, 0, 3, 1, 4};
 static const uint16_t inclusions[] = {2, 3};
 static const uint16_t questions[] = {5, 3, 2, 4};
+static const uint16_t roles[] = {1, 2, 3, 99};
 static const uint64_t filling[] = {4};
 
 #define LEN(list) (sizeof(list) / sizeof((list)[0]))
-#define TABLES entries, LEN(entries), inclusions, LEN(inclusions), questions, LEN(questions), 1
-#define NOTHING NULL, 0, NULL, 0, NULL, 0, 0
+#define TABLES \
+    entries, LEN(entries), inclusions, LEN(inclusions), questions, LEN(questions), roles, LEN(roles), 1
+#define NOTHING NULL, 0, NULL, 0, NULL, 0, NULL, 0, 0
 
 static void show(const char *name, hc_answer answer)
 {
@@ -35,18 +37,46 @@ static void nulls(void)
     show("nothing to derive", hc_derive(NOTHING, NULL, 0, 0, 0, NULL, 0));
     show("nothing to check", hc_check_derivation(NOTHING, NULL, 0, 0, 0, NULL, 0));
 
-    show("no catalogue", hc_match(entries, LEN(entries), NULL, 0, questions, LEN(questions), 1, NULL, 0));
-    show("no questions", hc_check(entries, LEN(entries), inclusions, LEN(inclusions), NULL, 0, 1));
-    show("no entries", hc_check(NULL, 0, inclusions, LEN(inclusions), questions, LEN(questions), 1));
+    show("no catalogue", hc_match(entries, LEN(entries), NULL, 0, questions, LEN(questions),
+                                  roles, LEN(roles), 1, NULL, 0));
+    show("no questions", hc_check(entries, LEN(entries), inclusions, LEN(inclusions), NULL, 0,
+                                  roles, LEN(roles), 1));
+    show("no entries", hc_check(NULL, 0, inclusions, LEN(inclusions), questions, LEN(questions),
+                                roles, LEN(roles), 1));
+    show("no roles", hc_check(entries, LEN(entries), inclusions, LEN(inclusions), questions,
+                              LEN(questions), NULL, 0, 1));
     show("no filling", hc_subsumed(TABLES, NULL, 0, 5, 3));
-    show("filling of none", hc_subsumed(entries, 3, NULL, 0, NULL, 0, 0, NULL, 0, 0, 0));
-    show("derived", hc_derive(entries, 3, NULL, 0, NULL, 0, 0, NULL, 0, 0, 0, lines, LEN(lines)));
+    show("filling of none", hc_subsumed(entries, 3, NULL, 0, NULL, 0, NULL, 0, 0, NULL, 0, 0, 0));
+    show("derived", hc_derive(entries, 3, NULL, 0, NULL, 0, NULL, 0, 0, NULL, 0, 0, 0, lines,
+                              LEN(lines)));
     show("no room for parts", hc_atoms(TABLES, NULL, 0));
     show("no room for rows", hc_subsumption_table(TABLES, filling, LEN(filling), NULL, 0));
     show("no room to fill", hc_match(TABLES, NULL, 0));
     show("no room for ids", hc_chosen(TABLES, filling, LEN(filling), 0, NULL, 0));
     show("no room for lines", hc_derive(TABLES, filling, LEN(filling), 2, 3, NULL, 0));
     show("no list of lines", hc_check_derivation(TABLES, filling, LEN(filling), 2, 3, NULL, 0));
+}
+
+/* "Some" of one name by roles 1 and 2, and by 3: 1 counts as 2, which counts as 3. */
+static void role_pairs(void)
+{
+    static const uint16_t some[] = {1, 5, 0, 2, 1, 0, 2, 2, 0, 2, 3, 0};
+    static const uint16_t chain[] = {2, 3, 1, 2};
+    static const uint16_t high[] = {2, 3, 1, 100};
+    static const uint16_t many[66] = {0};
+    static const uint16_t narrow_left[] = {1, 0, 0, 0, 5, 1, 3, 0};
+    static const uint16_t wide_left[] = {1, 0, 0, 0, 5, 3, 1, 0};
+
+#define SOME some, LEN(some), NULL, 0, NULL, 0
+    show("narrow below wide", hc_subsumed(SOME, chain, LEN(chain), 0, NULL, 0, 1, 3));
+    show("wide below narrow", hc_subsumed(SOME, chain, LEN(chain), 0, NULL, 0, 3, 1));
+    show("no pairs", hc_subsumed(SOME, NULL, 0, 0, NULL, 0, 1, 3));
+    show("rule 5", hc_check_derivation(SOME, chain, LEN(chain), 0, NULL, 0, 1, 3, narrow_left, 8));
+    show("turned", hc_check_derivation(SOME, chain, LEN(chain), 0, NULL, 0, 3, 1, wide_left, 8));
+    show("role 100", hc_check(SOME, high, LEN(high), 0));
+    show("ragged pairs", hc_check(SOME, chain, LEN(chain) - 1, 0));
+    show("32 pairs", hc_check(SOME, many, 64, 0));
+    show("33 pairs", hc_check(SOME, many, 66, 0));
 }
 
 int main(void)
@@ -72,7 +102,7 @@ int main(void)
     show("short", hc_subsumption_table(TABLES, filling, LEN(filling), table, sizeof table - 1));
     show("count", hc_subsumed(TABLES, filling, 0, 5, 3));
     show("pair", hc_subsumed(TABLES, filling, LEN(filling), 5, 6));
-    show("ragged", hc_check(entries, LEN(entries) - 1, inclusions, 2, questions, 4, 1));
+    show("ragged", hc_check(entries, LEN(entries) - 1, inclusions, 2, questions, 4, roles, 4, 1));
     show("match", hc_match(TABLES, found, LEN(found)));
     printf("found %llu\n", (unsigned long long)found[0]);
     show("chosen", hc_chosen(TABLES, filling, LEN(filling), 0, chosen, LEN(chosen)));
@@ -83,6 +113,7 @@ int main(void)
                                         4 * (size_t)derived.value));
     show("not below", hc_derive(TABLES, filling, LEN(filling), 3, 2, lines, LEN(lines)));
     show("no lines", hc_check_derivation(TABLES, filling, LEN(filling), 2, 3, lines, 0));
+    role_pairs();
     nulls();
     return 0;
 }

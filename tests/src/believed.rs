@@ -32,6 +32,7 @@ pub struct Sentence {
 pub const SENTENCES: &[Sentence] = &[
     Sentence { of: "subsumption", file: "VariableLaws", law: "set-exactly" },
     Sentence { of: "subsumption", file: "MarkLaws", law: "marks-between" },
+    Sentence { of: "subsumption", file: "RoleLaws", law: "wider-exactly" },
     Sentence { of: "matching", file: "DerivationLaws/Few", law: "lines-few" },
     Sentence { of: "matching", file: "TwinLaws", law: "twins-count-once" },
     Sentence { of: "cards", file: "SampleCards", law: "every-card" },

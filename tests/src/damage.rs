@@ -17,6 +17,7 @@ pub fn tables(random: &mut Random, tables: &mut Tables) {
         variables_on_both_sides,
         fewer_variables,
         many_atoms,
+        role_too_high,
     ];
     for _ in 0..random.between(1, 3) {
         random.pick(&kinds)(random, tables);
@@ -24,10 +25,11 @@ pub fn tables(random: &mut Random, tables: &mut Tables) {
 }
 
 fn any_list<'a>(random: &mut Random, tables: &'a mut Tables) -> &'a mut Vec<u16> {
-    match random.below(3) {
+    match random.below(4) {
         0 => &mut tables.concepts,
         1 => &mut tables.inclusions,
-        _ => &mut tables.questions,
+        2 => &mut tables.questions,
+        _ => &mut tables.roles,
     }
 }
 
@@ -44,10 +46,11 @@ fn ragged(random: &mut Random, tables: &mut Tables) {
 
 fn overfull(random: &mut Random, tables: &mut Tables) {
     let extra = random.below(3);
-    match random.below(4) {
+    match random.below(5) {
         0 => tables.concepts.resize(3 * (MAX_CONCEPTS + extra), 0),
         1 => tables.inclusions.resize(2 * (MAX_INCLUSIONS + extra), 0),
         2 => tables.questions.resize(2 * (MAX_QUESTIONS + extra), 0),
+        3 => tables.roles.resize(2 * (MAX_ROLE_PAIRS + extra), 0),
         _ => tables.variables = *random.pick(&[8, 9, 255, 256, 65535]),
     }
 }
@@ -149,6 +152,18 @@ fn many_atoms(random: &mut Random, tables: &mut Tables) {
         for id in &mut tables.inclusions {
             *id = *random.pick(&candidates) as u16;
         }
+    }
+}
+
+/// A role past the last in one of the pairs, or in one more.
+fn role_too_high(random: &mut Random, tables: &mut Tables) {
+    let role = *random.pick(&[100, 101, 128, 255, 256, 65535]);
+    if tables.roles.is_empty() || random.percent(30) {
+        let pair = if random.percent(50) { [role, 0] } else { [MAX_ROLE, role] };
+        tables.roles.extend(pair);
+    } else {
+        let at = random.below(tables.roles.len());
+        tables.roles[at] = role;
     }
 }
 

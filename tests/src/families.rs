@@ -1,6 +1,7 @@
 //! Tables of a given size for timing and for comparisons at the limits: n concepts, n / 2
 //! inclusions, no variables. At most n / 3 ids are atoms, so that 192 concepts stay within 64.
 
+use crate::generate::spread_roles;
 use crate::random::Random;
 use crate::tables::Tables;
 
@@ -48,6 +49,11 @@ impl Family {
             Family::Equivalent => equivalent(&mut builder),
         }
         builder.finish()
+    }
+
+    /// The same with 32 role pairs and the same answers: what the pairs cost.
+    pub fn tables_with_role_pairs(self, n: usize) -> Tables {
+        spread_roles(&mut Random::new(n as u64), &self.tables(n))
     }
 }
 

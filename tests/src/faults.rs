@@ -4,35 +4,54 @@
 use crate::limits::{line_room, ATOM_ROOM, ROW_BYTES};
 use crate::tables::{Case, Tables};
 
-/// In the order of 01's checks: 1 to 7, then 9, 8.
+/// In the order of the checks: 1 to 6, 16, 7, then 9, 8.
 #[derive(Clone, Copy, Debug, PartialEq, Eq)]
 pub enum Fault {
     Ragged,
+    RaggedRoles,
     OutOfRange,
     ForwardId,
     LonePair,
     NoConcept,
     VariableInInclusion,
     VariablesOnBothSides,
+    RoleTooHigh,
     TooManyAtoms,
     AssignmentLength,
     BitPastAtoms,
     ShortBuffer,
 }
 
-pub const FAULTS: [Fault; 11] = [
+pub const FAULTS: [Fault; 13] = [
     Fault::Ragged,
+    Fault::RaggedRoles,
     Fault::OutOfRange,
     Fault::ForwardId,
     Fault::LonePair,
     Fault::NoConcept,
     Fault::VariableInInclusion,
     Fault::VariablesOnBothSides,
+    Fault::RoleTooHigh,
     Fault::TooManyAtoms,
     Fault::AssignmentLength,
     Fault::BitPastAtoms,
     Fault::ShortBuffer,
 ];
+
+/// How many of them come first and are the tables', a pair given alone among them.
+const OF_TABLES: usize = 10;
+
+/// The faults of the tables, with or without that of a pair given alone.
+pub fn table_faults(lone_pair: bool) -> Vec<Fault> {
+    let mut faults = FAULTS[..OF_TABLES].to_vec();
+    faults.retain(|&fault| lone_pair || fault != Fault::LonePair);
+    faults
+}
+
+/// All faults but the buffer's: of the tables, the lone pair and the assignment.
+pub fn faults_without_buffer() -> &'static [Fault] {
+    &FAULTS[..OF_TABLES + 2]
+}
 
 // Ids of the base table that only faults use.
 const VARIABLE: u16 = 2;
@@ -41,7 +60,7 @@ const CHANGED_KIND: usize = 73;
 const CHANGED_INNER: usize = 74;
 const COUNT: usize = 75;
 
-/// 75 concepts, 31 inclusions, 1 question, 2 variables, 60 atoms.
+/// 75 concepts, 31 inclusions, 1 question, 2 role pairs, 2 variables, 60 atoms.
 pub fn base() -> Case {
     let mut rows: Vec<[u16; 3]> = vec![[0, 0, 0], [4, 1, 0], [4, 0, 0]];
     rows.extend((3..68).map(|name| [1, name, 0]));
@@ -52,6 +71,7 @@ pub fn base() -> Case {
     let mut inclusions: Vec<[u16; 2]> = (0..30).map(|k| [3 + 2 * k, 4 + 2 * k]).collect();
     inclusions.push([3, 0]);
     let tables = Tables::new(&rows, &inclusions, &[[VARIABLE, 0]], 2);
+    let tables = tables.with_roles(&[[7, 99], [99, 0]]);
     Case::new(tables, &[0, 0])
 }
 
@@ -61,12 +81,14 @@ impl Fault {
     pub fn refusal(self) -> (u16, u64) {
         match self {
             Fault::Ragged => (1, 2),
+            Fault::RaggedRoles => (1, 4),
             Fault::OutOfRange => (2, CHANGED_KIND as u64),
             Fault::ForwardId => (3, CHANGED_INNER as u64),
             Fault::LonePair => (4, 0),
             Fault::NoConcept => (4, 31),
             Fault::VariableInInclusion => (5, 31),
             Fault::VariablesOnBothSides => (6, 1),
+            Fault::RoleTooHigh => (16, 2),
             Fault::TooManyAtoms => (7, 64),
             Fault::AssignmentLength => (9, 2),
             Fault::BitPastAtoms => (9, 1),
@@ -80,12 +102,14 @@ impl Fault {
         let tables = &mut case.tables;
         match self {
             Fault::Ragged => tables.questions.push(0),
+            Fault::RaggedRoles => tables.roles.push(0),
             Fault::OutOfRange => tables.concepts[3 * CHANGED_KIND] = 5,
             Fault::ForwardId => tables.concepts[3 * CHANGED_INNER + 2] = CHANGED_INNER as u16,
             Fault::LonePair => case.pair = (0, COUNT as u16),
             Fault::NoConcept => tables.inclusions.extend([COUNT as u16, 0]),
             Fault::VariableInInclusion => tables.inclusions.extend([0, VARIABLE]),
             Fault::VariablesOnBothSides => tables.questions.extend([VARIABLE, 1]),
+            Fault::RoleTooHigh => tables.roles.extend([99, 100]),
             Fault::TooManyAtoms => tables.inclusions.extend([FIVE_NAMES, 0]),
             Fault::AssignmentLength => case.assignment.push(0),
             Fault::BitPastAtoms => case.assignment[1] |= 1 << 60,

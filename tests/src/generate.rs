@@ -1,5 +1,5 @@
-//! Random tables of many shapes that the checks accept, copies pasted into them, and random cases
-//! around them.
+//! Random tables of many shapes that the checks accept, role pairs for them, copies pasted into
+//! them, and random cases around them.
 
 use std::collections::BTreeSet;
 
@@ -28,6 +28,7 @@ struct Shape {
     variables: usize,
     names: Vec<u16>,
     roles: Vec<u16>,
+    role_pairs: usize,
     /// Weights of top, name, existential, conjunction, variable.
     weights: [usize; 5],
     /// Inner ids close below their own make deep chains.
@@ -43,8 +44,8 @@ const WEIGHTS: [[usize; 5]; 5] = [
     [5, 30, 25, 30, 10],
     [5, 15, 60, 15, 5],
     [2, 15, 10, 65, 8],
-    [10, 60, 10, 10, 10],
     [2, 20, 30, 20, 28],
+    [10, 60, 10, 10, 10],
 ];
 
 const STYLES: [Style; 6] =
@@ -68,19 +69,21 @@ fn counts(random: &mut Random, size: Size) -> (usize, usize, usize) {
 
 fn shape(random: &mut Random, size: Size) -> Shape {
     let (names, roles, variables) = match size {
-        Size::Small => (6, 2, 3),
+        Size::Small => (6, 3, 3),
         Size::Medium => (20, 5, MAX_VARIABLES),
         Size::Large => (60, 8, MAX_VARIABLES),
     };
     let (concepts, inclusions, questions) = counts(random, size);
+    let role_pairs = role_pairs(random, size);
     Shape {
         concepts,
         inclusions,
         questions,
         variables: random.between(0, variables),
-        names: numbers(random, names, MAX_NAME),
-        roles: numbers(random, roles, MAX_ROLE),
-        weights: *random.pick(&WEIGHTS),
+        names: numbers(random, 1, names, MAX_NAME),
+        roles: numbers(random, if role_pairs > 0 { 2 } else { 1 }, roles, MAX_ROLE),
+        role_pairs,
+        weights: *random.pick(if role_pairs > 0 { &WEIGHTS[..4] } else { &WEIGHTS[..] }),
         deep: random.percent(25),
         variables_first: random.percent(30),
         twins: *random.pick(&[0, 0, 10, 50]),
@@ -88,9 +91,23 @@ fn shape(random: &mut Random, size: Size) -> Shape {
     }
 }
 
-/// One to `most` numbers up to `last`, with both ends of the range often among them.
-fn numbers(random: &mut Random, most: usize, last: u16) -> Vec<u16> {
-    let count = random.between(1, most);
+/// How many, in more than half of the tables.
+fn role_pairs(random: &mut Random, size: Size) -> usize {
+    let most = match size {
+        Size::Small => 5,
+        Size::Medium => 14,
+        Size::Large => MAX_ROLE_PAIRS,
+    };
+    match random.below(10) {
+        0..=3 => 0,
+        4 => most,
+        _ => random.between(1, most),
+    }
+}
+
+/// From `least` to `most` numbers up to `last`, with both ends of the range often among them.
+fn numbers(random: &mut Random, least: usize, most: usize, last: u16) -> Vec<u16> {
+    let count = random.between(least, most);
     let number = |random: &mut Random| match random.below(8) {
         0 => 0,
         1 => last,
@@ -110,7 +127,97 @@ pub fn valid(random: &mut Random, size: Size) -> Tables {
     let mut tables = Tables::new(&rows, &[], &[], shape.variables as u16);
     add_inclusions(random, &shape, &mut tables);
     add_questions(random, &shape, &mut tables);
+    if shape.role_pairs > 0 {
+        add_role_pairs(random, shape.role_pairs, &mut tables);
+    }
     tables
+}
+
+/// How role pairs hang together.
+#[derive(Clone, Copy, Debug, PartialEq, Eq)]
+enum Hierarchy {
+    Any,
+    Chain,
+    Circle,
+    ManyToOne,
+    OneToMany,
+}
+
+const HIERARCHIES: [Hierarchy; 5] = [
+    Hierarchy::Any,
+    Hierarchy::Chain,
+    Hierarchy::Circle,
+    Hierarchy::ManyToOne,
+    Hierarchy::OneToMany,
+];
+
+/// So many role pairs more, in any order, over the roles of the entries and now and then another;
+/// some are equal or repeated.
+pub fn add_role_pairs(random: &mut Random, count: usize, tables: &mut Tables) {
+    let is_existential = |&id: &usize| tables.row(id)[0] == 2;
+    let rows = (0..tables.concept_count()).filter(is_existential);
+    let mut used: Vec<u16> = rows.map(|id| tables.row(id)[1]).collect();
+    used.sort_unstable();
+    used.dedup();
+    random.shuffle(&mut used);
+    // a chain meets each role of the entries once before it meets one again
+    let role = |random: &mut Random, k: usize| match used.len() {
+        0 => random.below(usize::from(MAX_ROLE) + 1) as u16,
+        _ if random.percent(20) => random.below(usize::from(MAX_ROLE) + 1) as u16,
+        known => used[k % known],
+    };
+    let line: Vec<u16> = (0..=count).map(|k| role(random, k)).collect();
+    let hierarchy = *random.pick(&HIERARCHIES);
+    let pair = |random: &mut Random, k: usize| match hierarchy {
+        Hierarchy::Any => [*random.pick(&line), *random.pick(&line)],
+        Hierarchy::Chain => [line[k], line[k + 1]],
+        Hierarchy::Circle => [line[k], line[(k + 1) % count]],
+        Hierarchy::ManyToOne => [line[k], line[count]],
+        Hierarchy::OneToMany => [line[count], line[k]],
+    };
+    let mut pairs: Vec<[u16; 2]> = (0..count).map(|k| pair(random, k)).collect();
+    if random.percent(25) {
+        let (at, again) = (random.below(count), random.below(count));
+        let equal = [pairs[at][0]; 2];
+        pairs[at] = if random.percent(50) { pairs[again] } else { equal };
+    }
+    match random.below(3) {
+        0 => pairs.reverse(),
+        1 => random.shuffle(&mut pairs),
+        _ => {}
+    }
+    tables.roles.extend(pairs.concat());
+}
+
+/// Role pairs that change no answer: each role of tables without any is spread over a circle of
+/// roles, which count as one another, and each "some" gets one of its circle. 32 pairs in all.
+/// Ids that were twins may be so no more.
+pub fn spread_roles(random: &mut Random, tables: &Tables) -> Tables {
+    assert!(tables.roles.is_empty(), "role pairs already:\n{}", tables);
+    let rows: Vec<usize> =
+        (0..tables.concept_count()).filter(|&id| tables.row(id)[0] == 2).collect();
+    let used: BTreeSet<u16> = rows.iter().map(|&id| tables.row(id)[1]).collect();
+    assert!(used.len() <= MAX_ROLE_PAIRS, "too many roles:\n{}", tables);
+    let mut circles: Vec<Vec<u16>> = used.iter().map(|&role| vec![role]).collect();
+    let others: Vec<u16> = (0..=MAX_ROLE).filter(|role| !used.contains(role)).collect();
+    if circles.is_empty() {
+        circles.push(Vec::new());
+    }
+    let known = circles.len();
+    for (k, &role) in others[..MAX_ROLE_PAIRS - used.len()].iter().enumerate() {
+        circles[k % known].push(role);
+    }
+    let mut spread = tables.clone();
+    for id in rows {
+        let circle = circles.iter().find(|circle| circle[0] == tables.row(id)[1]);
+        spread.concepts[3 * id + 1] = *random.pick(circle.expect("each role has a circle"));
+    }
+    let mut pairs = Vec::new();
+    for circle in &circles {
+        pairs.extend((0..circle.len()).map(|k| [circle[k], circle[(k + 1) % circle.len()]]));
+    }
+    random.shuffle(&mut pairs);
+    spread.with_roles(&pairs)
 }
 
 fn concept(random: &mut Random, shape: &Shape, earlier: &[[u16; 3]]) -> [u16; 3] {
@@ -124,11 +231,21 @@ fn concept(random: &mut Random, shape: &Shape, earlier: &[[u16; 3]]) -> [u16; 3]
     }
     match weighted(random, &shape.weights) {
         0 => [0, 0, 0],
-        2 if id > 0 => [2, *random.pick(&shape.roles), inner(random, shape, id)],
+        2 if id > 0 => existential(random, shape, earlier),
         3 if id > 0 => [3, inner(random, shape, id), inner(random, shape, id)],
         4 if shape.variables > 0 => [4, random.below(shape.variables) as u16, 0],
         _ => [1, *random.pick(&shape.names), 0],
     }
+}
+
+/// With role pairs mostly over the inner id of an earlier one, so that the roles decide.
+fn existential(random: &mut Random, shape: &Shape, earlier: &[[u16; 3]]) -> [u16; 3] {
+    let role = *random.pick(&shape.roles);
+    let others: Vec<&[u16; 3]> = earlier.iter().filter(|row| row[0] == 2).collect();
+    if shape.role_pairs > 0 && !others.is_empty() && random.percent(60) {
+        return [2, role, random.pick(&others)[2]];
+    }
+    [2, role, inner(random, shape, earlier.len())]
 }
 
 /// The row again, or one that is easily taken for its twin: "and" the other way round, or "some" of
@@ -274,7 +391,7 @@ fn full_rows(random: &mut Random) -> Vec<[u16; 3]> {
 }
 
 /// Tables at every limit at once: 192 concepts, 96 inclusions, 32 questions, 8 variables and
-/// exactly 64 atoms.
+/// exactly 64 atoms; without role pairs, which can be added.
 pub fn full(random: &mut Random) -> Tables {
     let mut tables = Tables::new(&full_rows(random), &[], &[], 8);
     for k in 0..32 {
@@ -339,6 +456,9 @@ pub fn assignment(random: &mut Random, tables: &Tables) -> Vec<u64> {
 pub fn case(random: &mut Random, size: Size) -> Case {
     let at_limits = size == Size::Large && random.percent(30);
     let mut tables = if at_limits { full(random) } else { valid(random, size) };
+    if at_limits && random.percent(60) {
+        add_role_pairs(random, MAX_ROLE_PAIRS, &mut tables);
+    }
     if random.percent(25) {
         let most = random.between(1, 12);
         paste_copies(random, &mut tables, most);

@@ -415,6 +415,25 @@ fn complete(nodes: usize) -> Vec<(usize, usize)> {
     (0..nodes).flat_map(|to| (0..to).map(move |from| (from, to))).collect()
 }
 
+/// The same with 32 role pairs and the same answer: what the pairs cost.
+fn with_role_pairs(problem: Hard) -> Hard {
+    let tables = generate::spread_roles(&mut Random::new(1), &problem.tables);
+    Hard { label: format!("{}, 32 role pairs", problem.label), tables, ..problem }
+}
+
+/// Problems in which roles stand, with 32 role pairs each.
+pub fn spread_over_roles(seed: u64) -> Vec<Hard> {
+    let problems = vec![
+        random_at_the_limits(seed),
+        solvable_at_the_limits(seed),
+        clauses_over_one(6, 26, seed),
+        clauses_over_several(8, 24, seed),
+        random_colouring(8, 3, 16, seed),
+        pigeons(5),
+    ];
+    problems.into_iter().map(with_role_pairs).collect()
+}
+
 /// Families whose harmless atoms double the subsets and nothing else, for one K up to 60.
 pub fn with_harmless(k: usize) -> Vec<Hard> {
     vec![

@@ -1,4 +1,5 @@
-//! The program's text (01: house text): a reader, a layout and the whole output, written from 01.
+//! The program's text (01: house text): a reader, a layout and the whole output, written from 01 and
+//! 02.
 
 use crate::limits::*;
 use crate::reference::{self, atoms, Refusal};
@@ -7,13 +8,22 @@ use crate::tables::Tables;
 const KINDS: [&str; 5] = ["top", "name", "some", "and", "blank"];
 
 /// The text of a problem, or `None` where the layout has no line for it: ragged tables, unknown
-/// kinds, unused fields.
+/// kinds, unused fields. Without role pairs it has no section for them.
 pub fn layout(tables: &Tables) -> Option<Vec<u8>> {
+    layout_with(tables, !tables.roles.is_empty())
+}
+
+/// The same with the section for the role pairs, or without it and them.
+pub fn layout_with(tables: &Tables, section: bool) -> Option<Vec<u8>> {
     let mut lines = vec![format!("blanks={}", tables.variables)];
-    let ragged =
-        tables.concepts.len() % 3 + tables.inclusions.len() % 2 + tables.questions.len() % 2;
-    if ragged > 0 {
+    let pairs = [&tables.inclusions, &tables.questions, &tables.roles];
+    if tables.concepts.len() % 3 != 0 || pairs.iter().any(|list| list.len() % 2 != 0) {
         return None;
+    }
+    if section {
+        lines.push(format!("roles={}", tables.roles.len() / 2));
+        lines
+            .extend(tables.role_pairs().map(|(narrow, wide)| format!("wider={},{}", narrow, wide)));
     }
     lines.push(format!("entries={}", tables.concept_count()));
     for id in 0..tables.concept_count() {
@@ -86,12 +96,21 @@ impl Reader<'_> {
         Ok([kind as u16, numbers[0], *numbers.get(1).unwrap_or(&0)])
     }
 
-    fn pairs(&mut self, count: u16) -> Result<Vec<u16>, Refusal> {
-        let mut ids = Vec::new();
+    fn pairs(&mut self, key: &str, count: u16) -> Result<Vec<u16>, Refusal> {
+        let mut numbers = Vec::new();
         for _ in 0..count {
-            ids.extend(self.line(&[("below", 2)])?.1);
+            numbers.extend(self.line(&[(key, 2)])?.1);
         }
-        Ok(ids)
+        Ok(numbers)
+    }
+
+    /// The section that may stand behind the blanks. Any other line there is for the entries.
+    fn roles(&mut self) -> Result<Vec<u16>, Refusal> {
+        if !self.text[self.at..].starts_with(b"roles=") {
+            return Ok(Vec::new());
+        }
+        let count = self.count("roles", MAX_ROLE_PAIRS, 4)?;
+        self.pairs("wider", count)
     }
 }
 
@@ -115,19 +134,20 @@ pub fn read(text: &[u8]) -> Result<Tables, Refusal> {
     }
     let mut reader = Reader { text, at: 0 };
     let variables = reader.count("blanks", MAX_VARIABLES, 3)?;
+    let roles = reader.roles()?;
     let entries = reader.count("entries", MAX_CONCEPTS, 0)?;
     let mut concepts = Vec::new();
     for _ in 0..entries {
         concepts.extend(reader.entry()?);
     }
     let count = reader.count("inclusions", MAX_INCLUSIONS, 1)?;
-    let inclusions = reader.pairs(count)?;
+    let inclusions = reader.pairs("below", count)?;
     let count = reader.count("questions", MAX_QUESTIONS, 2)?;
-    let questions = reader.pairs(count)?;
+    let questions = reader.pairs("below", count)?;
     if reader.at < text.len() {
         return reader.off_layout();
     }
-    Ok(Tables { concepts, inclusions, questions, variables })
+    Ok(Tables { concepts, inclusions, questions, roles, variables })
 }
 
 /// All that the program prints for a text.

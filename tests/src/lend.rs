@@ -87,6 +87,7 @@ pub struct LentInputs {
     concepts: Lent<u16>,
     inclusions: Lent<u16>,
     questions: Lent<u16>,
+    roles: Lent<u16>,
     variables: u16,
     assignment: Lent<u64>,
 }
@@ -97,6 +98,7 @@ impl LentInputs {
             concepts: Lent::holding(&tables.concepts, random),
             inclusions: Lent::holding(&tables.inclusions, random),
             questions: Lent::holding(&tables.questions, random),
+            roles: Lent::holding(&tables.roles, random),
             variables: tables.variables,
             assignment: Lent::holding(assignment, random),
         }
@@ -107,6 +109,7 @@ impl LentInputs {
             concepts: self.concepts.slice(),
             inclusions: self.inclusions.slice(),
             questions: self.questions.slice(),
+            roles: self.roles.slice(),
             variables: self.variables,
         }
     }
@@ -119,6 +122,7 @@ impl LentInputs {
         self.concepts.unchanged()
             && self.inclusions.unchanged()
             && self.questions.unchanged()
+            && self.roles.unchanged()
             && self.assignment.unchanged()
     }
 }

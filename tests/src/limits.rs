@@ -1,8 +1,9 @@
-//! The limits of 01, "Tables" and "Operations".
+//! The limits of 01, "Tables" and "Operations", and of 02.
 
 pub const MAX_CONCEPTS: usize = 192;
 pub const MAX_INCLUSIONS: usize = 96;
 pub const MAX_QUESTIONS: usize = 32;
+pub const MAX_ROLE_PAIRS: usize = 32;
 pub const MAX_VARIABLES: usize = 8;
 pub const MAX_ATOMS: usize = 64;
 pub const MAX_NAME: u16 = 999;

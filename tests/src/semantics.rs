@@ -55,7 +55,11 @@ pub fn counterexample(
     (0..interpretation.size()).find(|&x| belongs(x, left) && !belongs(x, right))
 }
 
+/// Both tables: the inclusions, and each role pair's narrow links are links of the wide role.
 pub fn obeys(interpretation: &Interpretation, tables: &Tables) -> bool {
+    if missing_link(interpretation, tables).is_some() {
+        return false;
+    }
     let inclusions = tables.inclusion_pairs();
     // inclusions hold no variable, so nothing is chosen
     let broken = |&(left, right): &(usize, usize)| {
@@ -64,10 +68,25 @@ pub fn obeys(interpretation: &Interpretation, tables: &Tables) -> bool {
     !inclusions.iter().any(broken)
 }
 
+/// An element and a link that it lacks: the same to the same under a narrow role is there.
+fn missing_link(interpretation: &Interpretation, tables: &Tables) -> Option<(usize, (u16, usize))> {
+    let lacks = |links: &BTreeSet<(u16, usize)>| {
+        let of_pair = |(narrow, wide): (u16, u16)| {
+            let mut wanted =
+                links.iter().filter(|link| link.0 == narrow).map(|link| (wide, link.1));
+            wanted.find(|link| !links.contains(link))
+        };
+        tables.role_pairs().find_map(of_pair)
+    };
+    let mut all = interpretation.links.iter().enumerate();
+    all.find_map(|(x, links)| lacks(links).map(|link| (x, link)))
+}
+
 /// Names and roles that the tables mention, and one of each that they do not.
 pub fn signature(tables: &Tables) -> (Vec<u16>, Vec<u16>) {
     let mut names = BTreeSet::from([1000]);
     let mut roles = BTreeSet::from([100]);
+    roles.extend(&tables.roles);
     for id in 0..tables.concept_count() {
         match tables.concept(id) {
             Concept::Name(name) => {
@@ -82,7 +101,7 @@ pub fn signature(tables: &Tables) -> (Vec<u16>, Vec<u16>) {
     (names.into_iter().collect(), roles.into_iter().collect())
 }
 
-/// A random interpretation that obeys the inclusions: what is missing is added at random until
+/// A random interpretation that obeys inclusions and role pairs: what is missing is added at random until
 /// nothing is, which ends because nothing is taken away.
 pub fn random_model(tables: &Tables, size: usize, random: &mut Random) -> Interpretation {
     let (names, roles) = signature(tables);
@@ -96,6 +115,9 @@ pub fn random_model(tables: &Tables, size: usize, random: &mut Random) -> Interp
         }
     }
     while !obeys(&model, tables) {
+        while let Some((x, link)) = missing_link(&model, tables) {
+            model.links[x].insert(link);
+        }
         for (left, right) in tables.inclusion_pairs() {
             if let Some(x) = counterexample(&model, tables, &[], left, right) {
                 force(&mut model, tables, x, right, random);

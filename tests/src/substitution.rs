@@ -45,6 +45,7 @@ pub fn replace(tables: &Tables, substitution: &[Rows]) -> Tables {
         concepts: rows.concat(),
         inclusions: shift(&tables.inclusions),
         questions: shift(&tables.questions),
+        roles: tables.roles.clone(),
         variables: 0,
     }
 }

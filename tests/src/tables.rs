@@ -4,12 +4,14 @@ use std::fmt;
 
 use crate::limits::{line_room, ATOM_ROOM, ROW_BYTES};
 
-/// The raw tables, damaged or not. 01: entries, inclusions, questions, number of blanks.
+/// The raw tables, damaged or not. 01: entries, inclusions, questions, number of blanks; 02: roles.
 #[derive(Clone, Debug, Default, PartialEq, Eq)]
 pub struct Tables {
     pub concepts: Vec<u16>,
     pub inclusions: Vec<u16>,
     pub questions: Vec<u16>,
+    /// Pairs of roles, narrow and wide.
+    pub roles: Vec<u16>,
     pub variables: u16,
 }
 
@@ -19,6 +21,7 @@ pub struct TablesRef<'a> {
     pub concepts: &'a [u16],
     pub inclusions: &'a [u16],
     pub questions: &'a [u16],
+    pub roles: &'a [u16],
     pub variables: u16,
 }
 
@@ -33,6 +36,7 @@ pub enum Concept {
 }
 
 impl Tables {
+    /// Without role pairs.
     pub fn new(
         concepts: &[[u16; 3]],
         inclusions: &[[u16; 2]],
@@ -43,8 +47,15 @@ impl Tables {
             concepts: concepts.concat(),
             inclusions: inclusions.concat(),
             questions: questions.concat(),
+            roles: Vec::new(),
             variables,
         }
+    }
+
+    /// The same with these role pairs, narrow and wide, behind the others.
+    pub fn with_roles(mut self, pairs: &[[u16; 2]]) -> Self {
+        self.roles.extend(pairs.concat());
+        self
     }
 
     pub fn lend(&self) -> TablesRef<'_> {
@@ -52,6 +63,7 @@ impl Tables {
             concepts: &self.concepts,
             inclusions: &self.inclusions,
             questions: &self.questions,
+            roles: &self.roles,
             variables: self.variables,
         }
     }
@@ -85,6 +97,11 @@ impl Tables {
 
     pub fn question_pairs(&self) -> Vec<(usize, usize)> {
         pairs(&self.questions)
+    }
+
+    /// Narrow and wide role of each pair.
+    pub fn role_pairs(&self) -> impl Iterator<Item = (u16, u16)> + '_ {
+        self.roles.chunks_exact(2).map(|pair| (pair[0], pair[1]))
     }
 }
 
@@ -140,6 +157,7 @@ impl fmt::Display for Tables {
         writeln!(f, "    concepts: vec!{:?},", self.concepts)?;
         writeln!(f, "    inclusions: vec!{:?},", self.inclusions)?;
         writeln!(f, "    questions: vec!{:?},", self.questions)?;
+        writeln!(f, "    roles: vec!{:?},", self.roles)?;
         writeln!(f, "    variables: {},", self.variables)?;
         write!(f, "}}")
     }

@@ -2,7 +2,7 @@
 
 use hermitcasket_tests::capi::{self, Answer};
 use hermitcasket_tests::compare;
-use hermitcasket_tests::faults::{every_set, Fault, FAULTS};
+use hermitcasket_tests::faults::{every_set, table_faults, Fault};
 use hermitcasket_tests::generate;
 use hermitcasket_tests::limits::{ATOM_ROOM, MAX_ATOMS};
 use hermitcasket_tests::random::{cases, full_run, seed, Random, Size};
@@ -199,11 +199,10 @@ fn short_buffers() {
     }
 }
 
-/// Every set of faults at once: 1 to 7, then 8. The assignment and the pair are not asked for.
+/// Every set of faults at once: 1 to 6, 16, 7, then 8. The assignment and the pair are not asked for.
 #[test]
 fn every_set_of_faults() {
-    let mut faults = FAULTS[..8].to_vec();
-    faults.retain(|&fault| fault != Fault::LonePair);
+    let mut faults = table_faults(false);
     faults.push(Fault::ShortBuffer);
     for (case, chosen) in every_set(&faults) {
         let wanted = match chosen.first() {
@@ -244,7 +243,7 @@ fn pasted_copies_leave_the_list() {
 #[test]
 fn random_tables_agree() {
     let seed = seed("atoms");
-    let mut seen = [0; 9];
+    let mut seen = [0; 17];
     let mut most = 0;
     for size in [Size::Small, Size::Medium, Size::Large] {
         for k in 0..cases(size) {
@@ -254,6 +253,6 @@ fn random_tables_agree() {
             most = most.max(answer.value);
         }
     }
-    let all_seen = seen.iter().all(|&count| count > 0) && most == 64;
-    assert!(all_seen || !full_run(), "answers 0 to 8: {:?}, most {}", seen, most);
+    let all_seen = (0..9).chain([16]).all(|number| seen[number] > 0) && most == 64;
+    assert!(all_seen || !full_run(), "answers 0 to 8 and 16: {:?}, most {}", seen, most);
 }

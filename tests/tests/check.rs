@@ -1,8 +1,8 @@
-//! hc_check: the refusals 1 to 7, their order and their places.
+//! hc_check: the refusals 1 to 7 and 16, their order and their places.
 
 use hermitcasket_tests::capi::{self, Answer};
 use hermitcasket_tests::compare;
-use hermitcasket_tests::faults::{every_set, Fault, FAULTS};
+use hermitcasket_tests::faults::{every_set, table_faults};
 use hermitcasket_tests::generate;
 use hermitcasket_tests::random::{cases, full_run, seed, Random, Size};
 use hermitcasket_tests::tables::{Case, Tables};
@@ -34,6 +34,8 @@ fn examples_of_the_refusal_table() {
     let names: Vec<[u16; 3]> = (0..65).map(|name| [1, name, 0]).collect();
     let inclusions: Vec<[u16; 2]> = (0..65).map(|id| [id, id]).collect();
     expect(7, 64, Tables::new(&names, &inclusions, &[], 0));
+    expect(1, 4, Tables::default().with_roles(&[[0, 0]; 33]));
+    expect(16, 0, Tables::default().with_roles(&[[100, 0]]));
 }
 
 /// Each number too many or too few, in each table.
@@ -53,6 +55,11 @@ fn ragged_tables() {
         tables.questions.resize(len, 0);
         expect(1, 2, tables);
     }
+    for len in [1, 3] {
+        let mut tables = whole.clone();
+        tables.roles.resize(len, 0);
+        expect(1, 4, tables);
+    }
     for len in 1..6 {
         let mut tables = Tables::default();
         tables.concepts.resize(len, 0);
@@ -63,7 +70,11 @@ fn ragged_tables() {
 /// Within check 1 the lowest place wins.
 #[test]
 fn lowest_limit_place_wins() {
-    let mut tables = Tables::new(&[], &[], &[], 9);
+    let mut tables = Tables::new(&[], &[], &[], 8);
+    tables.roles.push(0);
+    expect(1, 4, tables.clone());
+    tables.variables = 9;
+    expect(1, 3, tables.clone());
     tables.questions.push(0);
     expect(1, 2, tables.clone());
     tables.inclusions.push(0);
@@ -166,20 +177,23 @@ fn variables_on_both_sides() {
     }
 }
 
-/// 5 of any inclusion comes before 6 of any question, and 4 of any question before 5.
+/// 5 of any inclusion comes before 6 of any question, and 4 of any question before 5; 16 of any
+/// role pair comes behind these.
 #[test]
 fn order_between_the_pair_tables() {
     let rows = [[4, 0, 0], [0, 0, 0]];
     expect(5, 1, Tables::new(&rows, &[[1, 1], [0, 1]], &[[0, 0]], 1));
     expect(4, 3, Tables::new(&rows, &[[0, 1], [0, 1]], &[[0, 0], [0, 2]], 1));
+    let high = [[100, 100]];
+    expect(5, 1, Tables::new(&rows, &[[1, 1], [0, 1]], &[], 1).with_roles(&high));
+    expect(6, 1, Tables::new(&rows, &[], &[[0, 1], [0, 0]], 1).with_roles(&high));
+    expect(16, 0, Tables::new(&rows, &[], &[[0, 1]], 1).with_roles(&high));
 }
 
 /// Every set of faults at once: the first check of 01's order speaks.
 #[test]
 fn every_set_of_faults() {
-    let faults: Vec<Fault> =
-        FAULTS[..8].iter().copied().filter(|&fault| fault != Fault::LonePair).collect();
-    for (case, chosen) in every_set(&faults) {
+    for (case, chosen) in every_set(&table_faults(false)) {
         let (number, place) = chosen.first().map_or((0, 0), |fault| fault.refusal());
         let wanted = Answer { number, place, value: 0 };
         assert_eq!(compare::check(&case), wanted, "{:?} in\n{}", chosen, case);
@@ -189,15 +203,15 @@ fn every_set_of_faults() {
 #[test]
 fn random_tables_agree() {
     let seed = seed("check");
-    let mut seen = [0; 8];
+    let mut seen = [0; 17];
     for size in [Size::Small, Size::Medium, Size::Large] {
         for k in 0..cases(size) {
             let case = generate::case(&mut Random::for_case(seed, k), size);
             seen[usize::from(compare::check(&case).number)] += 1;
         }
     }
-    let all_seen = seen.iter().all(|&count| count > 0);
-    assert!(all_seen || !full_run(), "answers 0 to 7: {:?}", seen);
+    let all_seen = (0..8).chain([16]).all(|number| seen[number] > 0);
+    assert!(all_seen || !full_run(), "answers 0 to 7 and 16: {:?}", seen);
 }
 
 /// A refused call leaves nothing behind for the next one, nor does an accepted one.

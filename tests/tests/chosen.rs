@@ -95,7 +95,7 @@ fn short_buffers() {
     }
 }
 
-/// Every set of faults at once: 1, 2 with the variable at place 0, 3 to 7, 9, 8.
+/// Every set of faults at once: 1, 2 with the variable at place 0, 3 to 6, 16, 7, 9, 8.
 #[test]
 fn every_set_of_faults() {
     let mut faults = FAULTS.to_vec();
@@ -109,7 +109,7 @@ fn every_set_of_faults() {
         case.variable = 1;
         assert_eq!(compare::chosen(&case), wanted, "{:?} in\n{}", chosen, case);
         case.variable = 2;
-        let ragged = chosen.first() == Some(&Fault::Ragged);
+        let ragged = matches!(chosen.first(), Some(Fault::Ragged | Fault::RaggedRoles));
         let wanted = if ragged { wanted } else { Answer::refused(2, 0) };
         assert_eq!(compare::chosen(&case), wanted, "{:?} in\n{}", chosen, case);
     }
@@ -118,7 +118,7 @@ fn every_set_of_faults() {
 #[test]
 fn random_cases_agree() {
     let seed = seed("chosen");
-    let mut seen = [0; 10];
+    let mut seen = [0; 17];
     let mut most = 0;
     for size in [Size::Small, Size::Medium, Size::Large] {
         for k in 0..cases(size) {
@@ -132,6 +132,6 @@ fn random_cases_agree() {
             most = most.max(answer.value);
         }
     }
-    let all_seen = seen.iter().all(|&count| count > 0) && most > 32;
-    assert!(all_seen || !full_run(), "answers 0 to 9: {:?}, most {}", seen, most);
+    let all_seen = (0..10).chain([16]).all(|number| seen[number] > 0) && most > 32;
+    assert!(all_seen || !full_run(), "answers 0 to 9 and 16: {:?}, most {}", seen, most);
 }

@@ -2,7 +2,7 @@
 
 use hermitcasket_tests::capi::Answer;
 use hermitcasket_tests::compare;
-use hermitcasket_tests::faults::{every_set, Fault, FAULTS};
+use hermitcasket_tests::faults::{every_set, faults_without_buffer, Fault};
 use hermitcasket_tests::generate;
 use hermitcasket_tests::random::{cases, full_run, seed, Random, Size};
 use hermitcasket_tests::reference;
@@ -69,10 +69,10 @@ fn questions_are_not_used() {
     assert_eq!(ask(&tables, &[0], (2, 0)), Answer::done(0));
 }
 
-/// Every set of faults at once: 1 to 7 with the pair at place 0 of 4, then 9.
+/// Every set of faults at once: 1 to 6 with the pair at place 0 of 4, 16, 7, then 9.
 #[test]
 fn every_set_of_faults() {
-    for (case, chosen) in every_set(&FAULTS[..10]) {
+    for (case, chosen) in every_set(faults_without_buffer()) {
         let refused = |fault: &Fault| Answer::refused(fault.refusal().0, fault.refusal().1);
         let wanted = chosen.first().map_or(Answer::done(1), refused);
         assert_eq!(compare::decide(&case), wanted, "{:?} in\n{}", chosen, case);
@@ -82,7 +82,7 @@ fn every_set_of_faults() {
 #[test]
 fn random_pairs_agree() {
     let seed = seed("decide");
-    let mut seen = [0; 10];
+    let mut seen = [0; 17];
     let mut tally = Tally::new("decide");
     for size in [Size::Small, Size::Medium, Size::Large] {
         for k in 0..cases(size) {
@@ -95,7 +95,7 @@ fn random_pairs_agree() {
             tally.note("refused", answer.number > 0);
         }
     }
-    let mut refused = (1..10).filter(|&number| number != 8);
+    let mut refused = (1..10).filter(|&number| number != 8).chain([16]);
     let all_seen = refused.all(|number| seen[number] > 0);
     assert!(all_seen || !full_run(), "answers: {:?}", seen);
     tally.finish(&[("yes", 20..=80), ("no", 10..=80), ("refused", 20..=60)]);

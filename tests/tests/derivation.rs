@@ -4,7 +4,7 @@
 use hermitcasket_tests::capi::{self, Answer};
 use hermitcasket_tests::compare;
 use hermitcasket_tests::families::FAMILIES;
-use hermitcasket_tests::faults::{base, every_set, Fault, FAULTS};
+use hermitcasket_tests::faults::{base, every_set, faults_without_buffer, Fault, FAULTS};
 use hermitcasket_tests::generate;
 use hermitcasket_tests::limits::{line_room, ROW_BYTES};
 use hermitcasket_tests::planted;
@@ -15,8 +15,8 @@ use hermitcasket_tests::tables::{Case, Tables};
 use hermitcasket_tests::tally::Tally;
 
 /// 0 and 1 one name, 2 another, 3 top, 4 "some" 0, 5 "some" 1 of the same role, 6 of another,
-/// 7 "0 and 2", 8 variable 0, 9 variable 1, 10 "some" top. Inclusions 0: 2 below 4; 1: 0 below 2.
-/// The atoms are 0, 2, 4; the choices {0, 2} and none.
+/// 7 "0 and 2", 8 variable 0, 9 variable 1, 10 "some" top, 11 "some" 0 of a role that 4's counts as.
+/// Inclusions 0: 2 below 4; 1: 0 below 2. The atoms are 0, 2, 4; the choices {0, 2} and none.
 fn rules_case(pair: (u16, u16), lines: &[Line]) -> Case {
     let rows = [
         [1, 5, 0],
@@ -30,8 +30,10 @@ fn rules_case(pair: (u16, u16), lines: &[Line]) -> Case {
         [4, 0, 0],
         [4, 1, 0],
         [2, 1, 3],
+        [2, 3, 0],
     ];
     let tables = Tables::new(&rows, &[[2, 4], [0, 2]], &[], 2);
+    let tables = tables.with_roles(&[[7, 3], [1, 7]]);
     let mut case = Case::new(tables, &[3, 0]);
     case.pair = pair;
     case.lines = lines.concat();
@@ -57,6 +59,9 @@ fn right() -> Vec<Vec<Line>> {
         vec![[1, 0, 0, 0], [1, 2, 2, 0], [6, 0, 2, 1], [4, 0, 7, 0]],
         vec![[1, 0, 1, 0], [5, 4, 5, 0]],
         vec![[2, 1, 3, 0], [5, 5, 10, 0]],
+        vec![[1, 0, 0, 0], [5, 4, 11, 0]],
+        vec![[1, 1, 0, 0], [5, 5, 11, 0]],
+        vec![[1, 2, 2, 0], [1, 0, 0, 0], [5, 4, 11, 0], [6, 2, 11, 0]],
         vec![[1, 2, 2, 0], [1, 4, 4, 0], [6, 2, 4, 0]],
         vec![[1, 0, 1, 0], [5, 4, 5, 0], [1, 2, 2, 0], [6, 2, 5, 0]],
         vec![[1, 0, 1, 0], [7, 8, 1, 0]],
@@ -109,10 +114,17 @@ const BROKEN: &[Line] = &[
     [3, 7, 0, 2],
     [3, 7, 0, 65535],
     [3, 8, 0, 0],
-    // 4 and 5: no such entries, roles that differ, an extra
+    // 4 and 5: no such entries, roles of which neither counts as the other, the wide one left, an
+    // extra
     [4, 0, 0, 0],
     [4, 0, 7, 1],
     [5, 4, 6, 0],
+    [5, 6, 11, 0],
+    [5, 11, 6, 0],
+    [5, 11, 4, 0],
+    [5, 11, 5, 0],
+    [5, 11, 10, 0],
+    [5, 4, 11, 1],
     [5, 0, 4, 0],
     [5, 4, 3, 0],
     [5, 4, 5, 1],
@@ -132,10 +144,10 @@ const BROKEN: &[Line] = &[
     [8, 2, 8, 0],
     [8, 0, 8, 1],
     // ids past the entries
-    [1, 11, 11, 0],
-    [2, 11, 3, 0],
+    [1, 12, 12, 0],
+    [2, 12, 3, 0],
     [8, 65535, 9, 0],
-    [6, 0, 11, 0],
+    [6, 0, 12, 0],
     [1, 256, 256, 0],
 ];
 
@@ -269,7 +281,7 @@ fn with_one_number(lines: &[Line], values: &[u16]) -> Vec<Vec<u16>> {
 
 #[test]
 fn every_single_number_of_the_rules() {
-    let mut values: Vec<u16> = (0..13).collect();
+    let mut values: Vec<u16> = (0..14).collect();
     values.extend([191, 192, 255, 256, 32768, 65535]);
     let (mut accepted, mut refused) = (0, 0);
     for lines in right() {
@@ -520,7 +532,7 @@ fn short_buffers() {
     assert_eq!(compare::derive(&none).0, Answer::refused(4, 0));
 }
 
-/// Every set of faults at once for the writer: 1 to 7, 9, 8, then 11.
+/// Every set of faults at once for the writer: 1 to 6, 16, 7, 9, 8, then 11.
 #[test]
 fn every_set_of_faults_for_the_writer() {
     for (mut case, chosen) in every_set(&FAULTS) {
@@ -544,10 +556,10 @@ fn every_set_of_faults_for_the_writer() {
     }
 }
 
-/// Every set of faults at once for the checker: 1 to 7, 9, then 12.
+/// Every set of faults at once for the checker: 1 to 6, 16, 7, 9, then 12.
 #[test]
 fn every_set_of_faults_for_the_checker() {
-    for (mut case, chosen) in every_set(&FAULTS[..10]) {
+    for (mut case, chosen) in every_set(faults_without_buffer()) {
         for (lines, alone) in [
             (vec![], Answer::refused(12, 0)),
             (vec![1, 0, 0], Answer::refused(12, 0)),
@@ -567,7 +579,7 @@ fn every_set_of_faults_for_the_checker() {
 #[test]
 fn random_cases_agree() {
     let seed = seed("derivation, refusals");
-    let mut seen = [0; 13];
+    let mut seen = [0; 17];
     for (size, share) in [(Size::Small, 2), (Size::Medium, 4), (Size::Large, 8)] {
         for k in 0..(cases(size) / share).max(1) {
             let mut random = Random::for_case(seed, k);
@@ -586,8 +598,9 @@ fn random_cases_agree() {
             seen[usize::from(compare::check_derivation(&case).number)] += 1;
         }
     }
-    let all_seen = (0..13).filter(|&number| number != 10).all(|number| seen[number] > 0);
-    assert!(all_seen || !full_run(), "answers 0 to 12: {:?}", seen);
+    let mut numbers = (0..13).filter(|&number| number != 10).chain([16]);
+    let all_seen = numbers.all(|number| seen[number] > 0);
+    assert!(all_seen || !full_run(), "answers 0 to 12 and 16: {:?}", seen);
 }
 
 /// A call leaves nothing behind: the same pair under two assignments and the first again.

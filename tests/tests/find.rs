@@ -3,7 +3,7 @@
 
 use hermitcasket_tests::capi::{self, Answer};
 use hermitcasket_tests::compare;
-use hermitcasket_tests::faults::{every_set, Fault, FAULTS};
+use hermitcasket_tests::faults::{every_set, table_faults, Fault};
 use hermitcasket_tests::generate;
 use hermitcasket_tests::hard::{self, Hard, Known};
 use hermitcasket_tests::limits::MAX_INCLUSIONS;
@@ -119,7 +119,7 @@ fn tiny_problems_against_brute_force() {
 #[test]
 fn random_cases_agree() {
     let seed = seed("matching");
-    let mut seen = [0; 11];
+    let mut seen = [0; 17];
     let mut tally = Tally::new("matching");
     for (size, share) in [(Size::Small, 4), (Size::Medium, 4), (Size::Large, 8)] {
         for k in 0..(cases(size) / share).max(1) {
@@ -139,8 +139,8 @@ fn random_cases_agree() {
             tally.note("refused", !matches!(answer.number, 0 | 10));
         }
     }
-    let all_seen = (0..11).filter(|&n| n != 9).all(|n| seen[n] > 0);
-    assert!(all_seen || !full_run(), "answers 0 to 10: {:?}", seen);
+    let all_seen = (0..11).filter(|&n| n != 9).chain([16]).all(|n| seen[n] > 0);
+    assert!(all_seen || !full_run(), "answers 0 to 10 and 16: {:?}", seen);
     let filled = "filled, more than one question";
     tally.finish(&[(filled, 10..=100), ("none", 10..=100), ("refused", 20..=50)]);
 }
@@ -286,11 +286,10 @@ fn short_buffers() {
     }
 }
 
-/// Every set of faults at once: 1 to 7, then 8. No assignment and no pair is asked for.
+/// Every set of faults at once: 1 to 6, 16, 7, then 8. No assignment and no pair is asked for.
 #[test]
 fn every_set_of_faults() {
-    let mut faults = FAULTS[..8].to_vec();
-    faults.retain(|&fault| fault != Fault::LonePair);
+    let mut faults = table_faults(false);
     faults.push(Fault::ShortBuffer);
     for (case, chosen) in every_set(&faults) {
         let wanted = match chosen.first() {
@@ -402,6 +401,15 @@ fn puzzles_at_full_size() {
     tally.finish(&[("none", 20..=80), ("filled", 20..=80)]);
 }
 
+/// With 32 role pairs, which change no answer.
+#[test]
+fn puzzles_with_role_pairs() {
+    for problem in hard::spread_over_roles(seed("matching, role pairs")) {
+        assert_eq!(problem.tables.role_pairs().count(), 32, "{}", problem.label);
+        agree(&problem);
+    }
+}
+
 /// The search itself reads questions as the reference's relation does.
 #[test]
 fn questions_read_by_structure() {
@@ -413,7 +421,9 @@ fn questions_read_by_structure() {
             let tables = generate::valid(&mut random, size);
             let ground = reference::relation(&tables, &vec![0; usize::from(tables.variables)]);
             let atoms = reference::atoms::list(&tables);
-            let patterns = reference::patterns::Patterns::new(&tables, &atoms, |i, j| ground[i][j]);
+            let wider = reference::roles::wider_bits(&tables);
+            let patterns =
+                reference::patterns::Patterns::new(&tables, &atoms, wider, |i, j| ground[i][j]);
             let assignment = generate::assignment(&mut random, &tables);
             let below = reference::relation(&tables, &assignment);
             for (k, (left, right)) in tables.question_pairs().into_iter().enumerate() {

@@ -32,6 +32,15 @@ derive 0
 checked 0 0 0
 not below 11 0 0
 no lines 12 0 0
+narrow below wide 0 0 1
+wide below narrow 0 0 0
+no pairs 0 0 0
+rule 5 0 0 0
+turned 12 1 0
+role 100 16 1 0
+ragged pairs 1 4 0
+32 pairs 0 0 0
+33 pairs 1 4 0
 no tables 0 0 0
 no tables, no room 8 64 0
 no tables, no part 0 0 0
@@ -45,6 +54,7 @@ nothing to check 4 0 0
 no catalogue 8 1 0
 no questions 0 0 0
 no entries 4 0 0
+no roles 0 0 0
 no filling 9 1 0
 filling of none 0 0 1
 derived 0 0 1

@@ -39,6 +39,8 @@ fn names_and_roles() {
     expect(2, 0, Tables::new(&[[1, 1000, 0]], &[], &[], 0));
     expect(0, 0, Tables::new(&[[0, 0, 0], [2, 99, 0]], &[], &[], 0));
     expect(2, 1, Tables::new(&[[0, 0, 0], [2, 100, 0]], &[], &[], 0));
+    expect(0, 0, Tables::default().with_roles(&[[99, 99]]));
+    expect(16, 0, Tables::default().with_roles(&[[99, 100]]));
 }
 
 /// From inclusions, from questions, and from both together.
@@ -75,12 +77,14 @@ fn variables() {
 }
 
 #[test]
-fn inclusions_and_questions() {
+fn inclusions_questions_and_role_pairs() {
     let top = [[0, 0, 0]];
     expect(0, 0, Tables::new(&top, &[[0, 0]; 96], &[], 0));
     expect(1, 1, Tables::new(&top, &[[0, 0]; 97], &[], 0));
     expect(0, 0, Tables::new(&top, &[], &[[0, 0]; 32], 0));
     expect(1, 2, Tables::new(&top, &[], &[[0, 0]; 33], 0));
+    expect(0, 0, Tables::new(&top, &[], &[], 0).with_roles(&[[99, 0]; 32]));
+    expect(1, 4, Tables::new(&top, &[], &[], 0).with_roles(&[[99, 0]; 33]));
     let mut places = Tables::new(&top, &[[0, 0]; 96], &[[0, 0]; 32], 0);
     places.questions[63] = 1;
     expect(4, 127, places);
@@ -97,6 +101,8 @@ fn lengths_past_sixteen_bits() {
         expect(1, 1, Tables { inclusions, ..Tables::default() });
         let questions = numbers(2 * count);
         expect(1, 2, Tables { questions, ..Tables::default() });
+        let roles = numbers(2 * count);
+        expect(1, 4, Tables { roles, ..Tables::default() });
     }
 }
 
@@ -148,7 +154,8 @@ fn last_row_and_column() {
     }
 }
 
-/// Every family of the benchmark, at every size it is timed at.
+/// Every family of the benchmark, at every size it is timed at; with 32 role pairs too, which
+/// change no mark.
 #[test]
 fn families_agree() {
     for family in FAMILIES {
@@ -157,21 +164,29 @@ fn families_agree() {
             assert_eq!(reference::check(&tables), Ok(()), "{:?} {}", family, n);
             assert_eq!(tables.concept_count(), n);
             assert_eq!(tables.inclusion_pairs().len(), n / 2);
-            compare::all(&Case::new(tables, &[]));
+            let case = Case::new(tables, &[]);
+            compare::all(&case);
+            let wide = family.tables_with_role_pairs(n);
+            assert_eq!(wide.role_pairs().count(), 32);
+            let wide = Case::new(wide, &[]);
+            compare::all(&wide);
+            assert_eq!(compare::table(&wide), compare::table(&case), "{:?} {}", family, n);
         }
     }
 }
 
-/// 192 concepts, 96 inclusions, 32 questions, 8 variables and 64 atoms at once.
+/// 192 concepts, 96 inclusions, 32 questions, 32 role pairs, 8 variables and 64 atoms at once.
 #[test]
 fn all_limits_at_once() {
     let seed = seed("limits");
     for k in 0..cases(Size::Large) {
         let mut random = Random::for_case(seed, k);
-        let tables = generate::full(&mut random);
+        let mut tables = generate::full(&mut random);
+        generate::add_role_pairs(&mut random, 32, &mut tables);
         assert_eq!(tables.concept_count(), 192);
         assert_eq!(tables.inclusion_pairs().len(), 96);
         assert_eq!(tables.question_pairs().len(), 32);
+        assert_eq!(tables.role_pairs().count(), 32);
         assert_eq!(atoms::list(&tables).len(), 64);
         let assignment = generate::assignment(&mut random, &tables);
         let case = Case::new(tables, &assignment);

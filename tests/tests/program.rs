@@ -9,8 +9,8 @@ use std::time::Duration;
 use hermitcasket_tests::damage;
 use hermitcasket_tests::generate;
 use hermitcasket_tests::hard;
-use hermitcasket_tests::house_text::{self, layout, output, refused};
-use hermitcasket_tests::limits::MAX_TEXT;
+use hermitcasket_tests::house_text::{self, layout, layout_with, output, refused};
+use hermitcasket_tests::limits::{MAX_ROLE_PAIRS, MAX_TEXT};
 use hermitcasket_tests::planted;
 use hermitcasket_tests::random::{cases, full_run, seed, Random, Size};
 use hermitcasket_tests::reference::Refusal;
@@ -52,6 +52,31 @@ questions=3
 below=6,3
 below=3,4
 below=3,5
+";
+
+/// With role pairs: 2 counts as 1 by way of 7. Without them there is no filling.
+const ROLES: &str = "\
+blanks=1
+roles=2
+wider=7,1
+wider=2,7
+entries=9
+name=14
+name=20
+name=11
+name=12
+some=1,3
+some=2,3
+and=2,4
+blank=0
+and=2,7
+inclusions=3
+below=6,1
+below=0,2
+below=0,5
+questions=2
+below=8,1
+below=0,7
 ";
 
 fn start() -> Child {
@@ -354,7 +379,7 @@ fn lines(text: &str) -> Vec<(usize, &str)> {
 /// Every fault at every line is 13 at the byte where that line starts.
 #[test]
 fn every_fault_at_every_line() {
-    for (text, share) in [(SAMPLE, 1), (WIDE, 5)] {
+    for (text, share) in [(SAMPLE, 1), (WIDE, 5), (ROLES, 3)] {
         for (k, (start, line)) in lines(text).into_iter().enumerate() {
             let rest = &text[start + line.len()..];
             for fault in broken(line).iter().skip(k % share).step_by(share) {
@@ -368,9 +393,14 @@ fn every_fault_at_every_line() {
 /// Well-formed numbers out of range are for the tables' checks; "top" takes 0 only.
 #[test]
 fn telling_numbers_at_every_line() {
-    for (start, line) in lines(WIDE) {
+    let all = [WIDE, ROLES]
+        .into_iter()
+        .flat_map(|text| lines(text).into_iter().map(move |line| (text, line)));
+    for (whole, (start, line)) in all {
         let (key, rest) = line.split_once('=').expect("a right line");
-        for number in ["0", "1", "8", "9", "99", "100", "192", "193", "999", "1000", "65535"] {
+        for number in
+            ["0", "1", "8", "9", "32", "33", "99", "100", "192", "193", "999", "1000", "65535"]
+        {
             let changed: Vec<String> = match rest.split_once(',') {
                 None => vec![format!("{}={}", key, number)],
                 Some((a, b)) => {
@@ -378,7 +408,7 @@ fn telling_numbers_at_every_line() {
                 }
             };
             for line_now in changed {
-                let text = [&WIDE[..start], &line_now, &WIDE[start + line.len()..]].concat();
+                let text = [&whole[..start], &line_now, &whole[start + line.len()..]].concat();
                 let said = agree(text.as_bytes());
                 if key == "top" && number != "0" {
                     assert_eq!(said, off_layout(start), "{}", text);
@@ -391,26 +421,166 @@ fn telling_numbers_at_every_line() {
 /// The text cut at every byte, and every line left out, said twice, or out of its place.
 #[test]
 fn cuts_and_moved_lines() {
-    let sample = SAMPLE.as_bytes();
-    for end in 0..sample.len() {
-        let started = sample[..end].iter().rposition(|&byte| byte == b'\n').map_or(0, |at| at + 1);
-        assert_eq!(agree(&sample[..end]), off_layout(started), "cut at {}", end);
+    for text in [SAMPLE, ROLES] {
+        let bytes = text.as_bytes();
+        for end in 0..bytes.len() {
+            let started = bytes[..end].iter().rposition(|&byte| byte == b'\n');
+            let started = started.map_or(0, |at| at + 1);
+            assert_eq!(agree(&bytes[..end]), off_layout(started), "cut at {}", end);
+        }
+        let all = lines(text);
+        let join = |list: &[(usize, &str)]| -> Vec<u8> {
+            list.iter().flat_map(|(_, line)| [line.as_bytes(), b"\n"].concat()).collect()
+        };
+        for k in 0..all.len() {
+            let mut fewer = all.clone();
+            fewer.remove(k);
+            agree(&join(&fewer));
+            let mut twice = all.clone();
+            twice.insert(k, all[k]);
+            agree(&join(&twice));
+            let mut moved = all.clone();
+            moved.swap(k, (k + 1) % all.len());
+            agree(&join(&moved));
+        }
     }
-    let all = lines(SAMPLE);
-    let join = |list: &[(usize, &str)]| -> Vec<u8> {
-        list.iter().flat_map(|(_, line)| [line.as_bytes(), b"\n"].concat()).collect()
+}
+
+/// A card that role pairs give a filling: without them, with none, or turned round it has none.
+#[test]
+fn role_pairs_change_the_answer() {
+    let ask = |section: &str| {
+        let text = ROLES.replace("roles=2\nwider=7,1\nwider=2,7\n", section);
+        agree(text.as_bytes())
     };
-    for k in 0..all.len() {
-        let mut fewer = all.clone();
-        fewer.remove(k);
-        agree(&join(&fewer));
-        let mut twice = all.clone();
-        twice.insert(k, all[k]);
-        agree(&join(&twice));
-        let mut moved = all.clone();
-        moved.swap(k, (k + 1) % all.len());
-        agree(&join(&moved));
+    let filled = "answer=filled\nblanks=1\nfill=5\n";
+    assert_eq!(agree(ROLES.as_bytes()), filled);
+    for section in [
+        "roles=1\nwider=2,1\n",
+        "roles=2\nwider=2,7\nwider=7,1\n",
+        "roles=3\nwider=2,1\nwider=1,2\nwider=2,1\n",
+        "roles=4\nwider=1,1\nwider=99,0\nwider=99,1\nwider=2,99\n",
+    ] {
+        assert_eq!(ask(section), filled, "{}", section);
     }
+    for section in [
+        "",
+        "roles=0\n",
+        "roles=1\nwider=1,2\n",
+        "roles=1\nwider=2,2\n",
+        "roles=2\nwider=1,7\nwider=7,2\n",
+        "roles=2\nwider=2,7\nwider=8,1\n",
+    ] {
+        assert_eq!(ask(section), "answer=none\n", "{}", section);
+    }
+}
+
+/// `roles=0` says what no section says.
+#[test]
+fn an_empty_section_is_none() {
+    let empty = "blanks=0\nroles=0\nentries=0\ninclusions=0\nquestions=0\n";
+    assert_eq!(agree(empty.as_bytes()), "answer=filled\nblanks=0\n");
+    let seed = seed("program, empty sections");
+    for (size, share) in [(Size::Small, 60), (Size::Medium, 40), (Size::Large, 40)] {
+        for k in 0..(cases(size) / share).max(1) {
+            let mut tables = generate::valid(&mut Random::for_case(seed, k), size);
+            tables.roles.clear();
+            let with = layout_with(&tables, true).expect("a layout");
+            let without = layout_with(&tables, false).expect("a layout");
+            assert_ne!(with, without);
+            assert_eq!(agree(&with), agree(&without), "for\n{}", tables);
+        }
+    }
+}
+
+/// The section stands directly behind `blanks=` and nowhere else, and once.
+#[test]
+fn the_section_has_one_place() {
+    let section = "roles=1\nwider=2,1\n";
+    for (start, line) in lines(SAMPLE) {
+        for section in [section, "roles=0\n"] {
+            let text = [&SAMPLE[..start], section, &SAMPLE[start..]].concat();
+            let said = agree(text.as_bytes());
+            let right = line.starts_with("entries=");
+            let filled = "answer=filled\nblanks=1\nfill=3\n".to_string();
+            let wanted = if right { filled } else { off_layout(start) };
+            assert_eq!(said, wanted, "before {}", line);
+        }
+    }
+    let behind = SAMPLE.to_string() + section;
+    assert_eq!(agree(behind.as_bytes()), off_layout(SAMPLE.len()));
+    // a second section is judged as entries=
+    for second in [section, "roles=0\n", "roles=33\n"] {
+        let text = SAMPLE.replace("entries=6", &(section.to_string() + second + "entries=6"));
+        let place = "blanks=1\n".len() + section.len();
+        assert_eq!(agree(text.as_bytes()), off_layout(place), "{}", second);
+    }
+    // too few and too many lines of pairs; lines of pairs without a section
+    let at = "blanks=1\nroles=1\n".len();
+    for (section, place) in [
+        ("roles=1\n", at),
+        ("roles=2\nwider=2,1\n", at + 10),
+        ("roles=1\nwider=2,1\nwider=2,1\n", at + 10),
+        ("roles=0\nwider=2,1\n", at),
+        ("wider=2,1\n", 9),
+        ("roles=1\nbelow=2,1\n", at),
+        ("roles=1\nwider=2\n", at),
+        ("roles=1\nwider=2,1,0\n", at),
+    ] {
+        let text = SAMPLE.replace("entries=6", &(section.to_string() + "entries=6"));
+        assert_eq!(agree(text.as_bytes()), off_layout(place), "{}", section);
+    }
+}
+
+/// 32 pairs are read, 33 are refusal 1 at place 4 on that line; numbers are for the tables' checks.
+#[test]
+fn limits_of_the_section() {
+    let ask = |section: &str| {
+        let text = SAMPLE.replace("entries=6", &(section.to_string() + "entries=6"));
+        agree(text.as_bytes())
+    };
+    let said = |number: u16, place: u64| refused(Refusal { number, place });
+    let pairs = |count: usize, line: &str| format!("roles={}\n{}", count, line.repeat(count));
+    for count in [1, 31, MAX_ROLE_PAIRS] {
+        assert_eq!(ask(&pairs(count, "wider=99,0\n")), "answer=filled\nblanks=1\nfill=3\n");
+        assert_eq!(ask(&pairs(count, "wider=0,100\n")), said(16, 0));
+    }
+    for count in [33, 34, 64, 256, 288, 65535] {
+        // the count's line decides, whatever follows it
+        for rest in ["", "\0 garbage", "entries=193\n", "wider=100,100\n"] {
+            let text = format!("blanks=1\nroles={}\n{}", count, rest);
+            assert_eq!(agree(text.as_bytes()), said(1, 4), "{}", text);
+        }
+        let text = format!("blanks=1\nroles={}", count);
+        assert_eq!(agree(text.as_bytes()), off_layout(9), "no line without its byte 10");
+        let text = format!("blanks=9\nroles={}\n", count);
+        assert_eq!(agree(text.as_bytes()), said(1, 3));
+    }
+    assert_eq!(ask(&pairs(33, "wider=99,0\n")), said(1, 4));
+    assert_eq!(ask("roles=65536\n"), off_layout(9));
+    // an earlier line decides: the section comes before the entries
+    assert_eq!(agree(b"blanks=0\nroles=1\nwider=0,0\nentries=193\n"), said(1, 0));
+    for (role, place) in [("100,0", 1), ("0,100", 1), ("65535,65535", 1)] {
+        let section = format!("roles=3\nwider=99,99\nwider={}\nwider=100,0\n", role);
+        assert_eq!(ask(&section), said(16, place), "{}", role);
+    }
+}
+
+/// 16 comes behind 6 and before 7.
+#[test]
+fn the_order_of_refusals_with_roles() {
+    let said = |number: u16, place: u64| refused(Refusal { number, place });
+    let high = "roles=1\nwider=0,100\n";
+    let both =
+        format!("blanks=1\n{}entries=1\nblank=0\ninclusions=0\nquestions=1\nbelow=0,0\n", high);
+    assert_eq!(agree(both.as_bytes()), said(6, 0));
+    let rows: Vec<[u16; 3]> = (0..65).map(|name| [1, name, 0]).collect();
+    let inclusions: Vec<[u16; 2]> = (0..65).map(|id| [id, id]).collect();
+    let tables = Tables::new(&rows, &inclusions, &[], 0);
+    let fine = tables.clone().with_roles(&[[0, 99]]);
+    assert_eq!(agree(&layout(&fine).expect("a layout")), said(7, 64));
+    let high = tables.with_roles(&[[0, 99], [0, 100]]);
+    assert_eq!(agree(&layout(&high).expect("a layout")), said(16, 1));
 }
 
 /// Bytes after the last line are a line that is not due.
@@ -451,7 +621,7 @@ fn said_9() -> String {
 fn input_in_small_pieces() {
     let pause = Duration::from_micros(300);
     for size in [1, 2, 7, 64] {
-        for text in [SAMPLE, WIDE] {
+        for text in [SAMPLE, WIDE, ROLES] {
             let pieces: Vec<&[u8]> = text.as_bytes().chunks(size).collect();
             assert_eq!(print_in_pieces(&pieces, pause), output(text.as_bytes()), "{}", size);
         }
@@ -476,6 +646,8 @@ fn layouts_read_back() {
         for k in 0..cases(size) / 8 {
             let tables = generate::valid(&mut Random::for_case(seed, k), size);
             let text = layout(&tables).expect("accepted tables have a layout");
+            assert_eq!(house_text::read(&text).as_ref(), Ok(&tables), "{}", tables);
+            let text = layout_with(&tables, true).expect("accepted tables have a layout");
             assert_eq!(house_text::read(&text).as_ref(), Ok(&tables), "{}", tables);
         }
     }
@@ -507,8 +679,10 @@ fn random_problems_agree() {
             seen.insert(said.lines().take(2).collect::<Vec<_>>().join(" "));
         }
     }
-    let kinds = ["none", "filled", "=1", "=2", "=3", "=4", "=5", "=6", "=7"];
-    let all_seen = kinds.iter().all(|kind| seen.iter().any(|said| said.contains(kind)));
+    let refusal = |number: u16| format!("answer=refused number={}", number);
+    let mut kinds = vec!["answer=none".to_string(), "answer=filled blanks=2".to_string()];
+    kinds.extend((1..8).chain([16]).map(refusal));
+    let all_seen = kinds.iter().all(|kind| seen.contains(kind));
     assert!(all_seen || !full_run(), "{:?}", seen);
     tally.finish(&[
         ("damage left out", 0..=20),

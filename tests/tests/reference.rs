@@ -1,28 +1,28 @@
 //! The reference itself, held against 01's definition of "below" on tiny tables, and against 02's
-//! of twins.
+//! of twins and of roles above roles.
 
 use std::collections::BTreeSet;
 
 use hermitcasket_tests::families::FAMILIES;
 use hermitcasket_tests::generate;
 use hermitcasket_tests::hard::{self, Hard};
-use hermitcasket_tests::limits::{MAX_ATOMS, MAX_CONCEPTS};
+use hermitcasket_tests::limits::{MAX_ATOMS, MAX_CONCEPTS, MAX_ROLE, MAX_ROLE_PAIRS};
 use hermitcasket_tests::random::{cases, seed, Random, Size};
 use hermitcasket_tests::reference::atoms::{self, chosen, Twins};
 use hermitcasket_tests::reference::model::Canonical;
-use hermitcasket_tests::reference::{self, matching};
+use hermitcasket_tests::reference::{self, matching, roles};
 use hermitcasket_tests::semantics::{
     all_interpretations, counterexample, member, obeys, random_model, Interpretation,
 };
 use hermitcasket_tests::tables::{Concept, Tables};
 use hermitcasket_tests::tally::Tally;
 
-/// The canonical interpretation obeys the inclusions, and its element i, a member of i, refutes
+/// The canonical interpretation obeys inclusions and role pairs, and its element i, a member of i, refutes
 /// every "no" of row i: membership is asked again of the plain definition.
 #[test]
 fn canonical_model_refutes_every_no() {
     let seed = seed("reference, canonical model");
-    let (mut yes, mut no) = (0, 0);
+    let (mut yes, mut no, mut widened) = (0, 0, 0);
     for k in 0..cases(Size::Small) / 4 {
         let mut random = Random::for_case(seed, k);
         let tables = generate::valid(&mut random, Size::Small);
@@ -37,13 +37,23 @@ fn canonical_model_refutes_every_no() {
                 assert_eq!(member(model, &tables, &ids, i, j), holds, "{} {} {}", i, j, tables);
                 yes += usize::from(holds);
                 no += usize::from(!holds);
+                widened += usize::from(holds && other_roles(&tables, i, j));
             }
         }
     }
-    assert!(yes > 0 && no > 0, "{} yes, {} no", yes, no);
+    let all_seen = yes > 0 && no > 0 && widened > 0;
+    assert!(all_seen, "{} yes, {} no, {} with other roles", yes, no, widened);
 }
 
-/// No random interpretation that obeys the inclusions refutes a "yes".
+/// Both are "some", of roles that differ.
+fn other_roles(tables: &Tables, i: usize, j: usize) -> bool {
+    match (tables.concept(i), tables.concept(j)) {
+        (Concept::Existential(one, _), Concept::Existential(other, _)) => one != other,
+        _ => false,
+    }
+}
+
+/// No random interpretation that obeys inclusions and role pairs refutes a "yes".
 #[test]
 fn random_models_refute_no_yes() {
     let seed = seed("reference, random models");
@@ -69,7 +79,7 @@ fn all_tiny_models_refute_no_yes() {
     let mut tally = Tally::new("reference, tiny models");
     for k in 0..cases(Size::Small) / 12 {
         let mut random = Random::for_case(seed, k);
-        let tables = few_symbols(&mut random);
+        let tables = few_symbols(&mut random, 2, 1);
         let ids = chosen(&tables, &generate::assignment(&mut random, &tables));
         let members = Canonical::build(&tables, &ids).members;
         for size in 1..3 {
@@ -86,6 +96,36 @@ fn all_tiny_models_refute_no_yes() {
     }
     assert!(refuted > 0, "the tiny models refute nothing at all");
     tally.finish(&[("skipped", 0..=40)]);
+}
+
+/// The same with one name and three roles, and up to three pairs among these.
+#[test]
+fn all_tiny_models_of_roles_refute_no_yes() {
+    let seed = seed("reference, tiny models of roles");
+    let mut refuted = 0;
+    let mut tally = Tally::new("reference, tiny models of roles");
+    for k in 0..cases(Size::Small) / 240 {
+        let mut random = Random::for_case(seed, k);
+        let mut tables = few_symbols(&mut random, 1, 3);
+        tables.roles.clear();
+        let count = random.between(1, 3);
+        generate::add_role_pairs(&mut random, count, &mut tables);
+        tables.roles.iter_mut().for_each(|role| *role %= 3);
+        let ids = chosen(&tables, &generate::assignment(&mut random, &tables));
+        let members = Canonical::build(&tables, &ids).members;
+        for size in 1..3 {
+            for model in all_interpretations(size, vec![0], vec![0, 1, 2]) {
+                let obeys = obeys(&model, &tables);
+                if obeys {
+                    refuted += refuted_pairs(&model, &tables, &ids, &members);
+                }
+                tally.case();
+                tally.note("obeys", obeys);
+            }
+        }
+    }
+    assert!(refuted > 0, "the tiny models refute nothing at all");
+    tally.finish(&[("obeys", 5..=90)]);
 }
 
 /// How many pairs the model refutes; none of them may be a "yes".
@@ -112,17 +152,92 @@ fn refuted_pairs(
     refuted
 }
 
-/// A small table with the names and roles folded into the names 0 and 1 and the role 0.
-fn few_symbols(random: &mut Random) -> Tables {
+/// A small table with the names and roles folded into so many.
+fn few_symbols(random: &mut Random, names: u16, roles: u16) -> Tables {
     let mut tables = generate::valid(random, Size::Small);
     for id in 0..tables.concept_count() {
         match tables.concept(id) {
-            Concept::Name(name) => tables.concepts[3 * id + 1] = name % 2,
-            Concept::Existential(_, _) => tables.concepts[3 * id + 1] = 0,
+            Concept::Name(name) => tables.concepts[3 * id + 1] = name % names,
+            Concept::Existential(role, _) => tables.concepts[3 * id + 1] = role % roles,
             _ => {}
         }
     }
+    tables.roles.iter_mut().for_each(|role| *role %= roles);
     tables
+}
+
+/// The search along the pairs, against the least relation that is reflexive and transitive and holds
+/// the pairs: roles in between are allowed one by one.
+#[test]
+fn wider_is_the_least_such_relation() {
+    let seed = seed("reference, wider");
+    let mut tally = Tally::new("reference, wider");
+    for k in 0..cases(Size::Small) / 60 {
+        let mut random = Random::for_case(seed, k);
+        let rows: Vec<[u16; 3]> = (0..8).map(|k| [2, 13 * k, 0]).collect();
+        let mut tables = Tables::new(&rows, &[], &[], 0);
+        let count = random.between(1, MAX_ROLE_PAIRS);
+        generate::add_role_pairs(&mut random, count, &mut tables);
+        let all = usize::from(MAX_ROLE) + 1;
+        let mut reached = vec![vec![false; all]; all];
+        (0..all).for_each(|role| reached[role][role] = true);
+        for (narrow, wide) in tables.role_pairs() {
+            reached[usize::from(narrow)][usize::from(wide)] = true;
+        }
+        for between in 0..all {
+            let onward = reached[between].clone();
+            for row in reached.iter_mut().filter(|row| row[between]) {
+                row.iter_mut().zip(&onward).for_each(|(known, &more)| *known |= more);
+            }
+        }
+        let bits = roles::wider_bits(&tables);
+        let mut through_others = false;
+        for narrow in 0..=MAX_ROLE {
+            for wide in 0..=MAX_ROLE {
+                let wanted = reached[usize::from(narrow)][usize::from(wide)];
+                let counts = roles::counts_as(&tables, narrow, wide);
+                assert_eq!(counts, wanted, "{} as {} in\n{}", narrow, wide, tables);
+                assert_eq!(bits[usize::from(narrow)] >> wide & 1 == 1, wanted);
+                let told = tables.role_pairs().any(|pair| pair == (narrow, wide));
+                through_others |= wanted && narrow != wide && !told;
+            }
+        }
+        // past the table a role counts as itself only
+        assert!(roles::wider(&tables, 100).into_iter().eq([100]), "{}", tables);
+        tally.case();
+        tally.note("through other roles", through_others);
+    }
+    tally.finish(&[("through other roles", 30..=95)]);
+}
+
+/// Roles spread over circles of 32 pairs: the relation is as it was, and so is the first solution
+/// where no ids were twins.
+#[test]
+fn circles_of_roles_change_no_answer() {
+    let seed = seed("reference, circles");
+    let mut tally = Tally::new("reference, circles");
+    for (size, share) in [(Size::Small, 8), (Size::Medium, 20), (Size::Large, 20)] {
+        for k in 0..(cases(size) / share).max(1) {
+            let mut random = Random::for_case(seed, k);
+            let mut tables = generate::valid(&mut random, size);
+            tables.roles.clear();
+            let spread = generate::spread_roles(&mut random, &tables);
+            assert_eq!(spread.role_pairs().count(), MAX_ROLE_PAIRS, "{}", spread);
+            let ids = chosen(&tables, &generate::assignment(&mut random, &tables));
+            let before = Canonical::build(&tables, &ids).members;
+            assert_eq!(Canonical::build(&spread, &ids).members, before, "{}", spread);
+            let one_list = atoms::list_with_copies(&tables) == atoms::list(&tables);
+            tally.case();
+            tally.note("the same parts", one_list);
+            tally.note("other roles", spread.concepts != tables.concepts);
+            if one_list {
+                assert_eq!(atoms::list(&spread), atoms::list(&tables), "{}", spread);
+                let first = matching::first_solution(&tables);
+                assert_eq!(matching::first_solution(&spread), first, "{}", spread);
+            }
+        }
+    }
+    tally.finish(&[("the same parts", 20..=90), ("other roles", 40..=100)]);
 }
 
 /// The concept written out in full: two are built alike exactly when they read the same. Its
@@ -271,6 +386,7 @@ fn built_problems_have_no_copies() {
             assert_eq!(atoms::list(&problem.tables).len(), MAX_ATOMS, "{}", problem.label);
         }
     }
+    hard::spread_over_roles(1).iter().for_each(one_list);
     hard::large_fixed_puzzles().iter().for_each(one_list);
     one_list(&hard::hardest_pigeons());
     // the families are random in part: fewer atoms, and no more than a third of the concepts

@@ -129,7 +129,7 @@ fn assignments() {
 /// above the conjunctions.
 const BASE_MARKS: u64 = 432;
 
-/// Every set of faults at once: 1 to 7, then 9, then 8. The pair is not asked for.
+/// Every set of faults at once: 1 to 6, 16, 7, then 9, then 8. The pair is not asked for.
 #[test]
 fn every_set_of_faults() {
     let mut faults = FAULTS.to_vec();
@@ -144,15 +144,15 @@ fn every_set_of_faults() {
 #[test]
 fn random_tables_agree() {
     let seed = seed("table");
-    let mut seen = [0; 10];
+    let mut seen = [0; 17];
     for size in [Size::Small, Size::Medium, Size::Large] {
         for k in 0..cases(size) {
             let case = generate::case(&mut Random::for_case(seed, k), size);
             seen[usize::from(compare::table(&case).number)] += 1;
         }
     }
-    let all_seen = seen.iter().all(|&count| count > 0);
-    assert!(all_seen || !full_run(), "answers 0 to 9: {:?}", seen);
+    let all_seen = (0..10).chain([16]).all(|number| seen[number] > 0);
+    assert!(all_seen || !full_run(), "answers 0 to 9 and 16: {:?}", seen);
 }
 
 /// The same tables under one assignment, another, and the first again, with a refused call in

@@ -2,7 +2,7 @@
 
 use hermitcasket_tests::capi::Answer;
 use hermitcasket_tests::compare;
-use hermitcasket_tests::faults::{every_set, Fault, FAULTS};
+use hermitcasket_tests::faults::{every_set, table_faults, Fault};
 use hermitcasket_tests::generate;
 use hermitcasket_tests::random::{cases, seed, Random, Size};
 use hermitcasket_tests::tables::{Case, Tables};
@@ -65,7 +65,7 @@ fn the_id_in_the_order() {
 /// Every set of the tables' faults at once, the lone id's among them.
 #[test]
 fn every_set_of_faults() {
-    for (case, chosen) in every_set(&FAULTS[..8]) {
+    for (case, chosen) in every_set(&table_faults(true)) {
         let refused = |fault: &Fault| Answer::refused(fault.refusal().0, fault.refusal().1);
         let answer = compare::blanks(&case, case.pair.0.max(case.pair.1));
         match chosen.first() {

@@ -23,13 +23,17 @@ pattern(I) :- and(I,A,B), pattern(A).
 pattern(I) :- and(I,A,B), pattern(B).
 ground(I) :- entry(I), not pattern(I).
 
+#defined wider/2.
+counts(R,R) :- some(I,R,A).
+counts(R,S) :- counts(R,T), wider(T,S).
+
 below(X,X) :- ground(X).
 below(X,I) :- ground(X), top(I).
 below(X,J) :- below(X,I), name(I,N), name(J,N).
 below(X,A) :- below(X,I), and(I,A,B).
 below(X,B) :- below(X,I), and(I,A,B).
 below(X,I) :- below(X,A), below(X,B), and(I,A,B).
-below(X,J) :- below(X,I), some(I,R,A), below(A,B), some(J,R,B).
+below(X,J) :- below(X,I), some(I,R,A), below(A,B), counts(R,S), some(J,S,B).
 below(X,R) :- below(X,L), included(L,R).
 
 left(I) :- question(I,R), pattern(I).
@@ -41,7 +45,7 @@ over(I,T) :- left(I), top(T).
 over(I,P) :- left(I), blank(I,V), take(V,P).
 over(I,Y) :- left(I), and(I,A,B), over(A,Y).
 over(I,Y) :- left(I), and(I,A,B), over(B,Y).
-over(I,J) :- left(I), some(I,R,A), over(A,B), some(J,R,B), ground(J).
+over(I,J) :- left(I), some(I,R,A), over(A,B), counts(R,S), some(J,S,B), ground(J).
 over(I,Y) :- over(I,Z), below(Z,Y), pattern(I).
 over(I,J) :- over(I,A), over(I,B), and(J,A,B), ground(J).
 over(I,R) :- over(I,L), included(L,R).
@@ -49,11 +53,11 @@ over(I,R) :- over(I,L), included(L,R).
 right(L,R) :- question(L,R), pattern(R).
 right(X,A) :- right(X,I), and(I,A,B).
 right(X,B) :- right(X,I), and(I,A,B).
-right(B,A) :- right(X,I), some(I,R,A), below(X,J), some(J,R,B).
+right(B,A) :- right(X,I), some(I,S,A), below(X,J), counts(R,S), some(J,R,B).
 under(X,I) :- right(X,I), below(X,I).
 under(X,I) :- right(X,I), blank(I,V), not take(V,P) : part(P), not below(X,P).
 under(X,I) :- right(X,I), and(I,A,B), under(X,A), under(X,B).
-under(X,I) :- right(X,I), some(I,R,A), below(X,J), some(J,R,B), under(B,A).
+under(X,I) :- right(X,I), some(I,S,A), below(X,J), counts(R,S), some(J,R,B), under(B,A).
 
 :- question(L,R), ground(L), ground(R), not below(L,R).
 :- question(L,R), pattern(L), not over(L,R).
@@ -101,6 +105,9 @@ fn facts(tables: &Tables) -> String {
     }
     for (left, right) in tables.question_pairs() {
         let _ = writeln!(text, "question({},{}).", left, right);
+    }
+    for (narrow, wide) in tables.role_pairs() {
+        let _ = writeln!(text, "wider({},{}).", narrow, wide);
     }
     for part in atoms::list(tables) {
         let _ = writeln!(text, "part({}).", part);

@@ -43,6 +43,9 @@ fn ontology(tables: &Tables) -> String {
         let _ = writeln!(text, "Declaration(Class(:e{}))", id);
         let _ = writeln!(text, "EquivalentClasses(:e{} {})", id, class(tables.concept(id)));
     }
+    for (narrow, wide) in tables.role_pairs() {
+        let _ = writeln!(text, "SubObjectPropertyOf(:r{} :r{})", narrow, wide);
+    }
     let mut pairs = tables.inclusion_pairs();
     if let Some(top) = (0..count).find(|&id| tables.concept(id) == Concept::Top) {
         pairs.extend((0..count).map(|id| (id, top)));

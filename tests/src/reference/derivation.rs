@@ -1,7 +1,8 @@
-//! Derivations: 01's eight rules, read line by line, and a writer that closes under them.
+//! Derivations: 01's eight rules, the fifth as 02 widens it, read line by line, and a writer that closes under them.
 
 use std::collections::BTreeSet;
 
+use super::roles;
 use crate::random::Random;
 use crate::tables::{Concept, Tables};
 
@@ -37,7 +38,7 @@ pub fn premises(tables: &Tables, chosen: &[Vec<usize>], line: Line) -> Option<Ve
         (3, 1, Concept::Conjunction(_, second), _) => Some(vec![(second, right)]),
         (4, 0, _, Concept::Conjunction(first, second)) => Some(vec![(left, first), (left, second)]),
         (5, 0, Concept::Existential(one, inner), Concept::Existential(other, outer))
-            if one == other =>
+            if roles::counts_as(tables, one, other) =>
         {
             Some(vec![(inner, outer)])
         }

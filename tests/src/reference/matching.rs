@@ -11,7 +11,7 @@
 use super::clauses::Clauses;
 use super::model::Canonical;
 use super::patterns::Patterns;
-use super::{atoms, relation};
+use super::{atoms, relation, roles};
 use crate::tables::Tables;
 
 /// Whether every question holds under the assignment.
@@ -78,7 +78,8 @@ pub fn first_solution_with_effort(tables: &Tables) -> (Option<Vec<u64>>, Effort)
 
 fn search_over(tables: &Tables, ids: &[usize]) -> (Option<Vec<u64>>, Effort) {
     let below = relation(tables, &vec![0; usize::from(tables.variables)]);
-    let patterns = Patterns::new(tables, ids, |i, j| below[i][j]);
+    let wider = roles::wider_bits(tables);
+    let patterns = Patterns::new(tables, ids, wider, |i, j| below[i][j]);
     search_with_effort(&patterns, usize::from(tables.variables))
 }
 

@@ -1,4 +1,4 @@
-//! The independent implementation, written from 01 alone: refusals as a list of checks, atoms as
+//! The independent implementation, written from 01 and 02 alone: refusals as a list of checks, atoms as
 //! a set of ids, subsumption by building a canonical interpretation and looking at its members,
 //! matching by learning clauses from assignments that fail. It aims at being plainly right; most
 //! of it is slow.
@@ -11,6 +11,7 @@ pub mod matching;
 pub mod model;
 pub mod patterns;
 pub mod refusals;
+pub mod roles;
 
 use crate::limits::{line_room, ATOM_ROOM, ROW_BYTES};
 use crate::tables::{Case, Tables};

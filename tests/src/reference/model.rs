@@ -2,14 +2,15 @@
 //!
 //! It has one element for each concept id. Element i starts with the names and links that concept
 //! i spells out; a link goes to the element of its inner id. As long as an element is a member of
-//! an inclusion's left side and not of its right, it is given what the right side spells out.
-//! When nothing is missing the interpretation obeys the inclusions and i is a member of i; and as
+//! an inclusion's left side and not of its right, it is given what the right side spells out. A link
+//! stands under each role that it counts as from the start, so the role pairs are obeyed throughout.
+//! When nothing is missing the interpretation obeys both tables and i is a member of i; and as
 //! nothing was added that is not forced, i is subsumed by j exactly when element i is a member
 //! of j.
 
 use std::collections::BTreeSet;
 
-use super::atoms;
+use super::{atoms, roles};
 use crate::semantics::Interpretation;
 use crate::tables::{Concept, Tables};
 
@@ -44,7 +45,8 @@ fn spell_out(tables: &Tables, chosen: &[Vec<usize>]) -> Interpretation {
                 spelt.names[id].insert(name);
             }
             Concept::Existential(role, inner) => {
-                spelt.links[id].insert((role, inner));
+                let wider = roles::wider(tables, role);
+                spelt.links[id].extend(wider.into_iter().map(|wide| (wide, inner)));
             }
             Concept::Conjunction(first, second) => {
                 copy(&mut spelt, first, id);
@@ -88,8 +90,8 @@ fn membership(
                 Concept::Top => true,
                 Concept::Name(name) => interpretation.names[x].contains(&name),
                 Concept::Existential(role, inner) => interpretation.links[x]
-                    .iter()
-                    .any(|&(r, target)| r == role && of[target][inner]),
+                    .range((role, 0)..=(role, size))
+                    .any(|&(_, target)| of[target][inner]),
                 Concept::Conjunction(first, second) => of[x][first] && of[x][second],
                 Concept::Variable(variable) => chosen[variable].iter().all(|&atom| of[x][atom]),
             };

@@ -4,7 +4,8 @@
 //!
 //! Above a pattern stand the ground concepts reached from its parts through inclusions,
 //! conjunctions and existentials. Below a pattern stand the ground concepts that are below each
-//! chosen atom, and those with a ground existential as witness of an existential.
+//! chosen atom, and those with a ground existential as witness of an existential, whose role counts
+//! as the pattern's.
 
 use super::atoms;
 use crate::tables::{Concept, Tables};
@@ -46,12 +47,20 @@ pub struct Patterns {
     steps: Vec<(usize, usize, usize)>,
     /// Role, inner id and id of the ground existentials.
     existentials: Vec<(u16, usize, usize)>,
+    /// For each role those that it counts as, as bits; empty where each counts as itself only.
+    wider: Vec<u128>,
 }
 
 impl Patterns {
     /// The tables must be accepted; the variables choose from `ids`, ground names and existentials,
-    /// mostly the atoms; `holds(i, j)` says that the ground i is subsumed by the ground j.
-    pub fn new(tables: &Tables, ids: &[usize], holds: impl Fn(usize, usize) -> bool) -> Patterns {
+    /// mostly the atoms; `wider` has for each role the roles that it counts as, as bits, or is empty;
+    /// `holds(i, j)` says that the ground i is subsumed by the ground j.
+    pub fn new(
+        tables: &Tables,
+        ids: &[usize],
+        wider: Vec<u128>,
+        holds: impl Fn(usize, usize) -> bool,
+    ) -> Patterns {
         let count = tables.concept_count();
         let pattern = atoms::patterns(tables);
         let mut made = Patterns {
@@ -64,6 +73,7 @@ impl Patterns {
             above_top: [0; 3],
             steps: tables.inclusion_pairs().iter().map(|&(l, r)| (l, l, r)).collect(),
             existentials: Vec::new(),
+            wider,
             pattern,
         };
         made.parts = made.questions.iter().map(|&pair| made.parts_of(pair)).collect();
@@ -154,6 +164,11 @@ impl Patterns {
         (0..self.atoms.len()).filter(move |k| choice >> k & 1 == 1).map(move |k| self.atoms[k])
     }
 
+    fn counts_as(&self, narrow: u16, wide: u16) -> bool {
+        let wider = self.wider.get(usize::from(narrow));
+        narrow == wide || wider.map_or(false, |wider| wider >> wide & 1 == 1)
+    }
+
     /// The ground ids that the pattern `id` is subsumed by.
     fn over(&self, id: usize, known: &[Ids], assignment: &[u64]) -> Ids {
         let mut over = self.above_top;
@@ -167,7 +182,7 @@ impl Patterns {
             }
             Concept::Existential(role, inner) => {
                 for &(r, filler, existential) in &self.existentials {
-                    if r == role && has(&known[inner], filler) {
+                    if self.counts_as(role, r) && has(&known[inner], filler) {
                         join(&mut over, &known[existential]);
                     }
                 }
@@ -205,7 +220,7 @@ impl Patterns {
             Concept::Existential(role, inner) => {
                 under = [0; 3];
                 for &(r, filler, existential) in &self.existentials {
-                    if r == role && has(&known[inner], filler) {
+                    if self.counts_as(r, role) && has(&known[inner], filler) {
                         join(&mut under, &known[existential]);
                     }
                 }

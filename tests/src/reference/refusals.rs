@@ -1,11 +1,11 @@
-//! Refusals 1 to 9 of 01. Each check answers the lowest place at fault.
+//! Refusals 1 to 9 of 01 and 16 of 02. Each check answers the lowest place at fault.
 
 use super::atoms;
 use super::Refusal;
 use crate::limits::*;
 use crate::tables::{Concept, Tables};
 
-/// Checks 1 to 7 in order. A pair given alone is judged within check 4, at place 0.
+/// Checks 1 to 6, 16 and 7 in order. A pair given alone is judged within check 4, at place 0.
 pub fn of_tables(tables: &Tables, pair: Option<(u16, u16)>) -> Result<(), Refusal> {
     refuse(1, limit_fault(tables))?;
     refuse(2, ids(tables).find(|&id| malformed(tables, id)))?;
@@ -13,6 +13,7 @@ pub fn of_tables(tables: &Tables, pair: Option<(u16, u16)>) -> Result<(), Refusa
     refuse(4, pair_fault(tables, pair))?;
     refuse(5, variable_in_inclusion(tables))?;
     refuse(6, variables_on_both_sides(tables))?;
+    refuse(16, tables.role_pairs().position(|(r, s)| r > MAX_ROLE || s > MAX_ROLE))?;
     let too_many = atoms::list(tables).len() > MAX_ATOMS;
     refuse(7, too_many.then_some(64))
 }
@@ -59,6 +60,7 @@ fn limit_fault(tables: &Tables) -> Option<usize> {
         bad(tables.inclusions.len(), 2, MAX_INCLUSIONS),
         bad(tables.questions.len(), 2, MAX_QUESTIONS),
         usize::from(tables.variables) > MAX_VARIABLES,
+        bad(tables.roles.len(), 2, MAX_ROLE_PAIRS),
     ];
     faults.iter().position(|&fault| fault)
 }
