@@ -1,6 +1,6 @@
 -- From an operation's answer to the export's numbers: they are the same reply, so what is promised of one holds of the other.
 use Prim.Native.Nat.{ℕ}
-use mathlib.Core.Path.{_≡_, sym, ap, _∙_, subst}
+use mathlib.Core.Path.{_≡_, refl, sym, ap, _∙_, subst}
 use mathlib.Core.List.{List}
 use Rattle.subsumption.specs.declared.refusal.Refusal.{Refusal}
 use Rattle.subsumption.specs.declared.refusal.Outcome.{Outcome}
@@ -10,12 +10,15 @@ use Rattle.subsumption.specs.declared.table.Tabled.{Tabled}
 use Rattle.subsumption.specs.declared.decide.Decision.{Decision}
 use Rattle.matching.specs.declared.find.Match.{Match}
 use Rattle.matching.specs.declared.writer.Derived.{Derived}
+use Rattle.countermodel.specs.declared.show.Shown.{Shown}
 use Rattle.subsumption.specs.Tables.{Tables}
 use Rattle.subsumption.specs.Refusal.{codeOf, Reply, replyDone, replyWith}
 use Rattle.subsumption.specs.Table.{tabledReply, Wrote}
 use Rattle.subsumption.specs.Decide.{decisionReply, Decides}
 use Rattle.matching.specs.Find.{matchReply, Finds}
 use Rattle.matching.specs.Writer.{derivedReply, Derives}
+use Rattle.countermodel.specs.Show.{shownReply, Shows}
+use Rattle.countermodel.specs.Membership.{DecidesMember}
 use Rattle.capi.specs.declared.Answer.{Answer}
 use Rattle.capi.specs.Answer.{replied}
 
@@ -39,9 +42,8 @@ module _ (t : Tables) (assignment before after : List ℕ) (left right : ℕ) (a
   pub wrote-as : (x y : Tabled) → Wrote t assignment before after (tabledReply x) → x ≡ y → replied a ≡ tabledReply y → Wrote t assignment before after (replied a)
   wrote-as x y = passed-on (Wrote t assignment before after) tabledReply x y a
 
-  pub decides-as :
-      (x y : Decision) → Decides t assignment left right (decisionReply x) → x ≡ y → replied a ≡ decisionReply y → Decides t assignment left right (replied a)
-  decides-as x y = passed-on (Decides t assignment left right) decisionReply x y a
+  pub decides-as : (x : Decision) → Decides t assignment left right (decisionReply x) → replied a ≡ decisionReply x → Decides t assignment left right (replied a)
+  decides-as x p = passed-on (Decides t assignment left right) decisionReply x x a p refl
 
   pub finds-as : (x y : Match) → Finds t before after (matchReply x) → x ≡ y → replied a ≡ matchReply y → Finds t before after (replied a)
   finds-as x y = passed-on (Finds t before after) matchReply x y a
@@ -50,3 +52,13 @@ module _ (t : Tables) (assignment before after : List ℕ) (left right : ℕ) (a
       (x y : Derived) → Derives t assignment left right before after (derivedReply x) → x ≡ y → replied a ≡ derivedReply y
       → Derives t assignment left right before after (replied a)
   derives-as x y = passed-on (Derives t assignment left right before after) derivedReply x y a
+
+  pub shows-as :
+      (x y : Shown) → Shows t assignment left right before after (shownReply x) → x ≡ y → replied a ≡ shownReply y
+      → Shows t assignment left right before after (replied a)
+  shows-as x y = passed-on (Shows t assignment left right before after) shownReply x y a
+
+  pub member-as :
+      (size : ℕ) (rows : List ℕ) (x : Decision) → DecidesMember t assignment size rows left right (decisionReply x) → replied a ≡ decisionReply x
+      → DecidesMember t assignment size rows left right (replied a)
+  member-as size rows x p = passed-on (DecidesMember t assignment size rows left right) decisionReply x x a p refl

@@ -1,4 +1,5 @@
 // The operations for C and Rust. No logic of its own: each export calls one operation and turns its answer into numbers.
+use countermodel::Shown;
 use matching::Chosen;
 use matching::Derived;
 use matching::Match;
@@ -16,11 +17,13 @@ ghost use Rattle.subsumption.specs.Refusal.{replyWith, replyOf};
 ghost use Rattle.subsumption.specs.Check.{tableFault, pairFault};
 ghost use Rattle.subsumption.specs.Listing.{listingFault, listedIn};
 ghost use Rattle.subsumption.specs.Table.{Wrote};
-ghost use Rattle.subsumption.specs.Decide.{Decides};
+ghost use Rattle.subsumption.specs.Decide.{decisionReply, Decides};
 ghost use Rattle.matching.specs.Derivation.{checkingFault};
 ghost use Rattle.matching.specs.Find.{Finds};
 ghost use Rattle.matching.specs.Chosen.{choosingFault, chosenIn};
 ghost use Rattle.matching.specs.Writer.{Derives};
+ghost use Rattle.countermodel.specs.Show.{Shows};
+ghost use Rattle.countermodel.specs.Membership.{DecidesMember};
 ghost use Rattle.capi.specs.Answer.{replied};
 
 // number 0: done; else the refusal's number, with its place and value 0.
@@ -51,6 +54,17 @@ fn answer_of(outcome: Outcome, value: u64) -> Answer
                 value: 0,
             }
         }
+    }
+}
+
+// A decision: 1 for yes, 0 for no.
+fn decided(answer: Decision) -> Answer
+    ensures { λ a. ⌜ replied a ≡ decisionReply answer ⌝ }
+{
+    match answer {
+        Decision::Rejected(r) => answer_of(Outcome::Refused(r), 0),
+        Decision::Yes => answer_of(Outcome::Done, 1),
+        Decision::No => answer_of(Outcome::Done, 0),
     }
 }
 
@@ -160,11 +174,7 @@ pub extern "C" fn hc_subsumed(
         left,
         right,
     );
-    match answer {
-        Decision::Rejected(r) => answer_of(Outcome::Refused(r), 0),
-        Decision::Yes => answer_of(Outcome::Done, 1),
-        Decision::No => answer_of(Outcome::Done, 0),
-    }
+    decided(answer)
 }
 
 // Finds the first assignment that makes every question hold; refusal 10: no substitution does.
@@ -276,4 +286,67 @@ pub extern "C" fn hc_check_derivation(
         lines,
     );
     answer_of(judged, 0)
+}
+
+// Shows an interpretation where one pair fails under an assignment; value: how many rows. Its elements are the concepts.
+#[no_mangle]
+pub extern "C" fn hc_show(
+    concepts: &[u16],
+    inclusions: &[u16],
+    questions: &[u16],
+    roles: &[u16],
+    variables: u16,
+    assignment: &[u64],
+    left: u16,
+    right: u16,
+    out: &mut [u16],
+) -> Answer
+    ensures { λ a. ⌜ Shows (tables (now (concepts .entry)) (now (inclusions .entry)) (now (questions .entry)) (now (roles .entry)) variables) (now (assignment .entry)) left right (now (out .entry)) (now (out .exit)) (replied a) ⌝ }
+{
+    let answer = countermodel::show_countermodel(
+        concepts,
+        inclusions,
+        questions,
+        roles,
+        variables,
+        assignment,
+        left,
+        right,
+        out,
+    );
+    match answer {
+        Shown::Rejected(r) => answer_of(Outcome::Refused(r), 0),
+        Shown::Rows(n) => answer_of(Outcome::Done, n as u64),
+    }
+}
+
+// Tells whether an element of a given interpretation is a member of a concept under an assignment; value: 1 for yes, 0 for no.
+#[no_mangle]
+pub extern "C" fn hc_belongs(
+    concepts: &[u16],
+    inclusions: &[u16],
+    questions: &[u16],
+    roles: &[u16],
+    variables: u16,
+    assignment: &[u64],
+    size: u16,
+    rows: &[u16],
+    concept: u16,
+    element: u16,
+) -> Answer
+    ensures { λ a. ⌜ DecidesMember (tables (now (concepts .entry)) (now (inclusions .entry)) (now (questions .entry)) (now (roles .entry)) variables) (now (assignment .entry)) size (now (rows .entry)) concept element (replied a) ⌝ }
+{
+    let answer = countermodel::decide_member(
+        concepts,
+        inclusions,
+        questions,
+        roles,
+        variables,
+        assignment,
+        size,
+        rows,
+        concept,
+        element,
+    );
+    decided(answer)
 }

@@ -76,6 +76,10 @@ module _ (left : ℕ → List ℕ) (before : List ℕ) (at : ℕ) where
           long = wrote-length out end piece end' out' piece-room w ∙ s .long;
         }
 
+  pub printed-skip : (out : List ℕ) (end i : ℕ) → Printed out end i → left i ≡ left (i + 1) → Printed out end (i + 1)
+  printed-skip out end i s e =
+      record { text = s .text; wrote = s .wrote; whole = s .whole ∙ ap (λ (z : List ℕ). s .text ++ z) e; long = s .long }
+
   pub printed-done : (out : List ℕ) (end i : ℕ) → Printed out end i → left i ≡ [] → Wrote before at (left 0) end out
   printed-done out end i s e =
       subst (λ (z : List ℕ). Wrote before at z end out) (sym (s .whole ∙ ap (λ (z : List ℕ). s .text ++ z) e ∙ append-nil (s .text))) (s .wrote)

@@ -12,9 +12,11 @@ use Rattle.subsumption.specs.Tables.{Tables, both, countOf, pairsOf}
 use Rattle.hermitcasket.specs.declared.lines.Number.the-variants.{Value, NoNumber}
 use Rattle.hermitcasket.specs.declared.lines.PairLine.the-variants.{Two, NoPair}
 use Rattle.hermitcasket.specs.declared.lines.RowLine.the-variants.{Row}
+use Rattle.hermitcasket.specs.declared.text.Ask.{Ask}
+use Rattle.hermitcasket.specs.declared.text.Ask.the-variants.{Fill, Show}
 use Rattle.hermitcasket.specs.Digits.{digits}
-use Rattle.hermitcasket.specs.Lines.{variablesKey, rolesKey, widerKey, conceptsKey, inclusionsKey, questionsKey, belowKey, topText, nameKey, someKey, andKey, variableKey, numberText, pairText, rowText, starts, pickNumber, numberFrom, behind as shifted, numberLine, secondOf, firstOf, pairIf, pairLine, topRow, oneRow, twoRow, orRow, rowLine}
-use Rattle.hermitcasket.specs.Text.{linesText, rowOfNumbers, pairOfNumbers, rolesText, layout, RowFits, RowsFit, ConceptFits, PairFits, Sayable, Line, numbers, rowNumbers, pairNumbers, rowAt, pairAt, part, prepend, lineThen, readLines, accepted, pickJudged, Onward, countThen, partThen, sectionAt, rolesAt, judgeEnd, judgeQuestions, judgeInclusions, judgeConcepts, judgeRoles, judgeLines, judge}
+use Rattle.hermitcasket.specs.Lines.{variablesKey, rolesKey, widerKey, conceptsKey, inclusionsKey, questionsKey, belowKey, showKey, topText, nameKey, someKey, andKey, variableKey, numberText, pairText, rowText, starts, pickNumber, numberFrom, behind as shifted, numberLine, secondOf, firstOf, pairIf, pairLine, topRow, oneRow, twoRow, orRow, rowLine}
+use Rattle.hermitcasket.specs.Text.{linesText, rowOfNumbers, pairOfNumbers, rolesText, askText, layout, RowFits, RowsFit, ConceptFits, PairFits, AskFits, Sayable, Line, numbers, rowNumbers, pairNumbers, rowAt, pairAt, part, prepend, lineThen, readLines, accepted, pickJudged, Onward, countThen, partThen, sectionAt, rolesAt, showThen, judgeEnd, judgeQuestions, judgeInclusions, judgeConcepts, judgeRoles, judgeLines, judge}
 use Rattle.hermitcasket.proofs.DigitLaws.{digits-some, reads-digits}
 use Rattle.hermitcasket.proofs.LineLaws.{starts-right}
 
@@ -181,7 +183,16 @@ key-missing : (n : ℕ) (more : List ℕ) → starts rolesKey (numberText concep
 unfolding starts both numberText
 key-missing n more = refl
 
-module _ (t : Tables) (s : Sayable t) (present : Bool) (absent : present ≡ false → t .roles ≡ []) where
+ask-right : (t : Tables) (ask : Ask) (at : ℕ) → AskFits ask → judgeEnd t at (askText ask) ≡ accepted t ask
+unfolding judgeEnd showThen pickJudged askText pairText
+ask-right t Fill at h = refl
+ask-right t (Show left right) at h =
+    let line = pairText showKey left right in
+    let e : pairLine showKey line ≡ Two left right (length line) =
+    ap (pairLine showKey) (sym (append-nil line)) ∙ pairLine-right showKey left right [] (h .0) (h .1) in
+    rw (e, le-ltb (length line) (length line) (omega arith)) refl
+
+module _ (t : Tables) (ask : Ask) (s : Sayable t ask) (present : Bool) (absent : present ≡ false → t .roles ≡ []) where
   a : List ℕ
   a = numberText variablesKey (t .variables)
 
@@ -206,7 +217,7 @@ module _ (t : Tables) (s : Sayable t) (present : Bool) (absent : present ≡ fal
   g : List ℕ
   g = linesText (pairOfNumbers belowKey) 2 (pairsOf (t .questions)) (t .questions)
 
-  text-is : layout present t ≡ a ++ (r ++ (b ++ (c ++ (d ++ (e ++ (f ++ g))))))
+  text-is : layout present t ask ≡ a ++ (r ++ (b ++ (c ++ (d ++ (e ++ (f ++ (g ++ askText ask)))))))
   unfolding layout a r b c d e f g
   text-is = refl
 
@@ -239,28 +250,28 @@ module _ (t : Tables) (s : Sayable t) (present : Bool) (absent : present ≡ fal
           rw (key-missing (countOf (t .concepts)) more, z, h refl) refl
 
   third :
-      (at : ℕ) → judgeConcepts (t .variables) (t .roles) at (b ++ (c ++ (d ++ (e ++ (f ++ g))))) ≡ judgeInclusions (t .variables) (t .roles) (t .concepts) (at + length b + length c) (d ++ (e ++ (f ++ g)))
+      (at : ℕ) → judgeConcepts (t .variables) (t .roles) at (b ++ (c ++ (d ++ (e ++ (f ++ (g ++ askText ask)))))) ≡ judgeInclusions (t .variables) (t .roles) (t .concepts) (at + length b + length c) (d ++ (e ++ (f ++ (g ++ askText ask))))
   unfolding judgeConcepts b c
   third at =
-      section-right rowAt rowOfNumbers ConceptFits 3 rows-right conceptsKey 192 0 at (countOf (t .concepts)) (t .concepts) (d ++ (e ++ (f ++ g))) _
+      section-right rowAt rowOfNumbers ConceptFits 3 rows-right conceptsKey 192 0 at (countOf (t .concepts)) (t .concepts) (d ++ (e ++ (f ++ (g ++ askText ask)))) _
       (s .few-concepts) (omega arith) (s .concepts-fit)
 
   fourth :
-      (at : ℕ) → judgeInclusions (t .variables) (t .roles) (t .concepts) at (d ++ (e ++ (f ++ g))) ≡ judgeQuestions (t .variables) (t .roles) (t .concepts) (t .inclusions) (at + length d + length e) (f ++ g)
+      (at : ℕ) → judgeInclusions (t .variables) (t .roles) (t .concepts) at (d ++ (e ++ (f ++ (g ++ askText ask)))) ≡ judgeQuestions (t .variables) (t .roles) (t .concepts) (t .inclusions) (at + length d + length e) (f ++ (g ++ askText ask))
   unfolding judgeInclusions d e
   fourth at =
-      section-right (pairAt belowKey) (pairOfNumbers belowKey) PairFits 2 (pairs-right belowKey) inclusionsKey 96 1 at (pairsOf (t .inclusions)) (t .inclusions) (f ++ g) _
+      section-right (pairAt belowKey) (pairOfNumbers belowKey) PairFits 2 (pairs-right belowKey) inclusionsKey 96 1 at (pairsOf (t .inclusions)) (t .inclusions) (f ++ (g ++ askText ask)) _
       (s .few-inclusions) (omega arith) (s .inclusions-fit)
 
-  fifth : (at : ℕ) → judgeQuestions (t .variables) (t .roles) (t .concepts) (t .inclusions) at (f ++ g) ≡ accepted t
-  unfolding judgeQuestions judgeEnd f g
+  fifth : (at : ℕ) → judgeQuestions (t .variables) (t .roles) (t .concepts) (t .inclusions) at (f ++ (g ++ askText ask)) ≡ accepted t ask
+  unfolding judgeQuestions f g
   fifth at =
-      ap (λ (z : List ℕ). judgeQuestions (t .variables) (t .roles) (t .concepts) (t .inclusions) at (f ++ z)) (sym (append-nil g))
-      ∙ section-right (pairAt belowKey) (pairOfNumbers belowKey) PairFits 2 (pairs-right belowKey) questionsKey 32 2 at (pairsOf (t .questions)) (t .questions) [] _
+      section-right (pairAt belowKey) (pairOfNumbers belowKey) PairFits 2 (pairs-right belowKey) questionsKey 32 2 at (pairsOf (t .questions)) (t .questions) (askText ask) _
       (s .few-questions) (omega arith) (s .questions-fit)
+      ∙ ask-right t ask _ (s .ask-fits)
 
-  pub layout-accepted : length (layout present t) ≤ 8192 → judge (layout present t) ≡ accepted t
+  pub layout-accepted : length (layout present t ask) ≤ 8192 → judge (layout present t ask) ≡ accepted t ask
   unfolding judge pickJudged
   layout-accepted h =
-      rw (le-ltb 8192 (length (layout present t)) h)
+      rw (le-ltb 8192 (length (layout present t ask)) h)
       (ap (λ (z : List ℕ). judgeLines 0 z) text-is ∙ first _ ∙ second _ _ ∙ third _ ∙ fourth _ ∙ fifth _)

@@ -9,8 +9,11 @@ pub mod SectionLaws
 pub mod ReadLaws
 pub mod WriteLaws
 pub mod FillLaws
+pub mod MarkLines
 pub mod SizeLaws
 pub mod LayoutLaws
 pub mod ProgramLaws
+pub mod PlanLaws
+pub mod ShownLaws
 pub mod LayoutRead
 pub mod Texts

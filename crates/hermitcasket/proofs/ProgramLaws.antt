@@ -1,5 +1,5 @@
--- The answer for tables and for a text, by cases.
-use Prim.Native.Nat.{ℕ, _+_, _*_, _≤_}
+-- The answer for tables, by cases.
+use Prim.Native.Nat.{ℕ, _+_, _≤_}
 use mathlib.Core.Path.{_≡_, refl, sym, ap, _∙_, subst}
 use mathlib.Core.List.{List, _++_}
 use mathlib.Core.Logic.{inl, inr, ⊎-elim}
@@ -12,7 +12,7 @@ use Rattle.subsumption.specs.declared.refusal.Refusal.the-variants.{NoAssignmen
 use Rattle.subsumption.specs.declared.refusal.Code.{Code}
 use Rattle.subsumption.specs.declared.refusal.Outcome.{Outcome}
 use Rattle.subsumption.specs.declared.refusal.Outcome.the-variants.{Done, Refused}
-use Rattle.subsumption.specs.Tables.{Tables, tables}
+use Rattle.subsumption.specs.Tables.{Tables}
 use Rattle.subsumption.specs.Atoms.{atoms}
 use Rattle.subsumption.specs.Refusal.{codeOf, orElse, refuseIf}
 use Rattle.subsumption.specs.Check.{tableFault, assignmentFault, bufferFault}
@@ -20,13 +20,9 @@ use Rattle.subsumption.proofs.Replies.{same-refusal, not-done}
 use Rattle.matching.specs.declared.find.Match.{Match}
 use Rattle.matching.specs.declared.find.Match.the-variants.{Filled, Rejected as NotFound}
 use Rattle.matching.specs.Find.{findingFault, FilledBy, matchReply, FindsAfter, Finds}
-use Rattle.hermitcasket.specs.declared.text.Read.{Read}
-use Rattle.hermitcasket.specs.declared.text.Read.the-variants.{Problem, Rejected}
-use Rattle.hermitcasket.specs.Text.{Judged, accepted, judge}
-use Rattle.hermitcasket.specs.Inner.Text.{judgedBy, ReadFits}
 use Rattle.hermitcasket.specs.Printing.{noneLine, filledText, refusedText, pickText, codeText}
 use Rattle.hermitcasket.specs.Inner.Print.{placed, Wrote}
-use Rattle.hermitcasket.specs.Answer.{AnsweredTables, AnsweredJudged, Answered, Output}
+use Rattle.hermitcasket.specs.Answer.{AnsweredTables, Output}
 use Rattle.hermitcasket.proofs.SizeLaws.{filled-room}
 
 -- what was written in front is the output
@@ -123,27 +119,3 @@ module _
         go (Refused x) f =
             subst (λ (z : Outcome). AnsweredTables t z (codeText (codeOf r))) (sym f)
             (ap (λ (z : Refusal). codeText (codeOf z)) (same-refusal r x (said (NotFound r) e (Refused x) f .0)))
-
--- ---- a text
-module _ (text concepts inclusions questions roles : List ℕ) (read : Read) (judged : judge text ≡ judgedBy read concepts inclusions questions roles) where
-  module _ (before : List ℕ) (size : ℕ) (after : List ℕ) where
-    pub text-refused : (r : Refusal) → read ≡ Rejected r → Wrote before 0 (codeText (codeOf r)) size after → Output (Answered text) before size after
-    unfolding judgedBy
-    text-refused r e w =
-        output _ before _ size after w
-        (subst (λ (z : Judged). AnsweredJudged z (codeText (codeOf r))) (sym (judged ∙ ap (λ (z : Read). judgedBy z concepts inclusions questions roles) e)) refl)
-
-    pub text-answered :
-        (v c i q p : ℕ) → read ≡ Problem v c i q p
-        → Output (AnsweredTables (tables (take (c * 3) concepts) (take (i * 2) inclusions) (take (q * 2) questions) (take (p * 2) roles) v) (tableFault (tables (take (c * 3) concepts) (take (i * 2) inclusions) (take (q * 2) questions) (take (p * 2) roles) v))) before size after
-        → Output (Answered text) before size after
-    unfolding judgedBy
-    text-answered v c i q p e o =
-        record {
-          answered = subst (λ (z : Judged). AnsweredJudged z (take size after)) (sym (judged ∙ ap (λ (z : Read). judgedBy z concepts inclusions questions roles) e)) (o .answered);
-          within = o .within;
-          kept = o .kept;
-        }
-
-pub read-fits : (read : Read) → ReadFits read → (v c i q p : ℕ) → read ≡ Problem v c i q p → (v ≤ 8) × (c ≤ 192) × (i ≤ 96) × (q ≤ 32) × (p ≤ 32)
-read-fits read h v c i q p e = subst ReadFits e h

@@ -7,14 +7,19 @@ use lib.ListN.{length, take, drop, length-drop}
 use borrow.Author.Tests.{lt-ltb, le-ltb}
 use Rattle.subsumption.specs.declared.refusal.Refusal.{Refusal}
 use Rattle.subsumption.specs.declared.refusal.Refusal.the-variants.{BadText}
+use Rattle.hermitcasket.specs.declared.text.Ask.{Ask}
+use Rattle.hermitcasket.specs.declared.text.End.{End}
+use Rattle.hermitcasket.specs.declared.text.End.the-variants.{Asks, Damaged}
+use Rattle.hermitcasket.specs.declared.text.Asked.{Asked}
+use Rattle.hermitcasket.specs.declared.text.Asked.the-variants.{Questions, Wrong}
 use Rattle.hermitcasket.specs.declared.text.Section.{Section}
 use Rattle.hermitcasket.specs.declared.text.Section.the-variants.{Through, Faulty}
 use Rattle.hermitcasket.specs.declared.text.Read.{Read}
 use Rattle.hermitcasket.specs.declared.text.Read.the-variants.{Problem, Rejected}
-use Rattle.hermitcasket.specs.Lines.{variablesKey, conceptsKey, inclusionsKey, belowKey}
-use Rattle.subsumption.specs.Tables.{tables}
-use Rattle.hermitcasket.specs.Text.{rowAt, pairAt, refused, pickJudged, Onward, sectionAt, rolesAt, judgeQuestions, judgeInclusions, judgeConcepts, judgeRoles, judgeLines, judge}
-use Rattle.hermitcasket.specs.Inner.Text.{countedThen, sectionThen, lastThen, SectionFits, Counts, Sectioned, Last, faultOf, judgedBy, ReadFits, TablesRead}
+use Rattle.hermitcasket.specs.Lines.{variablesKey, conceptsKey, inclusionsKey, questionsKey, belowKey}
+use Rattle.subsumption.specs.Tables.{Tables, tables}
+use Rattle.hermitcasket.specs.Text.{rowAt, pairAt, refused, pickJudged, Onward, sectionAt, rolesAt, judgeEnd, judgeQuestions, judgeInclusions, judgeConcepts, judgeRoles, judgeLines, judge}
+use Rattle.hermitcasket.specs.Inner.Text.{countedThen, sectionThen, endThen, Ends, lastThen, LastFits, SectionFits, Counts, Sectioned, Last, faultOf, judgedBy, TablesRead}
 
 pub fault-through : (s : Section) (count used : ℕ) → s ≡ Through count used → BadText used ≡ faultOf s
 unfolding faultOf
@@ -32,6 +37,9 @@ module _
     pub section-fits : (count ≤ limit) × (n ≤ length rest)
     section-fits = subst (λ (z : Section). SectionFits z limit (length rest)) h (r .fits)
 
+    pub section-within : n ≤ length rest
+    section-within = section-fits .1
+
     pub section-room : at + length rest ≤ 8192 → (more : List ℕ) → more ≡ drop n rest → at + n + length more ≤ 8192
     section-room l more e = omega (arith, section-fits, ap length e, length-drop n rest)
 
@@ -42,6 +50,28 @@ module _
   stops : (f x : Refusal) (go : List ℕ → Onward) → s ≡ Faulty f → x ≡ faultOf s → section go at rest ≡ refused x
   unfolding sectionThen faultOf
   stops f x go h e = r .judged go ∙ rw (h, e, h) refl
+
+-- ---- the questions and the end
+module _
+    (at : ℕ) (rest : List ℕ) (section : Section) (out : List ℕ)
+    (s : Sectioned (sectionAt questionsKey 32 2 (pairAt belowKey)) 32 2 at rest section out) where
+  pub last-refused : (r x : Refusal) → section ≡ Faulty r → x ≡ faultOf section → Last at rest (Wrong x) out
+  unfolding lastThen
+  last-refused r x h e = record { judged = λ t. stops _ _ _ _ _ _ _ s r x _ h e; fits = tt }
+
+  module _ (count n : ℕ) (h : section ≡ Through count n) (last : List ℕ) (e : last ≡ drop n rest) (end : End) (ends : Ends (at + n) last end) where
+    at-end :
+        (t : List ℕ → Tables)
+        → sectionAt questionsKey 32 2 (pairAt belowKey) (λ questions. judgeEnd (t questions)) at rest ≡ endThen end (t (take (count * 2) out))
+    at-end t = goes _ _ _ _ _ _ _ s count n h last e _ ∙ ends _
+
+    pub last-damaged : (r : Refusal) → end ≡ Damaged r → Last at rest (Wrong r) out
+    unfolding endThen lastThen
+    last-damaged r f = record { judged = λ t. at-end t ∙ rw f refl; fits = tt }
+
+    pub last-asked : (ask : Ask) → end ≡ Asks ask → Last at rest (Questions count ask) out
+    unfolding endThen lastThen
+    last-asked ask f = record { judged = λ t. at-end t ∙ rw f refl; fits = section-fits _ _ _ _ _ _ _ s count n h .0 }
 
 -- ---- the tables
 module _
@@ -62,26 +92,26 @@ module _
     fault-4 f x Q h e = record { judged = λ R. after-1 _ ∙ stops _ _ _ _ _ _ _ s2 f x _ h e; fits = tt }
 
     module _
-        (i m : ℕ) (h2 : given ≡ Through i m) (third : List ℕ) (e2 : third ≡ drop m second) (asked : Section) (Q : List ℕ)
+        (i m : ℕ) (h2 : given ≡ Through i m) (third : List ℕ) (e2 : third ≡ drop m second) (asked : Asked) (Q : List ℕ)
         (s3 : Last (at + n + m) third asked Q) where
       after-2 : (roles : List ℕ) → judgeConcepts v roles at rest ≡ lastThen asked Q (λ questions. tables (take (c * 3) C) (take (i * 2) I) questions roles v)
       unfolding judgeInclusions judgeQuestions
       after-2 roles = after-1 roles ∙ goes _ _ _ _ _ _ _ s2 i m h2 third e2 _ ∙ s3 .judged _
 
-      pub fault-5 : (f x : Refusal) → asked ≡ Faulty f → x ≡ faultOf asked → TablesRead v p at rest (Rejected x) C I Q
-      unfolding lastThen judgedBy faultOf
-      fault-5 f x h e = record { judged = λ R. after-2 _ ∙ rw (h, e, h) refl; fits = tt }
-
-      pub read-all : v ≤ 8 → p ≤ 32 → (q l : ℕ) → asked ≡ Through q l → TablesRead v p at rest (Problem v c i q p) C I Q
+      pub fault-5 : (x : Refusal) → asked ≡ Wrong x → TablesRead v p at rest (Rejected x) C I Q
       unfolding lastThen judgedBy
-      read-all few-v few-p q l h =
+      fault-5 x h = record { judged = λ R. after-2 _ ∙ rw h refl; fits = tt }
+
+      pub read-all : v ≤ 8 → p ≤ 32 → (q : ℕ) (ask : Ask) → asked ≡ Questions q ask → TablesRead v p at rest (Problem v c i q p ask) C I Q
+      unfolding lastThen judgedBy
+      read-all few-v few-p q ask h =
           record {
             judged = λ R. after-2 _ ∙ rw h refl;
             fits = (
               few-v,
               section-fits _ _ _ _ _ _ _ s1 c n h1 .0,
               section-fits _ _ _ _ _ _ _ s2 i m h2 .0,
-              subst (λ (z : Section). SectionFits z 32 (length third)) h (s3 .fits) .0,
+              subst LastFits h (s3 .fits),
               few-p,
             );
           }

@@ -5,19 +5,24 @@ use mathlib.Core.List.{List, [], _∷_}
 use mathlib.Core.Bool.{Bool, true, false, not}
 use native.Mathlib.Omega.{arith}
 use lib.ListN.{length, drop, length-drop}
-use lib.Seq.{drop-drop, drop-length}
+use lib.Seq.{drop-drop}
 use borrow.Author.Tests.{lt-ltb, le-ltb, not-true, not-false}
 use Rattle.subsumption.specs.declared.refusal.Refusal.{Refusal}
 use Rattle.subsumption.specs.declared.refusal.Refusal.the-variants.{Limit, BadText}
+use Rattle.subsumption.specs.Tables.{Tables}
 use Rattle.hermitcasket.specs.declared.lines.Number.{Number}
 use Rattle.hermitcasket.specs.declared.lines.Number.the-variants.{Value, NoNumber}
+use Rattle.hermitcasket.specs.declared.lines.PairLine.{PairLine}
+use Rattle.hermitcasket.specs.declared.lines.PairLine.the-variants.{Two, NoPair}
+use Rattle.hermitcasket.specs.declared.text.Ask.the-variants.{Fill, Show}
 use Rattle.hermitcasket.specs.declared.text.Lines.{Lines}
 use Rattle.hermitcasket.specs.declared.text.Lines.the-variants.{Upto, Off}
 use Rattle.hermitcasket.specs.declared.text.Section.{Section}
 use Rattle.hermitcasket.specs.declared.text.Section.the-variants.{Through, Faulty}
-use Rattle.hermitcasket.specs.Lines.{rolesKey, widerKey, questionsKey, belowKey, starts, numberLine}
-use Rattle.hermitcasket.specs.Text.{Line, pickJudged, countThen, partThen, readLines, sectionAt, rolesAt, pairAt, judgeEnd}
-use Rattle.hermitcasket.specs.Inner.Text.{partOf, PartFits, countedThen, sectionThen, lastThen, SectionFits, Counts, Sectioned, Last}
+use Rattle.hermitcasket.specs.declared.text.End.the-variants.{Asks, Damaged}
+use Rattle.hermitcasket.specs.Lines.{rolesKey, widerKey, showKey, starts, numberLine, pairLine}
+use Rattle.hermitcasket.specs.Text.{Line, accepted, pickJudged, countThen, partThen, readLines, sectionAt, rolesAt, pairAt, showThen, judgeEnd}
+use Rattle.hermitcasket.specs.Inner.Text.{partOf, PartFits, countedThen, sectionThen, endThen, Ends, SectionFits, Counts, Sectioned}
 use Rattle.hermitcasket.proofs.LineLaws.{holds-within}
 use Rattle.hermitcasket.proofs.RightLines.{numberLine-holds}
 
@@ -99,26 +104,34 @@ module _ (at : ℕ) (rest : List ℕ) (there : Bool) (is-there : there ≡ start
   unfolding rolesAt pickJudged
   roles-present h r s = record { judged = λ go. rw (sym is-there ∙ not-false there h) (s .judged go); fits = s .fits }
 
--- ---- the last section
-module _ (at : ℕ) (rest : List ℕ) (asked : Section) (out : List ℕ) (s : Sectioned (sectionAt questionsKey 32 2 (pairAt belowKey)) 32 2 at rest asked out) where
-  pub last-refused : (r : Refusal) → asked ≡ Faulty r → Last at rest asked out
-  unfolding sectionThen lastThen
-  last-refused r h = subst (λ (z : Section). Last at rest z out) (sym h) (record { judged = λ t. s .judged _ ∙ rw h refl; fits = tt })
+-- ---- the end of the text
+module _ (at : ℕ) (rest : List ℕ) where
+  pub end-none : length rest ≡ 0 → Ends at rest (Asks Fill)
+  unfolding judgeEnd endThen
+  end-none h t = go rest h
+    where
+      go : (xs : List ℕ) → length xs ≡ 0 → judgeEnd t at xs ≡ accepted t Fill
+      go [] e = refl
+      go (x ∷ xs) e = absurd (omega arith)
 
-  module _ (count n : ℕ) (h : asked ≡ Through count n) where
-    last-fits : (count ≤ 32) × (n ≤ length rest)
-    last-fits = subst (λ (z : Section). SectionFits z 32 (length rest)) h (s .fits)
-
-    pub last-more : n < length rest → Last at rest (Faulty (BadText (at + n))) out
-    unfolding sectionThen lastThen judgeEnd
-    last-more l = go (drop n rest) refl
+  module _ (some : length rest ≡ 0 → ⊥) (line : PairLine) (is-line : line ≡ pairLine showKey rest) where
+    one-line : (t : Tables) → judgeEnd t at rest ≡ showThen line t at rest
+    unfolding judgeEnd
+    one-line t = go rest some ∙ ap (λ (z : PairLine). showThen z t at rest) (sym is-line)
       where
-        go : (more : List ℕ) → drop n rest ≡ more → Last at rest (Faulty (BadText (at + n))) out
-        go [] e = absurd (omega (arith, ap length e, length-drop n rest))
-        go (b ∷ more) e = record { judged = λ t. s .judged _ ∙ rw h (rw e refl); fits = tt }
+        go : (xs : List ℕ) → (length xs ≡ 0 → ⊥) → judgeEnd t at xs ≡ showThen (pairLine showKey xs) t at xs
+        go [] e = absurd (e refl)
+        go (x ∷ xs) e = refl
 
-    pub last-through : length rest ≤ n → Last at rest (Through count n) out
-    unfolding sectionThen lastThen judgeEnd
-    last-through l =
-        let e : n ≡ length rest = omega (arith, last-fits) in
-        record { judged = λ t. s .judged _ ∙ rw h (rw (ap (λ (z : ℕ). drop z rest) e ∙ drop-length rest) refl); fits = last-fits }
+    pub end-off : line ≡ NoPair → Ends at rest (Damaged (BadText at))
+    unfolding showThen endThen
+    end-off h t = one-line t ∙ rw h refl
+
+    module _ (left right n : ℕ) (h : line ≡ Two left right n) where
+      pub end-more : n < length rest → Ends at rest (Damaged (BadText (at + n)))
+      unfolding showThen pickJudged endThen
+      end-more l t = one-line t ∙ rw (h, lt-ltb n (length rest) l) refl
+
+      pub end-shown : length rest ≤ n → Ends at rest (Asks (Show left right))
+      unfolding showThen pickJudged endThen
+      end-shown l t = one-line t ∙ rw (h, le-ltb n (length rest) l) refl

@@ -7,16 +7,22 @@ use native.Mathlib.Omega.{arith}
 use native.Mathlib.Nat.{pow-suc}
 use lib.Dec.{ltb}
 use lib.ListN.{length, length-append}
-use borrow.Author.Tests.{ltb-true, ltb-false}
+use borrow.Author.Tests.{ltb-true, ltb-false, eqb-true}
 use Rattle.subsumption.specs.declared.refusal.Outcome.the-variants.{Done}
 use Rattle.subsumption.specs.declared.refusal.Code.{Code}
-use Rattle.subsumption.specs.Tables.{Tables}
+use Rattle.subsumption.specs.Tables.{Tables, or, both, anyBelow, Node, topAt, nameAt, existsAt, andAt, varAt, node, countOf}
 use Rattle.subsumption.specs.Atoms.{bit, keep, pick, isAtom, atoms}
 use Rattle.subsumption.specs.Check.{tableFault}
+use Rattle.subsumption.specs.Inner.Atoms.{markAt, markedIds}
 use Rattle.subsumption.proofs.Accepted.{wellFormed}
+use Rattle.subsumption.proofs.Bools.{both-true}
+use Rattle.subsumption.proofs.Lists.{keep-le}
+use Rattle.countermodel.specs.Countermodel.{isNamed, bears, namesAt}
+use Rattle.countermodel.specs.Inner.Show.{Checked}
 use Rattle.hermitcasket.specs.Digits.{digits}
-use Rattle.hermitcasket.specs.Lines.{variablesKey, numberText}
-use Rattle.hermitcasket.specs.Printing.{numberKey, placeKey, idText, idsText, fillText, fillsText, filledText, refusedText}
+use Rattle.hermitcasket.specs.Lines.{variablesKey, numberText, pairText}
+use Rattle.hermitcasket.specs.Printing.{numberKey, placeKey, idText, idsText, fillText, fillsText, filledText, refusedText, thingsKey, isKey, linkText}
+use Rattle.hermitcasket.specs.Inner.Print.{markLine, markLines}
 use Rattle.hermitcasket.proofs.DigitLaws.{digits-one, digits-more}
 
 pub digits-short : (k n : ℕ) → n < 10 ^ suc k → length (digits n) ≤ suc k
@@ -41,7 +47,7 @@ pub AllBelow : ℕ → List ℕ → Type 0
 AllBelow b [] = Unit
 AllBelow b (x ∷ xs) = (x < b) × AllBelow b xs
 
-keep-below : (test : ℕ → Bool) (b from count : ℕ) → from + count ≤ b → AllBelow b (keep test from count)
+pub keep-below : (test : ℕ → Bool) (b from count : ℕ) → from + count ≤ b → AllBelow b (keep test from count)
 unfolding keep AllBelow
 keep-below test b from zero h = tt
 keep-below test b from (suc count) h = go (test from) refl (keep-below test b (suc from) count (omega arith))
@@ -117,3 +123,112 @@ refused-room code out h l k =
       number-length 19 placeKey (code .place) (omega arith),
       length-append (numberText numberKey (code .number)) (numberText placeKey (code .place)),
     )
+
+-- ---- the parts of an interpretation that is shown
+pair-length : (key : List ℕ) (a b : ℕ) → length (pairText key a b) ≡ length key + length (digits a) + length (digits b) + 2
+unfolding pairText
+pair-length key a b =
+    omega (
+      arith,
+      length-append key (digits a ++ (44 ∷ (digits b ++ (10 ∷ [])))),
+      length-append (digits a) (44 ∷ (digits b ++ (10 ∷ []))),
+      length-append (digits b) (10 ∷ []),
+    )
+
+mark-length : (link : Bool) (i s q : ℕ) → i < 1000 → s < 100 → q < 1000 → length (markLine link i s q) ≤ 16
+unfolding markLine linkText
+mark-length false i s q hi hs hq = omega (arith, pair-length isKey i q, digits-short 2 i hi, digits-short 2 q hq)
+mark-length true i s q hi hs hq =
+    omega (
+      arith,
+      length-append (digits i) (pairText (44 ∷ []) s q),
+      pair-length (44 ∷ []) s q,
+      digits-short 2 i hi,
+      digits-short 1 s hs,
+      digits-short 2 q hq,
+    )
+
+marks-length : (link : Bool) (i s : ℕ) (qs : List ℕ) → i < 1000 → s < 100 → AllBelow 1000 qs → length (markLines link i s qs) ≤ 16 * length qs
+unfolding markLines AllBelow
+marks-length link i s [] hi hs h = omega arith
+marks-length link i s (q ∷ qs) hi hs h =
+    omega (arith, mark-length link i s q hi hs (h .0), marks-length link i s qs hi hs (h .1), length-append (markLine link i s q) (markLines link i s qs))
+
+-- an element bears at most one name for each concept
+keep-none : (test : ℕ → Bool) (from count : ℕ) → ((n : ℕ) → from ≤ n → test n ≡ true → ⊥) → keep test from count ≡ []
+unfolding keep
+keep-none test from zero h = refl
+keep-none test from (suc count) h = go (test from) refl (keep-none test (suc from) count (λ n l. h n (omega arith)))
+  where
+    go : (b : Bool) → test from ≡ b → keep test (suc from) count ≡ [] → keep test from (suc count) ≡ []
+    go true e ih = absurd (h from (omega arith) e)
+    go false e ih = rw e ih
+
+keep-one : (test : ℕ → Bool) (p from count : ℕ) → ((n : ℕ) → test n ≡ true → n ≡ p) → length (keep test from count) ≤ 1
+unfolding keep
+keep-one test p from zero h = omega arith
+keep-one test p from (suc count) h = go (test from) refl (keep-one test p (suc from) count h)
+  where
+    go : (b : Bool) → test from ≡ b → length (keep test (suc from) count) ≤ 1 → length (keep test from (suc count)) ≤ 1
+    go true e ih = rw (e, keep-none test (suc from) count (λ n l y. omega (arith, h n y, h from e))) (omega arith)
+    go false e ih = rw e ih
+
+keep-or : (f g : ℕ → Bool) (from count : ℕ) → length (keep (λ n. or (f n) (g n)) from count) ≤ length (keep f from count) + length (keep g from count)
+unfolding keep or
+keep-or f g from zero = omega arith
+keep-or f g from (suc count) = go (f from) (g from) refl refl (keep-or f g (suc from) count)
+  where
+    go :
+        (a b : Bool) → f from ≡ a → g from ≡ b
+        → length (keep (λ n. or (f n) (g n)) (suc from) count) ≤ length (keep f (suc from) count) + length (keep g (suc from) count)
+        → length (keep (λ n. or (f n) (g n)) from (suc count)) ≤ length (keep f from (suc count)) + length (keep g from (suc count))
+    go true true d e ih = rw (d, e) (omega arith)
+    go true false d e ih = rw (d, e) (omega arith)
+    go false true d e ih = rw (d, e) (omega arith)
+    go false false d e ih = rw (d, e) ih
+
+no-name : (b : Bool) (from count : ℕ) → length (keep (λ n. both b false) from count) ≤ 1
+no-name b from count = keep-one (λ n. both b false) 0 from count (λ n e. let f = both-true b false e .1 in let z : _≡_ {A = ℕ} 0 1 = cc in absurd (omega arith))
+
+one-name : (b : Bool) (node : Node) (from count : ℕ) → length (keep (λ n. both b (isNamed n node)) from count) ≤ 1
+unfolding isNamed
+one-name b (nameAt m) from count = keep-one _ m from count (λ n e. eqb-true n m (both-true b _ e .1))
+one-name b topAt from count = no-name b from count
+one-name b (existsAt r j) from count = no-name b from count
+one-name b (andAt i j) from count = no-name b from count
+one-name b (varAt k) from count = no-name b from count
+
+few-names :
+    (concepts : List ℕ) (marks : ℕ → Bool) (rows from count : ℕ)
+    → length (keep (λ n. anyBelow rows (λ j. both (marks j) (isNamed n (node concepts j)))) from count) ≤ rows
+unfolding anyBelow
+few-names concepts marks zero from count = omega (arith, ap length (keep-none (λ n. false) from count (λ n l e. let z : _≡_ {A = ℕ} 0 1 = cc in omega arith)))
+few-names concepts marks (suc rows) from count =
+    omega (
+      arith,
+      keep-or (λ n. both (marks rows) (isNamed n (node concepts rows))) (λ n. anyBelow rows (λ j. both (marks j) (isNamed n (node concepts j)))) from count,
+      one-name (marks rows) (node concepts rows) from count,
+      few-names concepts marks rows from count,
+    )
+
+pub few-borne : (concepts : List ℕ) (marks : ℕ → ℕ → Bool) (i : ℕ) → length (namesAt concepts marks i) ≤ countOf concepts
+unfolding namesAt bears
+few-borne concepts marks i = few-names concepts (marks i) (countOf concepts) 0 1000
+
+pub names-short : (i : ℕ) (names out : List ℕ) → i < 192 → AllBelow 1000 names → length names ≤ 192 → 4096 ≤ length out → 0 + length (markLines false i 0 names) ≤ length out
+names-short i names out hi h l k = omega (arith, marks-length false i 0 names (omega arith) (omega arith) h)
+
+pub links-short :
+    (concepts : List ℕ) (links : List Bool) (i s : ℕ) (out : List ℕ) → Checked concepts → i < countOf concepts → s < 100 → 4096 ≤ length out
+    → 0 + length (markLines true i s (markedIds links (countOf concepts))) ≤ length out
+links-short concepts links i s out C hi hs k =
+    let few = C .layered .few in
+    omega (
+      arith,
+      few,
+      keep-le (markAt links) (countOf concepts),
+      marks-length true i s (markedIds links (countOf concepts)) (omega arith) hs (keep-below (markAt links) 1000 0 (countOf concepts) (omega arith)),
+    )
+
+pub things-room : (concepts out : List ℕ) → Checked concepts → 4096 ≤ length out → 0 + length (numberText thingsKey (countOf concepts)) ≤ length out
+things-room concepts out C k = let few = C .layered .few in omega (arith, number-length 2 thingsKey (countOf concepts) (omega arith))

@@ -1,5 +1,5 @@
 -- The accepted texts are exactly the layouts of tables within the counts, with the section of the roles or, where there are none,
--- without it; and reading a layout gives the tables back.
+-- without it, and with the line of an asked pair or without; and reading a layout gives the tables and what is asked back.
 use Prim.Native.Nat.{ℕ, zero, suc, _+_, _*_, _≤_}
 use mathlib.Core.Path.{_≡_, ap, _∙_}
 use mathlib.Core.List.{List, [], _∷_, _++_}
@@ -8,9 +8,11 @@ use mathlib.Core.Logic.{_↔_, ⊎-elim}
 use native.Mathlib.Omega.{arith}
 use lib.ListN.{length, getD, take, drop, length-append}
 use Rattle.subsumption.specs.Tables.{Tables, countOf, pairsOf}
+use Rattle.hermitcasket.specs.declared.text.Ask.{Ask}
+use Rattle.hermitcasket.specs.declared.text.Ask.the-variants.{Fill, Show}
 use Rattle.hermitcasket.specs.Digits.{digits}
-use Rattle.hermitcasket.specs.Lines.{variablesKey, rolesKey, widerKey, conceptsKey, inclusionsKey, questionsKey, belowKey, nameKey, someKey, andKey, variableKey, numberText, pairText, rowText}
-use Rattle.hermitcasket.specs.Text.{linesText, rowOfNumbers, pairOfNumbers, rolesText, layout, Says, RowFits, RowsFit, ConceptFits, PairFits, Sayable, accepted, judge}
+use Rattle.hermitcasket.specs.Lines.{variablesKey, rolesKey, widerKey, conceptsKey, inclusionsKey, questionsKey, belowKey, showKey, nameKey, someKey, andKey, variableKey, numberText, pairText, rowText}
+use Rattle.hermitcasket.specs.Text.{linesText, rowOfNumbers, pairOfNumbers, rolesText, askText, layout, Says, RowFits, RowsFit, ConceptFits, PairFits, AskFits, Sayable, accepted, judge}
 use Rattle.hermitcasket.proofs.SizeLaws.{digits-short}
 use Rattle.hermitcasket.proofs.LayoutLaws.{accepted-layout}
 use Rattle.hermitcasket.proofs.LayoutRead.{layout-accepted}
@@ -66,22 +68,31 @@ roles-size true roles l h =
     )
 roles-size false roles l h = omega arith
 
-eight : (a r b c d e f g : List ℕ) → length (a ++ (r ++ (b ++ (c ++ (d ++ (e ++ (f ++ g))))))) ≡ length a + length r + length b + length c + length d + length e + length f + length g
-eight a r b c d e f g =
+ask-size : (ask : Ask) → AskFits ask → length (askText ask) ≤ 17
+unfolding askText
+ask-size Fill h = omega arith
+ask-size (Show left right) h = omega (arith, pair-size showKey left right (h .0) (h .1))
+
+nine :
+    (a r b c d e f g h : List ℕ)
+    → length (a ++ (r ++ (b ++ (c ++ (d ++ (e ++ (f ++ (g ++ h))))))))
+    ≡ length a + length r + length b + length c + length d + length e + length f + length g + length h
+nine a r b c d e f g h =
     omega (
       arith,
-      length-append a (r ++ (b ++ (c ++ (d ++ (e ++ (f ++ g)))))),
-      length-append r (b ++ (c ++ (d ++ (e ++ (f ++ g))))),
-      length-append b (c ++ (d ++ (e ++ (f ++ g)))),
-      length-append c (d ++ (e ++ (f ++ g))),
-      length-append d (e ++ (f ++ g)),
-      length-append e (f ++ g),
-      length-append f g,
+      length-append a (r ++ (b ++ (c ++ (d ++ (e ++ (f ++ (g ++ h))))))),
+      length-append r (b ++ (c ++ (d ++ (e ++ (f ++ (g ++ h)))))),
+      length-append b (c ++ (d ++ (e ++ (f ++ (g ++ h))))),
+      length-append c (d ++ (e ++ (f ++ (g ++ h)))),
+      length-append d (e ++ (f ++ (g ++ h))),
+      length-append e (f ++ (g ++ h)),
+      length-append f (g ++ h),
+      length-append g h,
     )
 
-pub layout-size : (present : Bool) (t : Tables) → Sayable t → length (layout present t) ≤ 8192
+pub layout-size : (present : Bool) (t : Tables) (ask : Ask) → Sayable t ask → length (layout present t ask) ≤ 8192
 unfolding layout
-layout-size present t s =
+layout-size present t ask s =
     omega (
       arith,
       s,
@@ -93,16 +104,17 @@ layout-size present t s =
       lines-size rowOfNumbers ConceptFits 3 (λ xs h. row-size (getD xs 0 0) (getD xs 1 0) (getD xs 2 0) h) (countOf (t .concepts)) (t .concepts) (s .concepts-fit),
       pairs-size belowKey (t .inclusions) (omega arith) (s .inclusions-fit),
       pairs-size belowKey (t .questions) (omega arith) (s .questions-fit),
-      eight (numberText variablesKey (t .variables)) (rolesText present (t .roles)) (numberText conceptsKey (countOf (t .concepts)))
+      ask-size ask (s .ask-fits),
+      nine (numberText variablesKey (t .variables)) (rolesText present (t .roles)) (numberText conceptsKey (countOf (t .concepts)))
           (linesText rowOfNumbers 3 (countOf (t .concepts)) (t .concepts))
           (numberText inclusionsKey (pairsOf (t .inclusions))) (linesText (pairOfNumbers belowKey) 2 (pairsOf (t .inclusions)) (t .inclusions))
-          (numberText questionsKey (pairsOf (t .questions))) (linesText (pairOfNumbers belowKey) 2 (pairsOf (t .questions)) (t .questions)),
+          (numberText questionsKey (pairsOf (t .questions))) (linesText (pairOfNumbers belowKey) 2 (pairsOf (t .questions)) (t .questions)) (askText ask),
     )
 
-says-accepted : (text : List ℕ) (t : Tables) → Says text t → Sayable t → judge text ≡ accepted t
-says-accepted text t h s =
-    ⊎-elim (λ e. ap judge e ∙ layout-accepted t s true (λ f. absurd (let z : _≡_ {A = ℕ} 0 1 = cc in omega arith)) (layout-size true t s))
-    (λ (e, none). ap judge e ∙ layout-accepted t s false (λ f. none) (layout-size false t s)) h
+says-accepted : (text : List ℕ) (t : Tables) (ask : Ask) → Says text t ask → Sayable t ask → judge text ≡ accepted t ask
+says-accepted text t ask h s =
+    ⊎-elim (λ e. ap judge e ∙ layout-accepted t ask s true (λ f. absurd (let z : _≡_ {A = ℕ} 0 1 = cc in omega arith)) (layout-size true t ask s))
+    (λ (e, none). ap judge e ∙ layout-accepted t ask s false (λ f. none) (layout-size false t ask s)) h
 
-pub texts : (text : List ℕ) (t : Tables) → (judge text ≡ accepted t) ↔ (Says text t × Sayable t)
-texts text t = (accepted-layout text t, λ h. says-accepted text t (h .0) (h .1))
+pub texts : (text : List ℕ) (t : Tables) (ask : Ask) → (judge text ≡ accepted t ask) ↔ (Says text t ask × Sayable t ask)
+texts text t ask = (accepted-layout text t ask, λ h. says-accepted text t ask (h .0) (h .1))

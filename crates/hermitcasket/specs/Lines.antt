@@ -15,7 +15,7 @@ use Rattle.hermitcasket.specs.Digits.{digits}
 
 -- ---- the bytes in front of a line's numbers
 
--- "blanks=", "roles=", "wider=", "entries=", "inclusions=", "questions=", "below="
+-- "blanks=", "roles=", "wider=", "entries=", "inclusions=", "questions=", "below=", "show="
 abbrev pub variablesKey : List ℕ
 variablesKey = 98 ∷ 108 ∷ 97 ∷ 110 ∷ 107 ∷ 115 ∷ 61 ∷ []
 
@@ -36,6 +36,9 @@ questionsKey = 113 ∷ 117 ∷ 101 ∷ 115 ∷ 116 ∷ 105 ∷ 111 ∷ 110 ∷ 1
 
 abbrev pub belowKey : List ℕ
 belowKey = 98 ∷ 101 ∷ 108 ∷ 111 ∷ 119 ∷ 61 ∷ []
+
+abbrev pub showKey : List ℕ
+showKey = 115 ∷ 104 ∷ 111 ∷ 119 ∷ 61 ∷ []
 
 -- the whole line "top=0"
 abbrev pub topText : List ℕ

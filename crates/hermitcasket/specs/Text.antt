@@ -15,7 +15,9 @@ use Rattle.hermitcasket.specs.declared.lines.PairLine.{PairLine}
 use Rattle.hermitcasket.specs.declared.lines.PairLine.the-variants.{Two, NoPair}
 use Rattle.hermitcasket.specs.declared.lines.RowLine.{RowLine}
 use Rattle.hermitcasket.specs.declared.lines.RowLine.the-variants.{Row, NoRow}
-use Rattle.hermitcasket.specs.Lines.{variablesKey, rolesKey, widerKey, conceptsKey, inclusionsKey, questionsKey, belowKey, numberText, pairText, rowText, starts, numberLine, pairLine, rowLine}
+use Rattle.hermitcasket.specs.declared.text.Ask.{Ask}
+use Rattle.hermitcasket.specs.declared.text.Ask.the-variants.{Fill, Show}
+use Rattle.hermitcasket.specs.Lines.{variablesKey, rolesKey, widerKey, conceptsKey, inclusionsKey, questionsKey, belowKey, showKey, numberText, pairText, rowText, starts, numberLine, pairLine, rowLine}
 
 -- ---- what a right text is
 
@@ -35,17 +37,23 @@ unfoldable pub rolesText : Bool → List ℕ → List ℕ
 rolesText true roles = numberText rolesKey (pairsOf roles) ++ linesText (pairOfNumbers widerKey) 2 (pairsOf roles) roles
 rolesText false roles = []
 
-unfoldable pub layout : Bool → Tables → List ℕ
-layout present t =
+-- What is asked of the tables (02, A.5): no line to solve them, or the line of a pair whose failing is to be shown.
+unfoldable pub askText : Ask → List ℕ
+askText Fill = []
+askText (Show left right) = pairText showKey left right
+
+unfoldable pub layout : Bool → Tables → Ask → List ℕ
+layout present t ask =
     numberText variablesKey (t .variables)
     ++ (rolesText present (t .roles)
     ++ (numberText conceptsKey (countOf (t .concepts)) ++ (linesText rowOfNumbers 3 (countOf (t .concepts)) (t .concepts)
     ++ (numberText inclusionsKey (pairsOf (t .inclusions)) ++ (linesText (pairOfNumbers belowKey) 2 (pairsOf (t .inclusions)) (t .inclusions)
-    ++ (numberText questionsKey (pairsOf (t .questions)) ++ linesText (pairOfNumbers belowKey) 2 (pairsOf (t .questions)) (t .questions)))))))
+    ++ (numberText questionsKey (pairsOf (t .questions)) ++ (linesText (pairOfNumbers belowKey) 2 (pairsOf (t .questions)) (t .questions)
+    ++ askText ask)))))))
 
--- A text that says the tables: it may lack the section of the roles where there are none.
-abbrev pub Says : List ℕ → Tables → Type 0
-Says text t = (text ≡ layout true t) ⊎ ((text ≡ layout false t) × (t .roles ≡ []))
+-- A text that says the tables and what is asked: it may lack the section of the roles where there are none.
+abbrev pub Says : List ℕ → Tables → Ask → Type 0
+Says text t ask = (text ≡ layout true t ask) ⊎ ((text ≡ layout false t ask) × (t .roles ≡ []))
 
 -- ---- what a text can say: kinds 0 to 4 with unused fields 0, numbers up to 65535, counts up to their limits
 
@@ -68,7 +76,11 @@ ConceptFits numbers = RowFits (getD numbers 0 0) (getD numbers 1 0) (getD number
 abbrev pub PairFits : List ℕ → Type 0
 PairFits numbers = (getD numbers 0 0 ≤ 65535) × (getD numbers 1 0 ≤ 65535)
 
-pub record Sayable (t : Tables) : Type 0 where
+abbrev pub AskFits : Ask → Type 0
+AskFits Fill = Unit
+AskFits (Show left right) = (left ≤ 65535) × (right ≤ 65535)
+
+pub record Sayable (t : Tables) (ask : Ask) : Type 0 where
   pub few-variables : t .variables ≤ 8
   pub few-concepts : countOf (t .concepts) ≤ 192
   pub few-inclusions : pairsOf (t .inclusions) ≤ 96
@@ -78,6 +90,7 @@ pub record Sayable (t : Tables) : Type 0 where
   pub inclusions-fit : RowsFit PairFits 2 (pairsOf (t .inclusions)) (t .inclusions)
   pub questions-fit : RowsFit PairFits 2 (pairsOf (t .questions)) (t .questions)
   pub roles-fit : RowsFit PairFits 2 (pairsOf (t .roles)) (t .roles)
+  pub ask-fits : AskFits ask
 
 -- ---- the judgement
 
@@ -119,7 +132,7 @@ readLines line zero at rest = part [] at rest
 readLines line (suc count) at rest = lineThen at (line rest) (λ n. readLines line count (at + n) (drop n rest))
 
 pub data Judged : Type 0 where
-  accepted : Tables → Judged
+  accepted : Tables → Ask → Judged
   refused : Refusal → Judged
 
 unfoldable pub pickJudged : Bool → Judged → Judged → Judged
@@ -150,10 +163,15 @@ sectionAt key limit table line go at rest = countAt key limit table (λ count be
 unfoldable pub rolesAt : (List ℕ → Onward) → Onward
 rolesAt go at rest = pickJudged (starts rolesKey rest) (sectionAt rolesKey 32 4 (pairAt widerKey) go at rest) (go [] at rest)
 
+-- One line is left, and nothing behind it.
+unfoldable pub showThen : PairLine → Tables → Onward
+showThen NoPair t at rest = refused (BadText at)
+showThen (Two left right n) t at rest = pickJudged (ltb n (length rest)) (refused (BadText (at + n))) (accepted t (Show left right))
+
 -- The lines in order, from the last to the first: the end of the text, and what goes before it.
 unfoldable pub judgeEnd : Tables → Onward
-judgeEnd t at [] = accepted t
-judgeEnd t at (byte ∷ rest) = refused (BadText at)
+judgeEnd t at [] = accepted t Fill
+judgeEnd t at (byte ∷ rest) = showThen (pairLine showKey (byte ∷ rest)) t at (byte ∷ rest)
 
 unfoldable pub judgeQuestions : ℕ → List ℕ → List ℕ → List ℕ → Onward
 judgeQuestions variables roles concepts inclusions at rest =

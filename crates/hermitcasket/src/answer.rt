@@ -1,20 +1,26 @@
-// The program's answer as bytes, in front of a buffer.
+// The program's answer as bytes, in front of a buffer; or, where an interpretation is shown, what its parts are printed from.
 use crate::filled::put_filled;
 use crate::print::put_none;
 use crate::print::put_refused;
+use crate::text::Ask;
 use crate::text::Read;
 use crate::text::read_text;
+use countermodel::helpers::judge_pair;
 use matching::Match;
+use subsumption::helpers::note_roles;
+use subsumption::refusal::Outcome;
 use subsumption::refusal::Refusal;
 use subsumption::refusal::code_of;
-ghost use Prim.Native.Nat.{_≤_};
-ghost use lib.ListN.{length};
+ghost use mathlib.Core.Path.{_≡_};
+ghost use Prim.Native.Nat.{_*_, _≤_};
+ghost use lib.ListN.{length, replicate};
 ghost use Rattle.subsumption.specs.Tables.{tables};
 ghost use Rattle.subsumption.specs.Refusal.{codeOf};
 ghost use Rattle.subsumption.specs.Check.{tableFault};
+ghost use Rattle.hermitcasket.specs.Text.{accepted, judge};
 ghost use Rattle.hermitcasket.specs.Printing.{codeText};
 ghost use Rattle.hermitcasket.specs.Inner.Print.{Wrote};
-ghost use Rattle.hermitcasket.specs.Answer.{AnsweredTables, Answered, Output};
+ghost use Rattle.hermitcasket.specs.Answer.{AnsweredTables, Output, Planned};
 
 fn answer_refused(refusal: Refusal, out: &mut [u8]) -> usize
     requires { ⌜ 4096 ≤ length (now out) ⌝ }
@@ -66,37 +72,130 @@ fn answer_tables(
     }
 }
 
-// The whole program, from the text's bytes to the output's; answers their number.
-pub fn answer(text: &[u8], out: &mut [u8]) -> usize
+// How the output is to be written.
+pub enum Plan {
+    // So many bytes of the buffer are all of it.
+    Whole(usize),
+    // So many concepts stand in front of their array, and it goes in so many parts.
+    Parts(usize, usize),
+}
+
+// The plan for an asked pair of the tables that a text says: every choice is 0.
+fn plan_pair(
+    concepts: &[u16],
+    inclusions: &[u16],
+    questions: &[u16],
+    roles: &[u16],
+    variables: u16,
+    left: u16,
+    right: u16,
+    into: &mut [u64],
+    table: &mut [u8],
+    out: &mut [u8],
+) -> Plan
+    requires { ⌜ variables ≤ 8 ⌝ }
+    requires { ⌜ now into ≡ replicate 200 0 ⌝ }
+    requires { ⌜ length (now table) ≡ 4608 ⌝ }
     requires { ⌜ 4096 ≤ length (now out) ⌝ }
-    ensures { λ r. ⌜ Output (Answered (now (text .entry))) (now (out .entry)) r (now (out .exit)) ⌝ }
+    ensures { λ r. ⌜ Planned (accepted (tables (now (concepts .entry)) (now (inclusions .entry)) (now (questions .entry)) (now (roles .entry)) variables) (Ask.Show left right)) r (now (concepts .entry)) (now (into .exit)) (now (table .exit)) (now (out .entry)) (now (out .exit)) ⌝ }
 {
-    let mut concepts = [0u16; 576];
+    let assignment = [0u64; 8];
+    let n = variables as usize;
+    let judged = judge_pair(
+        concepts,
+        inclusions,
+        questions,
+        roles,
+        variables,
+        &assignment[..n],
+        left,
+        right,
+        table,
+    );
+    match judged {
+        Outcome::Done => {
+            note_roles(roles, into);
+            let count = concepts.len() / 3;
+            Plan::Parts(count, 1 + count + count * 100)
+        }
+        Outcome::Refused(r) => Plan::Whole(answer_refused(r, out)),
+    }
+}
+
+// The plan for the tables that a text says and what it asks.
+fn plan_tables(
+    concepts: &[u16],
+    inclusions: &[u16],
+    questions: &[u16],
+    roles: &[u16],
+    variables: u16,
+    ask: Ask,
+    into: &mut [u64],
+    table: &mut [u8],
+    out: &mut [u8],
+) -> Plan
+    requires { ⌜ variables ≤ 8 ⌝ }
+    requires { ⌜ now into ≡ replicate 200 0 ⌝ }
+    requires { ⌜ length (now table) ≡ 4608 ⌝ }
+    requires { ⌜ 4096 ≤ length (now out) ⌝ }
+    ensures { λ r. ⌜ Planned (accepted (tables (now (concepts .entry)) (now (inclusions .entry)) (now (questions .entry)) (now (roles .entry)) variables) ask) r (now (concepts .entry)) (now (into .exit)) (now (table .exit)) (now (out .entry)) (now (out .exit)) ⌝ }
+{
+    match ask {
+        Ask::Fill => {
+            let size = answer_tables(concepts, inclusions, questions, roles, variables, out);
+            Plan::Whole(size)
+        }
+        Ask::Show(left, right) => plan_pair(
+            concepts,
+            inclusions,
+            questions,
+            roles,
+            variables,
+            left,
+            right,
+            into,
+            table,
+            out,
+        ),
+    }
+}
+
+// The whole program, from the text's bytes to the output's, or to what its parts are printed from (src/parts.rt).
+pub fn answer(
+    text: &[u8],
+    concepts: &mut [u16],
+    into: &mut [u64],
+    table: &mut [u8],
+    out: &mut [u8],
+) -> Plan
+    requires { ⌜ 192 * 3 ≤ length (now concepts) ⌝ }
+    requires { ⌜ now into ≡ replicate 200 0 ⌝ }
+    requires { ⌜ length (now table) ≡ 4608 ⌝ }
+    requires { ⌜ 4096 ≤ length (now out) ⌝ }
+    ensures { λ r. ⌜ Planned (judge (now (text .entry))) r (now (concepts .exit)) (now (into .exit)) (now (table .exit)) (now (out .entry)) (now (out .exit)) ⌝ }
+{
     let mut inclusions = [0u16; 192];
     let mut questions = [0u16; 64];
     let mut roles = [0u16; 64];
-    let read = read_text(
-        text,
-        &mut concepts,
-        &mut inclusions,
-        &mut questions,
-        &mut roles,
-    );
+    let read = read_text(text, concepts, &mut inclusions, &mut questions, &mut roles);
     match read {
-        Read::Problem(variables, c, i, q, p) => {
+        Read::Problem(variables, c, i, q, p, ask) => {
             let n = c * 3;
             let m = i * 2;
             let k = q * 2;
             let l = p * 2;
-            answer_tables(
+            plan_tables(
                 &concepts[..n],
                 &inclusions[..m],
                 &questions[..k],
                 &roles[..l],
                 variables,
+                ask,
+                into,
+                table,
                 out,
             )
         }
-        Read::Rejected(r) => answer_refused(r, out),
+        Read::Rejected(r) => Plan::Whole(answer_refused(r, out)),
     }
 }

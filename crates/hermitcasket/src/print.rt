@@ -4,8 +4,8 @@ ghost use mathlib.Core.Bool.{false};
 ghost use Prim.Native.Nat.{_+_, _≤_};
 ghost use lib.ListN.{length};
 ghost use Rattle.hermitcasket.specs.Digits.{digits};
-ghost use Rattle.hermitcasket.specs.Lines.{numberText};
-ghost use Rattle.hermitcasket.specs.Printing.{idText, idsText, fillText, refusedText, noneLine};
+ghost use Rattle.hermitcasket.specs.Lines.{numberText, pairText};
+ghost use Rattle.hermitcasket.specs.Printing.{idText, idsText, fillText, refusedText, noneLine, linkText};
 ghost use Rattle.hermitcasket.specs.Inner.Print.{Wrote};
 
 pub fn put_bytes(bytes: &[u8], at: usize, out: &mut [u8]) -> usize
@@ -42,6 +42,26 @@ pub fn put_line(key: &[u8], n: usize, at: usize, out: &mut [u8]) -> usize
     let a = put_bytes(key, at, out);
     let b = put_number(n, a, out);
     put_bytes(b"\n", b, out)
+}
+
+// A line of two numbers.
+pub fn put_pair(key: &[u8], a: usize, b: usize, at: usize, out: &mut [u8]) -> usize
+    requires { ⌜ at + length (pairText (now key) a b) ≤ length (now out) ⌝ }
+    ensures { λ r. ⌜ Wrote (now (out .entry)) at (pairText (now (key .entry)) a b) r (now (out .exit)) ⌝ }
+{
+    let x = put_bytes(key, at, out);
+    let y = put_number(a, x, out);
+    put_line(b",", b, y, out)
+}
+
+// The line of a link by a role.
+pub fn put_link(from: usize, role: usize, to: usize, at: usize, out: &mut [u8]) -> usize
+    requires { ⌜ at + length (linkText from role to) ≤ length (now out) ⌝ }
+    ensures { λ r. ⌜ Wrote (now (out .entry)) at (linkText from role to) r (now (out .exit)) ⌝ }
+{
+    let x = put_bytes(b"link=", at, out);
+    let y = put_number(from, x, out);
+    put_pair(b",", role, to, y, out)
 }
 
 // An id, after a comma if one went before it.

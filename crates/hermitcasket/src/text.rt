@@ -13,7 +13,7 @@ ghost use Prim.Native.Nat.{_+_, _*_, _≤_};
 ghost use lib.ListN.{length};
 ghost use Rattle.hermitcasket.specs.Lines.{conceptsKey};
 ghost use Rattle.hermitcasket.specs.Text.{readLines, rowAt, pairAt, sectionAt, rolesAt, judge};
-ghost use Rattle.hermitcasket.specs.Inner.Text.{partOf, PartFits, Counts, Sectioned, Last, faultOf, judgedBy, ReadFits, TablesRead};
+ghost use Rattle.hermitcasket.specs.Inner.Text.{partOf, PartFits, Counts, Sectioned, Ends, Last, faultOf, judgedBy, ReadFits, TablesRead};
 
 // The length of the lines, or the place where the earliest faulty one starts.
 pub enum Lines {
@@ -21,9 +21,15 @@ pub enum Lines {
     Off(usize),
 }
 
-// What the text says: the variables, and the counts of concepts, inclusions, questions and pairs of roles.
+// What is asked of the tables: to solve them, or to show an interpretation where a pair fails.
+pub enum Ask {
+    Fill,
+    Show(u16, u16),
+}
+
+// What the text says: the variables, the counts of concepts, inclusions, questions and pairs of roles, and what is asked.
 pub enum Read {
-    Problem(u16, usize, usize, usize, usize),
+    Problem(u16, usize, usize, usize, usize, Ask),
     Rejected(Refusal),
 }
 
@@ -160,20 +166,52 @@ fn read_roles(rest: &[u8], at: usize, out: &mut [u16]) -> Section
     read_section(rest, at, b"roles=", b"wider=", 32, 4, out)
 }
 
-// The questions, with nothing behind them.
-fn read_questions(rest: &[u8], at: usize, out: &mut [u16]) -> Section
+// The text's end.
+pub enum End {
+    Asks(Ask),
+    Damaged(Refusal),
+}
+
+// What stands behind the questions: nothing, or the line of a pair and nothing behind it.
+fn read_end(rest: &[u8], at: usize) -> End
+    requires { ⌜ at + length (now rest) ≤ 8192 ⌝ }
+    ensures { λ r. ⌜ Ends at (now (rest .entry)) r ⌝ }
+{
+    if rest.len() == 0 {
+        return End::Asks(Ask::Fill);
+    }
+    let line = pair_line(rest, b"show=");
+    let PairLine::Two(left, right, n) = line else {
+        return End::Damaged(Refusal::BadText(at));
+    };
+    if n < rest.len() {
+        return End::Damaged(Refusal::BadText(at + n));
+    }
+    End::Asks(Ask::Show(left, right))
+}
+
+// The count of the questions, and what is asked behind them.
+pub enum Asked {
+    Questions(usize, Ask),
+    Wrong(Refusal),
+}
+
+// The questions and the end.
+fn read_questions(rest: &[u8], at: usize, out: &mut [u16]) -> Asked
     requires { ⌜ at + length (now rest) ≤ 8192 ⌝ }
     requires { ⌜ 32 * 2 ≤ length (now out) ⌝ }
     ensures { λ r. ⌜ Last at (now (rest .entry)) r (now (out .exit)) ⌝ }
 {
-    let asked = read_section(rest, at, b"questions=", b"below=", 32, 2, out);
-    let Section::Through(count, n) = asked else {
-        return asked;
+    let section = read_section(rest, at, b"questions=", b"below=", 32, 2, out);
+    let Section::Through(count, n) = section else {
+        return Asked::Wrong(fault(section));
     };
-    if n < rest.len() {
-        return Section::Faulty(Refusal::BadText(at + n));
+    let last = behind(rest, n);
+    let end = read_end(last, at + n);
+    match end {
+        End::Asks(ask) => Asked::Questions(count, ask),
+        End::Damaged(r) => Asked::Wrong(r),
     }
-    Section::Through(count, n)
 }
 
 // The refusal of a section that was not read through.
@@ -216,10 +254,10 @@ fn read_tables(
     };
     let third = behind(second, m);
     let asked = read_questions(third, b + m, questions);
-    let Section::Through(q, _) = asked else {
-        return Read::Rejected(fault(asked));
-    };
-    Read::Problem(variables, c, i, q, pairs)
+    match asked {
+        Asked::Questions(q, ask) => Read::Problem(variables, c, i, q, pairs, ask),
+        Asked::Wrong(r) => Read::Rejected(r),
+    }
 }
 
 // The whole text, into the caller's arrays.

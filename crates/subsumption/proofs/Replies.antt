@@ -3,7 +3,7 @@ use Prim.Native.Nat.{ℕ, zero, suc}
 use mathlib.Core.Path.{_≡_, refl, sym, ap, _∙_}
 use native.Mathlib.Omega.{arith}
 use Rattle.subsumption.specs.declared.refusal.Refusal.{Refusal}
-use Rattle.subsumption.specs.declared.refusal.Refusal.the-variants.{Limit, Malformed, ForwardId, NoConcept, VariableInInclusion, VariablesOnBothSides, TooManyAtoms, BufferTooShort, BadAssignment, NoAssignment, NotSubsumed, BadDerivation, BadText, BadRole}
+use Rattle.subsumption.specs.declared.refusal.Refusal.the-variants.{Limit, Malformed, ForwardId, NoConcept, VariableInInclusion, VariablesOnBothSides, TooManyAtoms, BufferTooShort, BadAssignment, NoAssignment, NotSubsumed, BadDerivation, BadText, NoCountermodel, BadRole}
 use Rattle.subsumption.specs.declared.refusal.Outcome.{Outcome}
 use Rattle.subsumption.specs.declared.refusal.Outcome.the-variants.{Done, Refused}
 use Rattle.subsumption.specs.Refusal.{codeOf, Reply, replyDone, replyRefused, replyWith, replyOf}
@@ -25,7 +25,7 @@ refusalAt (suc (suc (suc (suc (suc (suc (suc (suc (suc (suc (suc zero)))))))))))
 refusalAt (suc (suc (suc (suc (suc (suc (suc (suc (suc (suc (suc (suc zero)))))))))))) place = BadDerivation place
 refusalAt (suc (suc (suc (suc (suc (suc (suc (suc (suc (suc (suc (suc (suc zero))))))))))))) place = BadText place
 refusalAt (suc (suc (suc (suc (suc (suc (suc (suc (suc (suc (suc (suc (suc (suc zero)))))))))))))) place = TooManyAtoms
-refusalAt (suc (suc (suc (suc (suc (suc (suc (suc (suc (suc (suc (suc (suc (suc (suc zero))))))))))))))) place = TooManyAtoms
+refusalAt (suc (suc (suc (suc (suc (suc (suc (suc (suc (suc (suc (suc (suc (suc (suc zero))))))))))))))) place = NoCountermodel
 refusalAt (suc (suc (suc (suc (suc (suc (suc (suc (suc (suc (suc (suc (suc (suc (suc (suc zero)))))))))))))))) place = BadRole place
 refusalAt (suc (suc (suc (suc (suc (suc (suc (suc (suc (suc (suc (suc (suc (suc (suc (suc (suc number))))))))))))))))) place = TooManyAtoms
 
@@ -44,6 +44,7 @@ refusal-back NoAssignment = refl
 refusal-back NotSubsumed = refl
 refusal-back (BadDerivation place) = refl
 refusal-back (BadText place) = refl
+refusal-back NoCountermodel = refl
 refusal-back (BadRole place) = refl
 
 pub same-refusal : (q r : Refusal) → replyRefused q ≡ replyRefused r → q ≡ r
@@ -64,6 +65,7 @@ isRefused NoAssignment e = omega arith
 isRefused NotSubsumed e = omega arith
 isRefused (BadDerivation place) e = omega arith
 isRefused (BadText place) e = omega arith
+isRefused NoCountermodel e = omega arith
 isRefused (BadRole place) e = omega arith
 
 pub not-done : (r : Refusal) (n : ℕ) {A : Type 0} → replyRefused r ≡ replyDone n → A

@@ -17,6 +17,7 @@ pub enum Refusal {
     NotSubsumed,
     BadDerivation(usize),
     BadText(usize),
+    NoCountermodel,
     BadRole(usize),
 }
 
@@ -87,6 +88,10 @@ pub fn code_of(r: Refusal) -> Code
         Refusal::BadText(p) => Code {
             number: 13,
             place: p,
+        },
+        Refusal::NoCountermodel => Code {
+            number: 15,
+            place: 0,
         },
         Refusal::BadRole(p) => Code {
             number: 16,

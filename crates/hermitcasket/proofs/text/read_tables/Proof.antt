@@ -69,11 +69,8 @@ read-questions-requires c κs =
 enum-known-asked : tie.Need-enum-known-asked
 enum-known-asked c = search needs
 
-enum-told-3 : tie.Need-enum-told-3
-enum-told-3 c = search needs
-
-fault-requires-3 : tie.Need-fault-requires-3
-fault-requires-3 c κs = search needs
+enum-known-asked-2 : tie.Need-enum-known-asked-2
+enum-known-asked-2 c = search needs
 
 same-length-4 : tie.Need-same-length-4
 same-length-4 c = search needs
@@ -85,7 +82,7 @@ same-length-6 : tie.Need-same-length-6
 same-length-6 c = search needs
 
 returns-3 : tie.Need-returns-3
-returns-3 c = fault-5 _ _ _ _ _ _ (c .before .before .before .before .before .before .before .before .before .before .before .before .before .before .before .before .before .before .before .before .before .before .before .read-concepts .ensures) _ _ (c .before .before .before .before .before .before .before .before .before .before .before .before .before .before .before .before .before .before .before .rows .given .1) _ (c .before .before .before .before .before .before .before .before .before .before .before .before .before .before .before .before .before .behind .ensures) _ _ (c .before .before .before .before .before .before .before .before .before .before .before .before .before .read-section .ensures) _ _ (c .before .before .before .before .before .before .before .before .before .given .given .1) _ (c .before .before .before .before .before .before .before .behind2 .ensures) _ _ (c .before .before .before .before .before .read-questions .ensures) _ _ (c .before .enum-told3 .given .1) (c .fault3 .ensures)
+returns-3 c = read-all _ _ _ _ _ _ (c .before .before .before .before .before .before .before .before .before .before .before .before .before .before .before .before .before .before .before .before .before .before .before .read-concepts .ensures) _ _ (c .before .before .before .before .before .before .before .before .before .before .before .before .before .before .before .before .before .before .before .rows .given .1) _ (c .before .before .before .before .before .before .before .before .before .before .before .before .before .before .before .before .before .behind .ensures) _ _ (c .before .before .before .before .before .before .before .before .before .before .before .before .before .read-section .ensures) _ _ (c .before .before .before .before .before .before .before .before .before .given .given .1) _ (c .before .before .before .before .before .before .before .behind2 .ensures) _ _ (c .before .before .before .before .before .read-questions .ensures) (c .before .before .before .before .before .before .before .before .before .before .before .before .before .before .before .before .before .before .before .before .before .before .before .before .before .before .before .before .before .pre .1 .0) (c .before .before .before .before .before .before .before .before .before .before .before .before .before .before .before .before .before .before .before .before .before .before .before .before .before .before .before .before .before .pre .1 .1 .0) _ _ (c .before .asked .given .1)
 
 same-length-7 : tie.Need-same-length-7
 same-length-7 c = search needs
@@ -97,7 +94,7 @@ same-length-9 : tie.Need-same-length-9
 same-length-9 c = search needs
 
 returns-4 : tie.Need-returns-4
-returns-4 c = read-all _ _ _ _ _ _ (c .before .before .before .before .before .before .before .before .before .before .before .before .before .before .before .before .before .before .before .before .before .before .before .read-concepts .ensures) _ _ (c .before .before .before .before .before .before .before .before .before .before .before .before .before .before .before .before .before .before .before .rows .given .1) _ (c .before .before .before .before .before .before .before .before .before .before .before .before .before .before .before .before .before .behind .ensures) _ _ (c .before .before .before .before .before .before .before .before .before .before .before .before .before .read-section .ensures) _ _ (c .before .before .before .before .before .before .before .before .before .given .given .1) _ (c .before .before .before .before .before .before .before .behind2 .ensures) _ _ (c .before .before .before .before .before .read-questions .ensures) (c .before .before .before .before .before .before .before .before .before .before .before .before .before .before .before .before .before .before .before .before .before .before .before .before .before .before .before .before .before .pre .1 .0) (c .before .before .before .before .before .before .before .before .before .before .before .before .before .before .before .before .before .before .before .before .before .before .before .before .before .before .before .before .before .pre .1 .1 .0) _ _ (c .before .asked .given .1)
+returns-4 c = search fault-5
 
 pub read-tables-spec : {M : Type 1} → statement M
 read-tables-spec =
@@ -124,8 +121,7 @@ read-tables-spec =
     add-read-questions
     read-questions-requires
     enum-known-asked
-    enum-told-3
-    fault-requires-3
+    enum-known-asked-2
     same-length-4
     same-length-5
     same-length-6

@@ -43,6 +43,9 @@ enum-known-r-9 c = search needs
 enum-known-r-10 : tie.Need-enum-known-r-10
 enum-known-r-10 c = search needs
 
+enum-told-4 : tie.Need-enum-told-4
+enum-told-4 c = search needs
+
 enum-known-r-11 : tie.Need-enum-known-r-11
 enum-known-r-11 c = search needs
 
@@ -88,6 +91,9 @@ returns-13 c = cc
 returns-14 : tie.Need-returns-14
 returns-14 c = cc
 
+returns-15 : tie.Need-returns-15
+returns-15 c = cc
+
 pub code-of-spec : {M : Type 1} → statement M
 code-of-spec =
     tie.close
@@ -105,6 +111,7 @@ code-of-spec =
     enum-told-3
     enum-known-r-9
     enum-known-r-10
+    enum-told-4
     enum-known-r-11
     returns
     returns-2
@@ -119,4 +126,5 @@ code-of-spec =
     returns-11
     returns-12
     returns-13
-    returns-14)
+    returns-14
+    returns-15)

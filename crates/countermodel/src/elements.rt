@@ -1,0 +1,143 @@
+// The rows of the interpretation that is shown: the names of each element, then the links of each element by each role.
+use crate::limits::ROLES;
+use crate::marks::note_links;
+use crate::marks::note_names;
+use crate::roles::mark_used;
+use crate::roles::note_own;
+use crate::rows::put_marks;
+use subsumption::helpers::note_roles;
+use subsumption::limits::CONCEPTS;
+use subsumption::limits::NAMES;
+use subsumption::limits::ROLE_WORDS;
+ghost use mathlib.Core.Path.{_≡_};
+ghost use Prim.Native.Nat.{_+_, _<_, _≤_};
+ghost use lib.ListN.{length};
+ghost use Rattle.subsumption.specs.Tables.{countOf};
+ghost use Rattle.subsumption.specs.Table.{marked};
+ghost use Rattle.subsumption.specs.Inner.Roles.{LowRoles};
+ghost use Rattle.countermodel.specs.Rows.{joined};
+ghost use Rattle.countermodel.specs.Countermodel.{shownRows};
+ghost use Rattle.countermodel.specs.Inner.Show.{Checked, ForRoles, Put, namesOf, linksBy, linksOf};
+
+// The names of one element.
+fn put_names_of(concepts: &[u16], table: &[u8], i: usize, at: usize, out: &mut [u16]) -> usize
+    requires { ⌜ Checked (now concepts) ⌝ }
+    requires { ⌜ length (now table) ≡ 4608 ⌝ }
+    requires { ⌜ (i < countOf (now concepts)) × (at ≤ 16000000) ⌝ }
+    ensures { λ r. ⌜ r ≤ at + 4000 ⌝ }
+    ensures { λ r. ⌜ Put (now (out .entry)) at (namesOf (now (concepts .entry)) (marked (now (table .entry))) i) r (now (out .exit)) ⌝ }
+{
+    let mut names = [false; NAMES];
+    note_names(concepts, table, i, &mut names);
+    put_marks(&names, NAMES, 0, i as u16, 0, at, out)
+}
+
+// The names of all elements, from the front of the buffer.
+fn put_names(concepts: &[u16], table: &[u8], out: &mut [u16]) -> usize
+    requires { ⌜ Checked (now concepts) ⌝ }
+    requires { ⌜ length (now table) ≡ 4608 ⌝ }
+    ensures { λ r. ⌜ r ≤ 768000 ⌝ }
+    ensures { λ r. ⌜ Put (now (out .entry)) 0 (joined (namesOf (now (concepts .entry)) (marked (now (table .entry)))) 0 (countOf (now (concepts .entry)))) r (now (out .exit)) ⌝ }
+{
+    let count = concepts.len() / 3;
+    let mut end: usize = 0;
+    let mut i: usize = 0;
+    while i < count {
+        end = put_names_of(concepts, table, i, end, out);
+        i += 1;
+    }
+    end
+}
+
+// The links of one element by one role.
+fn put_links_by(
+    concepts: &[u16],
+    into: &[u64],
+    table: &[u8],
+    i: usize,
+    role: usize,
+    at: usize,
+    out: &mut [u16],
+) -> usize
+    requires { ⌜ Checked (now concepts) ⌝ }
+    requires { ⌜ length (now into) ≡ 200 ⌝ }
+    requires { ⌜ length (now table) ≡ 4608 ⌝ }
+    requires { ⌜ (i < countOf (now concepts)) × (role < 100) × (at ≤ 16000000) ⌝ }
+    ensures { λ r. ⌜ r ≤ at + 768 ⌝ }
+    ensures { λ r. ⌜ ForRoles (now (into .entry)) (λ roles. Put (now (out .entry)) at (linksBy (now (concepts .entry)) roles (marked (now (table .entry))) i role) r (now (out .exit))) ⌝ }
+{
+    let mut links = [false; CONCEPTS];
+    note_links(concepts, into, table, i, role, &mut links);
+    put_marks(
+        &links,
+        concepts.len() / 3,
+        1,
+        i as u16,
+        role as u16,
+        at,
+        out,
+    )
+}
+
+// The links of one element by all roles.
+fn put_links_of(
+    concepts: &[u16],
+    into: &[u64],
+    table: &[u8],
+    i: usize,
+    at: usize,
+    out: &mut [u16],
+) -> usize
+    requires { ⌜ Checked (now concepts) ⌝ }
+    requires { ⌜ length (now into) ≡ 200 ⌝ }
+    requires { ⌜ length (now table) ≡ 4608 ⌝ }
+    requires { ⌜ (i < countOf (now concepts)) × (at ≤ 15600000) ⌝ }
+    ensures { λ r. ⌜ r ≤ at + 76800 ⌝ }
+    ensures { λ r. ⌜ ForRoles (now (into .entry)) (λ roles. Put (now (out .entry)) at (linksOf (now (concepts .entry)) roles (marked (now (table .entry))) i) r (now (out .exit))) ⌝ }
+{
+    let mut own = [false; ROLES];
+    note_own(concepts, table, i, &mut own);
+    let mut used = [false; ROLES];
+    mark_used(into, &own, &mut used);
+    let mut end = at;
+    let mut s: usize = 0;
+    while s < ROLES {
+        let role = s;
+        s += 1;
+        if used[role] {
+            end = put_links_by(concepts, into, table, i, role, end, out);
+        }
+    }
+    end
+}
+
+// The links of all elements.
+fn put_links(concepts: &[u16], roles: &[u16], table: &[u8], at: usize, out: &mut [u16]) -> usize
+    requires { ⌜ Checked (now concepts) ⌝ }
+    requires { ⌜ LowRoles (now roles) ⌝ }
+    requires { ⌜ length (now table) ≡ 4608 ⌝ }
+    requires { ⌜ at ≤ 768000 ⌝ }
+    ensures { λ r. ⌜ Put (now (out .entry)) at (joined (linksOf (now (concepts .entry)) (now (roles .entry)) (marked (now (table .entry)))) 0 (countOf (now (concepts .entry)))) r (now (out .exit)) ⌝ }
+{
+    let mut into = [0u64; ROLE_WORDS];
+    note_roles(roles, &mut into);
+    let count = concepts.len() / 3;
+    let mut end = at;
+    let mut i: usize = 0;
+    while i < count {
+        end = put_links_of(concepts, &into, table, i, end, out);
+        i += 1;
+    }
+    end
+}
+
+// All rows, from the front of the buffer; answers how many numbers they take.
+pub fn put_rows(concepts: &[u16], roles: &[u16], table: &[u8], out: &mut [u16]) -> usize
+    requires { ⌜ Checked (now concepts) ⌝ }
+    requires { ⌜ LowRoles (now roles) ⌝ }
+    requires { ⌜ length (now table) ≡ 4608 ⌝ }
+    ensures { λ r. ⌜ Put (now (out .entry)) 0 (shownRows (now (concepts .entry)) (now (roles .entry)) (marked (now (table .entry)))) r (now (out .exit)) ⌝ }
+{
+    let end = put_names(concepts, table, out);
+    put_links(concepts, roles, table, end, out)
+}
