@@ -8,8 +8,8 @@
  * - A pointer is valid for its count: aligned, and behind it lie as many numbers, which may be read,
  *   in an output buffer written too. Where the count is 0 the pointer may be anything, NULL too:
  *   nothing is read or written through it.
- * - An output buffer overlaps nothing else that the call is lent. Tables, filling and lines may
- *   overlap one another.
+ * - An output buffer overlaps nothing else that the call is lent. Tables, filling, lines and the
+ *   rows of a given stock may overlap one another.
  * - While a call runs, nothing else writes what it is lent, nor reads its output buffer.
  * - The thread has as much stack left as the operation needs, in bytes at most:
  *     hc_check              8192
@@ -17,10 +17,12 @@
  *     hc_blanks             8192
  *     hc_subsumption_table  16384
  *     hc_subsumed           16384
- *     hc_match              1048576   (the most measured is 213984)
+ *     hc_match              1048576   (the most measured is 217328)
  *     hc_chosen             8192
  *     hc_derive             524288
  *     hc_check_derivation   65536
+ *     hc_show               32768
+ *     hc_belongs            131072
  *
  * Calls share no state, so any number of threads may call at once, and no call depends on one
  * before it: the library has constants and no variables that outlive a call (no statics), uses no
@@ -61,20 +63,33 @@
  *   7  the left is a blank; extra is the id of a chosen part that is below the right
  *   8  the right is a blank; the left is below each chosen part; extra 0
  *
+ * A stock is a number of things, counted from 0, and rows of four numbers: (0, thing, name, 0)
+ * says that the thing bears the name, (1, thing, role, thing) that the first thing is linked by the
+ * role to the last. Belonging goes by the kinds of the entries: everything belongs to top; what
+ * bears the name belongs to a name; what is linked by the role to something in the inner entry
+ * belongs to "some"; what belongs to both belongs to "and"; what belongs to every chosen part
+ * belongs to a blank. A stock obeys an inclusion when all that belongs to the left belongs to the
+ * right, and a role pair when each link of the narrow role is there under the wide one too.
+ *
  * Order of fillings: look at the pairs (blank, position), blank 0 first and positions rising. At
  * the first pair where two fillings differ, the one that leaves the part out is earlier.
  *
- * Refusals. Checks run in the order 1 to 6, 16, 7, then 9, 8, 11, 10; 12 comes last. Within one
- * check the lowest place wins.
+ * Refusals. Checks run in the order 1 to 6, 16, 7, then 9, 15, 8, 11, 10; 12 comes last. Within one
+ * check the lowest place wins. The checks of a given stock, again 1, 2 and 4, come after 9.
  *
  *   number  condition                                          place
  *   1       over a count limit, or a ragged table              0 entries, 1 inclusions,
  *                                                              2 questions, 3 blanks, 4 roles
+ *           of a stock: no things, over 192, or ragged rows    0
  *   2       unknown kind, number out of range, unused field    id
  *           not 0
+ *           of a stock: a row of another form, or with a       row
+ *           thing that the stock lacks
  *   3       inner id not smaller                               id
  *   4       a pair's id is no entry                            inclusions then questions counted
  *                                                              through; a pair given alone 0
+ *           of a stock: the asked entry is none; the thing     0; 1
+ *           is one that the stock lacks
  *   5       blank in an inclusion                              inclusion
  *   6       blanks on both sides                               question
  *   7       over 64 parts                                      64
@@ -85,6 +100,7 @@
  *   11      derivation wanted, pair not below                  0
  *   12      no lines or a ragged list; a line breaks its       0; line, from 0; count of lines
  *           rule; the last line is another pair
+ *   15      the pair holds, so there is nothing to show        0
  *   16      a role over 99 in the role pairs                   pair
  */
 #ifndef HERMITCASKET_H
@@ -193,6 +209,36 @@ hc_answer hc_check_derivation(const uint16_t *entries, size_t entries_len,
                               const uint64_t *filling, size_t filling_len,
                               uint16_t left, uint16_t right,
                               const uint16_t *lines, size_t lines_len);
+
+/* Shows a stock where the pair fails under a filling: it obeys all inclusions and role pairs, and
+ * the thing to look at, which is the left id, belongs to the left and not to the right. There are
+ * as many things as entries, and thing i stands for entry i: it bears the name of a name entry when
+ * i is below that entry, and is linked by the role of a "some" entry, and by every wider one, to
+ * that entry's inner thing when i is below it. Its rows, first of names and then of links, rising
+ * and free of repeats, go to the front of rows, which wants four numbers a row; numbers past them
+ * keep their values. Refusal 15 says that left is below right. Refusal 8 gives the length wanted,
+ * so a call without room (NULL, 0) asks for it. value: how many rows. */
+hc_answer hc_show(const uint16_t *entries, size_t entries_len,
+                  const uint16_t *inclusions, size_t inclusions_len,
+                  const uint16_t *questions, size_t questions_len,
+                  const uint16_t *roles, size_t roles_len,
+                  uint16_t blanks,
+                  const uint64_t *filling, size_t filling_len,
+                  uint16_t left, uint16_t right, uint16_t *rows, size_t rows_len);
+
+/* Says whether a thing of a given stock belongs to an entry under a filling. The stock has from 1
+ * to 192 things and any number of rows, in any order and with repeats; rows_len counts numbers,
+ * four a row. Names and roles in it are any numbers. Nothing but its rows is read as a link: the
+ * stock need not obey inclusions nor role pairs. value: 1 if the thing belongs to the entry, else
+ * 0. */
+hc_answer hc_belongs(const uint16_t *entries, size_t entries_len,
+                     const uint16_t *inclusions, size_t inclusions_len,
+                     const uint16_t *questions, size_t questions_len,
+                     const uint16_t *roles, size_t roles_len,
+                     uint16_t blanks,
+                     const uint64_t *filling, size_t filling_len,
+                     uint16_t things, const uint16_t *rows, size_t rows_len,
+                     uint16_t entry, uint16_t thing);
 
 #ifdef __cplusplus
 }

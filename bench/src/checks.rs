@@ -1,4 +1,4 @@
-//! The checks 1 to 6, 16, 7 and 9, in one pass over each table.
+//! The checks 1 to 6, 16, 7 and 9, in one pass over each table; and of a given interpretation.
 
 use crate::columns::{count_ones, each, has, insert, Set, EMPTY};
 
@@ -19,6 +19,13 @@ impl Input<'_> {
         let row = &self.concepts[3 * id..3 * id + 3];
         (row[0], usize::from(row[1]), usize::from(row[2]))
     }
+}
+
+/// A given interpretation: how many elements it has, and its rows of four numbers.
+#[derive(Clone, Copy)]
+pub struct Stock<'a> {
+    pub size: u16,
+    pub rows: &'a [u16],
 }
 
 /// What the checks find out about accepted tables.
@@ -57,6 +64,32 @@ pub fn accept_assignment(
         Some(variable) => Err((9, variable as u64)),
         None => Ok(()),
     }
+}
+
+pub fn accept_stock(
+    accepted: &Accepted,
+    stock: Stock,
+    (concept, element): (u16, u16),
+) -> Result<(), Refusal> {
+    let size = stock.size;
+    if size == 0 || size > 192 || stock.rows.len() % 4 != 0 {
+        return Err((1, 0));
+    }
+    let well_formed = |row: &[u16]| match row[0] {
+        0 => row[1] < size && row[3] == 0,
+        1 => row[1] < size && row[3] < size,
+        _ => false,
+    };
+    if let Some(place) = stock.rows.chunks_exact(4).position(|row| !well_formed(row)) {
+        return Err((2, place as u64));
+    }
+    if usize::from(concept) >= accepted.count {
+        return Err((4, 0));
+    }
+    if element >= size {
+        return Err((4, 1));
+    }
+    Ok(())
 }
 
 fn check_counts(input: &Input) -> Result<(), Refusal> {

@@ -34,7 +34,8 @@ pub fn each(set: Set, mut act: impl FnMut(usize)) {
     }
 }
 
-fn up_to(count: usize) -> Set {
+/// The first so many ids.
+pub fn up_to(count: usize) -> Set {
     let mut set = EMPTY;
     for (block, word) in set.iter_mut().enumerate() {
         let ones = count.saturating_sub(64 * block).min(64);
@@ -248,9 +249,9 @@ impl Columns {
         self.columns[..self.count].iter().map(|column| u64::from(count_ones(column))).sum()
     }
 
-    /// Rows are the columns transposed, 64 by 64 bits at a time.
-    pub fn write_rows(&self, out: &mut [u8]) {
-        out.fill(0);
+    /// Rows are the columns transposed, 64 by 64 bits at a time: calls `put` with 64 rows from
+    /// `64 * down` on and their words at the place `across`.
+    fn each_block(&self, mut put: impl FnMut(usize, usize, &[u64; 64])) {
         let blocks = (self.count + 63) / 64;
         for down in 0..blocks {
             for across in 0..blocks {
@@ -259,17 +260,34 @@ impl Columns {
                     *word = self.columns[64 * across + k][down];
                 }
                 transpose(&mut block);
-                let rows = out.chunks_exact_mut(24).skip(64 * down);
-                for (row, word) in rows.zip(block) {
-                    row[8 * across..8 * across + 8].copy_from_slice(&word.to_le_bytes());
-                }
+                put(down, across, &block);
             }
         }
+    }
+
+    pub fn write_rows(&self, out: &mut [u8]) {
+        out.fill(0);
+        self.each_block(|down, across, block| {
+            let rows = out.chunks_exact_mut(24).skip(64 * down);
+            for (row, word) in rows.zip(block) {
+                row[8 * across..8 * across + 8].copy_from_slice(&word.to_le_bytes());
+            }
+        });
+    }
+
+    /// Row i: the ids that i is below.
+    pub fn rows(&self) -> [Set; MOST] {
+        let mut rows = [EMPTY; MOST];
+        self.each_block(|down, across, block| {
+            let part = &mut rows[64 * down..64 * down + 64];
+            part.iter_mut().zip(block).for_each(|(row, word)| row[across] = *word);
+        });
+        rows
     }
 }
 
 /// The ids at the chosen positions among the atoms.
-fn chosen(atoms: Set, choice: u64) -> Set {
+pub fn chosen(atoms: Set, choice: u64) -> Set {
     let mut ids = EMPTY;
     let mut rest = choice;
     each(atoms, |id| {

@@ -5,11 +5,15 @@
 
 pub mod checks;
 pub mod columns;
+pub mod countermodel;
+pub mod membership;
 pub mod operations;
+pub mod roles;
 pub mod search;
 pub mod stack;
 
-use checks::{Input, Refusal};
+use checks::{Input, Refusal, Stock};
+use columns::Columns;
 use hermitcasket_tests::tables::Tables;
 
 const ROW_BYTES: usize = 24;
@@ -50,14 +54,42 @@ pub fn subsumption_table(input: Input, assignment: &[u64], out: &mut [u8]) -> Re
     if out.len() < wanted {
         return Err((8, wanted as u64));
     }
-    let closed = columns::Columns::close(&input, &accepted, assignment);
+    let closed = Columns::close(&input, &accepted, assignment);
     closed.write_rows(&mut out[..wanted]);
     Ok(closed.marks())
 }
 
 pub fn subsumed(input: Input, assignment: &[u64], pair: (u16, u16)) -> Result<bool, Refusal> {
+    let closed = close_for(input, assignment, pair)?;
+    Ok(closed.holds(usize::from(pair.0), usize::from(pair.1)))
+}
+
+fn close_for(input: Input, assignment: &[u64], pair: (u16, u16)) -> Result<Columns, Refusal> {
     let accepted = checks::accept(&input, Some(pair))?;
     checks::accept_assignment(&input, &accepted, assignment)?;
-    let closed = columns::Columns::close(&input, &accepted, assignment);
-    Ok(closed.holds(usize::from(pair.0), usize::from(pair.1)))
+    Ok(Columns::close(&input, &accepted, assignment))
+}
+
+/// How many rows of the interpretation where the pair fails were written.
+pub fn show(
+    input: Input,
+    assignment: &[u64],
+    pair: (u16, u16),
+    out: &mut [u16],
+) -> Result<u64, Refusal> {
+    let closed = close_for(input, assignment, pair)?;
+    countermodel::write(&input, &closed, pair, out)
+}
+
+/// Whether a concept has an element of the given interpretation as a member.
+pub fn belongs(
+    input: Input,
+    assignment: &[u64],
+    stock: Stock,
+    asked: (u16, u16),
+) -> Result<bool, Refusal> {
+    let accepted = checks::accept(&input, None)?;
+    checks::accept_assignment(&input, &accepted, assignment)?;
+    checks::accept_stock(&accepted, stock, asked)?;
+    Ok(membership::holds(&input, &accepted, assignment, stock, asked))
 }

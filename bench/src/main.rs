@@ -2,6 +2,7 @@
 //! inputs in one run. Words after the command pick subjects; without any, all are printed.
 //! `plot FILE` draws the growth instead.
 
+mod belongs;
 mod below;
 mod derivations;
 mod external;
@@ -9,6 +10,7 @@ mod markdown;
 mod matcher;
 mod memory;
 mod plot;
+mod show;
 mod table;
 mod timing;
 
@@ -17,8 +19,13 @@ use table::Tools;
 type Print = fn(&Tools);
 
 /// Subjects that share one table.
-const LINES: [(&str, Print); 3] =
-    [("below", below::print), ("matcher", matcher::print), ("puzzles", matcher::print_puzzles)];
+const LINES: [(&str, Print); 5] = [
+    ("below", below::print),
+    ("matcher", matcher::print),
+    ("puzzles", matcher::print_puzzles),
+    ("show", show::print),
+    ("belongs", belongs::print),
+];
 
 const TABLES: [(&str, fn()); 2] = [("derivations", derivations::print), ("stack", memory::print)];
 

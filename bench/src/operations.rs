@@ -2,9 +2,12 @@
 
 use hermitcasket_tests::capi::{self, Answer};
 use hermitcasket_tests::families::{Family, FAMILIES};
+use hermitcasket_tests::generate::failing_pair;
 use hermitcasket_tests::hard::{self, Hard};
 use hermitcasket_tests::limits::{line_room, ATOM_ROOM, MAX_CONCEPTS, MAX_VARIABLES, ROW_BYTES};
-use hermitcasket_tests::tables::Tables;
+use hermitcasket_tests::nested::{crowd, tower, tower_over_choice, Large, APART};
+use hermitcasket_tests::random::Random;
+use hermitcasket_tests::tables::{Stock, Tables};
 
 use crate::stack::depth;
 
@@ -15,9 +18,15 @@ pub struct Input {
     assignment: Vec<u64>,
     pair: (u16, u16),
     lines: Vec<u16>,
+    /// A pair that fails, if there is one, and how many numbers its interpretation takes.
+    failing: (u16, u16),
+    shown: usize,
+    /// A given interpretation.
+    stock: Stock,
 }
 
-/// The families of catalogues at full size, without and with role pairs, and hard problems.
+/// The families of catalogues at full size, without and with role pairs, hard problems, and nested
+/// existentials.
 pub fn inputs() -> Vec<Input> {
     let catalogue = |&family: &Family| (family.label().to_string(), family.tables(MAX_CONCEPTS));
     let with_role_pairs = |&family: &Family| {
@@ -30,8 +39,14 @@ pub fn inputs() -> Vec<Input> {
     problems.extend(hard::large_fixed_puzzles());
     problems.extend(hard::spread_over_roles(1));
     let problem = |problem: Hard| (problem.label, problem.tables);
+    let nested = [
+        ("nested".to_string(), tower(190)),
+        ("nested, through a blank".to_string(), tower_over_choice()),
+        ("nested, the most rows".to_string(), Large::over_name().tables),
+    ];
     let catalogues = FAMILIES.iter().map(catalogue).chain(FAMILIES.iter().map(with_role_pairs));
-    catalogues.chain(problems.into_iter().map(problem)).map(input).collect()
+    let problems = problems.into_iter().map(problem);
+    catalogues.chain(problems).chain(nested).map(input).collect()
 }
 
 /// With the first solution, or nothing chosen, and of some pairs the one with the longest
@@ -43,7 +58,16 @@ fn input((label, tables): (String, Tables)) -> Input {
     let tried = (0..count).step_by(16).map(|k| (k, (7 * k + 5) % count)).chain([(0, 0)]);
     let with_lines = |pair: (u16, u16)| (derivation(&tables, &assignment, pair), pair);
     let (lines, pair) = tried.map(with_lines).max_by_key(|found| found.0.len()).expect("a pair");
-    Input { label, tables, assignment, pair, lines }
+    let (failing, shown) = shown(&tables, &assignment);
+    let stock = crowd(&mut Random::new(1), 2_000, APART);
+    Input { label, tables, assignment, pair, lines, failing, shown, stock }
+}
+
+/// A pair that fails, and the length that its interpretation wants; else a pair that holds.
+fn shown(tables: &Tables, assignment: &[u64]) -> ((u16, u16), usize) {
+    let pair = failing_pair(&mut Random::new(1), tables, assignment);
+    let wanted = |pair| capi::show(tables.lend(), assignment, pair, &mut []).place as usize;
+    pair.map_or(((0, 0), 0), |pair| (pair, wanted(pair)))
 }
 
 /// No lines where the pair is not below.
@@ -60,6 +84,7 @@ pub struct Room {
     rows: Vec<u8>,
     choices: Vec<u64>,
     lines: Vec<u16>,
+    shown: Vec<u16>,
 }
 
 impl Default for Room {
@@ -69,13 +94,14 @@ impl Default for Room {
             rows: vec![0; MAX_CONCEPTS * ROW_BYTES],
             choices: vec![0; MAX_VARIABLES],
             lines: vec![0; line_room(MAX_CONCEPTS)],
+            shown: vec![0; Large::over_name().rows().len()],
         }
     }
 }
 
 pub type Operation = fn(&Input, &mut Room) -> Answer;
 
-pub const OPERATIONS: [(&str, Operation); 9] = [
+pub const OPERATIONS: [(&str, Operation); 11] = [
     ("hc_check", |input, _| capi::check(input.tables.lend())),
     ("hc_atoms", |input, room| capi::atoms(input.tables.lend(), &mut room.ids)),
     ("hc_blanks", |input, _| capi::blanks(input.tables.lend(), 0)),
@@ -92,6 +118,15 @@ pub const OPERATIONS: [(&str, Operation); 9] = [
     }),
     ("hc_check_derivation", |input, _| {
         capi::check_derivation(input.tables.lend(), &input.assignment, input.pair, &input.lines)
+    }),
+    ("hc_show", |input, room| {
+        let rows = &mut room.shown[..input.shown];
+        capi::show(input.tables.lend(), &input.assignment, input.failing, rows)
+    }),
+    ("hc_belongs", |input, _| {
+        let last = input.tables.concept_count() as u16 - 1;
+        let stock = (input.stock.size, &input.stock.rows[..]);
+        capi::belongs(input.tables.lend(), &input.assignment, stock, (last, 0))
     }),
 ];
 

@@ -8,6 +8,7 @@ use hermitcasket_tests::tables::Tables;
 use crate::checks::{self, Refusal};
 use crate::columns::{each, Columns};
 use crate::lend;
+use crate::roles::wider;
 
 /// Writes the first assignment that solves every question.
 pub fn find(tables: &Tables, out: &mut [u64]) -> Result<(), Refusal> {
@@ -24,20 +25,4 @@ pub fn find(tables: &Tables, out: &mut [u64]) -> Result<(), Refusal> {
     let first = matching::search(&patterns, variables).ok_or((10, 0))?;
     out[..variables].copy_from_slice(&first);
     Ok(())
-}
-
-/// For each role the roles that it counts as, as bits: one pair at a time, whoever counts as its
-/// narrow role counts from then on as what its wide role counts as. Nothing where there is no pair.
-fn wider(roles: &[u16]) -> Vec<u128> {
-    if roles.is_empty() {
-        return Vec::new();
-    }
-    let mut wider: Vec<u128> = (0..100).map(|role| 1 << role).collect();
-    for pair in roles.chunks_exact(2) {
-        let above = wider[usize::from(pair[1])];
-        for set in wider.iter_mut().filter(|set| **set >> pair[0] & 1 == 1) {
-            *set |= above;
-        }
-    }
-    wider
 }

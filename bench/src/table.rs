@@ -54,7 +54,7 @@ const COLUMNS: [Column; 11] = [
     ("entries", 7),
     ("blanks", 6),
     ("parts", 5),
-    ("answer", 6),
+    ("answer", 7),
     ("proved", 7),
     ("Rust", 7),
     ("ratio", 6),
@@ -79,7 +79,13 @@ pub fn print_head(tools: &Tools) {
     print_row(&COLUMNS, &cells);
 }
 
-impl Line<'_> {
+impl<'a> Line<'a> {
+    /// A line that no other tool has part in.
+    pub fn of_two(label: &'a str, tables: &'a Tables, answer: String, times: Times) -> Line<'a> {
+        let (konclude, clasp) = (String::new(), String::new());
+        Line { label, tables, answer, times, growth: None, konclude, clasp }
+    }
+
     pub fn print(self) {
         let cells = [
             self.label.to_string(),

@@ -1,8 +1,8 @@
 //! The yardstick is right too: the plain implementation held against the reference.
 
-use hermitcasket_bench::checks::Refusal;
+use hermitcasket_bench::checks::{Refusal, Stock};
 use hermitcasket_bench::search::find;
-use hermitcasket_bench::{atoms, check, lend, subsumed, subsumption_table};
+use hermitcasket_bench::{atoms, belongs, check, lend, show, subsumed, subsumption_table};
 use hermitcasket_tests::generate;
 use hermitcasket_tests::hard::{self, Hard, Known};
 use hermitcasket_tests::random::{cases, seed, Random, Size};
@@ -45,6 +45,37 @@ fn random_tables_agree() {
     for size in [Size::Small, Size::Medium, Size::Large] {
         for k in 0..(cases(size) / 4).max(1) {
             agree(&generate::case(&mut Random::for_case(seed, k), size));
+        }
+    }
+}
+
+#[test]
+fn shown_interpretations_agree() {
+    let seed = seed("plain implementation, shown");
+    for size in [Size::Small, Size::Medium, Size::Large] {
+        for k in 0..(cases(size) / 4).max(1) {
+            let case = generate::show_case(&mut Random::for_case(seed, k), size);
+            let tables = &case.tables;
+            let mut rows = vec![0; case.row_room];
+            let shown = show(lend(tables), &case.assignment, case.pair, &mut rows);
+            let shown = shown.map(|count| rows[..4 * count as usize].to_vec());
+            let expected = reference::show(tables, &case.assignment, case.pair, case.row_room);
+            assert_eq!(shown, numbered(expected), "{}", case);
+        }
+    }
+}
+
+#[test]
+fn members_agree() {
+    let seed = seed("plain implementation, members");
+    for size in [Size::Small, Size::Medium, Size::Large] {
+        for k in 0..(cases(size) / 4).max(1) {
+            let case = generate::belongs_case(&mut Random::for_case(seed, k), size);
+            let (tables, assignment) = (&case.tables, &case.assignment);
+            let stock = Stock { size: case.stock.size, rows: &case.stock.rows };
+            let member = belongs(lend(tables), assignment, stock, case.asked);
+            let expected = reference::belongs(tables, assignment, &case.stock, case.asked);
+            assert_eq!(member, numbered(expected), "{}", case);
         }
     }
 }

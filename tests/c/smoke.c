@@ -36,6 +36,9 @@ static void nulls(void)
     show("no blank", hc_chosen(NOTHING, NULL, 0, 0, NULL, 0));
     show("nothing to derive", hc_derive(NOTHING, NULL, 0, 0, 0, NULL, 0));
     show("nothing to check", hc_check_derivation(NOTHING, NULL, 0, 0, 0, NULL, 0));
+    show("nothing to show", hc_show(NOTHING, NULL, 0, 0, 0, NULL, 0));
+    show("no things", hc_belongs(NOTHING, NULL, 0, 0, NULL, 0, 0, 0));
+    show("no entry to belong to", hc_belongs(NOTHING, NULL, 0, 1, NULL, 0, 0, 0));
 
     show("no catalogue", hc_match(entries, LEN(entries), NULL, 0, questions, LEN(questions),
                                   roles, LEN(roles), 1, NULL, 0));
@@ -55,6 +58,9 @@ static void nulls(void)
     show("no room for ids", hc_chosen(TABLES, filling, LEN(filling), 0, NULL, 0));
     show("no room for lines", hc_derive(TABLES, filling, LEN(filling), 2, 3, NULL, 0));
     show("no list of lines", hc_check_derivation(TABLES, filling, LEN(filling), 2, 3, NULL, 0));
+    show("no room for a stock", hc_show(TABLES, filling, LEN(filling), 3, 2, NULL, 0));
+    show("no filling to show by", hc_show(TABLES, NULL, 0, 3, 2, NULL, 0));
+    show("bare things", hc_belongs(TABLES, filling, LEN(filling), 2, NULL, 0, 3, 1));
 }
 
 /* "Some" of one name by roles 1 and 2, and by 3: 1 counts as 2, which counts as 3. */
@@ -77,6 +83,37 @@ static void role_pairs(void)
     show("ragged pairs", hc_check(SOME, chain, LEN(chain) - 1, 0));
     show("32 pairs", hc_check(SOME, many, 64, 0));
     show("33 pairs", hc_check(SOME, many, 66, 0));
+}
+
+/* A stock where 3 is not below 2, each row on a line, and belonging in it and in another one. */
+static void stocks(void)
+{
+    static const uint16_t given[] = {1, 0, 65535, 0, 0, 1, 9, 0, 1, 0, 1, 1, 1, 0, 1, 1,
+                                     0, 0, 5, 0};
+    uint16_t rows[64] = {0};
+    hc_answer shown = hc_show(TABLES, filling, LEN(filling), 3, 2, rows, LEN(rows));
+
+    show("shown", shown);
+    for (size_t row = 0; row < shown.value; row++)
+        printf("row %u %u %u %u\n", (unsigned)rows[4 * row], (unsigned)rows[4 * row + 1],
+               (unsigned)rows[4 * row + 2], (unsigned)rows[4 * row + 3]);
+#define SHOWN filling, LEN(filling), 6, rows, 4 * (size_t)shown.value
+    show("of the left", hc_belongs(TABLES, SHOWN, 3, 3));
+    show("not of the right", hc_belongs(TABLES, SHOWN, 2, 3));
+    show("holds", hc_show(TABLES, filling, LEN(filling), 2, 3, rows, LEN(rows)));
+    show("one number short", hc_show(TABLES, filling, LEN(filling), 3, 2, rows, 35));
+    show("no pair", hc_show(TABLES, filling, LEN(filling), 3, 6, rows, LEN(rows)));
+#define GIVEN filling, LEN(filling), 2, given, LEN(given)
+    show("bears the name", hc_belongs(TABLES, GIVEN, 0, 0));
+    show("bears another", hc_belongs(TABLES, GIVEN, 0, 1));
+    show("filled with nothing of it", hc_belongs(TABLES, GIVEN, 2, 0));
+    show("of the blank", hc_belongs(TABLES, GIVEN, 4, 1));
+    show("no such entry in it", hc_belongs(TABLES, GIVEN, 6, 2));
+    show("no such thing in it", hc_belongs(TABLES, GIVEN, 5, 2));
+    show("ragged rows", hc_belongs(TABLES, filling, LEN(filling), 2, given, LEN(given) - 1, 6, 2));
+    show("a row too far", hc_belongs(TABLES, filling, LEN(filling), 1, given, LEN(given), 6, 2));
+    show("193 things", hc_belongs(TABLES, filling, LEN(filling), 193, given, LEN(given), 0, 0));
+    show("filling first", hc_belongs(TABLES, filling, 0, 193, given, LEN(given), 0, 0));
 }
 
 int main(void)
@@ -114,6 +151,7 @@ int main(void)
     show("not below", hc_derive(TABLES, filling, LEN(filling), 3, 2, lines, LEN(lines)));
     show("no lines", hc_check_derivation(TABLES, filling, LEN(filling), 2, 3, lines, 0));
     role_pairs();
+    stocks();
     nulls();
     return 0;
 }

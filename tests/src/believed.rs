@@ -37,11 +37,15 @@ pub const SENTENCES: &[Sentence] = &[
     Sentence { of: "matching", file: "TwinLaws", law: "twins-count-once" },
     Sentence { of: "cards", file: "SampleCards", law: "every-card" },
     Sentence { of: "cards", file: "ShownTables", law: "every-table" },
+    Sentence { of: "countermodel", file: "RisingLaws", law: "shown-rising" },
+    Sentence { of: "countermodel", file: "ShownChecks", law: "shown-answers" },
     Sentence { of: "hermitcasket", file: "Texts", law: "texts" },
+    Sentence { of: "hermitcasket", file: "ShownLaws", law: "parts-answer" },
 ];
 
 /// The functions of a program that stand for it, since a program passes nothing on.
-const PROGRAM: &[(&str, &str, &str)] = &[("hermitcasket", "answer", "answer")];
+const PROGRAM: &[(&str, &str, &str)] =
+    &[("hermitcasket", "answer", "answer"), ("hermitcasket", "parts", "put_part")];
 
 type Imports = BTreeMap<String, Name>;
 

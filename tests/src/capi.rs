@@ -159,10 +159,47 @@ extern "C" {
         lines: *const u16,
         lines_len: usize,
     ) -> Answer;
+
+    fn hc_show(
+        concepts: *const u16,
+        concepts_len: usize,
+        inclusions: *const u16,
+        inclusions_len: usize,
+        questions: *const u16,
+        questions_len: usize,
+        roles: *const u16,
+        roles_len: usize,
+        variables: u16,
+        assignment: *const u64,
+        assignment_len: usize,
+        left: u16,
+        right: u16,
+        rows: *mut u16,
+        rows_len: usize,
+    ) -> Answer;
+
+    fn hc_belongs(
+        concepts: *const u16,
+        concepts_len: usize,
+        inclusions: *const u16,
+        inclusions_len: usize,
+        questions: *const u16,
+        questions_len: usize,
+        roles: *const u16,
+        roles_len: usize,
+        variables: u16,
+        assignment: *const u64,
+        assignment_len: usize,
+        elements: u16,
+        rows: *const u16,
+        rows_len: usize,
+        concept: u16,
+        element: u16,
+    ) -> Answer;
 }
 
 // Each call below is sound for any slices: the operations have no `requires`, read only what the
-// lengths cover, and write only to `out`.
+// lengths cover, and write only to `out` or to the rows of `show`.
 
 pub fn check(t: TablesRef) -> Answer {
     unsafe {
@@ -339,6 +376,58 @@ pub fn check_derivation(
             pair.1,
             lines.as_ptr(),
             lines.len(),
+        )
+    }
+}
+
+pub fn show(t: TablesRef, assignment: &[u64], pair: (u16, u16), rows: &mut [u16]) -> Answer {
+    unsafe {
+        hc_show(
+            t.concepts.as_ptr(),
+            t.concepts.len(),
+            t.inclusions.as_ptr(),
+            t.inclusions.len(),
+            t.questions.as_ptr(),
+            t.questions.len(),
+            t.roles.as_ptr(),
+            t.roles.len(),
+            t.variables,
+            assignment.as_ptr(),
+            assignment.len(),
+            pair.0,
+            pair.1,
+            rows.as_mut_ptr(),
+            rows.len(),
+        )
+    }
+}
+
+/// Whether the element is a member of the concept, in the interpretation of so many elements that
+/// the rows say.
+pub fn belongs(
+    t: TablesRef,
+    assignment: &[u64],
+    (elements, rows): (u16, &[u16]),
+    (concept, element): (u16, u16),
+) -> Answer {
+    unsafe {
+        hc_belongs(
+            t.concepts.as_ptr(),
+            t.concepts.len(),
+            t.inclusions.as_ptr(),
+            t.inclusions.len(),
+            t.questions.as_ptr(),
+            t.questions.len(),
+            t.roles.as_ptr(),
+            t.roles.len(),
+            t.variables,
+            assignment.as_ptr(),
+            assignment.len(),
+            elements,
+            rows.as_ptr(),
+            rows.len(),
+            concept,
+            element,
         )
     }
 }

@@ -1,12 +1,15 @@
 //! Each operation called on one case and held against the reference: the answer, every lent
 //! buffer, and the guards around them. A difference stops the test and prints the case.
 
+use std::ops::RangeInclusive;
+
 use crate::capi::{self, Answer};
 use crate::lend::{Lent, LentInputs, Noise};
 use crate::limits::ROW_BYTES;
-use crate::random::Random;
+use crate::random::{cases, full_run, seed, Random, Size};
 use crate::reference::{self, atoms::chosen as chosen_ids, derivation, Refusal};
 use crate::tables::Case;
+use crate::tally::Tally;
 
 /// Noise for the buffers, the same for the same case.
 fn noise(case: &Case) -> Random {
@@ -150,6 +153,58 @@ fn judge_lines(case: &Case, written: &[u16]) {
     assert!(twice.is_none(), "hc_derive: {:?} in {:?}, for\n{}", twice, written, case);
 }
 
+/// The shown interpretation, row by row.
+pub fn show(case: &Case) -> Answer {
+    show_expecting(case, reference::show(&case.tables, &case.assignment, case.pair, case.row_room))
+}
+
+/// The same where the rows are known already.
+pub fn show_expecting(case: &Case, expected: Result<Vec<u16>, Refusal>) -> Answer {
+    let mut random = noise(case);
+    let inputs = LentInputs::new(&case.tables, &case.assignment, &mut random);
+    let mut out: Lent<u16> = Lent::noise(case.row_room, &mut random);
+    let answer = capi::show(inputs.tables(), inputs.assignment(), case.pair, out.slice_mut());
+    let written = expected.clone().unwrap_or_default();
+    let count = expected.map(|rows| rows.len() as u64 / 4);
+    judge(case, "hc_show", answer, count, &inputs);
+    let mut both = out.slice().chunks_exact(4).zip(written.chunks_exact(4));
+    if let Some((row, due)) = both.find(|(row, due)| row != due) {
+        panic!("hc_show wrote {:?}, where {:?} is due, for\n{}", row, due, case);
+    }
+    judge_output(case, "hc_show", &out, &written);
+    answer
+}
+
+/// Membership in the case's interpretation.
+pub fn belongs(case: &Case) -> Answer {
+    let expected = reference::belongs(&case.tables, &case.assignment, &case.stock, case.asked);
+    belongs_expecting(case, expected)
+}
+
+/// The same where the answer is known already.
+pub fn belongs_expecting(case: &Case, expected: Result<bool, Refusal>) -> Answer {
+    let mut random = noise(case);
+    let inputs = LentInputs::new(&case.tables, &case.assignment, &mut random);
+    let rows: Lent<u16> = Lent::holding(&case.stock.rows, &mut random);
+    let stock = (case.stock.size, rows.slice());
+    let answer = capi::belongs(inputs.tables(), inputs.assignment(), stock, case.asked);
+    judge(case, "hc_belongs", answer, expected.map(u64::from), &inputs);
+    judge_output(case, "hc_belongs", &rows, &[]);
+    answer
+}
+
+/// Every element and concept of an accepted case, asked one by one. Row x, column j of `members`:
+/// element x is a member of concept j.
+pub fn belongs_all(case: &Case, members: &[Vec<bool>]) {
+    let mut asked = case.clone();
+    for (x, row) in members.iter().enumerate() {
+        for (j, &member) in row.iter().enumerate() {
+            asked.asked = (j as u16, x as u16);
+            belongs_expecting(&asked, Ok(member));
+        }
+    }
+}
+
 /// The four operations on tables, assignment and pair; for a case pasted back from a failure.
 pub fn all(case: &Case) {
     check(case);
@@ -169,6 +224,34 @@ pub fn decide_pairs(case: &Case, pairs: &[(u16, u16)]) {
         let holds = relation[usize::from(pair.0)][usize::from(pair.1)];
         judge(&asked, "hc_subsumed", answer, Ok(u64::from(holds)), &inputs);
     }
+}
+
+/// Random cases of each size for an operation that says yes or no. In a full run "yes", "no" and
+/// "refused" have these shares, and each refusal of tables and assignment is seen.
+pub fn yes_or_no(
+    test: &str,
+    make: fn(&mut Random, Size) -> Case,
+    ask: fn(&Case) -> Answer,
+    shares: [RangeInclusive<usize>; 3],
+) {
+    let seed = seed(test);
+    let mut seen = [0; 17];
+    let mut tally = Tally::new(test);
+    for size in [Size::Small, Size::Medium, Size::Large] {
+        for k in 0..cases(size) {
+            let answer = ask(&make(&mut Random::for_case(seed, k), size));
+            seen[usize::from(answer.number)] += 1;
+            tally.case();
+            tally.note("yes", answer == Answer::done(1));
+            tally.note("no", answer == Answer::done(0));
+            tally.note("refused", answer.number > 0);
+        }
+    }
+    let mut refused = (1..10).filter(|&number| number != 8).chain([16]);
+    let all_seen = refused.all(|number| seen[number] > 0);
+    assert!(all_seen || !full_run(), "answers: {:?}", seen);
+    let [yes, no, refused] = shares;
+    tally.finish(&[("yes", yes), ("no", no), ("refused", refused)]);
 }
 
 fn judge(

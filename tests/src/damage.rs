@@ -1,8 +1,8 @@
-//! Faults put at random into tables and assignments.
+//! Faults put at random into tables, assignments and interpretations.
 
 use crate::limits::*;
 use crate::random::Random;
-use crate::tables::Tables;
+use crate::tables::{Stock, Tables};
 
 /// One to three faults put into the tables; some leave them accepted.
 pub fn tables(random: &mut Random, tables: &mut Tables) {
@@ -178,5 +178,23 @@ pub fn assignment(random: &mut Random, choices: &mut Vec<u64>) {
                 choices[at] |= 1 << random.below(64);
             }
         }
+    }
+}
+
+/// Another number of elements, ragged rows, or a row of another form or with an element that is not
+/// there; some leave the interpretation accepted.
+pub fn stock(random: &mut Random, stock: &mut Stock) {
+    match random.below(8) {
+        0 => stock.size = *random.pick(&[0, 192, 193, 194, 256, 65535]),
+        1 => stock.rows.push(0),
+        2 => drop(stock.rows.pop()),
+        _ if stock.rows.len() >= 4 => {
+            let row = 4 * random.below(stock.rows.len() / 4);
+            let beyond = [stock.size, stock.size.wrapping_add(1), 192, 256, 65535];
+            let field = *random.pick(&[0, 1, 3]);
+            let number = if field == 0 { random.below(4) as u16 } else { *random.pick(&beyond) };
+            stock.rows[row + field] = number;
+        }
+        _ => stock.rows.extend([2, 0, 0, 0]),
     }
 }

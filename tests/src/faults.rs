@@ -2,9 +2,9 @@
 //! Every set of them can be put in at once, to see which check speaks first.
 
 use crate::limits::{line_room, ATOM_ROOM, ROW_BYTES};
-use crate::tables::{Case, Tables};
+use crate::tables::{Case, Stock, Tables};
 
-/// In the order of the checks: 1 to 6, 16, 7, then 9, 8.
+/// In the order of the checks: 1 to 6, 16, 7, then 9, 15, 8; and 1, 2, 4 of a given interpretation.
 #[derive(Clone, Copy, Debug, PartialEq, Eq)]
 pub enum Fault {
     Ragged,
@@ -19,9 +19,15 @@ pub enum Fault {
     TooManyAtoms,
     AssignmentLength,
     BitPastAtoms,
+    PairHolds,
     ShortBuffer,
+    RaggedRows,
+    MalformedRow,
+    NoConceptAsked,
+    NoElementAsked,
 }
 
+/// Those of every operation but one that shows or is given an interpretation.
 pub const FAULTS: [Fault; 13] = [
     Fault::Ragged,
     Fault::RaggedRoles,
@@ -53,6 +59,26 @@ pub fn faults_without_buffer() -> &'static [Fault] {
     &FAULTS[..OF_TABLES + 2]
 }
 
+/// For showing an interpretation: 15 stands between 9 and 8.
+pub fn showing_faults() -> Vec<Fault> {
+    [faults_without_buffer(), &[Fault::PairHolds, Fault::ShortBuffer]].concat()
+}
+
+/// For membership in a given one, whose own faults come last.
+pub fn membership_faults() -> Vec<Fault> {
+    let mut faults = faults_without_buffer().to_vec();
+    faults.retain(|&fault| fault != Fault::LonePair);
+    faults.extend([Fault::RaggedRows, Fault::MalformedRow]);
+    faults.extend([Fault::NoConceptAsked, Fault::NoElementAsked]);
+    faults
+}
+
+/// A pair of the base table that does not hold: top and a name.
+pub const FAILING: (u16, u16) = (0, 3);
+/// Rows of the interpretation that shows this, all of names: 65 on the names, 30 more by
+/// inclusions, 20 on the conjunctions.
+pub const SHOWN_ROWS: usize = 115;
+
 // Ids of the base table that only faults use.
 const VARIABLE: u16 = 2;
 const FIVE_NAMES: u16 = 72;
@@ -60,7 +86,8 @@ const CHANGED_KIND: usize = 73;
 const CHANGED_INNER: usize = 74;
 const COUNT: usize = 75;
 
-/// 75 concepts, 31 inclusions, 1 question, 2 role pairs, 2 variables, 60 atoms.
+/// 75 concepts, 31 inclusions, 1 question, 2 role pairs, 2 variables, 60 atoms; an interpretation
+/// of two elements, of which the first is a member of the concept asked for.
 pub fn base() -> Case {
     let mut rows: Vec<[u16; 3]> = vec![[0, 0, 0], [4, 1, 0], [4, 0, 0]];
     rows.extend((3..68).map(|name| [1, name, 0]));
@@ -72,7 +99,11 @@ pub fn base() -> Case {
     inclusions.push([3, 0]);
     let tables = Tables::new(&rows, &inclusions, &[[VARIABLE, 0]], 2);
     let tables = tables.with_roles(&[[7, 99], [99, 0]]);
-    Case::new(tables, &[0, 0])
+    let mut case = Case::new(tables, &[0, 0]);
+    case.row_room = 4 * SHOWN_ROWS;
+    case.stock = Stock::new(2, &[[0, 1, 9, 0], [1, 0, 99, 1], [0, 0, 3, 0]]);
+    case.asked = (3, 0);
+    case
 }
 
 impl Fault {
@@ -92,7 +123,12 @@ impl Fault {
             Fault::TooManyAtoms => (7, 64),
             Fault::AssignmentLength => (9, 2),
             Fault::BitPastAtoms => (9, 1),
+            Fault::PairHolds => (15, 0),
             Fault::ShortBuffer => (8, (COUNT * ROW_BYTES) as u64),
+            Fault::RaggedRows => (1, 0),
+            Fault::MalformedRow => (2, 3),
+            Fault::NoConceptAsked => (4, 0),
+            Fault::NoElementAsked => (4, 1),
         }
     }
 
@@ -113,13 +149,19 @@ impl Fault {
             Fault::TooManyAtoms => tables.inclusions.extend([FIVE_NAMES, 0]),
             Fault::AssignmentLength => case.assignment.push(0),
             Fault::BitPastAtoms => case.assignment[1] |= 1 << 60,
+            Fault::PairHolds => tables.inclusions.extend([FAILING.0, FAILING.1]),
             Fault::ShortBuffer => {
                 case.table_room = COUNT * ROW_BYTES - 1;
                 case.atom_room = ATOM_ROOM - 1;
                 case.match_room = 1;
                 case.chosen_room = ATOM_ROOM - 1;
                 case.line_room = line_room(COUNT) - 1;
+                case.row_room = 4 * SHOWN_ROWS - 1;
             }
+            Fault::RaggedRows => case.stock.rows.push(0),
+            Fault::MalformedRow => case.stock.rows.extend([2, 0, 0, 0]),
+            Fault::NoConceptAsked => case.asked.0 = COUNT as u16,
+            Fault::NoElementAsked => case.asked.1 = case.stock.size,
         }
     }
 }

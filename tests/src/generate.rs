@@ -1,13 +1,14 @@
 //! Random tables of many shapes that the checks accept, role pairs for them, copies pasted into
-//! them, and random cases around them.
+//! them, interpretations, and random cases around all of these.
 
 use std::collections::BTreeSet;
 
 use crate::damage;
 use crate::limits::*;
 use crate::random::{Random, Size};
-use crate::reference::atoms;
-use crate::tables::{Case, Tables};
+use crate::reference::{self, atoms, countermodel};
+use crate::semantics::signature;
+use crate::tables::{Case, Stock, Tables};
 
 /// Which pairs the inclusions prefer.
 #[derive(Clone, Copy, Debug, PartialEq, Eq)]
@@ -477,16 +478,133 @@ pub fn case(random: &mut Random, size: Size) -> Case {
     case
 }
 
-fn pair(random: &mut Random, tables: &Tables) -> (u16, u16) {
+/// Two ids, now and then one that is no concept.
+pub fn pair(random: &mut Random, tables: &Tables) -> (u16, u16) {
     let count = tables.concept_count();
-    let id = |random: &mut Random| {
-        if count == 0 || random.percent(5) {
-            *random.pick(&[count as u16, 192, 65535])
+    (below_or_not(random, count), below_or_not(random, count))
+}
+
+/// A number below the count, or now and then one that is not.
+fn below_or_not(random: &mut Random, count: usize) -> u16 {
+    if count == 0 || random.percent(5) {
+        *random.pick(&[count as u16, 192, 65535])
+    } else {
+        random.below(count) as u16
+    }
+}
+
+/// A random case for showing an interpretation: where one can be shown, the pair mostly fails, and
+/// the buffer is as long as wanted, or longer, or now and then shorter.
+pub fn show_case(random: &mut Random, size: Size) -> Case {
+    let mut case = case(random, size);
+    if reference::accepts(&case) {
+        let relation = reference::relation(&case.tables, &case.assignment);
+        let failing = failing_pairs(&relation);
+        if !failing.is_empty() && random.percent(70) {
+            case.pair = *random.pick(&failing);
+        }
+        let rows = countermodel::shown_rows(&case.tables, &relation);
+        case.row_room = room(random, rows.len());
+    }
+    case
+}
+
+/// Row i, column j of the relation: i is subsumed by j. The pairs that are not.
+pub fn failing_pairs(relation: &[Vec<bool>]) -> Vec<(u16, u16)> {
+    let of_row = |(i, row): (usize, &Vec<bool>)| {
+        let fails = (0..row.len()).filter(|&j| !row[j]);
+        fails.map(|j| (i as u16, j as u16)).collect::<Vec<_>>()
+    };
+    relation.iter().enumerate().flat_map(of_row).collect()
+}
+
+/// One of the pairs that fail under an assignment, if there is one. All must be accepted.
+pub fn failing_pair(
+    random: &mut Random,
+    tables: &Tables,
+    assignment: &[u64],
+) -> Option<(u16, u16)> {
+    let pairs = failing_pairs(&reference::relation(tables, assignment));
+    (!pairs.is_empty()).then(|| *random.pick(&pairs))
+}
+
+/// A random case for membership: an interpretation at random, or one that obeys the tables and lost
+/// some of its rows, and a concept and an element. Now and then the interpretation is damaged.
+pub fn belongs_case(random: &mut Random, size: Size) -> Case {
+    let mut case = case(random, size);
+    let modelled = case.tables.concept_count() > 0 && random.percent(50);
+    case.stock = if modelled && reference::accepts(&case) {
+        thinned_model(random, &case)
+    } else {
+        stock(random, &case.tables, size)
+    };
+    let (concepts, elements) = (case.tables.concept_count(), usize::from(case.stock.size));
+    case.asked = (below_or_not(random, concepts), below_or_not(random, elements));
+    if random.percent(15) {
+        damage::stock(random, &mut case.stock);
+    }
+    case
+}
+
+/// Rows that an interpretation at random has at most.
+const MANY_ROWS: usize = 12_000;
+
+/// The interpretation that is shown for the tables, without some of its rows.
+fn thinned_model(random: &mut Random, case: &Case) -> Stock {
+    let relation = reference::relation(&case.tables, &case.assignment);
+    let size = case.tables.concept_count() as u16;
+    let rows = countermodel::shown_rows(&case.tables, &relation);
+    let kept = *random.pick(&[60, 90, 98, 100]);
+    let mut rows: Vec<[u16; 4]> = Stock { size, rows }.split().collect();
+    rows.retain(|_| random.percent(kept));
+    mix(random, &mut rows);
+    rows.truncate(MANY_ROWS);
+    Stock::new(size, &rows)
+}
+
+/// An interpretation at random over the names and roles of the tables, damaged or not, and others
+/// that are easily taken for these, past the tables' ranges too.
+pub fn stock(random: &mut Random, tables: &Tables, size: Size) -> Stock {
+    let (names, roles) = signature(tables);
+    let elements = match size {
+        Size::Small => random.between(1, 6),
+        Size::Medium => random.between(1, 40),
+        Size::Large => *random.pick(&[100, 150, 191, 192, 192]),
+    };
+    let each = *random.pick(&[2, 8, 30]);
+    let count = random.below(1 + each * elements);
+    let named = *random.pick(&[20, 50, 80]);
+    let row = |random: &mut Random| {
+        let (x, y) = (random.below(elements) as u16, random.below(elements) as u16);
+        if random.percent(named) {
+            [0, x, symbol(random, &names), 0]
         } else {
-            random.below(count) as u16
+            [1, x, symbol(random, &roles), y]
         }
     };
-    (id(random), id(random))
+    let mut rows: Vec<[u16; 4]> = (0..count).map(|_| row(random)).collect();
+    mix(random, &mut rows);
+    Stock::new(elements as u16, &rows)
+}
+
+/// One of these, or now and then another number.
+fn symbol(random: &mut Random, known: &[u16]) -> u16 {
+    let one = *random.pick(known);
+    match random.below(20) {
+        0 => one.wrapping_add(*random.pick(&[1, 100, 128, 256, 1000, 1024, 4096, 32768])),
+        1 => random.number() as u16,
+        _ => one,
+    }
+}
+
+/// Any order, and some rows again.
+fn mix(random: &mut Random, rows: &mut Vec<[u16; 4]>) {
+    if !rows.is_empty() {
+        let again: Vec<[u16; 4]> =
+            (0..random.below(1 + rows.len() / 4)).map(|_| *random.pick(rows)).collect();
+        rows.extend(again);
+    }
+    random.shuffle(rows);
 }
 
 /// As long as wanted, longer, or now and then shorter.

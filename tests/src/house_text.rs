@@ -1,9 +1,11 @@
 //! The program's text (01: house text): a reader, a layout and the whole output, written from 01 and
 //! 02.
 
+use std::fmt::Write;
+
 use crate::limits::*;
 use crate::reference::{self, atoms, Refusal};
-use crate::tables::Tables;
+use crate::tables::{Stock, Tables};
 
 const KINDS: [&str; 5] = ["top", "name", "some", "and", "blank"];
 
@@ -41,6 +43,20 @@ pub fn layout_with(tables: &Tables, section: bool) -> Option<Vec<u8>> {
         lines.extend(list.chunks_exact(2).map(|pair| format!("below={},{}", pair[0], pair[1])));
     }
     Some(lines.iter().flat_map(|line| [line.as_bytes(), b"\n"].concat()).collect())
+}
+
+/// The text of a problem with the pair in a last line `show=`, if there is one to show.
+pub fn layout_showing(tables: &Tables, show: Option<(u16, u16)>) -> Option<Vec<u8>> {
+    let line = show.map_or(String::new(), |(left, right)| format!("show={},{}\n", left, right));
+    layout(tables).map(|text| [text, line.into_bytes()].concat())
+}
+
+/// What a text says.
+#[derive(Clone, Debug, PartialEq, Eq)]
+pub struct Problem {
+    pub tables: Tables,
+    /// The pair of a last line `show=`: the interpretation is wanted and not a filling.
+    pub show: Option<(u16, u16)>,
 }
 
 /// A text and how much of it was read.
@@ -112,6 +128,18 @@ impl Reader<'_> {
         let count = self.count("roles", MAX_ROLE_PAIRS, 4)?;
         self.pairs("wider", count)
     }
+
+    /// The line that may be the last one. Whatever else is there is off the layout.
+    fn show(&mut self) -> Result<Option<(u16, u16)>, Refusal> {
+        if self.at == self.text.len() {
+            return Ok(None);
+        }
+        let (_, ids) = self.line(&[("show", 2)])?;
+        if self.at < self.text.len() {
+            return self.off_layout();
+        }
+        Ok(Some((ids[0], ids[1])))
+    }
 }
 
 fn numbers(list: &[u8]) -> Option<Vec<u16>> {
@@ -128,7 +156,7 @@ fn number(digits: &[u8]) -> Option<u16> {
 }
 
 /// The problem, or the refusal of the earliest faulty line.
-pub fn read(text: &[u8]) -> Result<Tables, Refusal> {
+pub fn read(text: &[u8]) -> Result<Problem, Refusal> {
     if text.len() > MAX_TEXT {
         return Err(Refusal { number: 13, place: MAX_TEXT as u64 });
     }
@@ -144,19 +172,42 @@ pub fn read(text: &[u8]) -> Result<Tables, Refusal> {
     let inclusions = reader.pairs("below", count)?;
     let count = reader.count("questions", MAX_QUESTIONS, 2)?;
     let questions = reader.pairs("below", count)?;
-    if reader.at < text.len() {
-        return reader.off_layout();
-    }
-    Ok(Tables { concepts, inclusions, questions, roles, variables })
+    let show = reader.show()?;
+    Ok(Problem { tables: Tables { concepts, inclusions, questions, roles, variables }, show })
 }
 
 /// All that the program prints for a text.
 pub fn output(text: &[u8]) -> String {
-    let found = read(text).and_then(|tables| {
-        let assignment = reference::find(&tables, usize::from(tables.variables))?;
-        Ok(filled(&atoms::chosen(&tables, &assignment)))
+    let found = read(text).and_then(|problem| match problem.show {
+        None => filling(&problem.tables),
+        Some(pair) => shown(&problem.tables, pair),
     });
     found.unwrap_or_else(refused)
+}
+
+fn filling(tables: &Tables) -> Result<String, Refusal> {
+    let assignment = reference::find(tables, usize::from(tables.variables))?;
+    Ok(filled(&atoms::chosen(tables, &assignment)))
+}
+
+/// The interpretation and nothing else, under the empty assignment.
+fn shown(tables: &Tables, pair: (u16, u16)) -> Result<String, Refusal> {
+    let nothing = vec![0; usize::from(tables.variables)];
+    let rows = reference::show(tables, &nothing, pair, usize::MAX)?;
+    Ok(stock_lines(&Stock { size: tables.concept_count() as u16, rows }))
+}
+
+/// One line a row.
+pub fn stock_lines(stock: &Stock) -> String {
+    let mut lines = format!("things={}\n", stock.size);
+    for [kind, element, symbol, target] in stock.split() {
+        let written = match kind {
+            0 => writeln!(lines, "is={},{}", element, symbol),
+            _ => writeln!(lines, "link={},{},{}", element, symbol, target),
+        };
+        written.expect("a line more");
+    }
+    lines
 }
 
 fn filled(chosen: &[Vec<usize>]) -> String {

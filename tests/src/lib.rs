@@ -13,6 +13,7 @@ pub mod hard;
 pub mod house_text;
 pub mod lend;
 pub mod limits;
+pub mod nested;
 pub mod planted;
 pub mod random;
 pub mod reference;

@@ -6,6 +6,7 @@ pub const MAX_QUESTIONS: usize = 32;
 pub const MAX_ROLE_PAIRS: usize = 32;
 pub const MAX_VARIABLES: usize = 8;
 pub const MAX_ATOMS: usize = 64;
+pub const MAX_ELEMENTS: usize = 192;
 pub const MAX_NAME: u16 = 999;
 pub const MAX_ROLE: u16 = 99;
 

@@ -69,7 +69,10 @@ pub fn obeys(interpretation: &Interpretation, tables: &Tables) -> bool {
 }
 
 /// An element and a link that it lacks: the same to the same under a narrow role is there.
-fn missing_link(interpretation: &Interpretation, tables: &Tables) -> Option<(usize, (u16, usize))> {
+pub fn missing_link(
+    interpretation: &Interpretation,
+    tables: &Tables,
+) -> Option<(usize, (u16, usize))> {
     let lacks = |links: &BTreeSet<(u16, usize)>| {
         let of_pair = |(narrow, wide): (u16, u16)| {
             let mut wanted =
@@ -82,17 +85,17 @@ fn missing_link(interpretation: &Interpretation, tables: &Tables) -> Option<(usi
     all.find_map(|(x, links)| lacks(links).map(|link| (x, link)))
 }
 
-/// Names and roles that the tables mention, and one of each that they do not.
+/// Names and roles that the tables mention, damaged or not, and one of each that they do not.
 pub fn signature(tables: &Tables) -> (Vec<u16>, Vec<u16>) {
     let mut names = BTreeSet::from([1000]);
     let mut roles = BTreeSet::from([100]);
     roles.extend(&tables.roles);
     for id in 0..tables.concept_count() {
-        match tables.concept(id) {
-            Concept::Name(name) => {
+        match tables.row(id) {
+            [1, name, _] => {
                 names.insert(name);
             }
-            Concept::Existential(role, _) => {
+            [2, role, _] => {
                 roles.insert(role);
             }
             _ => {}

@@ -105,6 +105,25 @@ impl Tables {
     }
 }
 
+/// A given interpretation (02: stock) as it is lent: the number of its elements (things), and rows
+/// of four numbers, (0, element, name, 0) and (1, element, role, element), damaged or not.
+#[derive(Clone, Debug, Default, PartialEq, Eq)]
+pub struct Stock {
+    pub size: u16,
+    pub rows: Vec<u16>,
+}
+
+impl Stock {
+    pub fn new(size: u16, rows: &[[u16; 4]]) -> Self {
+        Stock { size, rows: rows.concat() }
+    }
+
+    /// Whole rows only.
+    pub fn split(&self) -> impl Iterator<Item = [u16; 4]> + '_ {
+        self.rows.chunks_exact(4).map(|row| [row[0], row[1], row[2], row[3]])
+    }
+}
+
 fn pairs(numbers: &[u16]) -> Vec<(usize, usize)> {
     numbers.chunks_exact(2).map(|pair| (usize::from(pair[0]), usize::from(pair[1]))).collect()
 }
@@ -128,10 +147,16 @@ pub struct Case {
     pub line_room: usize,
     /// A derivation to check.
     pub lines: Vec<u16>,
+    /// Length of the buffer for the rows of a shown interpretation, in numbers.
+    pub row_room: usize,
+    /// A given interpretation, and the concept and the element asked of it.
+    pub stock: Stock,
+    pub asked: (u16, u16),
 }
 
 impl Case {
-    /// Buffers as long as wanted, the pair (0, 0), variable 0, no lines.
+    /// Buffers as long as wanted, but none for shown rows, whose number is not known yet; the pair
+    /// (0, 0), variable 0, no lines, no elements.
     pub fn new(tables: Tables, assignment: &[u64]) -> Self {
         let table_room = tables.concept_count() * ROW_BYTES;
         let match_room = usize::from(tables.variables);
@@ -147,6 +172,9 @@ impl Case {
             chosen_room: ATOM_ROOM,
             line_room,
             lines: Vec::new(),
+            row_room: 0,
+            stock: Stock::default(),
+            asked: (0, 0),
         }
     }
 }
@@ -163,6 +191,20 @@ impl fmt::Display for Tables {
     }
 }
 
+/// Numbers of a long list of rows that are printed.
+const PRINTED: usize = 20_000;
+
+impl fmt::Display for Stock {
+    fn fmt(&self, f: &mut fmt::Formatter<'_>) -> fmt::Result {
+        let shown = &self.rows[..self.rows.len().min(PRINTED)];
+        write!(f, "Stock {{ size: {}, rows: vec!{:?}", self.size, shown)?;
+        if shown.len() < self.rows.len() {
+            write!(f, " /* cut: {} numbers in all */", self.rows.len())?;
+        }
+        write!(f, " }}")
+    }
+}
+
 impl fmt::Display for Case {
     fn fmt(&self, f: &mut fmt::Formatter<'_>) -> fmt::Result {
         writeln!(f, "Case {{")?;
@@ -176,6 +218,9 @@ impl fmt::Display for Case {
         writeln!(f, "chosen_room: {},", self.chosen_room)?;
         writeln!(f, "line_room: {},", self.line_room)?;
         writeln!(f, "lines: vec!{:?},", self.lines)?;
+        writeln!(f, "row_room: {},", self.row_room)?;
+        writeln!(f, "stock: {},", self.stock)?;
+        writeln!(f, "asked: {:?},", self.asked)?;
         write!(f, "}}")
     }
 }

@@ -4,10 +4,9 @@ use hermitcasket_tests::capi::Answer;
 use hermitcasket_tests::compare;
 use hermitcasket_tests::faults::{every_set, faults_without_buffer, Fault};
 use hermitcasket_tests::generate;
-use hermitcasket_tests::random::{cases, full_run, seed, Random, Size};
+use hermitcasket_tests::random::{cases, seed, Random, Size};
 use hermitcasket_tests::reference;
 use hermitcasket_tests::tables::{Case, Tables};
-use hermitcasket_tests::tally::Tally;
 
 fn ask(tables: &Tables, assignment: &[u64], pair: (u16, u16)) -> Answer {
     let mut case = Case::new(tables.clone(), assignment);
@@ -81,24 +80,8 @@ fn every_set_of_faults() {
 
 #[test]
 fn random_pairs_agree() {
-    let seed = seed("decide");
-    let mut seen = [0; 17];
-    let mut tally = Tally::new("decide");
-    for size in [Size::Small, Size::Medium, Size::Large] {
-        for k in 0..cases(size) {
-            let case = generate::case(&mut Random::for_case(seed, k), size);
-            let answer = compare::decide(&case);
-            seen[usize::from(answer.number)] += 1;
-            tally.case();
-            tally.note("yes", answer == Answer::done(1));
-            tally.note("no", answer == Answer::done(0));
-            tally.note("refused", answer.number > 0);
-        }
-    }
-    let mut refused = (1..10).filter(|&number| number != 8).chain([16]);
-    let all_seen = refused.all(|number| seen[number] > 0);
-    assert!(all_seen || !full_run(), "answers: {:?}", seen);
-    tally.finish(&[("yes", 20..=80), ("no", 10..=80), ("refused", 20..=60)]);
+    let shares = [20..=80, 10..=80, 20..=60];
+    compare::yes_or_no("decide", generate::case, compare::decide, shares);
 }
 
 /// All pairs of small tables, and many of large ones, in calls one after another.

@@ -1,20 +1,23 @@
 //! The program itself, run as a process: its answer to every text, right or damaged.
 
-use std::io::{self, Write};
+use std::io::{self, Read, Write};
 use std::path::{Path, PathBuf};
-use std::process::{Child, Command, Stdio};
+use std::process::{Child, ChildStdout, Command, Stdio};
 use std::thread;
 use std::time::Duration;
 
 use hermitcasket_tests::damage;
 use hermitcasket_tests::generate;
 use hermitcasket_tests::hard;
-use hermitcasket_tests::house_text::{self, layout, layout_with, output, refused};
+use hermitcasket_tests::house_text::{
+    self, layout, layout_showing, layout_with, output, refused, stock_lines, Problem,
+};
 use hermitcasket_tests::limits::{MAX_ROLE_PAIRS, MAX_TEXT};
+use hermitcasket_tests::nested::Large;
 use hermitcasket_tests::planted;
 use hermitcasket_tests::random::{cases, full_run, seed, Random, Size};
 use hermitcasket_tests::reference::Refusal;
-use hermitcasket_tests::tables::Tables;
+use hermitcasket_tests::tables::{Stock, Tables};
 use hermitcasket_tests::tally::Tally;
 
 const SAMPLE: &str = "\
@@ -77,6 +80,28 @@ below=0,5
 questions=2
 below=8,1
 below=0,7
+";
+
+/// With one more last line: what is dough (2) need not be rich (1). 1 counts as 7, a role of no
+/// entry. The blank is read as top, and not as 0, which would fill it.
+const SHOW: &str = "\
+blanks=1
+roles=2
+wider=1,7
+wider=2,1
+entries=6
+name=14
+name=20
+name=11
+some=2,2
+some=1,2
+blank=0
+inclusions=2
+below=0,2
+below=4,1
+questions=1
+below=5,0
+show=2,1
 ";
 
 fn start() -> Child {
@@ -379,7 +404,7 @@ fn lines(text: &str) -> Vec<(usize, &str)> {
 /// Every fault at every line is 13 at the byte where that line starts.
 #[test]
 fn every_fault_at_every_line() {
-    for (text, share) in [(SAMPLE, 1), (WIDE, 5), (ROLES, 3)] {
+    for (text, share) in [(SAMPLE, 1), (WIDE, 5), (ROLES, 3), (SHOW, 2)] {
         for (k, (start, line)) in lines(text).into_iter().enumerate() {
             let rest = &text[start + line.len()..];
             for fault in broken(line).iter().skip(k % share).step_by(share) {
@@ -393,7 +418,7 @@ fn every_fault_at_every_line() {
 /// Well-formed numbers out of range are for the tables' checks; "top" takes 0 only.
 #[test]
 fn telling_numbers_at_every_line() {
-    let all = [WIDE, ROLES]
+    let all = [WIDE, ROLES, SHOW]
         .into_iter()
         .flat_map(|text| lines(text).into_iter().map(move |line| (text, line)));
     for (whole, (start, line)) in all {
@@ -421,9 +446,11 @@ fn telling_numbers_at_every_line() {
 /// The text cut at every byte, and every line left out, said twice, or out of its place.
 #[test]
 fn cuts_and_moved_lines() {
-    for text in [SAMPLE, ROLES] {
+    for text in [SAMPLE, ROLES, SHOW] {
         let bytes = text.as_bytes();
-        for end in 0..bytes.len() {
+        // without a last line show= it is a text too
+        let whole = text.find("show=");
+        for end in (0..bytes.len()).filter(|&end| Some(end) != whole) {
             let started = bytes[..end].iter().rposition(|&byte| byte == b'\n');
             let started = started.map_or(0, |at| at + 1);
             assert_eq!(agree(&bytes[..end]), off_layout(started), "cut at {}", end);
@@ -583,6 +610,187 @@ fn the_order_of_refusals_with_roles() {
     assert_eq!(agree(&layout(&high).expect("a layout")), said(16, 1));
 }
 
+/// The interpretation and nothing else, under the empty filling, whatever the questions ask.
+#[test]
+fn a_shown_stock() {
+    let wanted = "things=6\nis=0,5\nis=1,7\nis=2,9\nis=3,9\nis=5,7\nlink=2,1,0\n";
+    for pair in ["3,2", "0,1", "5,3", "4,0"] {
+        let text = format!("{}show={}\n", SAMPLE, pair);
+        assert_eq!(agree(text.as_bytes()), wanted, "{}", pair);
+        // card I, which has no filling, and card J, which asks for none
+        let none = text.replace("below=2,4", "below=0,4");
+        assert_eq!(agree(none.as_bytes()), wanted, "{}", pair);
+        let unasked = text.replace("questions=2\nbelow=5,3\nbelow=2,4\n", "questions=0\n");
+        assert_eq!(agree(unasked.as_bytes()), wanted, "{}", pair);
+    }
+    // the filling that the card has would make these hold
+    for pair in ["2,4", "3,4"] {
+        let text = format!("{}show={}\n", SAMPLE, pair);
+        assert_eq!(agree(text.as_bytes()), refused(Refusal { number: 15, place: 0 }), "{}", pair);
+    }
+    let named = "things=6\nis=0,11\nis=0,14\nis=1,20\nis=2,11\n";
+    let wide = "is=3,20\nis=4,20\nlink=3,1,2\nlink=3,2,2\nlink=3,7,2\nlink=4,1,2\nlink=4,7,2\n";
+    assert_eq!(agree(SHOW.as_bytes()), [named, wide].concat());
+    let without = SHOW.replace("roles=2\nwider=1,7\nwider=2,1\n", "");
+    let narrow = "is=4,20\nlink=3,2,2\nlink=4,1,2\n";
+    assert_eq!(agree(without.as_bytes()), [named, narrow].concat());
+}
+
+/// Each refusal of a shown stock prints as every refusal, in the order of the checks; the text
+/// comes before all of them.
+#[test]
+fn refusals_of_a_shown_stock() {
+    let said = |number: u16, place: u64| refused(Refusal { number, place });
+    let show = |pair: &str| agree(SHOW.replace("show=2,1", &format!("show={}", pair)).as_bytes());
+    for pair in ["0,0", "0,2", "3,1", "3,4", "1,5"] {
+        assert_eq!(show(pair), said(15, 0), "{}", pair);
+    }
+    for pair in ["6,0", "0,6", "6,6", "65535,0", "0,65535", "192,192", "256,0"] {
+        assert_eq!(show(pair), said(4, 0), "{}", pair);
+    }
+    assert_eq!(show("0,65536"), off_layout(SHOW.find("show=").expect("the line")));
+    let bad = SHOW.replace("show=2,1", "show=6,0");
+    for (from, to, before, after) in [
+        ("name=14", "name=1000", (2, 0), (2, 0)),
+        ("some=1,2", "some=1,4", (3, 4), (3, 4)),
+        ("below=4,1", "below=4,6", (4, 0), (4, 1)),
+        ("below=4,1", "below=5,1", (4, 0), (5, 1)),
+        ("below=5,0", "below=5,5", (4, 0), (6, 0)),
+        ("wider=2,1", "wider=100,1", (4, 0), (16, 1)),
+    ] {
+        let answer = agree(bad.replace(from, to).as_bytes());
+        assert_eq!(answer, said(before.0, before.1), "{}", to);
+        let holds = SHOW.replace("show=2,1", "show=0,0").replace(from, to);
+        assert_eq!(agree(holds.as_bytes()), said(after.0, after.1), "{}", to);
+    }
+    // a count over its limit is on its line, and so is what is off the layout
+    assert_eq!(agree(SHOW.replace("questions=1", "questions=33").as_bytes()), said(1, 2));
+    let parts = Tables::new(
+        &(0..65).map(|name| [1, name, 0]).collect::<Vec<_>>(),
+        &(0..65).map(|id| [id, id]).collect::<Vec<_>>(),
+        &[],
+        0,
+    );
+    for (pair, wanted) in [((0, 1), said(7, 64)), ((0, 65), said(4, 0)), ((0, 0), said(7, 64))] {
+        let text = layout_showing(&parts, Some(pair)).expect("a layout");
+        assert_eq!(agree(&text), wanted, "{:?}", pair);
+    }
+}
+
+/// The line stands behind all others and nowhere else, once, and nothing behind it.
+#[test]
+fn the_line_show_has_one_place() {
+    let line = "show=3,2\n";
+    for (start, before) in lines(SAMPLE) {
+        let text = [&SAMPLE[..start], line, &SAMPLE[start..]].concat();
+        assert_eq!(agree(text.as_bytes()), off_layout(start), "before {}", before);
+    }
+    let whole = SAMPLE.to_string() + line;
+    for more in ["\n", " ", "x", "\0", line, "show=0,1\n", "show=", "below=0,0\n", "questions=0\n"]
+    {
+        let text = whole.clone() + more;
+        assert_eq!(agree(text.as_bytes()), off_layout(whole.len()), "{:?}", more);
+    }
+    assert_eq!(agree((whole.clone() + SAMPLE).as_bytes()), off_layout(whole.len()));
+    assert_eq!(agree((whole.clone() + &whole).as_bytes()), off_layout(whole.len()));
+    // alone, or in the place of the questions, it is the line that was due
+    assert_eq!(agree(line.as_bytes()), off_layout(0));
+    let at = SAMPLE.find("questions=").expect("the line");
+    assert_eq!(agree([&SAMPLE[..at], line].concat().as_bytes()), off_layout(at));
+    let cut = &whole[..whole.len() - line.len() - "below=2,4\n".len()];
+    assert_eq!(agree([cut, line].concat().as_bytes()), off_layout(cut.len()));
+}
+
+/// Each byte of the line changed, left out, or another put before it: 13 at the line's start, or
+/// another pair of numbers, as the reference reads it.
+#[test]
+fn every_byte_of_the_line_show() {
+    let start = SHOW.find("show=").expect("the line");
+    let bytes = SHOW.as_bytes();
+    let (mut off, mut other) = (0, 0);
+    let mut judge = |text: &[u8]| {
+        let said = agree(text);
+        let read = house_text::read(text).is_ok();
+        assert_eq!(said == off_layout(start), !read, "{}", shown(text));
+        off += usize::from(!read);
+        other += usize::from(read);
+    };
+    for at in start..bytes.len() {
+        for byte in *b"\0\r ,0139=sS\x80\xff" {
+            let (before, rest) = bytes.split_at(at);
+            judge(&[before, &[byte], rest].concat());
+            if byte != bytes[at] {
+                judge(&[before, &[byte], &rest[1..]].concat());
+            }
+        }
+        judge(&[&bytes[..at], &bytes[at + 1..]].concat());
+    }
+    assert!(off > 200 && other > 10, "{} off the layout, {} read", off, other);
+    // byte 10 ends the line, and what stands behind is a line that is not due
+    for at in start..bytes.len() {
+        let (before, rest) = bytes.split_at(at);
+        let place = if rest == b"\n" { bytes.len() } else { start };
+        assert_eq!(agree(&[before, b"\n", rest].concat()), off_layout(place), "{}", at);
+    }
+}
+
+/// The text with the largest output, and that output: 192 things, each linked to 191 others by 33 roles.
+fn largest() -> (Vec<u8>, String) {
+    let large = Large::over_name();
+    let text = layout_showing(&large.tables, Some(large.pair)).expect("a layout");
+    (text, stock_lines(&Stock { size: 192, rows: large.rows() }))
+}
+
+#[test]
+fn the_largest_output() {
+    let (text, wanted) = largest();
+    assert_eq!(wanted.len(), 17_972_546);
+    let printed = print(&text);
+    let first = printed.lines().zip(wanted.lines()).find(|(line, due)| line != due);
+    assert!(printed == wanted, "{} bytes, {:?}", printed.len(), first);
+    assert!(output(&text) == wanted, "the reference has another output");
+}
+
+/// The program on a text, with its output still to be read.
+fn started_on(text: &[u8]) -> (Child, ChildStdout) {
+    let mut child = start();
+    child.stdin.take().expect("a pipe").write_all(text).expect("a pipe takes the text");
+    let output = child.stdout.take().expect("a pipe");
+    (child, output)
+}
+
+/// Who reads in small pieces gets the same bytes.
+#[test]
+fn the_largest_output_in_small_pieces() {
+    let (text, wanted) = largest();
+    let (mut child, mut output) = started_on(&text);
+    let mut printed: Vec<u8> = Vec::new();
+    let mut piece = [0; 777];
+    loop {
+        match output.read(&mut piece).expect("a pipe gives the output") {
+            0 => break,
+            n => printed.extend(&piece[..n]),
+        }
+    }
+    assert!(child.wait().expect("the program ends").success());
+    assert!(printed == wanted.as_bytes(), "{} bytes", printed.len());
+}
+
+/// A reader that goes away does no harm: what it took is right, and the program ends and says nothing else.
+#[test]
+fn a_reader_that_goes_away() {
+    let (text, wanted) = largest();
+    for taken in [0, 1, 4096, 1_000_000] {
+        let (child, mut output) = started_on(&text);
+        let mut head = vec![0; taken];
+        output.read_exact(&mut head).expect("a pipe gives the output");
+        drop(output);
+        let ended = child.wait_with_output().expect("the program ends");
+        assert!(ended.stderr.is_empty(), "{}", String::from_utf8_lossy(&ended.stderr));
+        assert!(wanted.as_bytes().starts_with(&head), "{} bytes", taken);
+    }
+}
+
 /// Bytes after the last line are a line that is not due.
 #[test]
 fn bytes_after_the_end() {
@@ -621,7 +829,7 @@ fn said_9() -> String {
 fn input_in_small_pieces() {
     let pause = Duration::from_micros(300);
     for size in [1, 2, 7, 64] {
-        for text in [SAMPLE, WIDE, ROLES] {
+        for text in [SAMPLE, WIDE, ROLES, SHOW] {
             let pieces: Vec<&[u8]> = text.as_bytes().chunks(size).collect();
             assert_eq!(print_in_pieces(&pieces, pause), output(text.as_bytes()), "{}", size);
         }
@@ -644,11 +852,17 @@ fn layouts_read_back() {
     let seed = seed("program, layouts");
     for size in [Size::Small, Size::Medium, Size::Large] {
         for k in 0..cases(size) / 8 {
-            let tables = generate::valid(&mut Random::for_case(seed, k), size);
-            let text = layout(&tables).expect("accepted tables have a layout");
-            assert_eq!(house_text::read(&text).as_ref(), Ok(&tables), "{}", tables);
-            let text = layout_with(&tables, true).expect("accepted tables have a layout");
-            assert_eq!(house_text::read(&text).as_ref(), Ok(&tables), "{}", tables);
+            let mut random = Random::for_case(seed, k);
+            let tables = generate::valid(&mut random, size);
+            let pair = generate::pair(&mut random, &tables);
+            for (text, show) in [
+                (layout(&tables), None),
+                (layout_with(&tables, true), None),
+                (layout_showing(&tables, Some(pair)), Some(pair)),
+            ] {
+                let read = house_text::read(&text.expect("accepted tables have a layout"));
+                assert_eq!(read, Ok(Problem { tables: tables.clone(), show }), "{}", tables);
+            }
         }
     }
 }
@@ -663,33 +877,46 @@ fn random_problems_agree() {
         for k in 0..cases(size) / share {
             let mut random = Random::for_case(seed, k);
             let tables = generate::valid(&mut random, size);
-            let mut text = layout(&tables);
+            let show = pair_to_show(&mut random, &tables);
+            let mut text = layout_showing(&tables, show);
             if random.percent(50) {
                 let mut damaged = tables;
                 damage::tables(&mut random, &mut damaged);
                 // some damage has no lines: then the text stays as it was
                 tally.note("damage left out", layout(&damaged).is_none());
-                text = layout(&damaged).or(text);
+                text = layout_showing(&damaged, show).or(text);
             }
             let said = agree(&text.expect("accepted tables have a layout"));
             tally.case();
             for kind in ["filled", "none", "refused"] {
                 tally.note(kind, said.starts_with(&format!("answer={}", kind)));
             }
+            tally.note("shown", said.starts_with("things="));
             seen.insert(said.lines().take(2).collect::<Vec<_>>().join(" "));
         }
     }
     let refusal = |number: u16| format!("answer=refused number={}", number);
     let mut kinds = vec!["answer=none".to_string(), "answer=filled blanks=2".to_string()];
-    kinds.extend((1..8).chain([16]).map(refusal));
+    kinds.extend((1..8).chain([15, 16]).map(refusal));
     let all_seen = kinds.iter().all(|kind| seen.contains(kind));
     assert!(all_seen || !full_run(), "{:?}", seen);
     tally.finish(&[
         ("damage left out", 0..=20),
-        ("filled", 20..=80),
-        ("none", 10..=80),
+        ("filled", 15..=80),
+        ("none", 8..=80),
         ("refused", 15..=80),
+        ("shown", 4..=30),
     ]);
+}
+
+/// A pair for a last line show=, in a third of the texts: any, or one that fails.
+fn pair_to_show(random: &mut Random, tables: &Tables) -> Option<(u16, u16)> {
+    let nothing = vec![0; usize::from(tables.variables)];
+    match random.below(6) {
+        0 => Some(generate::pair(random, tables)),
+        1 => generate::failing_pair(random, tables, &nothing),
+        _ => None,
+    }
 }
 
 fn change_digit(random: &mut Random, text: &mut [u8]) {
@@ -730,7 +957,8 @@ fn random_damaged_texts_agree() {
         let mut random = Random::for_case(seed, k);
         let size = if random.percent(90) { Size::Small } else { Size::Medium };
         let tables = generate::valid(&mut random, size);
-        let mut text = layout(&tables).expect("accepted tables have a layout");
+        let show = pair_to_show(&mut random, &tables);
+        let mut text = layout_showing(&tables, show).expect("accepted tables have a layout");
         damage_text(&mut random, &mut text);
         let off = agree(&text).contains("number=13");
         tally.case();

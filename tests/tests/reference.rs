@@ -1,5 +1,5 @@
 //! The reference itself, held against 01's definition of "below" on tiny tables, and against 02's
-//! of twins and of roles above roles.
+//! of twins, of roles above roles and of a shown interpretation.
 
 use std::collections::BTreeSet;
 
@@ -9,12 +9,12 @@ use hermitcasket_tests::hard::{self, Hard};
 use hermitcasket_tests::limits::{MAX_ATOMS, MAX_CONCEPTS, MAX_ROLE, MAX_ROLE_PAIRS};
 use hermitcasket_tests::random::{cases, seed, Random, Size};
 use hermitcasket_tests::reference::atoms::{self, chosen, Twins};
-use hermitcasket_tests::reference::model::Canonical;
-use hermitcasket_tests::reference::{self, matching, roles};
+use hermitcasket_tests::reference::model::{self, Canonical};
+use hermitcasket_tests::reference::{self, countermodel, matching, roles};
 use hermitcasket_tests::semantics::{
     all_interpretations, counterexample, member, obeys, random_model, Interpretation,
 };
-use hermitcasket_tests::tables::{Concept, Tables};
+use hermitcasket_tests::tables::{Concept, Stock, Tables};
 use hermitcasket_tests::tally::Tally;
 
 /// The canonical interpretation obeys inclusions and role pairs, and its element i, a member of i, refutes
@@ -51,6 +51,68 @@ fn other_roles(tables: &Tables, i: usize, j: usize) -> bool {
         (Concept::Existential(one, _), Concept::Existential(other, _)) => one != other,
         _ => false,
     }
+}
+
+/// The interpretation that is shown is a canonical one too: it obeys both tables, and its element i is
+/// a member of j exactly when i is subsumed by j. It is what its rows say.
+#[test]
+fn the_shown_interpretation_is_canonical() {
+    let seed = seed("reference, shown");
+    let (mut no, mut larger) = (0, 0);
+    for k in 0..cases(Size::Small) / 4 {
+        let mut random = Random::for_case(seed, k);
+        let tables = generate::valid(&mut random, Size::Small);
+        let ids = chosen(&tables, &generate::assignment(&mut random, &tables));
+        let canonical = Canonical::build(&tables, &ids);
+        let shown = countermodel::shown(&tables, &canonical.members);
+        assert!(obeys(&shown, &tables), "case {}: {}", k, tables);
+        for (i, row) in canonical.members.iter().enumerate() {
+            for (j, &holds) in row.iter().enumerate() {
+                assert_eq!(member(&shown, &tables, &ids, i, j), holds, "{} {} {}", i, j, tables);
+                no += usize::from(!holds);
+            }
+        }
+        let rows = countermodel::rows(&shown);
+        let stock = Stock { size: tables.concept_count() as u16, rows };
+        assert_eq!(countermodel::read(&stock), shown, "case {}: {}", k, tables);
+        larger += usize::from(shown != canonical.interpretation);
+    }
+    assert!(no > 0 && larger > 0, "{} no, {} with more than was repaired", no, larger);
+}
+
+/// Membership found once, and what is obeyed by it, against 01's words on random interpretations.
+#[test]
+fn membership_is_as_defined() {
+    let seed = seed("reference, membership");
+    let (mut yes, mut no, mut obeyed, mut broken) = (0, 0, 0, 0);
+    for k in 0..cases(Size::Small) / 8 {
+        let mut random = Random::for_case(seed, k);
+        let tables = generate::valid(&mut random, Size::Small);
+        let ids = chosen(&tables, &generate::assignment(&mut random, &tables));
+        let stock = generate::stock(&mut random, &tables, Size::Small);
+        let size = usize::from(stock.size);
+        let said = if random.percent(50) {
+            countermodel::read(&stock)
+        } else {
+            random_model(&tables, size, &mut random)
+        };
+        let members = model::membership(&said, &tables, &ids);
+        assert_eq!(members.len(), size, "{}", tables);
+        for (x, row) in members.iter().enumerate() {
+            assert_eq!(row.len(), tables.concept_count(), "{}", tables);
+            for (j, &holds) in row.iter().enumerate() {
+                assert_eq!(member(&said, &tables, &ids, x, j), holds, "{} {} {}", x, j, tables);
+                yes += usize::from(holds);
+                no += usize::from(!holds);
+            }
+        }
+        let obeys = obeys(&said, &tables);
+        assert_eq!(model::obeys(&said, &tables), obeys, "{:?} of\n{}", said, tables);
+        obeyed += usize::from(obeys);
+        broken += usize::from(!obeys);
+    }
+    let all_seen = yes > 0 && no > 0 && obeyed > 0 && broken > 0;
+    assert!(all_seen, "{} yes, {} no, {} obeyed, {} broken", yes, no, obeyed, broken);
 }
 
 /// No random interpretation that obeys inclusions and role pairs refutes a "yes".

@@ -370,6 +370,10 @@ fn everywhere(wanted: Answer, tables: &Tables) {
     let assignment = vec![0; usize::from(tables.variables)];
     let mut case = Case::new(tables.clone(), &assignment);
     case.lines = vec![1, 0, 0, 0];
+    case.stock.size = 1;
+    // an id is below itself, so there is never an interpretation to show
+    let shown = if wanted.number == 0 { Answer::refused(15, 0) } else { wanted };
+    assert_eq!(compare::show(&case), shown, "{}", case);
     let answers = [
         compare::check(&case),
         compare::atoms(&case),
@@ -379,6 +383,7 @@ fn everywhere(wanted: Answer, tables: &Tables) {
         compare::find(&case),
         compare::derive(&case).0,
         compare::check_derivation(&case),
+        compare::belongs(&case),
     ];
     for (k, answer) in answers.into_iter().enumerate() {
         assert_eq!((answer.number, answer.place), (wanted.number, wanted.place), "{}: {}", k, case);
@@ -457,8 +462,10 @@ fn the_order_around_16() {
     assert_eq!(compare::blanks(&case, 2), Answer::refused(4, 0));
     assert_eq!(compare::derive(&case).0, Answer::refused(4, 0));
     assert_eq!(compare::check_derivation(&case), Answer::refused(4, 0));
+    assert_eq!(compare::show(&case), Answer::refused(4, 0));
     case.pair = (0, 1);
     case.assignment = vec![1, 1];
+    case.asked = (2, 2);
     case.table_room = 0;
     case.line_room = 0;
     case.match_room = 0;
@@ -470,6 +477,8 @@ fn the_order_around_16() {
         compare::chosen(&case),
         compare::derive(&case).0,
         compare::check_derivation(&case),
+        compare::show(&case),
+        compare::belongs(&case),
     ] {
         assert_eq!(answer, Answer::refused(16, 1), "{}", case);
     }

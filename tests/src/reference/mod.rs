@@ -6,6 +6,7 @@
 pub mod atoms;
 pub mod blanks;
 pub mod clauses;
+pub mod countermodel;
 pub mod derivation;
 pub mod matching;
 pub mod model;
@@ -14,7 +15,7 @@ pub mod refusals;
 pub mod roles;
 
 use crate::limits::{line_room, ATOM_ROOM, ROW_BYTES};
-use crate::tables::{Case, Tables};
+use crate::tables::{Case, Stock, Tables};
 
 /// A refusal of 01's table.
 #[derive(Clone, Copy, Debug, PartialEq, Eq)]
@@ -113,6 +114,43 @@ pub fn check_derivation(
     refusals::of_assignment(tables, assignment)?;
     let chosen = atoms::chosen(tables, assignment);
     refusals::refuse(12, derivation::fault(tables, &chosen, pair, lines))
+}
+
+/// Operation: show an interpretation where the pair fails, as rows of four numbers.
+pub fn show(
+    tables: &Tables,
+    assignment: &[u64],
+    pair: (u16, u16),
+    room: usize,
+) -> Result<Vec<u16>, Refusal> {
+    refusals::of_tables(tables, Some(pair))?;
+    refusals::of_assignment(tables, assignment)?;
+    let relation = relation(tables, assignment);
+    let holds = relation[usize::from(pair.0)][usize::from(pair.1)];
+    refusals::refuse(15, holds.then_some(0))?;
+    let rows = countermodel::shown_rows(tables, &relation);
+    refusals::of_room(room, rows.len())?;
+    Ok(rows)
+}
+
+/// Operation: whether a concept has an element of a given interpretation as a member.
+pub fn belongs(
+    tables: &Tables,
+    assignment: &[u64],
+    stock: &Stock,
+    asked: (u16, u16),
+) -> Result<bool, Refusal> {
+    refusals::of_tables(tables, None)?;
+    refusals::of_assignment(tables, assignment)?;
+    refusals::of_stock(tables, stock, asked)?;
+    Ok(members(tables, assignment, stock)[usize::from(asked.1)][usize::from(asked.0)])
+}
+
+/// Row x, column j: element x of the given interpretation is a member of concept j. All must be
+/// accepted.
+pub fn members(tables: &Tables, assignment: &[u64], stock: &Stock) -> Vec<Vec<bool>> {
+    let chosen = atoms::chosen(tables, assignment);
+    model::membership(&countermodel::read(stock), tables, &chosen)
 }
 
 /// Row i, column j: i is subsumed by j. The tables and the assignment must be accepted.

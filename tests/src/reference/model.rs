@@ -11,7 +11,7 @@
 use std::collections::BTreeSet;
 
 use super::{atoms, roles};
-use crate::semantics::Interpretation;
+use crate::semantics::{missing_link, Interpretation};
 use crate::tables::{Concept, Tables};
 
 pub struct Canonical {
@@ -76,14 +76,15 @@ fn working_order(tables: &Tables) -> Vec<usize> {
     [ground, held].concat()
 }
 
-/// Membership of every element in every concept, each found once.
-fn membership(
+/// Membership of every element in every concept, each found once; row x is element x. The tables
+/// must be accepted; `chosen` lists each variable's atoms.
+pub fn membership(
     interpretation: &Interpretation,
     tables: &Tables,
     chosen: &[Vec<usize>],
 ) -> Vec<Vec<bool>> {
     let size = interpretation.size();
-    let mut of = vec![vec![false; size]; size];
+    let mut of = vec![vec![false; tables.concept_count()]; size];
     for id in working_order(tables) {
         for x in 0..size {
             of[x][id] = match tables.concept(id) {
@@ -98,6 +99,15 @@ fn membership(
         }
     }
     of
+}
+
+/// Whether an interpretation obeys both tables, which must be accepted, by membership found once.
+pub fn obeys(interpretation: &Interpretation, tables: &Tables) -> bool {
+    // inclusions hold no variable, so nothing is chosen
+    let nothing = vec![Vec::new(); usize::from(tables.variables)];
+    let members = membership(interpretation, tables, &nothing);
+    let obeyed = |&(left, right): &(usize, usize)| members.iter().all(|of| !of[left] || of[right]);
+    missing_link(interpretation, tables).is_none() && tables.inclusion_pairs().iter().all(obeyed)
 }
 
 /// Gives each element what the inclusions ask of it; whether any lacked something.

@@ -1,9 +1,10 @@
-//! Refusals 1 to 9 of 01 and 16 of 02. Each check answers the lowest place at fault.
+//! Refusals 1 to 9 of 01, 16 of 02, and those of a given interpretation. Each check answers the
+//! lowest place at fault.
 
 use super::atoms;
 use super::Refusal;
 use crate::limits::*;
-use crate::tables::{Concept, Tables};
+use crate::tables::{Concept, Stock, Tables};
 
 /// Checks 1 to 6, 16 and 7 in order. A pair given alone is judged within check 4, at place 0.
 pub fn of_tables(tables: &Tables, pair: Option<(u16, u16)>) -> Result<(), Refusal> {
@@ -40,6 +41,29 @@ pub fn of_assignment(tables: &Tables, assignment: &[u64]) -> Result<(), Refusal>
 /// Check 8: the place is the length wanted.
 pub fn of_room(room: usize, wanted: usize) -> Result<(), Refusal> {
     refuse(8, (room < wanted).then_some(wanted))
+}
+
+/// The checks 1, 2 and 4 of a given interpretation and of what is asked of it.
+pub fn of_stock(
+    tables: &Tables,
+    stock: &Stock,
+    (concept, element): (u16, u16),
+) -> Result<(), Refusal> {
+    let size = usize::from(stock.size);
+    let unfit = size == 0 || size > MAX_ELEMENTS || stock.rows.len() % 4 != 0;
+    refuse(1, unfit.then_some(0))?;
+    refuse(2, stock.split().position(|row| !well_formed(stock.size, row)))?;
+    let faults = [usize::from(concept) >= tables.concept_count(), element >= stock.size];
+    refuse(4, faults.iter().position(|&fault| fault))
+}
+
+/// Names and roles are any number.
+fn well_formed(size: u16, row: [u16; 4]) -> bool {
+    match row {
+        [0, element, _, rest] => element < size && rest == 0,
+        [1, element, _, target] => element < size && target < size,
+        _ => false,
+    }
 }
 
 pub fn refuse(number: u16, place: Option<usize>) -> Result<(), Refusal> {
