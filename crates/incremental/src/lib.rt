@@ -1,0 +1,17 @@
+// Keeping a subsumption table while inclusions are added (02, A.7). The one operation, without a `requires`, is what the crate passes on.
+mod bytes;
+mod closing;
+mod including;
+mod links;
+mod order;
+mod rising;
+mod rows;
+mod sets;
+mod settling;
+mod square;
+mod start;
+mod told;
+mod turning;
+mod update;
+
+pub use update::update_table;

@@ -1,0 +1,79 @@
+// Updating a held subsumption table.
+use crate::bytes::load;
+use crate::bytes::store;
+use crate::closing::close;
+use crate::told::check_told;
+use crate::told::read_told;
+use subsumption::Listed;
+use subsumption::limits::ATOMS;
+use subsumption::limits::ROW_BYTES;
+use subsumption::list_atoms;
+use subsumption::refusal::Outcome;
+use subsumption::refusal::Refusal;
+ghost use Rattle.subsumption.specs.Tables.{tables};
+ghost use Rattle.subsumption.specs.Refusal.{replyOf};
+ghost use Rattle.subsumption.specs.Inner.Listing.{ForAccepted, Prepared};
+ghost use Rattle.incremental.specs.Update.{Updates};
+
+// Of the square of marks, the words: its rows and its columns.
+const SQUARE: usize = 1152;
+
+const MOST_VARIABLES: usize = 8;
+
+// The rest of the checks, given the atoms of accepted tables, and then the table.
+fn put_update(
+    concepts: &[u16],
+    inclusions: &[u16],
+    roles: &[u16],
+    atoms: &[u16],
+    variables: u16,
+    told: &[u16],
+    table: &mut [u8],
+) -> Outcome
+    requires { ⌜ Prepared (now concepts) (now inclusions) (now roles) variables (now atoms) ⌝ }
+    ensures { λ r. ⌜ ForAccepted (now (concepts .entry)) (now (inclusions .entry)) (now (roles .entry)) variables (now (atoms .entry)) (λ t. Updates t (now (told .entry)) (now (table .entry)) (now (table .exit)) (replyOf r)) ⌝ }
+{
+    let pairs = check_told(atoms, variables, told);
+    if let Outcome::Refused(r) = pairs {
+        return Outcome::Refused(r);
+    }
+    let count = concepts.len() / 3;
+    if table.len() < count * ROW_BYTES {
+        return Outcome::Refused(Refusal::BufferTooShort(count * ROW_BYTES));
+    }
+    let mut choices = [0u64; MOST_VARIABLES];
+    read_told(atoms, told, &mut choices);
+    let mut square = [0u64; SQUARE];
+    load(table, count, &mut square);
+    close(concepts, inclusions, roles, atoms, &choices, &mut square);
+    store(&square, count, table);
+    Outcome::Done
+}
+
+// Makes the held table the smallest one that holds its own marks and is closed under the rules.
+pub fn update_table(
+    concepts: &[u16],
+    inclusions: &[u16],
+    questions: &[u16],
+    roles: &[u16],
+    variables: u16,
+    told: &[u16],
+    table: &mut [u8],
+) -> Outcome
+    ensures { λ r. ⌜ Updates (tables (now (concepts .entry)) (now (inclusions .entry)) (now (questions .entry)) (now (roles .entry)) variables) (now (told .entry)) (now (table .entry)) (now (table .exit)) (replyOf r) ⌝ }
+{
+    let mut ids = [0u16; ATOMS];
+    let listed = list_atoms(concepts, inclusions, questions, roles, variables, &mut ids);
+    match listed {
+        Listed::Rejected(r) => Outcome::Refused(r),
+        Listed::Atoms(count) => put_update(
+            concepts,
+            inclusions,
+            roles,
+            &ids[..count],
+            variables,
+            told,
+            table,
+        ),
+    }
+}
