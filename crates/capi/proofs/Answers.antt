@@ -12,13 +12,14 @@ use Rattle.matching.specs.declared.find.Match.{Match}
 use Rattle.matching.specs.declared.writer.Derived.{Derived}
 use Rattle.countermodel.specs.declared.show.Shown.{Shown}
 use Rattle.subsumption.specs.Tables.{Tables}
-use Rattle.subsumption.specs.Refusal.{codeOf, Reply, replyDone, replyWith}
+use Rattle.subsumption.specs.Refusal.{codeOf, Reply, replyDone, replyWith, replyOf}
 use Rattle.subsumption.specs.Table.{tabledReply, Wrote}
 use Rattle.subsumption.specs.Decide.{decisionReply, Decides}
 use Rattle.matching.specs.Find.{matchReply, Finds}
 use Rattle.matching.specs.Writer.{derivedReply, Derives}
 use Rattle.countermodel.specs.Show.{shownReply, Shows}
 use Rattle.countermodel.specs.Membership.{DecidesMember}
+use Rattle.incremental.specs.Update.{Updates}
 use Rattle.capi.specs.declared.Answer.{Answer}
 use Rattle.capi.specs.Answer.{replied}
 
@@ -62,3 +63,8 @@ module _ (t : Tables) (assignment before after : List ℕ) (left right : ℕ) (a
       (size : ℕ) (rows : List ℕ) (x : Decision) → DecidesMember t assignment size rows left right (decisionReply x) → replied a ≡ decisionReply x
       → DecidesMember t assignment size rows left right (replied a)
   member-as size rows x p = passed-on (DecidesMember t assignment size rows left right) decisionReply x x a p refl
+
+pub updates-as :
+    (t : Tables) (told before after : List ℕ) (a : Answer) (x : Outcome) → Updates t told before after (replyOf x) → replied a ≡ replyOf x
+    → Updates t told before after (replied a)
+updates-as t told before after a x p = passed-on (Updates t told before after) replyOf x x a p refl

@@ -24,6 +24,7 @@ ghost use Rattle.matching.specs.Chosen.{choosingFault, chosenIn};
 ghost use Rattle.matching.specs.Writer.{Derives};
 ghost use Rattle.countermodel.specs.Show.{Shows};
 ghost use Rattle.countermodel.specs.Membership.{DecidesMember};
+ghost use Rattle.incremental.specs.Update.{Updates};
 ghost use Rattle.capi.specs.Answer.{replied};
 
 // number 0: done; else the refusal's number, with its place and value 0.
@@ -349,4 +350,29 @@ pub extern "C" fn hc_belongs(
         element,
     );
     decided(answer)
+}
+
+// Closes a held table under the rules, with the assignment told as pairs.
+#[no_mangle]
+pub extern "C" fn hc_update_table(
+    concepts: &[u16],
+    inclusions: &[u16],
+    questions: &[u16],
+    roles: &[u16],
+    variables: u16,
+    told: &[u16],
+    table: &mut [u8],
+) -> Answer
+    ensures { λ a. ⌜ Updates (tables (now (concepts .entry)) (now (inclusions .entry)) (now (questions .entry)) (now (roles .entry)) variables) (now (told .entry)) (now (table .entry)) (now (table .exit)) (replied a) ⌝ }
+{
+    let updated = incremental::update_table(
+        concepts,
+        inclusions,
+        questions,
+        roles,
+        variables,
+        told,
+        table,
+    );
+    answer_of(updated, 0)
 }
