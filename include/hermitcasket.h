@@ -8,8 +8,8 @@
  * - A pointer is valid for its count: aligned, and behind it lie as many numbers, which may be read,
  *   in an output buffer written too. Where the count is 0 the pointer may be anything, NULL too:
  *   nothing is read or written through it.
- * - An output buffer overlaps nothing else that the call is lent. Tables, filling, lines and the
- *   rows of a given stock may overlap one another.
+ * - An output buffer overlaps nothing else that the call is lent; a held table is one. Tables,
+ *   filling, told pairs, lines and the rows of a given stock may overlap one another.
  * - While a call runs, nothing else writes what it is lent, nor reads its output buffer.
  * - The thread has as much stack left as the operation needs, in bytes at most:
  *     hc_check              8192
@@ -23,6 +23,7 @@
  *     hc_check_derivation   65536
  *     hc_show               32768
  *     hc_belongs            131072
+ *     hc_update_table       65536
  *
  * Calls share no state, so any number of threads may call at once, and no call depends on one
  * before it: the library has constants and no variables that outlive a call (no statics), uses no
@@ -49,7 +50,8 @@
  * blank, inner entries alike in the same order) are twins and count once: the part is the lowest
  * twin among all entries, wherever that one stands. Parts are listed in rising order. A filling is
  * one 64-bit number for each blank: bit k chooses the part at position k. The empty choice reads
- * as top.
+ * as top. A filling may also be told as pairs, a blank and the id of a part chosen for it, in any
+ * order and with repeats: positions shift when an inclusion brings new parts, ids do not.
  *
  * A derivation is lines of four numbers: rule, left, right, extra; left and right are entry ids.
  * Premises stand on earlier lines:
@@ -96,6 +98,9 @@
  *   8       output buffer too short                            length wanted
  *   9       wrong count of numbers in the filling (tested      count of blanks
  *           first), or a chosen bit past the parts             blank
+ *           of told pairs: a ragged list (tested first), or    0
+ *           a blank not below the count or an id that is no    pair
+ *           part
  *   10      no filling exists                                  0
  *   11      derivation wanted, pair not below                  0
  *   12      no lines or a ragged list; a line breaks its       0; line, from 0; count of lines
@@ -239,6 +244,22 @@ hc_answer hc_belongs(const uint16_t *entries, size_t entries_len,
                      const uint64_t *filling, size_t filling_len,
                      uint16_t things, const uint16_t *rows, size_t rows_len,
                      uint16_t entry, uint16_t thing);
+
+/* Brings a held below table up to date after inclusions were added: it becomes the smallest one
+ * that holds its own marks and is closed under the eight rules, read as steps from marks to a mark,
+ * under the filling told as pairs; told_len counts numbers, two a pair. If it was right with the
+ * older inclusions, all else the same, it is then exactly the table that hc_subsumption_table makes
+ * afresh under the same chosen ids. Any other content is closed likewise: no mark is cleared, so a
+ * wrong one stays, with all that follows from it by the rules. Only rows and columns of entries are
+ * read and marked; bits past the last column and bytes past the last row keep their values. table
+ * wants entries * 24 bytes. value: 0. */
+hc_answer hc_update_table(const uint16_t *entries, size_t entries_len,
+                          const uint16_t *inclusions, size_t inclusions_len,
+                          const uint16_t *questions, size_t questions_len,
+                          const uint16_t *roles, size_t roles_len,
+                          uint16_t blanks,
+                          const uint16_t *told, size_t told_len,
+                          uint8_t *table, size_t table_len);
 
 #ifdef __cplusplus
 }

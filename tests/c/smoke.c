@@ -25,6 +25,7 @@ static void nulls(void)
 {
     uint16_t ids[64];
     uint16_t lines[4];
+    uint8_t table[6 * 24] = {0};
 
     show("no tables", hc_check(NOTHING));
     show("no tables, no room", hc_atoms(NOTHING, NULL, 0));
@@ -39,6 +40,7 @@ static void nulls(void)
     show("nothing to show", hc_show(NOTHING, NULL, 0, 0, 0, NULL, 0));
     show("no things", hc_belongs(NOTHING, NULL, 0, 0, NULL, 0, 0, 0));
     show("no entry to belong to", hc_belongs(NOTHING, NULL, 0, 1, NULL, 0, 0, 0));
+    show("no table to keep", hc_update_table(NOTHING, NULL, 0, NULL, 0));
 
     show("no catalogue", hc_match(entries, LEN(entries), NULL, 0, questions, LEN(questions),
                                   roles, LEN(roles), 1, NULL, 0));
@@ -61,6 +63,8 @@ static void nulls(void)
     show("no room for a stock", hc_show(TABLES, filling, LEN(filling), 3, 2, NULL, 0));
     show("no filling to show by", hc_show(TABLES, NULL, 0, 3, 2, NULL, 0));
     show("bare things", hc_belongs(TABLES, filling, LEN(filling), 2, NULL, 0, 3, 1));
+    show("no table held", hc_update_table(TABLES, NULL, 0, NULL, 0));
+    show("nothing told", hc_update_table(TABLES, NULL, 0, table, LEN(table)));
 }
 
 /* "Some" of one name by roles 1 and 2, and by 3: 1 counts as 2, which counts as 3. */
@@ -116,6 +120,32 @@ static void stocks(void)
     show("filling first", hc_belongs(TABLES, filling, 0, 193, given, LEN(given), 0, 0));
 }
 
+/* The sample's table without an inclusion, where 3 is the only part, and then with one and two. */
+static void shift(void)
+{
+    static const uint64_t alone[] = {1};
+    static const uint16_t more[] = {2, 3, 0, 3};
+    static const uint16_t told[] = {0, 3, 0, 3};
+    static const uint16_t no_part[] = {0, 3, 0, 1};
+    static const uint16_t no_blank[] = {0, 3, 1, 3};
+    uint8_t table[6 * 24 + 1] = {0};
+
+#define MORE entries, LEN(entries), more, LEN(more), questions, LEN(questions), roles, LEN(roles), 1
+    show("before", hc_subsumption_table(entries, LEN(entries), NULL, 0, questions, LEN(questions),
+                                        roles, LEN(roles), 1, alone, LEN(alone), table, 6 * 24));
+    table[1] = 128;
+    table[6 * 24] = 77;
+    show("one inclusion", hc_update_table(TABLES, told, LEN(told), table, sizeof table));
+    show("two inclusions", hc_update_table(MORE, told, LEN(told), table, sizeof table));
+    show("ragged list", hc_update_table(MORE, no_part, 3, table, 0));
+    show("no part told", hc_update_table(MORE, no_part, LEN(no_part), table, 0));
+    show("no blank told", hc_update_table(MORE, no_blank, LEN(no_blank), table, 0));
+    show("one byte short", hc_update_table(MORE, told, LEN(told), table, 6 * 24 - 1));
+    for (int row = 0; row < 6; row++)
+        printf("row %d %d\n", table[24 * row], table[24 * row + 1]);
+    printf("past %d\n", table[6 * 24]);
+}
+
 int main(void)
 {
     uint16_t atoms[64] = {0};
@@ -152,6 +182,7 @@ int main(void)
     show("no lines", hc_check_derivation(TABLES, filling, LEN(filling), 2, 3, lines, 0));
     role_pairs();
     stocks();
+    shift();
     nulls();
     return 0;
 }

@@ -39,6 +39,7 @@ pub const SENTENCES: &[Sentence] = &[
     Sentence { of: "cards", file: "ShownTables", law: "every-table" },
     Sentence { of: "countermodel", file: "RisingLaws", law: "shown-rising" },
     Sentence { of: "countermodel", file: "ShownChecks", law: "shown-answers" },
+    Sentence { of: "incremental", file: "FreshLaws", law: "update-fresh" },
     Sentence { of: "hermitcasket", file: "Texts", law: "texts" },
     Sentence { of: "hermitcasket", file: "ShownLaws", law: "parts-answer" },
 ];

@@ -196,10 +196,26 @@ extern "C" {
         concept: u16,
         element: u16,
     ) -> Answer;
+
+    fn hc_update_table(
+        concepts: *const u16,
+        concepts_len: usize,
+        inclusions: *const u16,
+        inclusions_len: usize,
+        questions: *const u16,
+        questions_len: usize,
+        roles: *const u16,
+        roles_len: usize,
+        variables: u16,
+        told: *const u16,
+        told_len: usize,
+        table: *mut u8,
+        table_len: usize,
+    ) -> Answer;
 }
 
 // Each call below is sound for any slices: the operations have no `requires`, read only what the
-// lengths cover, and write only to `out` or to the rows of `show`.
+// lengths cover, and write only to `out`, to the rows of `show` or to the table of `update_table`.
 
 pub fn check(t: TablesRef) -> Answer {
     unsafe {
@@ -428,6 +444,28 @@ pub fn belongs(
             rows.len(),
             concept,
             element,
+        )
+    }
+}
+
+/// The table's rows become the closure of their marks under the rules, with the assignment told as
+/// pairs of a variable and a chosen id.
+pub fn update_table(t: TablesRef, told: &[u16], table: &mut [u8]) -> Answer {
+    unsafe {
+        hc_update_table(
+            t.concepts.as_ptr(),
+            t.concepts.len(),
+            t.inclusions.as_ptr(),
+            t.inclusions.len(),
+            t.questions.as_ptr(),
+            t.questions.len(),
+            t.roles.as_ptr(),
+            t.roles.len(),
+            t.variables,
+            told.as_ptr(),
+            told.len(),
+            table.as_mut_ptr(),
+            table.len(),
         )
     }
 }

@@ -56,7 +56,7 @@ pub fn table(case: &Case) -> Answer {
     let written = expected.clone().unwrap_or_default().rows;
     let name = "hc_subsumption_table";
     judge(case, name, answer, expected.map(|table| table.marks), &inputs);
-    judge_rows(case, out.slice(), &written);
+    judge_rows(case, name, out.slice(), &written);
     judge_output(case, name, &out, &written);
     answer
 }
@@ -205,6 +205,23 @@ pub fn belongs_all(case: &Case, members: &[Vec<bool>]) {
     }
 }
 
+/// The case's held table, closed under the told assignment.
+pub fn update_table(case: &Case) -> Answer {
+    let name = "hc_update_table";
+    let expected = reference::update_table(&case.tables, &case.told, &case.held);
+    let mut random = noise(case);
+    let inputs = LentInputs::new(&case.tables, &[], &mut random);
+    let told: Lent<u16> = Lent::holding(&case.told, &mut random);
+    let mut table: Lent<u8> = Lent::holding(&case.held, &mut random);
+    let answer = capi::update_table(inputs.tables(), told.slice(), table.slice_mut());
+    let due = expected.clone().unwrap_or_default();
+    judge(case, name, answer, expected.map(|_| 0), &inputs);
+    judge_output(case, name, &told, &[]);
+    judge_rows(case, name, table.slice(), &due);
+    judge_output(case, name, &table, &due);
+    answer
+}
+
 /// The four operations on tables, assignment and pair; for a case pasted back from a failure.
 pub fn all(case: &Case) {
     check(case);
@@ -287,12 +304,13 @@ fn judge_output<T: Noise>(case: &Case, name: &str, out: &Lent<T>, written: &[T])
 }
 
 /// Names the first pair at fault, which `judge_output` cannot.
-fn judge_rows(case: &Case, bytes: &[u8], written: &[u8]) {
+fn judge_rows(case: &Case, name: &str, bytes: &[u8], written: &[u8]) {
     let fault = (0..written.len()).find(|&at| bytes[at] != written[at]);
     if let Some(at) = fault {
         let differing = (bytes[at] ^ written[at]).trailing_zeros() as usize;
         panic!(
-            "hc_subsumption_table: row {}, column {} should be {}, for\n{}",
+            "{}: row {}, column {} should be {}, for\n{}",
+            name,
             at / ROW_BYTES,
             at % ROW_BYTES * 8 + differing,
             written[at] >> differing & 1,

@@ -1,5 +1,6 @@
-//! Faults put at random into tables, assignments and interpretations.
+//! Faults put at random into tables, assignments, interpretations, told pairs and held marks.
 
+use crate::layout::Relation;
 use crate::limits::*;
 use crate::random::Random;
 use crate::tables::{Stock, Tables};
@@ -196,5 +197,32 @@ pub fn stock(random: &mut Random, stock: &mut Stock) {
             stock.rows[row + field] = number;
         }
         _ => stock.rows.extend([2, 0, 0, 0]),
+    }
+}
+
+/// A ragged list, a variable past the count, or an id that is no atom or a copy of one; some leave
+/// the pairs accepted.
+pub fn told(random: &mut Random, tables: &Tables, told: &mut Vec<u16>) {
+    let count = tables.concept_count() as u16;
+    let variables = tables.variables;
+    if random.percent(30) {
+        told.extend([0, 0]);
+    }
+    let pair = 2 * random.below(told.len() / 2 + 1);
+    match random.below(6) {
+        0 => told.push(0),
+        1 => drop(told.pop()),
+        _ if pair + 1 >= told.len() => told.extend([variables, 0]),
+        2 => told[pair] = *random.pick(&[variables, variables.wrapping_add(1), 8, 256, 65535]),
+        3 => told[pair + 1] = *random.pick(&[count, count.wrapping_add(1), 192, 256, 65535]),
+        _ => told[pair + 1] = random.below(usize::from(count) + 1) as u16,
+    }
+}
+
+/// A share of the marks cleared, or some added, or both.
+pub fn marks(random: &mut Random, marks: &mut Relation) {
+    let (cleared, added) = *random.pick(&[(2, 0), (20, 0), (50, 0), (0, 2), (0, 8), (20, 3)]);
+    for mark in marks.iter_mut().flatten() {
+        *mark = if *mark { !random.percent(cleared) } else { random.percent(added) };
     }
 }

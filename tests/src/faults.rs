@@ -5,6 +5,7 @@ use crate::limits::{line_room, ATOM_ROOM, ROW_BYTES};
 use crate::tables::{Case, Stock, Tables};
 
 /// In the order of the checks: 1 to 6, 16, 7, then 9, 15, 8; and 1, 2, 4 of a given interpretation.
+/// 9 is that of an assignment, or of one told as pairs.
 #[derive(Clone, Copy, Debug, PartialEq, Eq)]
 pub enum Fault {
     Ragged,
@@ -19,6 +20,9 @@ pub enum Fault {
     TooManyAtoms,
     AssignmentLength,
     BitPastAtoms,
+    RaggedTold,
+    NoAtomTold,
+    NoVariableTold,
     PairHolds,
     ShortBuffer,
     RaggedRows,
@@ -27,7 +31,7 @@ pub enum Fault {
     NoElementAsked,
 }
 
-/// Those of every operation but one that shows or is given an interpretation.
+/// Those of every operation but one that shows or is given an interpretation, or is told pairs.
 pub const FAULTS: [Fault; 13] = [
     Fault::Ragged,
     Fault::RaggedRoles,
@@ -73,6 +77,14 @@ pub fn membership_faults() -> Vec<Fault> {
     faults
 }
 
+/// For updating a held table, whose assignment is told as pairs.
+pub fn updating_faults() -> Vec<Fault> {
+    let mut faults = table_faults(false);
+    faults.extend([Fault::RaggedTold, Fault::NoAtomTold, Fault::NoVariableTold]);
+    faults.push(Fault::ShortBuffer);
+    faults
+}
+
 /// A pair of the base table that does not hold: top and a name.
 pub const FAILING: (u16, u16) = (0, 3);
 /// Rows of the interpretation that shows this, all of names: 65 on the names, 30 more by
@@ -87,7 +99,8 @@ const CHANGED_INNER: usize = 74;
 const COUNT: usize = 75;
 
 /// 75 concepts, 31 inclusions, 1 question, 2 role pairs, 2 variables, 60 atoms; an interpretation
-/// of two elements, of which the first is a member of the concept asked for.
+/// of two elements, of which the first is a member of the concept asked for; three told pairs, and
+/// a held table with marks everywhere.
 pub fn base() -> Case {
     let mut rows: Vec<[u16; 3]> = vec![[0, 0, 0], [4, 1, 0], [4, 0, 0]];
     rows.extend((3..68).map(|name| [1, name, 0]));
@@ -103,6 +116,8 @@ pub fn base() -> Case {
     case.row_room = 4 * SHOWN_ROWS;
     case.stock = Stock::new(2, &[[0, 1, 9, 0], [1, 0, 99, 1], [0, 0, 3, 0]]);
     case.asked = (3, 0);
+    case.told = [[0, 3], [1, 62], [0, 3]].concat();
+    case.held = vec![0x5a; COUNT * ROW_BYTES];
     case
 }
 
@@ -123,6 +138,9 @@ impl Fault {
             Fault::TooManyAtoms => (7, 64),
             Fault::AssignmentLength => (9, 2),
             Fault::BitPastAtoms => (9, 1),
+            Fault::RaggedTold => (9, 0),
+            Fault::NoAtomTold => (9, 1),
+            Fault::NoVariableTold => (9, 2),
             Fault::PairHolds => (15, 0),
             Fault::ShortBuffer => (8, (COUNT * ROW_BYTES) as u64),
             Fault::RaggedRows => (1, 0),
@@ -149,6 +167,9 @@ impl Fault {
             Fault::TooManyAtoms => tables.inclusions.extend([FIVE_NAMES, 0]),
             Fault::AssignmentLength => case.assignment.push(0),
             Fault::BitPastAtoms => case.assignment[1] |= 1 << 60,
+            Fault::RaggedTold => case.told.push(0),
+            Fault::NoAtomTold => case.told[3] = 63,
+            Fault::NoVariableTold => case.told[4] = 2,
             Fault::PairHolds => tables.inclusions.extend([FAILING.0, FAILING.1]),
             Fault::ShortBuffer => {
                 case.table_room = COUNT * ROW_BYTES - 1;
@@ -157,6 +178,7 @@ impl Fault {
                 case.chosen_room = ATOM_ROOM - 1;
                 case.line_room = line_room(COUNT) - 1;
                 case.row_room = 4 * SHOWN_ROWS - 1;
+                case.held.pop();
             }
             Fault::RaggedRows => case.stock.rows.push(0),
             Fault::MalformedRow => case.stock.rows.extend([2, 0, 0, 0]),

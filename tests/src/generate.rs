@@ -8,6 +8,7 @@ use crate::limits::*;
 use crate::random::{Random, Size};
 use crate::reference::{self, atoms, countermodel};
 use crate::semantics::signature;
+use crate::shift::{held_marks, held_table, told};
 use crate::tables::{Case, Stock, Tables};
 
 /// Which pairs the inclusions prefer.
@@ -598,13 +599,30 @@ fn symbol(random: &mut Random, known: &[u16]) -> u16 {
 }
 
 /// Any order, and some rows again.
-fn mix(random: &mut Random, rows: &mut Vec<[u16; 4]>) {
+pub fn mix<const N: usize>(random: &mut Random, rows: &mut Vec<[u16; N]>) {
     if !rows.is_empty() {
-        let again: Vec<[u16; 4]> =
+        let again: Vec<[u16; N]> =
             (0..random.below(1 + rows.len() / 4)).map(|_| *random.pick(rows)).collect();
         rows.extend(again);
     }
     random.shuffle(rows);
+}
+
+/// A random case for updating a held table. Now and then the told pairs are damaged.
+pub fn update_case(random: &mut Random, size: Size) -> Case {
+    let mut case = case(random, size);
+    let tables = &case.tables;
+    let mut marks = Vec::new();
+    if reference::check(tables).is_ok() {
+        let chosen = atoms::chosen(tables, &assignment(random, tables));
+        marks = held_marks(random, tables, &chosen);
+        case.told = told(random, &chosen);
+    }
+    if random.percent(15) {
+        damage::told(random, &case.tables, &mut case.told);
+    }
+    case.held = held_table(random, &marks, case.table_room);
+    case
 }
 
 /// As long as wanted, longer, or now and then shorter.

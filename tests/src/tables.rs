@@ -152,11 +152,15 @@ pub struct Case {
     /// A given interpretation, and the concept and the element asked of it.
     pub stock: Stock,
     pub asked: (u16, u16),
+    /// An assignment told as pairs of a variable and an id.
+    pub told: Vec<u16>,
+    /// The bytes of a held subsumption table.
+    pub held: Vec<u8>,
 }
 
 impl Case {
     /// Buffers as long as wanted, but none for shown rows, whose number is not known yet; the pair
-    /// (0, 0), variable 0, no lines, no elements.
+    /// (0, 0), variable 0, no lines, no elements, nothing told, no held table.
     pub fn new(tables: Tables, assignment: &[u64]) -> Self {
         let table_room = tables.concept_count() * ROW_BYTES;
         let match_room = usize::from(tables.variables);
@@ -175,6 +179,8 @@ impl Case {
             row_room: 0,
             stock: Stock::default(),
             asked: (0, 0),
+            told: Vec::new(),
+            held: Vec::new(),
         }
     }
 }
@@ -221,6 +227,8 @@ impl fmt::Display for Case {
         writeln!(f, "row_room: {},", self.row_room)?;
         writeln!(f, "stock: {},", self.stock)?;
         writeln!(f, "asked: {:?},", self.asked)?;
+        writeln!(f, "told: vec!{:?},", self.told)?;
+        writeln!(f, "held: vec!{:?},", self.held)?;
         write!(f, "}}")
     }
 }

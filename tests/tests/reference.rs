@@ -1,19 +1,21 @@
 //! The reference itself, held against 01's definition of "below" on tiny tables, and against 02's
-//! of twins, of roles above roles and of a shown interpretation.
+//! of twins, of roles above roles, of a shown interpretation and of a held table that is closed.
 
 use std::collections::BTreeSet;
 
 use hermitcasket_tests::families::FAMILIES;
 use hermitcasket_tests::generate;
 use hermitcasket_tests::hard::{self, Hard};
+use hermitcasket_tests::layout::Relation;
 use hermitcasket_tests::limits::{MAX_ATOMS, MAX_CONCEPTS, MAX_ROLE, MAX_ROLE_PAIRS};
 use hermitcasket_tests::random::{cases, seed, Random, Size};
 use hermitcasket_tests::reference::atoms::{self, chosen, Twins};
 use hermitcasket_tests::reference::model::{self, Canonical};
-use hermitcasket_tests::reference::{self, countermodel, matching, roles};
+use hermitcasket_tests::reference::{self, countermodel, derivation, incremental, matching, roles};
 use hermitcasket_tests::semantics::{
     all_interpretations, counterexample, member, obeys, random_model, Interpretation,
 };
+use hermitcasket_tests::shift::held_marks;
 use hermitcasket_tests::tables::{Concept, Stock, Tables};
 use hermitcasket_tests::tally::Tally;
 
@@ -113,6 +115,55 @@ fn membership_is_as_defined() {
     }
     let all_seen = yes > 0 && no > 0 && obeyed > 0 && broken > 0;
     assert!(all_seen, "{} yes, {} no, {} obeyed, {} broken", yes, no, obeyed, broken);
+}
+
+/// Pair after pair is marked where a line for it has its premises marked, until nothing is new.
+fn swept(tables: &Tables, ids: &[Vec<usize>], held: &Relation) -> Relation {
+    let mut marked = held.clone();
+    loop {
+        let before = marked.clone();
+        for (left, right) in (0..held.len()).flat_map(|i| (0..held.len()).map(move |j| (i, j))) {
+            let follows = derivation::line_for(tables, ids, &marked, (left, right)).is_some();
+            marked[left][right] |= follows;
+        }
+        if marked == before {
+            return marked;
+        }
+    }
+}
+
+fn transitive(marks: &Relation) -> bool {
+    let ids = || 0..marks.len();
+    let through = |i: usize, j: usize| ids().all(|k| !marks[i][j] || !marks[j][k] || marks[i][k]);
+    ids().all(|i| ids().all(|j| through(i, j)))
+}
+
+/// A held table closed from premises to lines, against sweeps from lines to premises; and where
+/// nothing is held, against the canonical interpretation.
+#[test]
+fn held_marks_are_closed_as_the_rules_say() {
+    let seed = seed("reference, held marks");
+    let mut tally = Tally::new("reference, held marks");
+    for k in 0..cases(Size::Small) / 8 {
+        let mut random = Random::for_case(seed, k);
+        let tables = generate::valid(&mut random, Size::Small);
+        let ids = chosen(&tables, &generate::assignment(&mut random, &tables));
+        let held = held_marks(&mut random, &tables, &ids);
+        let closed = incremental::closure(&tables, &ids, &held);
+        assert_eq!(closed, swept(&tables, &ids, &held), "{:?} of\n{}", held, tables);
+        let nothing = vec![vec![false; held.len()]; held.len()];
+        let fresh = Canonical::build(&tables, &ids).members;
+        assert_eq!(incremental::closure(&tables, &ids, &nothing), fresh, "{}", tables);
+        tally.case();
+        tally.note("marks added", closed != held);
+        tally.note("other than afresh", closed != fresh);
+        tally.note("not transitive", !transitive(&closed));
+    }
+    tally.finish(&[
+        ("marks added", 30..=95),
+        ("other than afresh", 10..=80),
+        ("not transitive", 5..=60),
+    ]);
 }
 
 /// No random interpretation that obeys inclusions and role pairs refutes a "yes".

@@ -371,6 +371,7 @@ fn everywhere(wanted: Answer, tables: &Tables) {
     let mut case = Case::new(tables.clone(), &assignment);
     case.lines = vec![1, 0, 0, 0];
     case.stock.size = 1;
+    case.held = vec![0; case.table_room];
     // an id is below itself, so there is never an interpretation to show
     let shown = if wanted.number == 0 { Answer::refused(15, 0) } else { wanted };
     assert_eq!(compare::show(&case), shown, "{}", case);
@@ -384,6 +385,7 @@ fn everywhere(wanted: Answer, tables: &Tables) {
         compare::derive(&case).0,
         compare::check_derivation(&case),
         compare::belongs(&case),
+        compare::update_table(&case),
     ];
     for (k, answer) in answers.into_iter().enumerate() {
         assert_eq!((answer.number, answer.place), (wanted.number, wanted.place), "{}: {}", k, case);
@@ -465,6 +467,7 @@ fn the_order_around_16() {
     assert_eq!(compare::show(&case), Answer::refused(4, 0));
     case.pair = (0, 1);
     case.assignment = vec![1, 1];
+    case.told = vec![9];
     case.asked = (2, 2);
     case.table_room = 0;
     case.line_room = 0;
@@ -479,6 +482,7 @@ fn the_order_around_16() {
         compare::check_derivation(&case),
         compare::show(&case),
         compare::belongs(&case),
+        compare::update_table(&case),
     ] {
         assert_eq!(answer, Answer::refused(16, 1), "{}", case);
     }

@@ -3,6 +3,7 @@
 use std::collections::BTreeSet;
 
 use super::roles;
+use crate::layout::Relation;
 use crate::random::Random;
 use crate::tables::{Concept, Tables};
 
@@ -102,6 +103,20 @@ fn candidates(tables: &Tables, chosen: &[Vec<usize>], (left, right): Pair) -> Ve
     lines
 }
 
+/// A line for the pair whose premises are all marked, if there is one.
+pub fn line_for(
+    tables: &Tables,
+    chosen: &[Vec<usize>],
+    marked: &Relation,
+    asked: Pair,
+) -> Option<Line> {
+    let follows = |line: &Line| match premises(tables, chosen, *line) {
+        Some(wanted) => wanted.iter().all(|&(left, right)| marked[left][right]),
+        None => false,
+    };
+    candidates(tables, chosen, asked).into_iter().find(follows)
+}
+
 /// One line for every pair that the rules give, premises first, in an order drawn at random.
 pub fn closure(tables: &Tables, chosen: &[Vec<usize>], random: &mut Random) -> Vec<Line> {
     let count = tables.concept_count();
@@ -112,11 +127,7 @@ pub fn closure(tables: &Tables, chosen: &[Vec<usize>], random: &mut Random) -> V
         let before = lines.len();
         random.shuffle(&mut open);
         open.retain(|&asked| {
-            let follows = |line: &Line| match premises(tables, chosen, *line) {
-                Some(wanted) => wanted.iter().all(|&(left, right)| marked[left][right]),
-                None => false,
-            };
-            let found = candidates(tables, chosen, asked).into_iter().find(follows);
+            let found = line_for(tables, chosen, &marked, asked);
             lines.extend(found);
             marked[asked.0][asked.1] = found.is_some();
             found.is_none()

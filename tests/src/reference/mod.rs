@@ -1,19 +1,21 @@
 //! The independent implementation, written from 01 and 02 alone: refusals as a list of checks, atoms as
 //! a set of ids, subsumption by building a canonical interpretation and looking at its members,
-//! matching by learning clauses from assignments that fail. It aims at being plainly right; most
-//! of it is slow.
+//! matching by learning clauses from assignments that fail, a held table closed pair by pair. It aims
+//! at being plainly right; most of it is slow.
 
 pub mod atoms;
 pub mod blanks;
 pub mod clauses;
 pub mod countermodel;
 pub mod derivation;
+pub mod incremental;
 pub mod matching;
 pub mod model;
 pub mod patterns;
 pub mod refusals;
 pub mod roles;
 
+use crate::layout;
 use crate::limits::{line_room, ATOM_ROOM, ROW_BYTES};
 use crate::tables::{Case, Stock, Tables};
 
@@ -144,6 +146,20 @@ pub fn belongs(
     refusals::of_assignment(tables, assignment)?;
     refusals::of_stock(tables, stock, asked)?;
     Ok(members(tables, assignment, stock)[usize::from(asked.1)][usize::from(asked.0)])
+}
+
+/// Operation: close a held table under the rules, with the assignment told as pairs. All its bytes
+/// afterwards.
+pub fn update_table(tables: &Tables, told: &[u16], held: &[u8]) -> Result<Vec<u8>, Refusal> {
+    refusals::of_tables(tables, None)?;
+    refusals::of_told(tables, told)?;
+    let count = tables.concept_count();
+    refusals::of_room(held.len(), count * ROW_BYTES)?;
+    let chosen = incremental::chosen(tables, told);
+    let closed = incremental::closure(tables, &chosen, &layout::read(held, count));
+    let mut bytes = held.to_vec();
+    layout::write(&mut bytes, &closed);
+    Ok(bytes)
 }
 
 /// Row x, column j: element x of the given interpretation is a member of concept j. All must be

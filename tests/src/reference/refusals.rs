@@ -1,4 +1,4 @@
-//! Refusals 1 to 9 of 01, 16 of 02, and those of a given interpretation. Each check answers the
+//! Refusals 1 to 9 of 01, 16 of 02, and those of a given interpretation and of told pairs. Each check answers the
 //! lowest place at fault.
 
 use super::atoms;
@@ -36,6 +36,15 @@ pub fn of_assignment(tables: &Tables, assignment: &[u64]) -> Result<(), Refusal>
     let count = atoms::list(tables).len();
     let past = |choice: u64| (count..64).any(|position| choice >> position & 1 == 1);
     refuse(9, assignment.iter().position(|&choice| past(choice)))
+}
+
+/// Check 9 of an assignment told as pairs, for accepted tables.
+pub fn of_told(tables: &Tables, told: &[u16]) -> Result<(), Refusal> {
+    refuse(9, (told.len() % 2 != 0).then_some(0))?;
+    let atoms = atoms::list(tables);
+    let accepted =
+        |pair: &[u16]| pair[0] < tables.variables && atoms.contains(&usize::from(pair[1]));
+    refuse(9, told.chunks_exact(2).position(|pair| !accepted(pair)))
 }
 
 /// Check 8: the place is the length wanted.
