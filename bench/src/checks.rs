@@ -1,4 +1,5 @@
-//! The checks 1 to 6, 16, 7 and 9, in one pass over each table; and of a given interpretation.
+//! The checks 1 to 6, 16, 7 and 9, in one pass over each table; of a given interpretation, and of
+//! told pairs.
 
 use crate::columns::{count_ones, each, has, insert, Set, EMPTY};
 
@@ -64,6 +65,22 @@ pub fn accept_assignment(
         Some(variable) => Err((9, variable as u64)),
         None => Ok(()),
     }
+}
+
+/// Each variable's atoms.
+pub fn accept_told(input: &Input, accepted: &Accepted, told: &[u16]) -> Result<[Set; 8], Refusal> {
+    if told.len() % 2 != 0 {
+        return Err((9, 0));
+    }
+    let mut chosen = [EMPTY; 8];
+    for (place, pair) in told.chunks_exact(2).enumerate() {
+        let id = usize::from(pair[1]);
+        if pair[0] >= input.variables || id >= accepted.count || !has(&accepted.atoms, id) {
+            return Err((9, place as u64));
+        }
+        insert(&mut chosen[usize::from(pair[0])], id);
+    }
+    Ok(chosen)
 }
 
 pub fn accept_stock(

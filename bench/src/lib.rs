@@ -6,6 +6,7 @@
 pub mod checks;
 pub mod columns;
 pub mod countermodel;
+pub mod incremental;
 pub mod membership;
 pub mod operations;
 pub mod roles;
@@ -15,6 +16,7 @@ pub mod stack;
 use checks::{Input, Refusal, Stock};
 use columns::Columns;
 use hermitcasket_tests::tables::Tables;
+use incremental::Rows;
 
 const ROW_BYTES: usize = 24;
 
@@ -92,4 +94,16 @@ pub fn belongs(
     checks::accept_assignment(&input, &accepted, assignment)?;
     checks::accept_stock(&accepted, stock, asked)?;
     Ok(membership::holds(&input, &accepted, assignment, stock, asked))
+}
+
+/// Closes a held table under the rules, with the assignment told as pairs.
+pub fn update_table(input: Input, told: &[u16], table: &mut [u8]) -> Result<(), Refusal> {
+    let accepted = checks::accept(&input, None)?;
+    let chosen = checks::accept_told(&input, &accepted, told)?;
+    let wanted = accepted.count * ROW_BYTES;
+    if table.len() < wanted {
+        return Err((8, wanted as u64));
+    }
+    Rows::close(&input, &accepted, &chosen, table).store(table);
+    Ok(())
 }

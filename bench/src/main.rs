@@ -13,6 +13,7 @@ mod plot;
 mod show;
 mod table;
 mod timing;
+mod update;
 
 use table::Tools;
 
@@ -27,7 +28,8 @@ const LINES: [(&str, Print); 5] = [
     ("belongs", belongs::print),
 ];
 
-const TABLES: [(&str, fn()); 2] = [("derivations", derivations::print), ("stack", memory::print)];
+const TABLES: [(&str, fn()); 3] =
+    [("update", update::print), ("derivations", derivations::print), ("stack", memory::print)];
 
 fn main() {
     let words: Vec<String> = std::env::args().skip(1).collect();

@@ -7,6 +7,8 @@ use hermitcasket_tests::hard::{self, Hard};
 use hermitcasket_tests::limits::{line_room, ATOM_ROOM, MAX_CONCEPTS, MAX_VARIABLES, ROW_BYTES};
 use hermitcasket_tests::nested::{crowd, tower, tower_over_choice, Large, APART};
 use hermitcasket_tests::random::Random;
+use hermitcasket_tests::reference::atoms::chosen;
+use hermitcasket_tests::shift::told;
 use hermitcasket_tests::tables::{Stock, Tables};
 
 use crate::stack::depth;
@@ -23,6 +25,8 @@ pub struct Input {
     shown: usize,
     /// A given interpretation.
     stock: Stock,
+    /// The assignment as pairs.
+    told: Vec<u16>,
 }
 
 /// The families of catalogues at full size, without and with role pairs, hard problems, and nested
@@ -60,7 +64,8 @@ fn input((label, tables): (String, Tables)) -> Input {
     let (lines, pair) = tried.map(with_lines).max_by_key(|found| found.0.len()).expect("a pair");
     let (failing, shown) = shown(&tables, &assignment);
     let stock = crowd(&mut Random::new(1), 2_000, APART);
-    Input { label, tables, assignment, pair, lines, failing, shown, stock }
+    let told = told(&mut Random::new(1), &chosen(&tables, &assignment));
+    Input { label, tables, assignment, pair, lines, failing, shown, stock, told }
 }
 
 /// A pair that fails, and the length that its interpretation wants; else a pair that holds.
@@ -101,7 +106,7 @@ impl Default for Room {
 
 pub type Operation = fn(&Input, &mut Room) -> Answer;
 
-pub const OPERATIONS: [(&str, Operation); 11] = [
+pub const OPERATIONS: [(&str, Operation); 12] = [
     ("hc_check", |input, _| capi::check(input.tables.lend())),
     ("hc_atoms", |input, room| capi::atoms(input.tables.lend(), &mut room.ids)),
     ("hc_blanks", |input, _| capi::blanks(input.tables.lend(), 0)),
@@ -127,6 +132,11 @@ pub const OPERATIONS: [(&str, Operation); 11] = [
         let last = input.tables.concept_count() as u16 - 1;
         let stock = (input.stock.size, &input.stock.rows[..]);
         capi::belongs(input.tables.lend(), &input.assignment, stock, (last, 0))
+    }),
+    // from no marks at all, which is the most to do
+    ("hc_update_table", |input, room| {
+        room.rows.fill(0);
+        capi::update_table(input.tables.lend(), &input.told, &mut room.rows)
     }),
 ];
 

@@ -1,5 +1,5 @@
-//! Times of two ways to do one thing, taken in turn, so that a change of the machine's speed
-//! meets both. The fastest round counts, since other work on the machine only adds.
+//! Times of two or more ways to do one thing, taken in turn, so that a change of the machine's
+//! speed meets all of them. The fastest round counts, since other work on the machine only adds.
 
 use std::time::Instant;
 
@@ -21,7 +21,7 @@ impl Times {
     }
 }
 
-/// One of the two ways.
+/// One of the ways.
 struct Timer<F> {
     run: F,
     calls: usize,
@@ -59,13 +59,18 @@ impl<F: FnMut()> Timer<F> {
     }
 }
 
-pub fn measure(proved: impl FnMut(), plain: impl FnMut()) -> Times {
-    let (mut proved, mut plain) = (Timer::new(proved), Timer::new(plain));
+/// Microseconds of one call of each.
+pub fn measure_all<const N: usize>(runs: [&mut dyn FnMut(); N]) -> [f64; N] {
+    let mut timers = runs.map(Timer::new);
     for _ in 0..ROUNDS {
-        proved.round_in_time();
-        plain.round_in_time();
+        timers.iter_mut().for_each(Timer::round_in_time);
     }
-    Times { proved: proved.best, plain: plain.best }
+    timers.map(|timer| timer.best)
+}
+
+pub fn measure(mut proved: impl FnMut(), mut plain: impl FnMut()) -> Times {
+    let [proved, plain] = measure_all([&mut proved, &mut plain]);
+    Times { proved, plain }
 }
 
 /// Three digits, or all before the point.

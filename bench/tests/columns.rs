@@ -2,7 +2,9 @@
 
 use hermitcasket_bench::checks::{Refusal, Stock};
 use hermitcasket_bench::search::find;
-use hermitcasket_bench::{atoms, belongs, check, lend, show, subsumed, subsumption_table};
+use hermitcasket_bench::{
+    atoms, belongs, check, lend, show, subsumed, subsumption_table, update_table,
+};
 use hermitcasket_tests::generate;
 use hermitcasket_tests::hard::{self, Hard, Known};
 use hermitcasket_tests::random::{cases, seed, Random, Size};
@@ -76,6 +78,22 @@ fn members_agree() {
             let member = belongs(lend(tables), assignment, stock, case.asked);
             let expected = reference::belongs(tables, assignment, &case.stock, case.asked);
             assert_eq!(member, numbered(expected), "{}", case);
+        }
+    }
+}
+
+#[test]
+fn held_tables_agree() {
+    let seed = seed("plain implementation, held tables");
+    for size in [Size::Small, Size::Medium, Size::Large] {
+        for k in 0..(cases(size) / 4).max(1) {
+            let case = generate::update_case(&mut Random::for_case(seed, k), size);
+            let mut table = case.held.clone();
+            let done = update_table(lend(&case.tables), &case.told, &mut table);
+            let expected = reference::update_table(&case.tables, &case.told, &case.held);
+            let due = expected.clone().unwrap_or(case.held.clone());
+            assert_eq!(done, numbered(expected.map(|_| ())), "{}", case);
+            assert!(table == due, "{}", case);
         }
     }
 }
