@@ -132,8 +132,9 @@ pub update-fresh :
 unfolding updatingFault
 update-fresh t told inclusions₀ questions₀ assignment₀ held before after other fresh reply B U done F =
     let passed : tableFault t ≡ Done = passed-first _ _ done in
-    let closure : ClosureOf t (toldAssignment t told) before after = subst (λ (o : Outcome). UpdatedBy o t told before after) done (U .updated) in
-    (fresh-table t inclusions₀ questions₀ assignment₀ (toldAssignment t told) (B .among) (B .same) (B .accepted) (told-accepted t told) passed held before
-    after other fresh (B .right) closure F,
-    fresh-rows t inclusions₀ questions₀ assignment₀ (toldAssignment t told) (B .among) (B .same) (B .accepted) (told-accepted t told) passed held before
-    after other fresh (B .right) closure F)
+    let closure : ClosureOf t (toldAssignment t told) before after = subst (λ (o : Outcome). UpdatedBy o t told before after) done (U .updated) in (
+      fresh-table t inclusions₀ questions₀ assignment₀ (toldAssignment t told) (B .among) (B .same) (B .accepted) (told-accepted t told) passed held before
+          after other fresh (B .right) closure F,
+      fresh-rows t inclusions₀ questions₀ assignment₀ (toldAssignment t told) (B .among) (B .same) (B .accepted) (told-accepted t told) passed held before
+          after other fresh (B .right) closure F,
+    )
