@@ -17,7 +17,7 @@ use Rattle.subsumption.specs.declared.refusal.Refusal.the-variants.{BadAssignme
 use Rattle.subsumption.specs.declared.refusal.Outcome.{Outcome}
 use Rattle.subsumption.specs.declared.refusal.Outcome.the-variants.{Done, Refused}
 use Rattle.subsumption.specs.Tables.{Tables, or, both, anyBelow, countOf, pairsOf, leftOf, rightOf}
-use Rattle.subsumption.specs.Atoms.{bit, keep, atoms, pick, chosen}
+use Rattle.subsumption.specs.Atoms.{bit, atoms, pick, chosen}
 use Rattle.subsumption.specs.Rules.{contains}
 use Rattle.subsumption.specs.Refusal.{orElse, refuseIf, firstAt}
 use Rattle.subsumption.specs.Check.{assignmentFault, assignmentFaultAt}
@@ -25,7 +25,6 @@ use Rattle.subsumption.specs.Table.{one}
 use Rattle.subsumption.proofs.Bools.{or-cases, or-first, or-second, or-false, or-skip, both-true, both-intro, both-none, both-skip, anyBelow-intro, anyBelow-elim, same-bool, eq-or-ne, le-or-lt}
 use Rattle.subsumption.proofs.Bits.{bit-half, bit-or, bit-pow, bit-pow-other}
 use Rattle.subsumption.proofs.Refusals.{no-fault, both-done, done-if, refused-if, passed-first, passed-second, passed-if, passed-at}
-use Rattle.subsumption.proofs.Keep.{keep-member}
 use Rattle.subsumption.proofs.Chosen.{pick-member, pick-intro, getD-member, chosen-atom}
 use Rattle.subsumption.proofs.RuleTests.{contains-elim, contains-intro}
 use Rattle.subsumption.proofs.MarkLaws.{shifted}
@@ -166,34 +165,6 @@ module _ (t : Tables) (told : List ℕ) where
     -- A told assignment chooses exactly the told ids.
     pub chosen-exactly : (k p : ℕ) → k < t .variables → List·Memᴰ p (chosen t (toldAssignment t told) k) ↔ (tells told k p ≡ true)
     chosen-exactly k p l = (chosen-told k p l, λ h. told-chosen k p l (told-atom k p h) h)
-
--- ---- atoms are distinct
-member-from : (test : ℕ → Bool) (from count q : ℕ) → q < length (keep test from count) → from ≤ getD (keep test from count) q 0
-member-from test from count q l = keep-member test from count _ (getD-member (keep test from count) q l) .low
-
-keep-distinct :
-    (test : ℕ → Bool) (from count p q : ℕ) → p < length (keep test from count) → q < length (keep test from count)
-    → getD (keep test from count) p 0 ≡ getD (keep test from count) q 0 → p ≡ q
-unfolding keep
-keep-distinct test from zero p q l h e = absurd (omega arith)
-keep-distinct test from (suc count) p q l h e = go (keep-distinct test (suc from) count) (test from) refl
-  where
-    Distinct : List ℕ → Type 0
-    Distinct xs = (p q : ℕ) → p < length xs → q < length xs → getD xs p 0 ≡ getD xs q 0 → p ≡ q
-
-    first : Distinct (keep test (suc from) count) → Distinct (from ∷ keep test (suc from) count)
-    first rest zero zero l h e = refl
-    first rest zero (suc q) l h e = absurd (omega (arith, member-from test (suc from) count q (omega arith)))
-    first rest (suc p) zero l h e = absurd (omega (arith, member-from test (suc from) count p (omega arith)))
-    first rest (suc p) (suc q) l h e = ap suc (rest p q (omega arith) (omega arith) e)
-
-    go : Distinct (keep test (suc from) count) → (b : Bool) → test from ≡ b → p ≡ q
-    go rest true u = first rest p q (rw u at l) (rw u at h) (rw u at e)
-    go rest false u = rest p q (rw u at l) (rw u at h) (rw u at e)
-
-pub atoms-distinct : (t : Tables) (p q : ℕ) → p < length (atoms t) → q < length (atoms t) → getD (atoms t) p 0 ≡ getD (atoms t) q 0 → p ≡ q
-unfolding atoms
-atoms-distinct t p q = keep-distinct _ 0 (countOf (t .concepts)) p q
 
 -- ---- the place of an id
 pub record PlaceTo (ids : List ℕ) (id q : ℕ) : Type 0 where

@@ -27,7 +27,7 @@ use Rattle.subsumption.proofs.Bools.{or-cases, or-first, or-second, or-skip, bo
 use Rattle.subsumption.proofs.WellFormed.{WellFormed}
 use Rattle.subsumption.proofs.Accepted.{wellFormed, table-concepts, inclusions-few, roles-low, concepts-named}
 use Rattle.subsumption.proofs.AtomLaws.{atom-known}
-use Rattle.subsumption.proofs.Chosen.{getD-member}
+use Rattle.subsumption.proofs.Chosen.{getD-member, atoms-distinct}
 use Rattle.subsumption.proofs.Refusals.{stops, goes-on, both-done, refused-lt, done-le, is-done}
 use Rattle.subsumption.proofs.Rules.{Rules, follows-elim, follows-rules}
 use Rattle.incremental.specs.Told.{toldFault, tells, coded, toldAssignment}
@@ -38,7 +38,7 @@ use Rattle.incremental.specs.Inner.Pass.{Within}
 use Rattle.incremental.specs.Inner.Closing.{Closed}
 use Rattle.incremental.specs.Inner.Bytes.{known, Loaded, Stored}
 use Rattle.incremental.specs.Inner.Told.{toldFaultIn, Readable, ToldChoices}
-use Rattle.incremental.proofs.ToldLaws.{told-at, pair-variable, pair-atom, atoms-distinct}
+use Rattle.incremental.proofs.ToldLaws.{told-at, pair-variable, pair-atom}
 
 -- ---- the rules as lines, and back; `choices` has what the assignment has, for the variables
 module _ (t : Tables) (assignment choices : List ℕ) (wf : WellFormed t) (agree : (k : ℕ) → k < t .variables → getD choices k 0 ≡ getD assignment k 0) where

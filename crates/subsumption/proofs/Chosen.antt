@@ -1,16 +1,17 @@
 -- Members of what `pick` picks, and so of the chosen ids.
-use Prim.Native.Nat.{ℕ, zero, suc, _/_, _<_}
-use mathlib.Core.Path.{_≡_, refl, sym, _∙_}
+use Prim.Native.Nat.{ℕ, zero, suc, _/_, _<_, _≤_}
+use mathlib.Core.Path.{_≡_, refl, sym, ap, _∙_}
 use mathlib.Core.List.{List, [], _∷_, List·Memᴰ, List·Memᴰ·head, List·Memᴰ·tail, List·Memᴰ·not-nil, List·Memᴰ·cases-cons, Memᴰ·cast}
 use mathlib.Core.Bool.{Bool, true, false}
 use mathlib.Core.Logic.{⊎-elim}
 use native.Mathlib.Omega.{arith}
 use lib.ListN.{length, getD}
 use Rattle.subsumption.specs.Tables.{Tables, countOf}
-use Rattle.subsumption.specs.Atoms.{atoms, bit, pick, chosen}
+use Rattle.subsumption.specs.Atoms.{keep, atoms, bit, pick, chosen}
 pub use Rattle.subsumption.proofs.Bits.{bit-half}
 use Rattle.subsumption.proofs.WellFormed.{WellFormed}
 use Rattle.subsumption.proofs.Inward.{Ground}
+use Rattle.subsumption.proofs.Keep.{keep-member}
 use Rattle.subsumption.proofs.AtomLaws.{atom-known, atom-ground}
 
 pub record Picked (xs : List ℕ) (choice p : ℕ) : Type 0 where
@@ -49,6 +50,34 @@ pub getD-member : (xs : List ℕ) (q : ℕ) → q < length xs → List·Memᴰ (
 getD-member [] q l = absurd (omega arith)
 getD-member (x ∷ xs) zero l = List·Memᴰ·head refl
 getD-member (x ∷ xs) (suc q) l = List·Memᴰ·tail (getD-member xs q (omega arith))
+
+member-from : (test : ℕ → Bool) (from count q : ℕ) → q < length (keep test from count) → from ≤ getD (keep test from count) q 0
+member-from test from count q l = keep-member test from count _ (getD-member (keep test from count) q l) .low
+
+-- What is kept stands there once.
+pub keep-distinct :
+    (test : ℕ → Bool) (from count p q : ℕ) → p < length (keep test from count) → q < length (keep test from count)
+    → getD (keep test from count) p 0 ≡ getD (keep test from count) q 0 → p ≡ q
+unfolding keep
+keep-distinct test from zero p q l h e = absurd (omega arith)
+keep-distinct test from (suc count) p q l h e = go (keep-distinct test (suc from) count) (test from) refl
+  where
+    Distinct : List ℕ → Type 0
+    Distinct xs = (p q : ℕ) → p < length xs → q < length xs → getD xs p 0 ≡ getD xs q 0 → p ≡ q
+
+    first : Distinct (keep test (suc from) count) → Distinct (from ∷ keep test (suc from) count)
+    first rest zero zero l h e = refl
+    first rest zero (suc q) l h e = absurd (omega (arith, member-from test (suc from) count q (omega arith)))
+    first rest (suc p) zero l h e = absurd (omega (arith, member-from test (suc from) count p (omega arith)))
+    first rest (suc p) (suc q) l h e = ap suc (rest p q (omega arith) (omega arith) e)
+
+    go : Distinct (keep test (suc from) count) → (b : Bool) → test from ≡ b → p ≡ q
+    go rest true u = first rest p q (rw u at l) (rw u at h) (rw u at e)
+    go rest false u = rest p q (rw u at l) (rw u at h) (rw u at e)
+
+pub atoms-distinct : (t : Tables) (p q : ℕ) → p < length (atoms t) → q < length (atoms t) → getD (atoms t) p 0 ≡ getD (atoms t) q 0 → p ≡ q
+unfolding atoms
+atoms-distinct t p q = keep-distinct _ 0 (countOf (t .concepts)) p q
 
 module _ (t : Tables) (assignment : List ℕ) (k p : ℕ) where
   pub chosen-atom : List·Memᴰ p (chosen t assignment k) → List·Memᴰ p (atoms t)

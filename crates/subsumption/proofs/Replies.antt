@@ -3,12 +3,21 @@ use Prim.Native.Nat.{ℕ, zero, suc}
 use mathlib.Core.Path.{_≡_, refl, sym, ap, _∙_}
 use native.Mathlib.Omega.{arith}
 use Rattle.subsumption.specs.declared.refusal.Refusal.{Refusal}
-use Rattle.subsumption.specs.declared.refusal.Refusal.the-variants.{Limit, Malformed, ForwardId, NoConcept, VariableInInclusion, VariablesOnBothSides, TooManyAtoms, BufferTooShort, BadAssignment, NoAssignment, NotSubsumed, BadDerivation, BadText, NoCountermodel, BadRole}
+use Rattle.subsumption.specs.declared.refusal.Refusal.the-variants.{Limit, Malformed, ForwardId, NoConcept, VariableInInclusion, VariablesOnBothSides, TooManyAtoms, BufferTooShort, BadAssignment, NoAssignment, NotSubsumed, BadDerivation, BadText, NoCountermodel, BadRole, BadOrder, ForwardInOrder}
 use Rattle.subsumption.specs.declared.refusal.Outcome.{Outcome}
 use Rattle.subsumption.specs.declared.refusal.Outcome.the-variants.{Done, Refused}
 use Rattle.subsumption.specs.Refusal.{codeOf, Reply, replyDone, replyRefused, replyWith, replyOf}
 
--- the refusal of a number and a place
+-- the refusal of a number and a place; numbers from 17 on by themselves
+laterAt : ℕ → ℕ → Refusal
+laterAt (suc (suc (suc (suc zero)))) place = BadOrder place
+laterAt (suc (suc (suc (suc (suc zero))))) place = ForwardInOrder place
+laterAt (suc (suc (suc (suc (suc (suc number)))))) place = TooManyAtoms
+laterAt zero place = TooManyAtoms
+laterAt (suc zero) place = TooManyAtoms
+laterAt (suc (suc zero)) place = TooManyAtoms
+laterAt (suc (suc (suc zero))) place = TooManyAtoms
+
 refusalAt : ℕ → ℕ → Refusal
 refusalAt zero place = TooManyAtoms
 refusalAt (suc zero) place = Limit place
@@ -27,10 +36,10 @@ refusalAt (suc (suc (suc (suc (suc (suc (suc (suc (suc (suc (suc (suc (suc zero)
 refusalAt (suc (suc (suc (suc (suc (suc (suc (suc (suc (suc (suc (suc (suc (suc zero)))))))))))))) place = TooManyAtoms
 refusalAt (suc (suc (suc (suc (suc (suc (suc (suc (suc (suc (suc (suc (suc (suc (suc zero))))))))))))))) place = NoCountermodel
 refusalAt (suc (suc (suc (suc (suc (suc (suc (suc (suc (suc (suc (suc (suc (suc (suc (suc zero)))))))))))))))) place = BadRole place
-refusalAt (suc (suc (suc (suc (suc (suc (suc (suc (suc (suc (suc (suc (suc (suc (suc (suc (suc number))))))))))))))))) place = TooManyAtoms
+refusalAt (suc (suc (suc (suc (suc (suc (suc (suc (suc (suc (suc (suc (suc (suc (suc (suc (suc number))))))))))))))))) place = laterAt number place
 
 refusal-back : (r : Refusal) → refusalAt (codeOf r .number) (codeOf r .place) ≡ r
-unfolding refusalAt
+unfolding refusalAt laterAt
 refusal-back (Limit place) = refl
 refusal-back (Malformed place) = refl
 refusal-back (ForwardId place) = refl
@@ -46,6 +55,8 @@ refusal-back (BadDerivation place) = refl
 refusal-back (BadText place) = refl
 refusal-back NoCountermodel = refl
 refusal-back (BadRole place) = refl
+refusal-back (BadOrder place) = refl
+refusal-back (ForwardInOrder place) = refl
 
 pub same-refusal : (q r : Refusal) → replyRefused q ≡ replyRefused r → q ≡ r
 same-refusal q r e = sym (refusal-back q) ∙ ap (λ (z : Reply). refusalAt (z .number) (z .place)) e ∙ refusal-back r
@@ -67,6 +78,8 @@ isRefused (BadDerivation place) e = omega arith
 isRefused (BadText place) e = omega arith
 isRefused NoCountermodel e = omega arith
 isRefused (BadRole place) e = omega arith
+isRefused (BadOrder place) e = omega arith
+isRefused (ForwardInOrder place) e = omega arith
 
 pub not-done : (r : Refusal) (n : ℕ) {A : Type 0} → replyRefused r ≡ replyDone n → A
 not-done r n e = absurd (isRefused r (ap (λ (z : Reply). z .number) e))

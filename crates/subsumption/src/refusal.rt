@@ -19,6 +19,8 @@ pub enum Refusal {
     BadText(usize),
     NoCountermodel,
     BadRole(usize),
+    BadOrder(usize),
+    ForwardInOrder(usize),
 }
 
 // What an operation answers that has nothing to give but its work.
@@ -95,6 +97,14 @@ pub fn code_of(r: Refusal) -> Code
         },
         Refusal::BadRole(p) => Code {
             number: 16,
+            place: p,
+        },
+        Refusal::BadOrder(p) => Code {
+            number: 21,
+            place: p,
+        },
+        Refusal::ForwardInOrder(p) => Code {
+            number: 22,
             place: p,
         },
     }

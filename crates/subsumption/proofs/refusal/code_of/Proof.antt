@@ -1,4 +1,6 @@
 use borrow.Author.Needs.{needs}
+use mathlib.Core.Path.{sym, ap}
+use Rattle.subsumption.specs.Refusal.{codeOf}
 use Rattle.subsumption.proofs.refusal.code_of.Statement.{statement}
 use Rattle.subsumption.proofs.refusal.code_of.Tie as tie
 use Rattle.subsumption.proofs.refusal.code_of.Reads as reads
@@ -49,50 +51,62 @@ enum-told-4 c = search needs
 enum-known-r-11 : tie.Need-enum-known-r-11
 enum-known-r-11 c = search needs
 
+enum-known-r-12 : tie.Need-enum-known-r-12
+enum-known-r-12 c = search needs
+
+enum-known-r-13 : tie.Need-enum-known-r-13
+enum-known-r-13 c = search needs
+
 returns : tie.Need-returns
-returns c = cc
+returns c = ap codeOf (sym (c .before .r .given .1))
 
 returns-2 : tie.Need-returns-2
-returns-2 c = cc
+returns-2 c = ap codeOf (sym (c .before .r2 .given .1))
 
 returns-3 : tie.Need-returns-3
-returns-3 c = cc
+returns-3 c = ap codeOf (sym (c .before .r3 .given .1))
 
 returns-4 : tie.Need-returns-4
-returns-4 c = cc
+returns-4 c = ap codeOf (sym (c .before .r4 .given .1))
 
 returns-5 : tie.Need-returns-5
-returns-5 c = cc
+returns-5 c = ap codeOf (sym (c .before .r5 .given .1))
 
 returns-6 : tie.Need-returns-6
-returns-6 c = cc
+returns-6 c = ap codeOf (sym (c .before .r6 .given .1))
 
 returns-7 : tie.Need-returns-7
-returns-7 c = cc
+returns-7 c = ap codeOf (sym (c .enum-told .given .1))
 
 returns-8 : tie.Need-returns-8
-returns-8 c = cc
+returns-8 c = ap codeOf (sym (c .before .r7 .given .1))
 
 returns-9 : tie.Need-returns-9
-returns-9 c = cc
+returns-9 c = ap codeOf (sym (c .before .r8 .given .1))
 
 returns-10 : tie.Need-returns-10
-returns-10 c = cc
+returns-10 c = ap codeOf (sym (c .enum-told2 .given .1))
 
 returns-11 : tie.Need-returns-11
-returns-11 c = cc
+returns-11 c = ap codeOf (sym (c .enum-told3 .given .1))
 
 returns-12 : tie.Need-returns-12
-returns-12 c = cc
+returns-12 c = ap codeOf (sym (c .before .r9 .given .1))
 
 returns-13 : tie.Need-returns-13
-returns-13 c = cc
+returns-13 c = ap codeOf (sym (c .before .r10 .given .1))
 
 returns-14 : tie.Need-returns-14
-returns-14 c = cc
+returns-14 c = ap codeOf (sym (c .enum-told4 .given .1))
 
 returns-15 : tie.Need-returns-15
-returns-15 c = cc
+returns-15 c = ap codeOf (sym (c .before .r11 .given .1))
+
+returns-16 : tie.Need-returns-16
+returns-16 c = ap codeOf (sym (c .before .r12 .given .1))
+
+returns-17 : tie.Need-returns-17
+returns-17 c = ap codeOf (sym (c .before .r13 .given .1))
 
 pub code-of-spec : {M : Type 1} → statement M
 code-of-spec =
@@ -113,6 +127,8 @@ code-of-spec =
     enum-known-r-10
     enum-told-4
     enum-known-r-11
+    enum-known-r-12
+    enum-known-r-13
     returns
     returns-2
     returns-3
@@ -127,4 +143,6 @@ code-of-spec =
     returns-12
     returns-13
     returns-14
-    returns-15)
+    returns-15
+    returns-16
+    returns-17)
