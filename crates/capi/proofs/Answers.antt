@@ -20,6 +20,7 @@ use Rattle.matching.specs.Writer.{derivedReply, Derives}
 use Rattle.countermodel.specs.Show.{shownReply, Shows}
 use Rattle.countermodel.specs.Membership.{DecidesMember}
 use Rattle.incremental.specs.Update.{Updates}
+use Rattle.renumbering.specs.Renumber.{Renumbers}
 use Rattle.capi.specs.declared.Answer.{Answer}
 use Rattle.capi.specs.Answer.{replied}
 
@@ -68,3 +69,10 @@ pub updates-as :
     (t : Tables) (told before after : List ℕ) (a : Answer) (x : Outcome) → Updates t told before after (replyOf x) → replied a ≡ replyOf x
     → Updates t told before after (replied a)
 updates-as t told before after a x p = passed-on (Updates t told before after) replyOf x x a p refl
+
+pub renumbers-as :
+    (t : Tables) (order concepts concepts′ inclusions inclusions′ questions questions′ : List ℕ) (a : Answer) (x : Outcome)
+    → Renumbers t order concepts concepts′ inclusions inclusions′ questions questions′ (replyOf x) → replied a ≡ replyOf x
+    → Renumbers t order concepts concepts′ inclusions inclusions′ questions questions′ (replied a)
+renumbers-as t order concepts concepts′ inclusions inclusions′ questions questions′ a x p =
+    passed-on (Renumbers t order concepts concepts′ inclusions inclusions′ questions questions′) replyOf x x a p refl

@@ -25,6 +25,7 @@ ghost use Rattle.matching.specs.Writer.{Derives};
 ghost use Rattle.countermodel.specs.Show.{Shows};
 ghost use Rattle.countermodel.specs.Membership.{DecidesMember};
 ghost use Rattle.incremental.specs.Update.{Updates};
+ghost use Rattle.renumbering.specs.Renumber.{Renumbers};
 ghost use Rattle.capi.specs.Answer.{replied};
 
 // number 0: done; else the refusal's number, with its place and value 0.
@@ -375,4 +376,33 @@ pub extern "C" fn hc_update_table(
         table,
     );
     answer_of(updated, 0)
+}
+
+// Gives each concept the new id that the list says, in a second set of buffers.
+#[no_mangle]
+pub extern "C" fn hc_renumber(
+    concepts: &[u16],
+    inclusions: &[u16],
+    questions: &[u16],
+    roles: &[u16],
+    variables: u16,
+    order: &[u16],
+    concepts_out: &mut [u16],
+    inclusions_out: &mut [u16],
+    questions_out: &mut [u16],
+) -> Answer
+    ensures { λ a. ⌜ Renumbers (tables (now (concepts .entry)) (now (inclusions .entry)) (now (questions .entry)) (now (roles .entry)) variables) (now (order .entry)) (now («concepts_out» .entry)) (now («concepts_out» .exit)) (now («inclusions_out» .entry)) (now («inclusions_out» .exit)) (now («questions_out» .entry)) (now («questions_out» .exit)) (replied a) ⌝ }
+{
+    let renumbered = renumbering::renumber_tables(
+        concepts,
+        inclusions,
+        questions,
+        roles,
+        variables,
+        order,
+        concepts_out,
+        inclusions_out,
+        questions_out,
+    );
+    answer_of(renumbered, 0)
 }

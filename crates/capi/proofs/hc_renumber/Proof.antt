@@ -1,0 +1,35 @@
+use Rattle.capi.proofs.Answers.{renumbers-as}
+use borrow.Author.Needs.{needs}
+use Rattle.capi.proofs.hc_renumber.Statement.{statement}
+use Rattle.capi.proofs.hc_renumber.Tie as tie
+use Rattle.capi.proofs.answer_of.Reads as answer-of-reads
+use Rattle.renumbering.proofs.renumber_tables.Reads as renumber-tables-reads
+
+renumber-tables-requires : tie.Need-renumber-tables-requires
+renumber-tables-requires c κs = search needs
+
+answer-of-requires : tie.Need-answer-of-requires
+answer-of-requires c κs = search needs
+
+same-length : tie.Need-same-length
+same-length c = search needs
+
+same-length-2 : tie.Need-same-length-2
+same-length-2 c = search needs
+
+same-length-3 : tie.Need-same-length-3
+same-length-3 c = search needs
+
+returns : tie.Need-returns
+returns c = renumbers-as _ _ _ _ _ _ _ _ (c .answer-of .result) (c .before .before .before .before .before .before .before .renumber-tables .result) (c .before .before .before .before .before .before .before .renumber-tables .ensures) (c .answer-of .ensures)
+
+pub hc-renumber-spec : {M : Type 1} → statement M
+hc-renumber-spec =
+    tie.close
+    (tie.spec
+    renumber-tables-requires
+    answer-of-requires
+    same-length
+    same-length-2
+    same-length-3
+    returns)
