@@ -8,9 +8,10 @@
  * - A pointer is valid for its count: aligned, and behind it lie as many numbers, which may be read,
  *   in an output buffer written too. Where the count is 0 the pointer may be anything, NULL too:
  *   nothing is read or written through it.
- * - An output buffer overlaps nothing else that the call is lent; a held table is one. Tables,
- *   filling, told pairs, lines and the rows of a given stock may overlap one another.
- * - While a call runs, nothing else writes what it is lent, nor reads its output buffer.
+ * - An output buffer overlaps nothing else that the call is lent, no other output buffer either; a
+ *   held table is one. Tables, filling, told pairs, the list of new ids, lines and the rows of a
+ *   given stock may overlap one another.
+ * - While a call runs, nothing else writes what it is lent, nor reads its output buffers.
  * - The thread has as much stack left as the operation needs, in bytes at most:
  *     hc_check              8192
  *     hc_atoms              8192
@@ -24,6 +25,7 @@
  *     hc_show               32768
  *     hc_belongs            131072
  *     hc_update_table       65536
+ *     hc_renumber           8192
  *
  * Calls share no state, so any number of threads may call at once, and no call depends on one
  * before it: the library has constants and no variables that outlive a call (no statics), uses no
@@ -76,8 +78,9 @@
  * Order of fillings: look at the pairs (blank, position), blank 0 first and positions rising. At
  * the first pair where two fillings differ, the one that leaves the part out is earlier.
  *
- * Refusals. Checks run in the order 1 to 6, 16, 7, then 9, 15, 8, 11, 10; 12 comes last. Within one
- * check the lowest place wins. The checks of a given stock, again 1, 2 and 4, come after 9.
+ * Refusals. Checks run in the order 1 to 6, 16, 7, then 9, 21, 22, 15, 8, 11, 10; 12 comes last.
+ * Within one check the lowest place wins; 8 takes several buffers in turn. The checks of a given
+ * stock, again 1, 2 and 4, come after 9.
  *
  *   number  condition                                          place
  *   1       over a count limit, or a ragged table              0 entries, 1 inclusions,
@@ -107,6 +110,10 @@
  *           rule; the last line is another pair
  *   15      the pair holds, so there is nothing to show        0
  *   16      a role over 99 in the role pairs                   pair
+ *   21      of a list of new ids: a number that is no id or    its place, from 0
+ *           stood before, or, tested last, too few numbers     length of the list
+ *   22      by a list of new ids an inner id would not be      old id
+ *           smaller
  */
 #ifndef HERMITCASKET_H
 #define HERMITCASKET_H
@@ -260,6 +267,26 @@ hc_answer hc_update_table(const uint16_t *entries, size_t entries_len,
                           uint16_t blanks,
                           const uint16_t *told, size_t told_len,
                           uint8_t *table, size_t table_len);
+
+/* Gives each entry a new id: order[i] is that of entry i, and order has every id once. The entries
+ * in their new order, the inclusions and the questions go to the front of their own output buffers,
+ * with every id in them replaced by its new one. Names, roles and numbers of blanks are no ids; the
+ * role pairs are the same before and after. Each buffer wants as many numbers as its table has;
+ * numbers past them keep their values. Refusal 22 says that an inner id would not be smaller than
+ * the entry's own. The written tables are accepted. The list that leads back from new ids to old
+ * ones restores the tables exactly, and one list after another does what the composed one does.
+ * Where the same concepts are chosen, the below table is the old one with rows and columns moved;
+ * positions of parts, and which twin is the lowest, may be others. There is a filling exactly when
+ * there was one; which is first may differ. value: 0. */
+hc_answer hc_renumber(const uint16_t *entries, size_t entries_len,
+                      const uint16_t *inclusions, size_t inclusions_len,
+                      const uint16_t *questions, size_t questions_len,
+                      const uint16_t *roles, size_t roles_len,
+                      uint16_t blanks,
+                      const uint16_t *order, size_t order_len,
+                      uint16_t *entries_out, size_t entries_out_len,
+                      uint16_t *inclusions_out, size_t inclusions_out_len,
+                      uint16_t *questions_out, size_t questions_out_len);
 
 #ifdef __cplusplus
 }

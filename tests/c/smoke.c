@@ -23,7 +23,7 @@ static void show(const char *name, hc_answer answer)
 /* Every operation with NULL for each list, and for one list alone beside lists that are there. */
 static void nulls(void)
 {
-    uint16_t ids[64];
+    uint16_t ids[64] = {0};
     uint16_t lines[4];
     uint8_t table[6 * 24] = {0};
 
@@ -41,6 +41,7 @@ static void nulls(void)
     show("no things", hc_belongs(NOTHING, NULL, 0, 0, NULL, 0, 0, 0));
     show("no entry to belong to", hc_belongs(NOTHING, NULL, 0, 1, NULL, 0, 0, 0));
     show("no table to keep", hc_update_table(NOTHING, NULL, 0, NULL, 0));
+    show("nothing to renumber", hc_renumber(NOTHING, NULL, 0, NULL, 0, NULL, 0, NULL, 0));
 
     show("no catalogue", hc_match(entries, LEN(entries), NULL, 0, questions, LEN(questions),
                                   roles, LEN(roles), 1, NULL, 0));
@@ -65,6 +66,9 @@ static void nulls(void)
     show("bare things", hc_belongs(TABLES, filling, LEN(filling), 2, NULL, 0, 3, 1));
     show("no table held", hc_update_table(TABLES, NULL, 0, NULL, 0));
     show("nothing told", hc_update_table(TABLES, NULL, 0, table, LEN(table)));
+    show("no list of ids", hc_renumber(TABLES, NULL, 0, NULL, 0, NULL, 0, NULL, 0));
+    show("no pairs to file", hc_renumber(entries, 3, NULL, 0, NULL, 0, roles, LEN(roles), 1, ids, 1,
+                                         lines, 3, NULL, 0, NULL, 0));
 }
 
 /* "Some" of one name by roles 1 and 2, and by 3: 1 counts as 2, which counts as 3. */
@@ -146,6 +150,31 @@ static void shift(void)
     printf("past %d\n", table[6 * 24]);
 }
 
+/* The sample with its parts first, its entries and pairs on lines, and what is refused. */
+static void filing(void)
+{
+    static const uint16_t order[] = {0, 3, 1, 2, 4, 5};
+    static const uint16_t again[] = {0, 3, 1, 3, 4, 6};
+    static const uint16_t later[] = {1, 3, 0, 2, 4, 5};
+    uint16_t filed[19] = {0}, pairs[3] = {0}, asked[5] = {0};
+
+#define FILED filed, LEN(filed), pairs, LEN(pairs), asked, LEN(asked)
+    filed[18] = pairs[2] = asked[4] = 77;
+    show("filed", hc_renumber(TABLES, order, LEN(order), FILED));
+    show("stood before", hc_renumber(TABLES, again, LEN(again), FILED));
+    show("too short a list", hc_renumber(TABLES, order, LEN(order) - 1, FILED));
+    show("inner id later", hc_renumber(TABLES, later, LEN(later), FILED));
+    show("entries too long", hc_renumber(TABLES, order, LEN(order), filed, 17, pairs, 1, asked, 3));
+    show("inclusions too", hc_renumber(TABLES, order, LEN(order), filed, 18, pairs, 1, asked, 3));
+    show("questions too", hc_renumber(TABLES, order, LEN(order), filed, 18, pairs, 2, asked, 3));
+    for (size_t entry = 0; entry < 6; entry++)
+        printf("entry %u %u %u\n", (unsigned)filed[3 * entry], (unsigned)filed[3 * entry + 1],
+               (unsigned)filed[3 * entry + 2]);
+    printf("pairs %u %u, %u %u, %u %u\n", (unsigned)pairs[0], (unsigned)pairs[1],
+           (unsigned)asked[0], (unsigned)asked[1], (unsigned)asked[2], (unsigned)asked[3]);
+    printf("past %u %u %u\n", (unsigned)filed[18], (unsigned)pairs[2], (unsigned)asked[4]);
+}
+
 int main(void)
 {
     uint16_t atoms[64] = {0};
@@ -183,6 +212,7 @@ int main(void)
     role_pairs();
     stocks();
     shift();
+    filing();
     nulls();
     return 0;
 }

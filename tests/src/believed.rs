@@ -40,6 +40,12 @@ pub const SENTENCES: &[Sentence] = &[
     Sentence { of: "countermodel", file: "RisingLaws", law: "shown-rising" },
     Sentence { of: "countermodel", file: "ShownChecks", law: "shown-answers" },
     Sentence { of: "incremental", file: "FreshLaws", law: "update-fresh" },
+    Sentence { of: "renumbering", file: "AcceptedLaws", law: "renumbered-accepted" },
+    Sentence { of: "renumbering", file: "RenumberingLaws", law: "renumbered-back" },
+    Sentence { of: "renumbering", file: "RenumberingLaws", law: "renumbered-twice" },
+    Sentence { of: "renumbering", file: "BelowLaws", law: "renumbered-below" },
+    Sentence { of: "renumbering", file: "BelowLaws", law: "renumbered-marks" },
+    Sentence { of: "renumbering", file: "FillingLaws", law: "renumbered-fills" },
     Sentence { of: "hermitcasket", file: "Texts", law: "texts" },
     Sentence { of: "hermitcasket", file: "ShownLaws", law: "parts-answer" },
 ];

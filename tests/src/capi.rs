@@ -212,10 +212,31 @@ extern "C" {
         table: *mut u8,
         table_len: usize,
     ) -> Answer;
+
+    fn hc_renumber(
+        concepts: *const u16,
+        concepts_len: usize,
+        inclusions: *const u16,
+        inclusions_len: usize,
+        questions: *const u16,
+        questions_len: usize,
+        roles: *const u16,
+        roles_len: usize,
+        variables: u16,
+        order: *const u16,
+        order_len: usize,
+        concepts_out: *mut u16,
+        concepts_out_len: usize,
+        inclusions_out: *mut u16,
+        inclusions_out_len: usize,
+        questions_out: *mut u16,
+        questions_out_len: usize,
+    ) -> Answer;
 }
 
 // Each call below is sound for any slices: the operations have no `requires`, read only what the
-// lengths cover, and write only to `out`, to the rows of `show` or to the table of `update_table`.
+// lengths cover, and write only to `out`, to the rows of `show`, to the table of `update_table` or to
+// the three buffers of `renumber`.
 
 pub fn check(t: TablesRef) -> Answer {
     unsafe {
@@ -466,6 +487,38 @@ pub fn update_table(t: TablesRef, told: &[u16], table: &mut [u8]) -> Answer {
             told.len(),
             table.as_mut_ptr(),
             table.len(),
+        )
+    }
+}
+
+/// The concepts, inclusions and questions under new ids, each at the front of its buffer: `order[i]`
+/// is the new id of i.
+pub fn renumber(
+    t: TablesRef,
+    order: &[u16],
+    concepts: &mut [u16],
+    inclusions: &mut [u16],
+    questions: &mut [u16],
+) -> Answer {
+    unsafe {
+        hc_renumber(
+            t.concepts.as_ptr(),
+            t.concepts.len(),
+            t.inclusions.as_ptr(),
+            t.inclusions.len(),
+            t.questions.as_ptr(),
+            t.questions.len(),
+            t.roles.as_ptr(),
+            t.roles.len(),
+            t.variables,
+            order.as_ptr(),
+            order.len(),
+            concepts.as_mut_ptr(),
+            concepts.len(),
+            inclusions.as_mut_ptr(),
+            inclusions.len(),
+            questions.as_mut_ptr(),
+            questions.len(),
         )
     }
 }

@@ -222,6 +222,31 @@ pub fn update_table(case: &Case) -> Answer {
     answer
 }
 
+/// The case's tables under new ids.
+pub fn renumber(case: &Case) -> Answer {
+    let name = "hc_renumber";
+    let expected = reference::renumber(&case.tables, &case.order, case.renumbered_rooms);
+    let mut random = noise(case);
+    let inputs = LentInputs::new(&case.tables, &[], &mut random);
+    let order: Lent<u16> = Lent::holding(&case.order, &mut random);
+    let [mut concepts, mut inclusions, mut questions]: [Lent<u16>; 3] =
+        case.renumbered_rooms.map(|room| Lent::noise(room, &mut random));
+    let answer = capi::renumber(
+        inputs.tables(),
+        order.slice(),
+        concepts.slice_mut(),
+        inclusions.slice_mut(),
+        questions.slice_mut(),
+    );
+    let due = expected.clone().unwrap_or_default();
+    judge(case, name, answer, expected.map(|_| 0), &inputs);
+    judge_output(case, name, &order, &[]);
+    judge_output(case, name, &concepts, &due.concepts);
+    judge_output(case, name, &inclusions, &due.inclusions);
+    judge_output(case, name, &questions, &due.questions);
+    answer
+}
+
 /// The four operations on tables, assignment and pair; for a case pasted back from a failure.
 pub fn all(case: &Case) {
     check(case);

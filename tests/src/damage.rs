@@ -1,4 +1,5 @@
-//! Faults put at random into tables, assignments, interpretations, told pairs and held marks.
+//! Faults put at random into tables, assignments, interpretations, told pairs, held marks and lists of
+//! new ids.
 
 use crate::layout::Relation;
 use crate::limits::*;
@@ -224,5 +225,25 @@ pub fn marks(random: &mut Random, marks: &mut Relation) {
     let (cleared, added) = *random.pick(&[(2, 0), (20, 0), (50, 0), (0, 2), (0, 8), (20, 3)]);
     for mark in marks.iter_mut().flatten() {
         *mark = if *mark { !random.percent(cleared) } else { random.percent(added) };
+    }
+}
+
+/// A number that is no id, or one that stands elsewhere too, numbers that lack or are too many, or two
+/// that change places; some leave the list accepted.
+pub fn order(random: &mut Random, tables: &Tables, order: &mut Vec<u16>) {
+    let count = tables.concept_count() as u16;
+    for _ in 0..random.between(1, 2) {
+        let number = random.below(usize::from(count) + 2) as u16;
+        let (place, other) = (random.below(order.len() + 1), random.below(order.len().max(1)));
+        match random.below(10) {
+            0 => order.truncate(place),
+            1 => drop(order.pop()),
+            2 => order.push(number),
+            3 => order.insert(place, number),
+            _ if place >= order.len() => order.push(number),
+            4 | 5 => order[place] = *random.pick(&[count, count.wrapping_add(1), 192, 256, 65535]),
+            6 | 7 => order[place] = order[other],
+            _ => order.swap(place, other),
+        }
     }
 }

@@ -4,8 +4,9 @@
 use crate::limits::{line_room, ATOM_ROOM, ROW_BYTES};
 use crate::tables::{Case, Stock, Tables};
 
-/// In the order of the checks: 1 to 6, 16, 7, then 9, 15, 8; and 1, 2, 4 of a given interpretation.
-/// 9 is that of an assignment, or of one told as pairs.
+/// In the order of the checks: 1 to 6, 16, 7, then 9, 21, 22, 15, 8; and 1, 2, 4 of a given
+/// interpretation. 9 is that of an assignment, or of one told as pairs; the last three are 8 of the
+/// buffers for renumbered tables.
 #[derive(Clone, Copy, Debug, PartialEq, Eq)]
 pub enum Fault {
     Ragged,
@@ -23,15 +24,23 @@ pub enum Fault {
     RaggedTold,
     NoAtomTold,
     NoVariableTold,
+    NoIdInOrder,
+    RepeatedInOrder,
+    ShortOrder,
+    ForwardInOrder,
     PairHolds,
     ShortBuffer,
     RaggedRows,
     MalformedRow,
     NoConceptAsked,
     NoElementAsked,
+    ShortConcepts,
+    ShortInclusions,
+    ShortQuestions,
 }
 
-/// Those of every operation but one that shows or is given an interpretation, or is told pairs.
+/// Those of every operation but one that shows or is given an interpretation, is told pairs, or gives
+/// new ids.
 pub const FAULTS: [Fault; 13] = [
     Fault::Ragged,
     Fault::RaggedRoles,
@@ -85,6 +94,15 @@ pub fn updating_faults() -> Vec<Fault> {
     faults
 }
 
+/// For new ids: 21 and 22, and then 8 for each buffer in turn.
+pub fn renumbering_faults() -> Vec<Fault> {
+    let mut faults = table_faults(false);
+    faults.extend([Fault::NoIdInOrder, Fault::RepeatedInOrder, Fault::ShortOrder]);
+    faults.push(Fault::ForwardInOrder);
+    faults.extend([Fault::ShortConcepts, Fault::ShortInclusions, Fault::ShortQuestions]);
+    faults
+}
+
 /// A pair of the base table that does not hold: top and a name.
 pub const FAILING: (u16, u16) = (0, 3);
 /// Rows of the interpretation that shows this, all of names: 65 on the names, 30 more by
@@ -99,8 +117,8 @@ const CHANGED_INNER: usize = 74;
 const COUNT: usize = 75;
 
 /// 75 concepts, 31 inclusions, 1 question, 2 role pairs, 2 variables, 60 atoms; an interpretation
-/// of two elements, of which the first is a member of the concept asked for; three told pairs, and
-/// a held table with marks everywhere.
+/// of two elements, of which the first is a member of the concept asked for; three told pairs, a
+/// held table with marks everywhere, and a list that turns the names round.
 pub fn base() -> Case {
     let mut rows: Vec<[u16; 3]> = vec![[0, 0, 0], [4, 1, 0], [4, 0, 0]];
     rows.extend((3..68).map(|name| [1, name, 0]));
@@ -118,6 +136,7 @@ pub fn base() -> Case {
     case.asked = (3, 0);
     case.told = [[0, 3], [1, 62], [0, 3]].concat();
     case.held = vec![0x5a; COUNT * ROW_BYTES];
+    case.order[3..68].reverse();
     case
 }
 
@@ -141,12 +160,19 @@ impl Fault {
             Fault::RaggedTold => (9, 0),
             Fault::NoAtomTold => (9, 1),
             Fault::NoVariableTold => (9, 2),
+            Fault::NoIdInOrder => (21, 40),
+            Fault::RepeatedInOrder => (21, 50),
+            Fault::ShortOrder => (21, COUNT as u64 - 1),
+            Fault::ForwardInOrder => (22, u64::from(FIVE_NAMES)),
             Fault::PairHolds => (15, 0),
             Fault::ShortBuffer => (8, (COUNT * ROW_BYTES) as u64),
             Fault::RaggedRows => (1, 0),
             Fault::MalformedRow => (2, 3),
             Fault::NoConceptAsked => (4, 0),
             Fault::NoElementAsked => (4, 1),
+            Fault::ShortConcepts => (8, 3 * COUNT as u64),
+            Fault::ShortInclusions => (8, 2 * 31),
+            Fault::ShortQuestions => (8, 2),
         }
     }
 
@@ -170,6 +196,13 @@ impl Fault {
             Fault::RaggedTold => case.told.push(0),
             Fault::NoAtomTold => case.told[3] = 63,
             Fault::NoVariableTold => case.told[4] = 2,
+            Fault::NoIdInOrder => case.order[40] = COUNT as u16,
+            Fault::RepeatedInOrder => case.order[50] = case.order[3],
+            Fault::ShortOrder => drop(case.order.pop()),
+            // the row and its inner one change places
+            Fault::ForwardInOrder => {
+                case.order.swap(usize::from(FIVE_NAMES), usize::from(FIVE_NAMES) - 1)
+            }
             Fault::PairHolds => tables.inclusions.extend([FAILING.0, FAILING.1]),
             Fault::ShortBuffer => {
                 case.table_room = COUNT * ROW_BYTES - 1;
@@ -184,6 +217,9 @@ impl Fault {
             Fault::MalformedRow => case.stock.rows.extend([2, 0, 0, 0]),
             Fault::NoConceptAsked => case.asked.0 = COUNT as u16,
             Fault::NoElementAsked => case.asked.1 = case.stock.size,
+            Fault::ShortConcepts => case.renumbered_rooms[0] -= 1,
+            Fault::ShortInclusions => case.renumbered_rooms[1] -= 1,
+            Fault::ShortQuestions => case.renumbered_rooms[2] -= 1,
         }
     }
 }

@@ -5,6 +5,7 @@ use std::collections::BTreeSet;
 
 use crate::damage;
 use crate::limits::*;
+use crate::orders;
 use crate::random::{Random, Size};
 use crate::reference::{self, atoms, countermodel};
 use crate::semantics::signature;
@@ -622,6 +623,25 @@ pub fn update_case(random: &mut Random, size: Size) -> Case {
         damage::told(random, &case.tables, &mut case.told);
     }
     case.held = held_table(random, &marks, case.table_room);
+    case
+}
+
+/// A random case for new ids. In most accepted ones inner ids stay smaller; now and then the list is
+/// damaged.
+pub fn renumber_case(random: &mut Random, size: Size) -> Case {
+    let mut case = case(random, size);
+    if reference::check(&case.tables).is_ok() {
+        match random.below(10) {
+            0 => {}
+            1 => case.order = orders::involution(random, &case.tables),
+            2 => random.shuffle(&mut case.order),
+            _ => case.order = orders::rising(random, &case.tables),
+        }
+    }
+    if random.percent(25) {
+        damage::order(random, &case.tables, &mut case.order);
+    }
+    case.renumbered_rooms = case.renumbered_rooms.map(|wanted| room(random, wanted));
     case
 }
 

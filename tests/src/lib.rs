@@ -15,6 +15,7 @@ pub mod layout;
 pub mod lend;
 pub mod limits;
 pub mod nested;
+pub mod orders;
 pub mod planted;
 pub mod random;
 pub mod reference;

@@ -3,6 +3,7 @@
 use std::fmt;
 
 use crate::limits::{line_room, ATOM_ROOM, ROW_BYTES};
+use crate::orders::identity;
 
 /// The raw tables, damaged or not. 01: entries, inclusions, questions, number of blanks; 02: roles.
 #[derive(Clone, Debug, Default, PartialEq, Eq)]
@@ -71,6 +72,11 @@ impl Tables {
     /// Whole rows only: a ragged rest is no concept.
     pub fn concept_count(&self) -> usize {
         self.concepts.len() / 3
+    }
+
+    /// How many numbers concepts, inclusions and questions have.
+    pub fn lengths(&self) -> [usize; 3] {
+        [self.concepts.len(), self.inclusions.len(), self.questions.len()]
     }
 
     pub fn row(&self, id: usize) -> [u16; 3] {
@@ -156,15 +162,22 @@ pub struct Case {
     pub told: Vec<u16>,
     /// The bytes of a held subsumption table.
     pub held: Vec<u8>,
+    /// For each id its new one, and the lengths of the buffers for the renumbered concepts,
+    /// inclusions and questions, in numbers.
+    pub order: Vec<u16>,
+    pub renumbered_rooms: [usize; 3],
 }
 
 impl Case {
     /// Buffers as long as wanted, but none for shown rows, whose number is not known yet; the pair
-    /// (0, 0), variable 0, no lines, no elements, nothing told, no held table.
+    /// (0, 0), variable 0, no lines, no elements, nothing told, no held table, each id its own new
+    /// one.
     pub fn new(tables: Tables, assignment: &[u64]) -> Self {
         let table_room = tables.concept_count() * ROW_BYTES;
         let match_room = usize::from(tables.variables);
         let line_room = line_room(tables.concept_count());
+        let order = identity(tables.concept_count());
+        let renumbered_rooms = tables.lengths();
         Case {
             tables,
             assignment: assignment.to_vec(),
@@ -181,6 +194,8 @@ impl Case {
             asked: (0, 0),
             told: Vec::new(),
             held: Vec::new(),
+            order,
+            renumbered_rooms,
         }
     }
 }
@@ -229,6 +244,8 @@ impl fmt::Display for Case {
         writeln!(f, "asked: {:?},", self.asked)?;
         writeln!(f, "told: vec!{:?},", self.told)?;
         writeln!(f, "held: vec!{:?},", self.held)?;
+        writeln!(f, "order: vec!{:?},", self.order)?;
+        writeln!(f, "renumbered_rooms: {:?},", self.renumbered_rooms)?;
         write!(f, "}}")
     }
 }

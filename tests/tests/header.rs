@@ -80,6 +80,21 @@ row 24 0
 row 24 0
 row 58 0
 past 77
+filed 0 0 0
+stood before 21 3 0
+too short a list 21 5 0
+inner id later 22 2 0
+entries too long 8 18 0
+inclusions too 8 2 0
+questions too 8 4 0
+entry 1 5 0
+entry 2 1 0
+entry 1 9 0
+entry 1 7 0
+entry 4 0 0
+entry 3 3 4
+pairs 1 2, 5 2, 1 4
+past 77 77 77
 no tables 0 0 0
 no tables, no room 8 64 0
 no tables, no part 0 0 0
@@ -94,6 +109,7 @@ nothing to show 4 0 0
 no things 1 0 0
 no entry to belong to 4 0 0
 no table to keep 0 0 0
+nothing to renumber 0 0 0
 no catalogue 8 1 0
 no questions 0 0 0
 no entries 4 0 0
@@ -112,6 +128,8 @@ no filling to show by 9 1 0
 bare things 0 0 0
 no table held 8 144 0
 nothing told 0 0 0
+no list of ids 21 0 0
+no pairs to file 0 0 0
 ";
 
 fn run(command: &mut Command) -> Output {
@@ -178,5 +196,5 @@ fn the_archive_has_no_variables() {
             _ => panic!("{}", line),
         }
     }
-    assert_eq!(exported.len(), 12, "{:?}", exported);
+    assert_eq!(exported.len(), 13, "{:?}", exported);
 }

@@ -72,7 +72,8 @@ fn program(lines: &str) -> String {
 fn the_c_lines_do_what_their_comments_say() {
     let readme = read("README.md");
     let is_c = |block: &String| block.contains(';');
-    let headings = ["Linking it", "Keeping the table during the shift"];
+    let headings =
+        ["Linking it", "Keeping the table during the shift", "Renumbering before filing"];
     let shown = headings.iter().flat_map(|heading| blocks(section(&readme, heading)));
     let lines: String = shown.filter(is_c).collect();
     let calls = lines.matches(" = hc_").count();

@@ -1,5 +1,6 @@
 //! The reference itself, held against 01's definition of "below" on tiny tables, and against 02's
-//! of twins, of roles above roles, of a shown interpretation and of a held table that is closed.
+//! of twins, of roles above roles, of a shown interpretation, of a held table that is closed and of new
+//! ids.
 
 use std::collections::BTreeSet;
 
@@ -8,10 +9,12 @@ use hermitcasket_tests::generate;
 use hermitcasket_tests::hard::{self, Hard};
 use hermitcasket_tests::layout::Relation;
 use hermitcasket_tests::limits::{MAX_ATOMS, MAX_CONCEPTS, MAX_ROLE, MAX_ROLE_PAIRS};
+use hermitcasket_tests::orders;
 use hermitcasket_tests::random::{cases, seed, Random, Size};
 use hermitcasket_tests::reference::atoms::{self, chosen, Twins};
 use hermitcasket_tests::reference::model::{self, Canonical};
 use hermitcasket_tests::reference::{self, countermodel, derivation, incremental, matching, roles};
+use hermitcasket_tests::reference::{renumbering, Refusal};
 use hermitcasket_tests::semantics::{
     all_interpretations, counterexample, member, obeys, random_model, Interpretation,
 };
@@ -428,6 +431,49 @@ fn both_lists_of_atoms_by_their_definitions() {
         ("fewer", 15..=80),
         ("a lowest twin stands elsewhere", 10..=80),
     ]);
+}
+
+/// Under new ids each concept is written out as before, and each pair is of the same concepts. A
+/// list of all ids is accepted exactly when inner ids stay smaller.
+#[test]
+fn new_ids_keep_the_concepts() {
+    let seed = seed("reference, new ids");
+    let mut tally = Tally::new("reference, new ids");
+    for k in 0..cases(Size::Small) / 4 {
+        let mut random = Random::for_case(seed, k);
+        let tables = generate::valid(&mut random, Size::Small);
+        let count = tables.concept_count();
+        let mut order = orders::rising(&mut random, &tables);
+        if random.percent(30) {
+            random.shuffle(&mut order);
+        }
+        let mut sorted = order.clone();
+        sorted.sort_unstable();
+        assert_eq!(sorted, orders::identity(count), "{:?}", order);
+        assert_eq!(renumbering::list_fault(&order, count), None, "{:?}", order);
+        let answer = reference::renumber(&tables, &order, tables.lengths());
+        let rising = orders::is_rising(&tables, &order);
+        assert_eq!(answer.is_ok(), rising, "{:?} of {}", order, tables);
+        tally.case();
+        tally.note("smaller", rising);
+        tally.note("not smaller", !rising);
+        match answer {
+            Err(Refusal { number, .. }) => assert_eq!(number, 22, "{:?} of {}", order, tables),
+            Ok(after) => {
+                let new = |id: usize| usize::from(order[id]);
+                for id in 0..count {
+                    assert_eq!(written_out(&after, new(id)), written_out(&tables, id));
+                }
+                let moved = |pairs: Vec<(usize, usize)>| -> Vec<(usize, usize)> {
+                    pairs.into_iter().map(|(left, right)| (new(left), new(right))).collect()
+                };
+                assert_eq!(after.inclusion_pairs(), moved(tables.inclusion_pairs()));
+                assert_eq!(after.question_pairs(), moved(tables.question_pairs()));
+                assert_eq!(reference::check(&after), Ok(()), "{:?} of {}", order, tables);
+            }
+        }
+    }
+    tally.finish(&[("smaller", 50..=95), ("not smaller", 5..=40)]);
 }
 
 /// Towers of 95 "and" over one name and its copy: 2^95 names each, one step for each pair.

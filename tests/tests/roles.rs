@@ -386,6 +386,7 @@ fn everywhere(wanted: Answer, tables: &Tables) {
         compare::check_derivation(&case),
         compare::belongs(&case),
         compare::update_table(&case),
+        compare::renumber(&case),
     ];
     for (k, answer) in answers.into_iter().enumerate() {
         assert_eq!((answer.number, answer.place), (wanted.number, wanted.place), "{}: {}", k, case);
@@ -468,6 +469,7 @@ fn the_order_around_16() {
     case.pair = (0, 1);
     case.assignment = vec![1, 1];
     case.told = vec![9];
+    case.order = vec![9];
     case.asked = (2, 2);
     case.table_room = 0;
     case.line_room = 0;
@@ -483,6 +485,7 @@ fn the_order_around_16() {
         compare::show(&case),
         compare::belongs(&case),
         compare::update_table(&case),
+        compare::renumber(&case),
     ] {
         assert_eq!(answer, Answer::refused(16, 1), "{}", case);
     }

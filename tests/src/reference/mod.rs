@@ -1,7 +1,7 @@
 //! The independent implementation, written from 01 and 02 alone: refusals as a list of checks, atoms as
 //! a set of ids, subsumption by building a canonical interpretation and looking at its members,
-//! matching by learning clauses from assignments that fail, a held table closed pair by pair. It aims
-//! at being plainly right; most of it is slow.
+//! matching by learning clauses from assignments that fail, a held table closed pair by pair, rows
+//! written to their new ids by the old ones. It aims at being plainly right; most of it is slow.
 
 pub mod atoms;
 pub mod blanks;
@@ -13,6 +13,7 @@ pub mod matching;
 pub mod model;
 pub mod patterns;
 pub mod refusals;
+pub mod renumbering;
 pub mod roles;
 
 use crate::layout;
@@ -160,6 +161,19 @@ pub fn update_table(tables: &Tables, told: &[u16], held: &[u8]) -> Result<Vec<u8
     let mut bytes = held.to_vec();
     layout::write(&mut bytes, &closed);
     Ok(bytes)
+}
+
+/// Operation: the tables under new ids; `order[i]` is that of i. The rooms are the lengths of the
+/// buffers for concepts, inclusions and questions.
+pub fn renumber(tables: &Tables, order: &[u16], rooms: [usize; 3]) -> Result<Tables, Refusal> {
+    refusals::of_tables(tables, None)?;
+    refusals::refuse(21, renumbering::list_fault(order, tables.concept_count()))?;
+    let after = renumbering::renumbered(tables, order);
+    refusals::refuse(22, renumbering::rising_fault(&after, order))?;
+    for (room, wanted) in rooms.into_iter().zip(tables.lengths()) {
+        refusals::of_room(room, wanted)?;
+    }
+    Ok(after)
 }
 
 /// Row x, column j: element x of the given interpretation is a member of concept j. All must be

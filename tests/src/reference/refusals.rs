@@ -110,7 +110,8 @@ fn malformed(tables: &Tables, id: usize) -> bool {
     }
 }
 
-fn looks_ahead(tables: &Tables, id: usize) -> bool {
+/// Check 3 of one row.
+pub fn looks_ahead(tables: &Tables, id: usize) -> bool {
     match tables.concept(id) {
         Concept::Existential(_, inner) => inner >= id,
         Concept::Conjunction(first, second) => first >= id || second >= id,
