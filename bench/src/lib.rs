@@ -9,6 +9,7 @@ pub mod countermodel;
 pub mod incremental;
 pub mod membership;
 pub mod operations;
+pub mod renumbering;
 pub mod roles;
 pub mod search;
 pub mod stack;
@@ -105,5 +106,22 @@ pub fn update_table(input: Input, told: &[u16], table: &mut [u8]) -> Result<(), 
         return Err((8, wanted as u64));
     }
     Rows::close(&input, &accepted, &chosen, table).store(table);
+    Ok(())
+}
+
+/// The concepts, inclusions and questions under new ids, each to its buffer.
+pub fn renumber(input: Input, order: &[u16], out: [&mut [u16]; 3]) -> Result<(), Refusal> {
+    let accepted = checks::accept(&input, None)?;
+    renumbering::accept_list(order, accepted.count)?;
+    renumbering::accept_rows(&input, order)?;
+    for (buffer, table) in out.iter().zip([input.concepts, input.inclusions, input.questions]) {
+        if buffer.len() < table.len() {
+            return Err((8, table.len() as u64));
+        }
+    }
+    let [concepts, inclusions, questions] = out;
+    renumbering::write_rows(&input, order, concepts);
+    renumbering::write_ids(order, input.inclusions, inclusions);
+    renumbering::write_ids(order, input.questions, questions);
     Ok(())
 }

@@ -10,6 +10,7 @@ mod markdown;
 mod matcher;
 mod memory;
 mod plot;
+mod renumber;
 mod show;
 mod table;
 mod timing;
@@ -20,12 +21,13 @@ use table::Tools;
 type Print = fn(&Tools);
 
 /// Subjects that share one table.
-const LINES: [(&str, Print); 5] = [
+const LINES: [(&str, Print); 6] = [
     ("below", below::print),
     ("matcher", matcher::print),
     ("puzzles", matcher::print_puzzles),
     ("show", show::print),
     ("belongs", belongs::print),
+    ("renumber", renumber::print),
 ];
 
 const TABLES: [(&str, fn()); 3] =

@@ -4,8 +4,9 @@ use hermitcasket_tests::capi::{self, Answer};
 use hermitcasket_tests::families::{Family, FAMILIES};
 use hermitcasket_tests::generate::failing_pair;
 use hermitcasket_tests::hard::{self, Hard};
-use hermitcasket_tests::limits::{line_room, ATOM_ROOM, MAX_CONCEPTS, MAX_VARIABLES, ROW_BYTES};
+use hermitcasket_tests::limits::*;
 use hermitcasket_tests::nested::{crowd, tower, tower_over_choice, Large, APART};
+use hermitcasket_tests::orders::rising;
 use hermitcasket_tests::random::Random;
 use hermitcasket_tests::reference::atoms::chosen;
 use hermitcasket_tests::shift::told;
@@ -27,6 +28,8 @@ pub struct Input {
     stock: Stock,
     /// The assignment as pairs.
     told: Vec<u16>,
+    /// For each id its new one.
+    order: Vec<u16>,
 }
 
 /// The families of catalogues at full size, without and with role pairs, hard problems, and nested
@@ -65,7 +68,8 @@ fn input((label, tables): (String, Tables)) -> Input {
     let (failing, shown) = shown(&tables, &assignment);
     let stock = crowd(&mut Random::new(1), 2_000, APART);
     let told = told(&mut Random::new(1), &chosen(&tables, &assignment));
-    Input { label, tables, assignment, pair, lines, failing, shown, stock, told }
+    let order = rising(&mut Random::new(1), &tables);
+    Input { label, tables, assignment, pair, lines, failing, shown, stock, told, order }
 }
 
 /// A pair that fails, and the length that its interpretation wants; else a pair that holds.
@@ -90,6 +94,9 @@ pub struct Room {
     choices: Vec<u64>,
     lines: Vec<u16>,
     shown: Vec<u16>,
+    concepts: Vec<u16>,
+    inclusions: Vec<u16>,
+    questions: Vec<u16>,
 }
 
 impl Default for Room {
@@ -100,13 +107,16 @@ impl Default for Room {
             choices: vec![0; MAX_VARIABLES],
             lines: vec![0; line_room(MAX_CONCEPTS)],
             shown: vec![0; Large::over_name().rows().len()],
+            concepts: vec![0; 3 * MAX_CONCEPTS],
+            inclusions: vec![0; 2 * MAX_INCLUSIONS],
+            questions: vec![0; 2 * MAX_QUESTIONS],
         }
     }
 }
 
 pub type Operation = fn(&Input, &mut Room) -> Answer;
 
-pub const OPERATIONS: [(&str, Operation); 12] = [
+pub const OPERATIONS: [(&str, Operation); 13] = [
     ("hc_check", |input, _| capi::check(input.tables.lend())),
     ("hc_atoms", |input, room| capi::atoms(input.tables.lend(), &mut room.ids)),
     ("hc_blanks", |input, _| capi::blanks(input.tables.lend(), 0)),
@@ -137,6 +147,10 @@ pub const OPERATIONS: [(&str, Operation); 12] = [
     ("hc_update_table", |input, room| {
         room.rows.fill(0);
         capi::update_table(input.tables.lend(), &input.told, &mut room.rows)
+    }),
+    ("hc_renumber", |input, room| {
+        let Room { concepts, inclusions, questions, .. } = room;
+        capi::renumber(input.tables.lend(), &input.order, concepts, inclusions, questions)
     }),
 ];
 

@@ -3,13 +3,13 @@
 use hermitcasket_bench::checks::{Refusal, Stock};
 use hermitcasket_bench::search::find;
 use hermitcasket_bench::{
-    atoms, belongs, check, lend, show, subsumed, subsumption_table, update_table,
+    atoms, belongs, check, lend, renumber, show, subsumed, subsumption_table, update_table,
 };
 use hermitcasket_tests::generate;
 use hermitcasket_tests::hard::{self, Hard, Known};
 use hermitcasket_tests::random::{cases, seed, Random, Size};
 use hermitcasket_tests::reference;
-use hermitcasket_tests::tables::Case;
+use hermitcasket_tests::tables::{Case, Tables};
 
 fn numbered<T>(result: Result<T, reference::Refusal>) -> Result<T, Refusal> {
     result.map_err(|refusal| (refusal.number, refusal.place))
@@ -94,6 +94,28 @@ fn held_tables_agree() {
             let due = expected.clone().unwrap_or(case.held.clone());
             assert_eq!(done, numbered(expected.map(|_| ())), "{}", case);
             assert!(table == due, "{}", case);
+        }
+    }
+}
+
+#[test]
+fn new_ids_agree() {
+    let seed = seed("plain implementation, new ids");
+    for size in [Size::Small, Size::Medium, Size::Large] {
+        for k in 0..(cases(size) / 4).max(1) {
+            let case = generate::renumber_case(&mut Random::for_case(seed, k), size);
+            let (tables, rooms) = (&case.tables, case.renumbered_rooms);
+            let [mut concepts, mut inclusions, mut questions] = rooms.map(|room| vec![0; room]);
+            let out = [&mut concepts[..], &mut inclusions[..], &mut questions[..]];
+            let after = renumber(lend(tables), &case.order, out).map(|()| {
+                let mut lists = [concepts, inclusions, questions];
+                let lengths = tables.lengths();
+                lists.iter_mut().zip(lengths).for_each(|(list, length)| list.truncate(length));
+                let [concepts, inclusions, questions] = lists;
+                Tables { concepts, inclusions, questions, ..tables.clone() }
+            });
+            let expected = reference::renumber(tables, &case.order, rooms);
+            assert_eq!(after, numbered(expected), "{}", case);
         }
     }
 }
