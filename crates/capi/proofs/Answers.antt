@@ -21,8 +21,12 @@ use Rattle.countermodel.specs.Show.{shownReply, Shows}
 use Rattle.countermodel.specs.Membership.{DecidesMember}
 use Rattle.incremental.specs.Update.{Updates}
 use Rattle.renumbering.specs.Renumber.{Renumbers}
+use Rattle.owl.specs.declared.read.Catalogue.{Catalogue}
+use Rattle.owl.specs.declared.read.Catalogue.the-variants.{Tables as Counts, Rejected}
+use Rattle.owl.specs.Read.{CatalogueReply, catalogueReply, ReadsCatalogue}
 use Rattle.capi.specs.declared.Answer.{Answer}
-use Rattle.capi.specs.Answer.{replied}
+use Rattle.capi.specs.declared.CatalogueAnswer.{CatalogueAnswer}
+use Rattle.capi.specs.Answer.{replied, repliedTables}
 
 -- a refusal's number and place
 pub by-code :
@@ -76,3 +80,20 @@ pub renumbers-as :
     → Renumbers t order concepts concepts′ inclusions inclusions′ questions questions′ (replied a)
 renumbers-as t order concepts concepts′ inclusions inclusions′ questions questions′ a x p =
     passed-on (Renumbers t order concepts concepts′ inclusions inclusions′ questions questions′) replyOf x x a p refl
+
+-- ---- catalogues
+pub counts-told :
+    (x : Catalogue) (m n : ℕ) → x ≡ Counts m n → _≡_ {A = CatalogueReply} (record { number = 0; place = 0; concepts = m; inclusions = n }) (catalogueReply x)
+counts-told x m n h = ap catalogueReply (sym h)
+
+pub refusal-told :
+    (x : Catalogue) (r : Refusal) (code : Code) → x ≡ Rejected r → code ≡ codeOf r
+    → _≡_ {A = CatalogueReply} (record { number = code .number; place = code .place; concepts = 0; inclusions = 0 }) (catalogueReply x)
+refusal-told x r code h e =
+    ap (λ (z : Code). record { number = z .number; place = z .place; concepts = 0; inclusions = 0 }) e ∙ ap catalogueReply (sym h)
+
+pub reads-as :
+    (text concepts concepts′ inclusions inclusions′ : List ℕ) (a : CatalogueAnswer) (x : Catalogue)
+    → ReadsCatalogue text concepts concepts′ inclusions inclusions′ (catalogueReply x) → repliedTables a ≡ catalogueReply x
+    → ReadsCatalogue text concepts concepts′ inclusions inclusions′ (repliedTables a)
+reads-as text concepts concepts′ inclusions inclusions′ a x p f = subst (ReadsCatalogue text concepts concepts′ inclusions inclusions′) (sym f) p

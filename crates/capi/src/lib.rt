@@ -3,6 +3,7 @@ use countermodel::Shown;
 use matching::Chosen;
 use matching::Derived;
 use matching::Match;
+use owl::Catalogue;
 use subsumption::Decision;
 use subsumption::Listed;
 use subsumption::Tabled;
@@ -26,7 +27,8 @@ ghost use Rattle.countermodel.specs.Show.{Shows};
 ghost use Rattle.countermodel.specs.Membership.{DecidesMember};
 ghost use Rattle.incremental.specs.Update.{Updates};
 ghost use Rattle.renumbering.specs.Renumber.{Renumbers};
-ghost use Rattle.capi.specs.Answer.{replied};
+ghost use Rattle.owl.specs.Read.{catalogueReply, ReadsCatalogue};
+ghost use Rattle.capi.specs.Answer.{replied, repliedTables};
 
 // number 0: done; else the refusal's number, with its place and value 0.
 #[repr(C)]
@@ -34,6 +36,15 @@ pub struct Answer {
     pub number: u16,
     pub place: u64,
     pub value: u64,
+}
+
+// number 0: so many entries and inclusions were read; else the refusal's number, with its place and zeros.
+#[repr(C)]
+pub struct CatalogueAnswer {
+    pub number: u16,
+    pub place: u64,
+    pub entries: u64,
+    pub inclusions: u64,
 }
 
 // What an operation answered, in the header's numbers.
@@ -405,4 +416,42 @@ pub extern "C" fn hc_renumber(
         questions_out,
     );
     answer_of(renumbered, 0)
+}
+
+// What was read, in the header's numbers.
+fn catalogue_of(catalogue: Catalogue) -> CatalogueAnswer
+    ensures { λ a. ⌜ repliedTables a ≡ catalogueReply catalogue ⌝ }
+{
+    match catalogue {
+        Catalogue::Tables(entries, inclusions) => CatalogueAnswer {
+            number: 0,
+            place: 0,
+            entries: entries as u64,
+            inclusions: inclusions as u64,
+        },
+        Catalogue::Rejected(r) => {
+            let code = code_of(r);
+            let number = code.number;
+            let place = code.place as u64;
+            CatalogueAnswer {
+                number,
+                place,
+                entries: 0,
+                inclusions: 0,
+            }
+        }
+    }
+}
+
+// Reads a catalogue in OWL functional syntax.
+#[no_mangle]
+pub extern "C" fn hc_read_owl(
+    text: &[u8],
+    concepts: &mut [u16],
+    inclusions: &mut [u16],
+) -> CatalogueAnswer
+    ensures { λ a. ⌜ ReadsCatalogue (now (text .entry)) (now (concepts .entry)) (now (concepts .exit)) (now (inclusions .entry)) (now (inclusions .exit)) (repliedTables a) ⌝ }
+{
+    let read = owl::read_catalogue(text, concepts, inclusions);
+    catalogue_of(read)
 }

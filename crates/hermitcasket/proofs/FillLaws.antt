@@ -1,12 +1,12 @@
 -- Printing lists of ids, and a line for each variable.
 use Prim.Native.Nat.{ℕ, _+_, _<_, _≤_}
 use mathlib.Core.Path.{_≡_, refl, sym, ap, _∙_, subst}
-use mathlib.Core.List.{List, [], _∷_, _++_, append-assoc, append-nil}
+use mathlib.Core.List.{List, [], _∷_, _++_}
 use mathlib.Core.Bool.{Bool, true, false}
 use native.Mathlib.Omega.{arith}
 use native.Mathlib.Numerals.{add-one}
 use lib.Dec.{ltb}
-use lib.ListN.{length, getD, drop, length-append, drop-of-length-le}
+use lib.ListN.{length, getD, drop, drop-of-length-le}
 use lib.Seq.{drop-cons}
 use borrow.Author.Tests.{lt-ltb}
 use Rattle.subsumption.specs.declared.refusal.Outcome.the-variants.{Done}
@@ -15,10 +15,11 @@ use Rattle.subsumption.specs.Atoms.{atoms, chosen}
 use Rattle.subsumption.specs.Check.{tableFault, assignmentFault}
 use Rattle.matching.specs.Chosen.{choosingFault, handedBack}
 use Rattle.matching.proofs.ChosenLaws.Faults.{choices-length, choosing-done}
-use Rattle.hermitcasket.specs.Digits.{digits}
+use Rattle.numerals.specs.Digits.{digits}
+use Rattle.numerals.specs.Inner.Printing.{Wrote}
+use Rattle.numerals.proofs.WriteLaws.{wrote-join, wrote-length}
+use Rattle.numerals.proofs.PieceLaws.{Printed, piece-room, printed-more, printed-done}
 use Rattle.hermitcasket.specs.Printing.{idText, idsText, fillText, fillsText}
-use Rattle.hermitcasket.specs.Inner.Print.{Wrote}
-use Rattle.hermitcasket.proofs.WriteLaws.{wrote-none, wrote-join, wrote-length}
 
 -- ---- an id
 module _ (before : List ℕ) (at id : ℕ) (later : Bool) (room : at + length (idText later id) ≤ length before) where
@@ -43,46 +44,6 @@ module _ (before : List ℕ) (at id : ℕ) (later : Bool) (room : at + length (i
   pub wrote-first : later ≡ false → (end : ℕ) (after : List ℕ) → Wrote before at (digits id) end after → Wrote before at (idText later id) end after
   unfolding idText
   wrote-first h end after w = rw h w
-
--- ---- piece after piece: what stands there, and what is left
-module _ (left : ℕ → List ℕ) (before : List ℕ) (at : ℕ) where
-  pub record Printed (out : List ℕ) (end i : ℕ) : Type 0 where
-    pub text : List ℕ
-    pub wrote : Wrote before at text end out
-    pub whole : left 0 ≡ text ++ left i
-    pub long : length out ≡ length before
-
-  pub printed-none : Printed before at 0
-  printed-none = record { text = []; wrote = wrote-none before at; whole = refl; long = refl }
-
-  module _
-      (out : List ℕ) (end i : ℕ) (s : Printed out end i) (room : at + length (left 0) ≤ length before)
-      (piece : List ℕ) (next : left i ≡ piece ++ left (i + 1)) where
-    split : left 0 ≡ (s .text ++ piece) ++ left (i + 1)
-    split = s .whole ∙ ap (λ (z : List ℕ). s .text ++ z) next ∙ sym (append-assoc (s .text) piece (left (i + 1)))
-
-    sizes : at + length (s .text) + length piece ≤ length before
-    sizes = omega (arith, ap length split, length-append (s .text ++ piece) (left (i + 1)), length-append (s .text) piece)
-
-    pub piece-room : end + length piece ≤ length out
-    piece-room = omega (arith, sizes, s .wrote .place, s .long)
-
-    pub printed-more : (end' : ℕ) (out' : List ℕ) → Wrote out end piece end' out' → Printed out' end' (i + 1)
-    printed-more end' out' w =
-        record {
-          text = s .text ++ piece;
-          wrote = wrote-join before at (s .text) piece end out end' out' (omega (arith, sizes)) (s .wrote) w;
-          whole = split;
-          long = wrote-length out end piece end' out' piece-room w ∙ s .long;
-        }
-
-  pub printed-skip : (out : List ℕ) (end i : ℕ) → Printed out end i → left i ≡ left (i + 1) → Printed out end (i + 1)
-  printed-skip out end i s e =
-      record { text = s .text; wrote = s .wrote; whole = s .whole ∙ ap (λ (z : List ℕ). s .text ++ z) e; long = s .long }
-
-  pub printed-done : (out : List ℕ) (end i : ℕ) → Printed out end i → left i ≡ [] → Wrote before at (left 0) end out
-  printed-done out end i s e =
-      subst (λ (z : List ℕ). Wrote before at z end out) (sym (s .whole ∙ ap (λ (z : List ℕ). s .text ++ z) e ∙ append-nil (s .text))) (s .wrote)
 
 -- ---- a list of ids
 abbrev pub idsLeft : List ℕ → ℕ → List ℕ

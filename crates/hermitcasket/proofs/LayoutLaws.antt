@@ -13,6 +13,9 @@ use borrow.Author.Tests.{ltb-false}
 use Rattle.subsumption.specs.declared.refusal.Refusal.{Refusal}
 use Rattle.subsumption.specs.declared.refusal.Refusal.the-variants.{Limit, BadText}
 use Rattle.subsumption.specs.Tables.{Tables, tables, countOf, pairsOf}
+use Rattle.numerals.specs.Bytes.{starts}
+use Rattle.numerals.specs.Printing.{numberText, pairText}
+use Rattle.numerals.specs.Lines.{variablesKey, rolesKey, widerKey, conceptsKey, inclusionsKey, questionsKey, belowKey, showKey, linesText, rowOfNumbers, pairOfNumbers}
 use Rattle.hermitcasket.specs.declared.lines.Number.{Number}
 use Rattle.hermitcasket.specs.declared.lines.Number.the-variants.{Value, NoNumber}
 use Rattle.hermitcasket.specs.declared.lines.PairLine.{PairLine}
@@ -21,8 +24,8 @@ use Rattle.hermitcasket.specs.declared.lines.RowLine.{RowLine}
 use Rattle.hermitcasket.specs.declared.lines.RowLine.the-variants.{Row, NoRow}
 use Rattle.hermitcasket.specs.declared.text.Ask.{Ask}
 use Rattle.hermitcasket.specs.declared.text.Ask.the-variants.{Fill, Show}
-use Rattle.hermitcasket.specs.Lines.{variablesKey, rolesKey, widerKey, conceptsKey, inclusionsKey, questionsKey, belowKey, showKey, numberText, pairText, starts, numberLine, pairLine, rowLine}
-use Rattle.hermitcasket.specs.Text.{linesText, rowOfNumbers, pairOfNumbers, rolesText, askText, layout, Says, RowsFit, ConceptFits, PairFits, AskFits, Sayable, Line, numbers, off, rowNumbers, pairNumbers, rowAt, pairAt, Part, part, faulty, prepend, lineThen, readLines, accepted, refused, pickJudged, Onward, countThen, countAt, partThen, sectionAt, rolesAt, showThen, judgeEnd, judgeQuestions, judgeInclusions, judgeConcepts, judgeRoles, judgeLines, judge}
+use Rattle.hermitcasket.specs.Lines.{numberLine, pairLine, rowLine}
+use Rattle.hermitcasket.specs.Text.{rolesText, askText, layout, Says, RowsFit, ConceptFits, PairFits, AskFits, Sayable, Line, numbers, off, rowNumbers, pairNumbers, rowAt, pairAt, Part, part, faulty, prepend, lineThen, readLines, accepted, refused, pickJudged, Onward, countThen, countAt, partThen, sectionAt, rolesAt, showThen, judgeEnd, judgeQuestions, judgeInclusions, judgeConcepts, judgeRoles, judgeLines, judge}
 use Rattle.hermitcasket.proofs.LineLaws.{Holds, holds-join}
 use Rattle.hermitcasket.proofs.RightLines.{numberLine-holds, pairLine-holds, pairLine-small, rowLine-holds, rowLine-fits}
 

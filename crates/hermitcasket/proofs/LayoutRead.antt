@@ -1,34 +1,31 @@
 -- Each layout within the counts is accepted, and reading it gives the tables back.
-use Prim.Native.Nat.{ℕ, zero, suc, _+_, _<_, _≤_}
+use Prim.Native.Nat.{ℕ, zero, suc, _+_, _≤_}
 use mathlib.Core.Path.{_≡_, refl, sym, ap, _∙_}
 use mathlib.Core.List.{List, [], _∷_, _++_, append-assoc, append-nil}
 use mathlib.Core.Bool.{Bool, true, false}
 use native.Mathlib.Omega.{arith}
-use native.Mathlib.Numerals.{add-one}
 use lib.ListN.{length, take, drop, length-append, take-append-drop}
 use lib.Seq.{drop-append-add, drop-append-seam}
-use borrow.Author.Tests.{le-ltb, eq-eqb, ne-eqb}
+use borrow.Author.Tests.{le-ltb}
 use Rattle.subsumption.specs.Tables.{Tables, both, countOf, pairsOf}
+use Rattle.numerals.specs.Digits.{digits}
+use Rattle.numerals.specs.Bytes.{starts}
+use Rattle.numerals.specs.Printing.{numberText, pairText}
+use Rattle.numerals.specs.Lines.{variablesKey, rolesKey, widerKey, conceptsKey, inclusionsKey, questionsKey, belowKey, showKey, topText, nameKey, someKey, andKey, variableKey, rowText, linesText, rowOfNumbers, pairOfNumbers}
+use Rattle.numerals.proofs.ReadingLaws.{starts-right}
 use Rattle.hermitcasket.specs.declared.lines.Number.the-variants.{Value, NoNumber}
 use Rattle.hermitcasket.specs.declared.lines.PairLine.the-variants.{Two, NoPair}
 use Rattle.hermitcasket.specs.declared.lines.RowLine.the-variants.{Row}
 use Rattle.hermitcasket.specs.declared.text.Ask.{Ask}
 use Rattle.hermitcasket.specs.declared.text.Ask.the-variants.{Fill, Show}
-use Rattle.hermitcasket.specs.Digits.{digits}
-use Rattle.hermitcasket.specs.Lines.{variablesKey, rolesKey, widerKey, conceptsKey, inclusionsKey, questionsKey, belowKey, showKey, topText, nameKey, someKey, andKey, variableKey, numberText, pairText, rowText, starts, pickNumber, numberFrom, behind as shifted, numberLine, secondOf, firstOf, pairIf, pairLine, topRow, oneRow, twoRow, orRow, rowLine}
-use Rattle.hermitcasket.specs.Text.{linesText, rowOfNumbers, pairOfNumbers, rolesText, askText, layout, RowFits, RowsFit, ConceptFits, PairFits, AskFits, Sayable, Line, numbers, rowNumbers, pairNumbers, rowAt, pairAt, part, prepend, lineThen, readLines, accepted, pickJudged, Onward, countThen, partThen, sectionAt, rolesAt, showThen, judgeEnd, judgeQuestions, judgeInclusions, judgeConcepts, judgeRoles, judgeLines, judge}
-use Rattle.hermitcasket.proofs.DigitLaws.{digits-some, reads-digits}
-use Rattle.hermitcasket.proofs.LineLaws.{starts-right}
+use Rattle.hermitcasket.specs.Lines.{pickNumber, behind as shifted, numberLine, secondOf, firstOf, pairIf, pairLine, topRow, oneRow, twoRow, orRow, rowLine}
+use Rattle.hermitcasket.specs.Text.{rolesText, askText, layout, RowFits, RowsFit, ConceptFits, PairFits, AskFits, Sayable, Line, numbers, rowNumbers, pairNumbers, rowAt, pairAt, part, prepend, lineThen, readLines, accepted, pickJudged, Onward, countThen, partThen, sectionAt, rolesAt, showThen, judgeEnd, judgeQuestions, judgeInclusions, judgeConcepts, judgeRoles, judgeLines, judge}
+use Rattle.hermitcasket.proofs.NumberLaws.{number-right}
 
 -- ---- one line
-number-right : (stop v : ℕ) (more : List ℕ) → stop < 48 → v ≤ 65535 → numberFrom stop 0 0 (digits v ++ (stop ∷ more)) ≡ Value v (length (digits v) + 1)
-unfolding numberFrom pickNumber
-number-right stop v more low small =
-    reads-digits stop v (stop ∷ more) low small ∙ rw (eq-eqb stop stop refl, ne-eqb (length (digits v)) 0 (λ e. omega (arith, digits-some v)), add-one) refl
-
 numberLine-of : (key : List ℕ) (v : ℕ) (more : List ℕ) → v ≤ 65535 → numberLine key (key ++ (digits v ++ (10 ∷ more))) ≡ Value v (length key + (length (digits v) + 1))
 unfolding numberLine pickNumber shifted
-numberLine-of key v more h = rw (starts-right key (digits v ++ (10 ∷ more)), drop-append-seam key (digits v ++ (10 ∷ more)), number-right 10 v more (omega arith) h) refl
+numberLine-of key v more h = rw (starts-right key (digits v ++ (10 ∷ more)), drop-append-seam key (digits v ++ (10 ∷ more)), number-right 10 (omega arith) v more h) refl
 
 pub numberLine-right : (key : List ℕ) (v : ℕ) (more : List ℕ) → v ≤ 65535 → numberLine key (numberText key v ++ more) ≡ Value v (length (numberText key v))
 unfolding numberText
@@ -44,7 +41,7 @@ pairLine-of key a b more ha hb =
     let y = digits b ++ (10 ∷ more) in
     let x = digits a ++ (44 ∷ y) in
     let second : drop (length key + (length (digits a) + 1)) (key ++ x) ≡ y = drop-append-add key x (length (digits a) + 1) ∙ drop-append-add (digits a) (44 ∷ y) 1 in
-    rw (starts-right key x, drop-append-seam key x, number-right 44 a y (omega arith) ha, second, number-right 10 b more (omega arith) hb) refl
+    rw (starts-right key x, drop-append-seam key x, number-right 44 (omega arith) a y ha, second, number-right 10 (omega arith) b more hb) refl
 
 pub pairLine-right :
     (key : List ℕ) (a b : ℕ) (more : List ℕ) → a ≤ 65535 → b ≤ 65535 → pairLine key (pairText key a b ++ more) ≡ Two a b (length (pairText key a b))

@@ -9,33 +9,14 @@ use lib.ListN.{length}
 use Rattle.subsumption.specs.Atoms.{keep}
 use Rattle.subsumption.specs.Inner.Atoms.{markAt, markedIds}
 use Rattle.countermodel.specs.Countermodel.{nameRows, linkRows}
-use Rattle.hermitcasket.specs.Digits.{digits}
-use Rattle.hermitcasket.specs.Lines.{numberText, pairText}
-use Rattle.hermitcasket.specs.Text.{linesText}
+use Rattle.numerals.specs.Digits.{digits}
+use Rattle.numerals.specs.Printing.{pairText}
+use Rattle.numerals.specs.Inner.Printing.{Wrote}
+use Rattle.numerals.specs.Lines.{linesText}
+use Rattle.numerals.proofs.WriteLaws.{room-1, room-2, room-3, wrote-three}
+use Rattle.numerals.proofs.PieceLaws.{Printed, printed-skip, piece-room, printed-more, printed-done}
 use Rattle.hermitcasket.specs.Printing.{isKey, linkKey, linkText, lineOf, rowsText}
-use Rattle.hermitcasket.specs.Inner.Print.{Wrote, markLine, markLines}
-use Rattle.hermitcasket.proofs.WriteLaws.{room-1, room-2, room-3, wrote-three}
-use Rattle.hermitcasket.proofs.FillLaws.{Printed, printed-skip, piece-room, printed-more, printed-done}
-
--- ---- a line of two numbers
-module _ (before key : List ℕ) (at a b : ℕ) (room : at + length (pairText key a b) ≤ length before) where
-  pub pair-room-1 : at + length key ≤ length before
-  unfolding pairText numberText
-  pair-room-1 = room-1 before at key (digits a) (numberText (44 ∷ []) b) room
-
-  module _ (x : ℕ) (one : List ℕ) (wrote-1 : Wrote before at key x one) where
-    pub pair-room-2 : x + length (digits a) ≤ length one
-    unfolding pairText numberText
-    pair-room-2 = room-2 before at key (digits a) (numberText (44 ∷ []) b) room x one wrote-1
-
-    module _ (y : ℕ) (two : List ℕ) (wrote-2 : Wrote one x (digits a) y two) where
-      pub pair-room-3 : y + length (numberText (44 ∷ []) b) ≤ length two
-      unfolding pairText numberText
-      pair-room-3 = room-3 before at key (digits a) (numberText (44 ∷ []) b) room x one wrote-1 y two wrote-2
-
-      pub wrote-pair : (end : ℕ) (after : List ℕ) → Wrote two y (numberText (44 ∷ []) b) end after → Wrote before at (pairText key a b) end after
-      unfolding pairText numberText
-      wrote-pair end after wrote-3 = wrote-three before at key (digits a) (numberText (44 ∷ []) b) room x one wrote-1 y two wrote-2 end after wrote-3
+use Rattle.hermitcasket.specs.Inner.Print.{markLine, markLines}
 
 -- ---- the line of a link
 module _ (before : List ℕ) (at i s q : ℕ) (room : at + length (linkText i s q) ≤ length before) where

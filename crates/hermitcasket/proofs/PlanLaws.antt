@@ -18,6 +18,9 @@ use Rattle.subsumption.proofs.Accepted.{wellFormed, roles-low}
 use Rattle.subsumption.proofs.Refusals.{passed-first}
 use Rattle.subsumption.proofs.Deciding.{asked-tables}
 use Rattle.countermodel.specs.Inner.Show.{Judged as PairJudged}
+use Rattle.numerals.specs.Inner.Printing.{Wrote}
+use Rattle.numerals.specs.Printing.{Output}
+use Rattle.numerals.proofs.PieceLaws.{output}
 use Rattle.hermitcasket.specs.declared.text.Ask.{Ask}
 use Rattle.hermitcasket.specs.declared.text.Ask.the-variants.{Fill, Show}
 use Rattle.hermitcasket.specs.declared.text.Read.{Read}
@@ -26,10 +29,8 @@ use Rattle.hermitcasket.specs.declared.answer.Plan.{Plan}
 use Rattle.hermitcasket.specs.declared.answer.Plan.the-variants.{Whole, Parts}
 use Rattle.hermitcasket.specs.Text.{Judged, accepted, judge}
 use Rattle.hermitcasket.specs.Printing.{codeText, shownText, partsOf}
-use Rattle.hermitcasket.specs.Answer.{AnsweredTables, unassigned, shownFault, shownOr, AnsweredPair, AnsweredJudged, Output, Held, InParts, Planned}
+use Rattle.hermitcasket.specs.Answer.{AnsweredTables, unassigned, shownFault, shownOr, AnsweredPair, AnsweredJudged, Held, InParts, Planned}
 use Rattle.hermitcasket.specs.Inner.Text.{judgedBy, ReadFits}
-use Rattle.hermitcasket.specs.Inner.Print.{Wrote}
-use Rattle.hermitcasket.proofs.ProgramLaws.{output}
 
 -- ---- an asked pair
 zeros : (v n : ℕ) → v ≤ n → take {A = ℕ} v (replicate n 0) ≡ replicate v 0

@@ -1,11 +1,11 @@
 -- The answer for tables, by cases.
 use Prim.Native.Nat.{ℕ, _+_, _≤_}
 use mathlib.Core.Path.{_≡_, refl, sym, ap, _∙_, subst}
-use mathlib.Core.List.{List, _++_}
+use mathlib.Core.List.{List}
 use mathlib.Core.Logic.{inl, inr, ⊎-elim}
 use native.Mathlib.Omega.{arith}
-use lib.ListN.{length, take, drop, length-append}
-use lib.Seq.{take-append-seam, drop-append-seam, length-take-le}
+use lib.ListN.{length, take}
+use lib.Seq.{length-take-le}
 use borrow.Author.Tests.{le-ltb, eq-eqb, ne-eqb}
 use Rattle.subsumption.specs.declared.refusal.Refusal.{Refusal}
 use Rattle.subsumption.specs.declared.refusal.Refusal.the-variants.{NoAssignment}
@@ -20,31 +20,12 @@ use Rattle.subsumption.proofs.Replies.{same-refusal, not-done}
 use Rattle.matching.specs.declared.find.Match.{Match}
 use Rattle.matching.specs.declared.find.Match.the-variants.{Filled, Rejected as NotFound}
 use Rattle.matching.specs.Find.{findingFault, FilledBy, matchReply, FindsAfter, Finds}
-use Rattle.hermitcasket.specs.Printing.{noneLine, filledText, refusedText, pickText, codeText}
-use Rattle.hermitcasket.specs.Inner.Print.{placed, Wrote}
-use Rattle.hermitcasket.specs.Answer.{AnsweredTables, Output}
+use Rattle.numerals.specs.Inner.Printing.{Wrote}
+use Rattle.numerals.specs.Printing.{refusedText, Output}
+use Rattle.numerals.proofs.PieceLaws.{output}
+use Rattle.hermitcasket.specs.Printing.{noneLine, filledText, pickText, codeText}
+use Rattle.hermitcasket.specs.Answer.{AnsweredTables}
 use Rattle.hermitcasket.proofs.SizeLaws.{filled-room}
-
--- what was written in front is the output
-module _ (Right : List ℕ → Type 0) (before bytes : List ℕ) (size : ℕ) (after : List ℕ) (wrote : Wrote before 0 bytes size after) where
-  whole : after ≡ bytes ++ drop (0 + length bytes) before
-  unfolding placed
-  whole = wrote .buffer
-
-  length-is : size ≡ length bytes
-  length-is = omega (arith, wrote .place)
-
-  pub output : Right bytes → Output Right before size after
-  output h =
-      record {
-        answered =
-            subst (λ (z : List ℕ). Right z)
-            (sym (ap (λ (z : ℕ). take z after) length-is ∙ ap (λ (z : List ℕ). take (length bytes) z) whole ∙ take-append-seam bytes (drop (0 + length bytes) before))) h;
-        within = omega (arith, length-is, ap length whole, length-append bytes (drop (0 + length bytes) before));
-        kept =
-            ap (λ (z : ℕ). drop z after) length-is ∙ ap (λ (z : List ℕ). drop (length bytes) z) whole ∙ drop-append-seam bytes (drop (0 + length bytes) before)
-            ∙ ap (λ (z : ℕ). drop z before) (sym (wrote .place));
-      }
 
 -- ---- a refusal
 module _ (refusal : Refusal) (code : Code) (e : code ≡ codeOf refusal) (out : List ℕ) (end : ℕ) (exit : List ℕ) where

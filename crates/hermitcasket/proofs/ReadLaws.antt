@@ -7,6 +7,7 @@ use lib.ListN.{length, take, drop, length-drop}
 use borrow.Author.Tests.{lt-ltb, le-ltb}
 use Rattle.subsumption.specs.declared.refusal.Refusal.{Refusal}
 use Rattle.subsumption.specs.declared.refusal.Refusal.the-variants.{BadText}
+use Rattle.numerals.specs.Lines.{variablesKey, conceptsKey, inclusionsKey, questionsKey, belowKey}
 use Rattle.hermitcasket.specs.declared.text.Ask.{Ask}
 use Rattle.hermitcasket.specs.declared.text.End.{End}
 use Rattle.hermitcasket.specs.declared.text.End.the-variants.{Asks, Damaged}
@@ -16,7 +17,6 @@ use Rattle.hermitcasket.specs.declared.text.Section.{Section}
 use Rattle.hermitcasket.specs.declared.text.Section.the-variants.{Through, Faulty}
 use Rattle.hermitcasket.specs.declared.text.Read.{Read}
 use Rattle.hermitcasket.specs.declared.text.Read.the-variants.{Problem, Rejected}
-use Rattle.hermitcasket.specs.Lines.{variablesKey, conceptsKey, inclusionsKey, questionsKey, belowKey}
 use Rattle.subsumption.specs.Tables.{Tables, tables}
 use Rattle.hermitcasket.specs.Text.{rowAt, pairAt, refused, pickJudged, Onward, sectionAt, rolesAt, judgeEnd, judgeQuestions, judgeInclusions, judgeConcepts, judgeRoles, judgeLines, judge}
 use Rattle.hermitcasket.specs.Inner.Text.{countedThen, sectionThen, endThen, Ends, lastThen, LastFits, SectionFits, Counts, Sectioned, Last, faultOf, judgedBy, TablesRead}

@@ -6,14 +6,17 @@ use mathlib.Core.Bool.{Bool, true, false}
 use mathlib.Core.Logic.{_⊎_, inl, inr, ⊎-elim}
 use native.Mathlib.Omega.{arith}
 use lib.ListN.{length, drop}
+use Rattle.numerals.specs.Digits.{digits}
+use Rattle.numerals.specs.Bytes.{starts}
+use Rattle.numerals.specs.Printing.{numberText, pairText}
+use Rattle.numerals.specs.Lines.{topText, nameKey, someKey, andKey, variableKey, rowText}
 use Rattle.hermitcasket.specs.declared.lines.Number.{Number}
 use Rattle.hermitcasket.specs.declared.lines.Number.the-variants.{Value, NoNumber}
 use Rattle.hermitcasket.specs.declared.lines.PairLine.{PairLine}
 use Rattle.hermitcasket.specs.declared.lines.PairLine.the-variants.{Two, NoPair}
 use Rattle.hermitcasket.specs.declared.lines.RowLine.{RowLine}
 use Rattle.hermitcasket.specs.declared.lines.RowLine.the-variants.{Row, NoRow}
-use Rattle.hermitcasket.specs.Digits.{digits}
-use Rattle.hermitcasket.specs.Lines.{topText, nameKey, someKey, andKey, variableKey, numberText, pairText, rowText, starts, pickNumber, numberFrom, behind, numberLine, secondOf, firstOf, pairIf, pairLine, topRow, oneRow, twoRow, orRow, rowLine}
+use Rattle.hermitcasket.specs.Lines.{pickNumber, numberFrom, behind, numberLine, secondOf, firstOf, pairIf, pairLine, topRow, oneRow, twoRow, orRow, rowLine}
 use Rattle.hermitcasket.specs.Text.{RowFits}
 use Rattle.hermitcasket.proofs.LineLaws.{Holds, holds-within, holds-join, starts-holds, number-holds, number-small}
 
@@ -32,8 +35,8 @@ module _ (key rest : List ℕ) (v n : ℕ) where
           let nk : length key + k ≡ n = cc in (
             subst (λ (z : ℕ). Holds rest (key ++ (digits v ++ (10 ∷ []))) z) nk
                 (subst (λ (z : ℕ). Holds rest (key ++ (digits z ++ (10 ∷ []))) (length key + k)) vw
-                (holds-join rest key (digits w ++ (10 ∷ [])) (length key) k (starts-holds key rest p) (number-holds 10 w k (drop (length key) rest) q))),
-            omega (arith, number-small 10 w k (drop (length key) rest) q),
+                (holds-join rest key (digits w ++ (10 ∷ [])) (length key) k (starts-holds key rest p) (number-holds 10 w k (drop (length key) rest) (omega arith) q))),
+            omega (arith, number-small 10 w k (drop (length key) rest) (omega arith) q),
           )
 
   pub numberLine-holds : numberLine key rest ≡ Value v n → Holds rest (numberText key v) n
@@ -62,13 +65,13 @@ module _ (key rest : List ℕ) (a b n : ℕ) where
           let aw : w ≡ a = cc in
           let bx : x ≡ b = cc in
           let nl : length key + k + l ≡ n = cc in
-          let h = holds-join rest _ (digits x ++ (10 ∷ [])) (length key + k) l (holds-join rest key (digits w ++ (44 ∷ [])) (length key) k (starts-holds key rest p) (number-holds 44 w k (drop (length key) rest) q)) (number-holds 10 x l (drop (length key + k) rest) r) in (
+          let h = holds-join rest _ (digits x ++ (10 ∷ [])) (length key + k) l (holds-join rest key (digits w ++ (44 ∷ [])) (length key) k (starts-holds key rest p) (number-holds 44 w k (drop (length key) rest) (omega arith) q)) (number-holds 10 x l (drop (length key + k) rest) (omega arith) r) in (
             subst (λ (z : ℕ). Holds rest (key ++ (digits a ++ (44 ∷ (digits b ++ (10 ∷ []))))) z) nl
                 (subst (λ (z : ℕ). Holds rest (key ++ (digits a ++ (44 ∷ (digits z ++ (10 ∷ []))))) (length key + k + l)) bx
                 (subst (λ (z : ℕ). Holds rest (key ++ (digits z ++ (44 ∷ (digits x ++ (10 ∷ []))))) (length key + k + l)) aw
                 (subst (λ (z : List ℕ). Holds rest z (length key + k + l)) (append-assoc key (digits w ++ (44 ∷ [])) (digits x ++ (10 ∷ [])) ∙ ap (λ (z : List ℕ). key ++ z) (append-assoc (digits w) (44 ∷ []) (digits x ++ (10 ∷ [])))) h))),
-            omega (arith, number-small 44 w k (drop (length key) rest) q),
-            omega (arith, number-small 10 x l (drop (length key + k) rest) r),
+            omega (arith, number-small 44 w k (drop (length key) rest) (omega arith) q),
+            omega (arith, number-small 10 x l (drop (length key + k) rest) (omega arith) r),
           )
 
       go : (x : Bool) → starts key rest ≡ x → (y : Number) → numberFrom 44 0 0 (drop (length key) rest) ≡ y → Holds rest (key ++ (digits a ++ (44 ∷ (digits b ++ (10 ∷ []))))) n × (a ≤ 65535) × (b ≤ 65535)

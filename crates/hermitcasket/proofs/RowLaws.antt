@@ -3,12 +3,14 @@ use Prim.Native.Nat.{ℕ}
 use mathlib.Core.Path.{_≡_, sym, _∙_}
 use mathlib.Core.List.{List}
 use mathlib.Core.Bool.{Bool, true, false}
+use Rattle.numerals.specs.Bytes.{starts}
+use Rattle.numerals.specs.Lines.{topText, nameKey, someKey, andKey, variableKey}
 use Rattle.hermitcasket.specs.declared.lines.Number.{Number}
 use Rattle.hermitcasket.specs.declared.lines.Number.the-variants.{Value, NoNumber}
 use Rattle.hermitcasket.specs.declared.lines.PairLine.{PairLine}
 use Rattle.hermitcasket.specs.declared.lines.PairLine.the-variants.{Two, NoPair}
 use Rattle.hermitcasket.specs.declared.lines.RowLine.the-variants.{Row, NoRow}
-use Rattle.hermitcasket.specs.Lines.{topText, nameKey, someKey, andKey, variableKey, starts, numberLine, pairLine, topRow, oneRow, twoRow, orRow, rowLine}
+use Rattle.hermitcasket.specs.Lines.{numberLine, pairLine, topRow, oneRow, twoRow, orRow, rowLine}
 
 module _ (rest : List ℕ) (top : Bool) (is-top : top ≡ starts topText rest) where
   pub row-top : top ≡ true → Row 0 0 0 6 ≡ rowLine rest

@@ -10,6 +10,8 @@ use borrow.Author.Tests.{lt-ltb, le-ltb, not-true, not-false}
 use Rattle.subsumption.specs.declared.refusal.Refusal.{Refusal}
 use Rattle.subsumption.specs.declared.refusal.Refusal.the-variants.{Limit, BadText}
 use Rattle.subsumption.specs.Tables.{Tables}
+use Rattle.numerals.specs.Bytes.{starts}
+use Rattle.numerals.specs.Lines.{rolesKey, widerKey, showKey}
 use Rattle.hermitcasket.specs.declared.lines.Number.{Number}
 use Rattle.hermitcasket.specs.declared.lines.Number.the-variants.{Value, NoNumber}
 use Rattle.hermitcasket.specs.declared.lines.PairLine.{PairLine}
@@ -20,7 +22,7 @@ use Rattle.hermitcasket.specs.declared.text.Lines.the-variants.{Upto, Of
 use Rattle.hermitcasket.specs.declared.text.Section.{Section}
 use Rattle.hermitcasket.specs.declared.text.Section.the-variants.{Through, Faulty}
 use Rattle.hermitcasket.specs.declared.text.End.the-variants.{Asks, Damaged}
-use Rattle.hermitcasket.specs.Lines.{rolesKey, widerKey, showKey, starts, numberLine, pairLine}
+use Rattle.hermitcasket.specs.Lines.{numberLine, pairLine}
 use Rattle.hermitcasket.specs.Text.{Line, accepted, pickJudged, countThen, partThen, readLines, sectionAt, rolesAt, pairAt, showThen, judgeEnd}
 use Rattle.hermitcasket.specs.Inner.Text.{partOf, PartFits, countedThen, sectionThen, endThen, Ends, SectionFits, Counts, Sectioned}
 use Rattle.hermitcasket.proofs.LineLaws.{holds-within}

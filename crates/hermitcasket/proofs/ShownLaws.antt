@@ -16,13 +16,15 @@ use Rattle.countermodel.specs.Rows.{joined}
 use Rattle.countermodel.specs.Countermodel.{namesAt, linksAt, nameRows, linkRows, shownRows}
 use Rattle.countermodel.specs.Inner.Show.{Checked, NamesOf, ForRoles, LinksOf}
 use Rattle.countermodel.proofs.JudgingLaws.{checked}
+use Rattle.numerals.specs.Printing.{numberText, Output}
+use Rattle.numerals.specs.Inner.Printing.{Wrote}
+use Rattle.numerals.specs.Lines.{linesText}
+use Rattle.numerals.proofs.PieceLaws.{output}
 use Rattle.hermitcasket.specs.declared.answer.Plan.the-variants.{Parts}
-use Rattle.hermitcasket.specs.Lines.{numberText}
-use Rattle.hermitcasket.specs.Text.{Judged, linesText, judge}
+use Rattle.hermitcasket.specs.Text.{Judged, judge}
 use Rattle.hermitcasket.specs.Printing.{pickText, thingsKey, lineOf, rowsText, shownText, partsOf, linksPart, partText}
-use Rattle.hermitcasket.specs.Answer.{shownOr, AnsweredJudged, Answered, Output, Held, IsPart, InParts, Planned}
-use Rattle.hermitcasket.specs.Inner.Print.{Wrote, markLines, IsLinks}
-use Rattle.hermitcasket.proofs.ProgramLaws.{output}
+use Rattle.hermitcasket.specs.Answer.{shownOr, AnsweredJudged, Answered, Held, IsPart, InParts, Planned}
+use Rattle.hermitcasket.specs.Inner.Print.{markLines, IsLinks}
 use Rattle.hermitcasket.proofs.MarkLines.{rows-one, name-lines, link-lines}
 use Rattle.hermitcasket.proofs.SizeLaws.{keep-below, few-borne, names-short}
 

@@ -1,15 +1,12 @@
 -- How long the output can be.
-use Prim.Native.Nat.{ℕ, zero, suc, _+_, _*_, _/_, _%_, _^_, _<_, _≤_}
+use Prim.Native.Nat.{ℕ, zero, suc, _+_, _*_, _/_, _<_, _≤_}
 use mathlib.Core.Path.{_≡_, refl, ap}
-use mathlib.Core.List.{List, [], _∷_, _++_}
+use mathlib.Core.List.{List, [], _∷_}
 use mathlib.Core.Bool.{Bool, true, false}
 use native.Mathlib.Omega.{arith}
-use native.Mathlib.Nat.{pow-suc}
-use lib.Dec.{ltb}
 use lib.ListN.{length, length-append}
-use borrow.Author.Tests.{ltb-true, ltb-false, eqb-true}
+use borrow.Author.Tests.{eqb-true}
 use Rattle.subsumption.specs.declared.refusal.Outcome.the-variants.{Done}
-use Rattle.subsumption.specs.declared.refusal.Code.{Code}
 use Rattle.subsumption.specs.Tables.{Tables, or, both, anyBelow, Node, topAt, nameAt, existsAt, andAt, varAt, node, countOf}
 use Rattle.subsumption.specs.Atoms.{bit, keep, pick, isAtom, atoms}
 use Rattle.subsumption.specs.Check.{tableFault}
@@ -19,28 +16,13 @@ use Rattle.subsumption.proofs.Bools.{both-true}
 use Rattle.subsumption.proofs.Lists.{keep-le}
 use Rattle.countermodel.specs.Countermodel.{isNamed, bears, namesAt}
 use Rattle.countermodel.specs.Inner.Show.{Checked}
-use Rattle.hermitcasket.specs.Digits.{digits}
-use Rattle.hermitcasket.specs.Lines.{variablesKey, numberText, pairText}
-use Rattle.hermitcasket.specs.Printing.{numberKey, placeKey, idText, idsText, fillText, fillsText, filledText, refusedText, thingsKey, isKey, linkText}
+use Rattle.numerals.specs.Digits.{digits}
+use Rattle.numerals.specs.Printing.{numberText, pairText}
+use Rattle.numerals.specs.Lines.{variablesKey}
+use Rattle.numerals.proofs.DigitLaws.{digits-short}
+use Rattle.numerals.proofs.WriteLaws.{number-length, pair-length}
+use Rattle.hermitcasket.specs.Printing.{idText, idsText, fillText, fillsText, filledText, thingsKey, isKey, linkText}
 use Rattle.hermitcasket.specs.Inner.Print.{markLine, markLines}
-use Rattle.hermitcasket.proofs.DigitLaws.{digits-one, digits-more}
-
-pub digits-short : (k n : ℕ) → n < 10 ^ suc k → length (digits n) ≤ suc k
-digits-short zero n h = let l : n < 10 = h in omega (arith, ap length (digits-one n l))
-digits-short (suc k) n h = go (ltb n 10) refl (digits-short k (n / 10))
-  where
-    power : 10 ^ suc (suc k) ≡ 10 ^ suc k * 10
-    power = pow-suc 10 (suc k)
-
-    go : (b : Bool) → ltb n 10 ≡ b → (n / 10 < 10 ^ suc k → length (digits (n / 10)) ≤ suc k) → length (digits n) ≤ suc (suc k)
-    go true e ih = omega (arith, ap length (digits-one n (ltb-true n 10 e)))
-    go false e ih =
-        omega (
-          arith,
-          ih (omega (arith, power)),
-          ap length (digits-more n (ltb-false n 10 e)),
-          length-append (digits (n / 10)) ((48 + n % 10) ∷ []),
-        )
 
 -- ---- every id is below a bound
 pub AllBelow : ℕ → List ℕ → Type 0
@@ -100,41 +82,18 @@ fills-length ids (choice ∷ choices) h l =
       length-append (fillText (pick ids choice)) (fillsText ids choices),
     )
 
-number-length : (k : ℕ) (key : List ℕ) (n : ℕ) → n < 10 ^ suc k → length (numberText key n) ≤ length key + suc k + 1
-unfolding numberText
-number-length k key n h = omega (arith, length-append key (digits n ++ (10 ∷ [])), length-append (digits n) (10 ∷ []), digits-short k n h)
-
 pub filled-room : (t : Tables) (choices out : List ℕ) → tableFault t ≡ Done → length choices ≤ 8 → 4096 ≤ length out → 0 + length (filledText (atoms t) choices) ≤ length out
 unfolding filledText atoms
 filled-room t choices out h l k =
     omega (
       arith,
       fills-length (atoms t) choices (keep-below (isAtom t) 1000 0 _ (omega (arith, wellFormed t h .few))) (wellFormed t h .few-atoms),
-      number-length 0 variablesKey (length choices) (omega arith),
+      number-length variablesKey (length choices),
+      digits-short 0 (length choices) (omega arith),
       length-append (numberText variablesKey (length choices)) (fillsText (atoms t) choices),
     )
 
-pub refused-room : (code : Code) (out : List ℕ) → code .number < 65536 → code .place < 2 ^ 64 → 4096 ≤ length out → 0 + length (refusedText code) ≤ length out
-unfolding refusedText
-refused-room code out h l k =
-    omega (
-      arith,
-      number-length 4 numberKey (code .number) (omega arith),
-      number-length 19 placeKey (code .place) (omega arith),
-      length-append (numberText numberKey (code .number)) (numberText placeKey (code .place)),
-    )
-
 -- ---- the parts of an interpretation that is shown
-pair-length : (key : List ℕ) (a b : ℕ) → length (pairText key a b) ≡ length key + length (digits a) + length (digits b) + 2
-unfolding pairText
-pair-length key a b =
-    omega (
-      arith,
-      length-append key (digits a ++ (44 ∷ (digits b ++ (10 ∷ [])))),
-      length-append (digits a) (44 ∷ (digits b ++ (10 ∷ []))),
-      length-append (digits b) (10 ∷ []),
-    )
-
 mark-length : (link : Bool) (i s q : ℕ) → i < 1000 → s < 100 → q < 1000 → length (markLine link i s q) ≤ 16
 unfolding markLine linkText
 mark-length false i s q hi hs hq = omega (arith, pair-length isKey i q, digits-short 2 i hi, digits-short 2 q hq)
@@ -231,4 +190,4 @@ links-short concepts links i s out C hi hs k =
     )
 
 pub things-room : (concepts out : List ℕ) → Checked concepts → 4096 ≤ length out → 0 + length (numberText thingsKey (countOf concepts)) ≤ length out
-things-room concepts out C k = let few = C .layered .few in omega (arith, number-length 2 thingsKey (countOf concepts) (omega arith))
+things-room concepts out C k = let few = C .layered .few in omega (arith, number-length thingsKey (countOf concepts), digits-short 2 (countOf concepts) (omega arith))

@@ -2,18 +2,20 @@
 -- without it, and with the line of an asked pair or without; and reading a layout gives the tables and what is asked back.
 use Prim.Native.Nat.{ℕ, zero, suc, _+_, _*_, _≤_}
 use mathlib.Core.Path.{_≡_, ap, _∙_}
-use mathlib.Core.List.{List, [], _∷_, _++_}
+use mathlib.Core.List.{List, _++_}
 use mathlib.Core.Bool.{Bool, true, false}
 use mathlib.Core.Logic.{_↔_, ⊎-elim}
 use native.Mathlib.Omega.{arith}
 use lib.ListN.{length, getD, take, drop, length-append}
 use Rattle.subsumption.specs.Tables.{Tables, countOf, pairsOf}
+use Rattle.numerals.specs.Digits.{digits}
+use Rattle.numerals.specs.Printing.{numberText, pairText}
+use Rattle.numerals.specs.Lines.{variablesKey, rolesKey, widerKey, conceptsKey, inclusionsKey, questionsKey, belowKey, showKey, nameKey, someKey, andKey, variableKey, rowText, linesText, rowOfNumbers, pairOfNumbers}
+use Rattle.numerals.proofs.DigitLaws.{digits-short}
+use Rattle.numerals.proofs.WriteLaws.{number-length, pair-length}
 use Rattle.hermitcasket.specs.declared.text.Ask.{Ask}
 use Rattle.hermitcasket.specs.declared.text.Ask.the-variants.{Fill, Show}
-use Rattle.hermitcasket.specs.Digits.{digits}
-use Rattle.hermitcasket.specs.Lines.{variablesKey, rolesKey, widerKey, conceptsKey, inclusionsKey, questionsKey, belowKey, showKey, nameKey, someKey, andKey, variableKey, numberText, pairText, rowText}
-use Rattle.hermitcasket.specs.Text.{linesText, rowOfNumbers, pairOfNumbers, rolesText, askText, layout, Says, RowFits, RowsFit, ConceptFits, PairFits, AskFits, Sayable, accepted, judge}
-use Rattle.hermitcasket.proofs.SizeLaws.{digits-short}
+use Rattle.hermitcasket.specs.Text.{rolesText, askText, layout, Says, RowFits, RowsFit, ConceptFits, PairFits, AskFits, Sayable, accepted, judge}
 use Rattle.hermitcasket.proofs.LayoutLaws.{accepted-layout}
 use Rattle.hermitcasket.proofs.LayoutRead.{layout-accepted}
 
@@ -22,20 +24,10 @@ short : (n : ℕ) → n ≤ 65535 → length (digits n) ≤ 5
 short n h = digits-short 4 n (omega arith)
 
 number-size : (key : List ℕ) (n : ℕ) → n ≤ 65535 → length (numberText key n) ≤ length key + 6
-unfolding numberText
-number-size key n h = omega (arith, short n h, length-append key (digits n ++ (10 ∷ [])), length-append (digits n) (10 ∷ []))
+number-size key n h = omega (arith, short n h, number-length key n)
 
 pair-size : (key : List ℕ) (a b : ℕ) → a ≤ 65535 → b ≤ 65535 → length (pairText key a b) ≤ length key + 12
-unfolding pairText
-pair-size key a b ha hb =
-    omega (
-      arith,
-      short a ha,
-      short b hb,
-      length-append key (digits a ++ (44 ∷ (digits b ++ (10 ∷ [])))),
-      length-append (digits a) (44 ∷ (digits b ++ (10 ∷ []))),
-      length-append (digits b) (10 ∷ []),
-    )
+pair-size key a b ha hb = omega (arith, short a ha, short b hb, pair-length key a b)
 
 row-size : (kind a b : ℕ) → RowFits kind a b → length (rowText kind a b) ≤ 18
 unfolding rowText

@@ -4,7 +4,7 @@ use mathlib.Core.Path.{_≡_}
 use mathlib.Core.List.{List}
 use mathlib.Core.Bool.{Bool}
 use mathlib.Core.Logic.{_⊎_}
-use lib.ListN.{length, getD, take, drop, replicate}
+use lib.ListN.{length, getD, take, replicate}
 use Rattle.subsumption.specs.declared.refusal.Outcome.{Outcome}
 use Rattle.subsumption.specs.declared.refusal.Outcome.the-variants.{Done, Refused}
 use Rattle.subsumption.specs.Tables.{Tables}
@@ -17,6 +17,7 @@ use Rattle.subsumption.specs.Table.{marked}
 use Rattle.matching.specs.Solving.{Substitution, SolvesBy, First}
 use Rattle.countermodel.specs.Countermodel.{Exactly}
 use Rattle.countermodel.specs.Show.{holdingFault}
+use Rattle.numerals.specs.Printing.{Output}
 use Rattle.hermitcasket.specs.declared.text.Ask.the-variants.{Fill, Show}
 use Rattle.hermitcasket.specs.declared.answer.Plan.{Plan}
 use Rattle.hermitcasket.specs.declared.answer.Plan.the-variants.{Whole, Parts}
@@ -56,12 +57,6 @@ AnsweredJudged (refused r) output = output ≡ codeText (codeOf r)
 
 abbrev pub Answered : List ℕ → List ℕ → Type 0
 Answered text output = AnsweredJudged (judge text) output
-
--- The first `size` bytes of the buffer are such an output, and past them it keeps its values.
-pub record Output (Right : List ℕ → Type 0) (before : List ℕ) (size : ℕ) (after : List ℕ) : Type 0 where
-  pub answered : Right (take size after)
-  pub within : size ≤ length after
-  pub kept : drop size after ≡ drop size before
 
 -- ---- an output in parts
 

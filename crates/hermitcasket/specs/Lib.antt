@@ -1,6 +1,5 @@
 -- What a reader must believe: the house text, its judgement, and the whole output. `Inner` has the definitions of private contracts,
 -- and proofs/ the laws.
-pub mod Digits
 pub mod Lines
 pub mod Text
 pub mod Printing

@@ -9,27 +9,18 @@ use Rattle.subsumption.specs.Tables.{countOf}
 use Rattle.subsumption.specs.Atoms.{pick}
 use Rattle.countermodel.specs.Rows.{rowsOf}
 use Rattle.countermodel.specs.Countermodel.{namesAt, linksAt, nameRows, linkRows, shownRows}
-use Rattle.hermitcasket.specs.Digits.{digits}
-use Rattle.hermitcasket.specs.Lines.{variablesKey, numberText, pairText}
-use Rattle.hermitcasket.specs.Text.{linesText}
+use Rattle.numerals.specs.Digits.{digits}
+use Rattle.numerals.specs.Printing.{numberText, pairText, refusedText}
+use Rattle.numerals.specs.Lines.{variablesKey, linesText}
 
--- the whole lines "answer=filled", "answer=none", "answer=refused"
+-- the whole lines "answer=filled", "answer=none"
 abbrev pub filledLine : List ℕ
 filledLine = 97 ∷ 110 ∷ 115 ∷ 119 ∷ 101 ∷ 114 ∷ 61 ∷ 102 ∷ 105 ∷ 108 ∷ 108 ∷ 101 ∷ 100 ∷ 10 ∷ []
 
 abbrev pub noneLine : List ℕ
 noneLine = 97 ∷ 110 ∷ 115 ∷ 119 ∷ 101 ∷ 114 ∷ 61 ∷ 110 ∷ 111 ∷ 110 ∷ 101 ∷ 10 ∷ []
 
-abbrev pub refusedLine : List ℕ
-refusedLine = 97 ∷ 110 ∷ 115 ∷ 119 ∷ 101 ∷ 114 ∷ 61 ∷ 114 ∷ 101 ∷ 102 ∷ 117 ∷ 115 ∷ 101 ∷ 100 ∷ 10 ∷ []
-
--- "number=", "place=", "fill="
-abbrev pub numberKey : List ℕ
-numberKey = 110 ∷ 117 ∷ 109 ∷ 98 ∷ 101 ∷ 114 ∷ 61 ∷ []
-
-abbrev pub placeKey : List ℕ
-placeKey = 112 ∷ 108 ∷ 97 ∷ 99 ∷ 101 ∷ 61 ∷ []
-
+-- "fill="
 abbrev pub fillKey : List ℕ
 fillKey = 102 ∷ 105 ∷ 108 ∷ 108 ∷ 61 ∷ []
 
@@ -54,9 +45,6 @@ fillsText atoms (choice ∷ choices) = fillText (pick atoms choice) ++ fillsText
 
 unfoldable pub filledText : List ℕ → List ℕ → List ℕ
 filledText atoms assignment = filledLine ++ (numberText variablesKey (length assignment) ++ fillsText atoms assignment)
-
-unfoldable pub refusedText : Code → List ℕ
-refusedText code = refusedLine ++ (numberText numberKey (code .number) ++ numberText placeKey (code .place))
 
 unfoldable pub pickText : Bool → List ℕ → List ℕ → List ℕ
 pickText true a b = a

@@ -9,6 +9,9 @@ use lib.ListN.{length, getD, take, drop}
 use Rattle.subsumption.specs.declared.refusal.Refusal.{Refusal}
 use Rattle.subsumption.specs.declared.refusal.Refusal.the-variants.{Limit, BadText}
 use Rattle.subsumption.specs.Tables.{Tables, tables, countOf, pairsOf}
+use Rattle.numerals.specs.Bytes.{starts}
+use Rattle.numerals.specs.Printing.{numberText, pairText}
+use Rattle.numerals.specs.Lines.{variablesKey, rolesKey, widerKey, conceptsKey, inclusionsKey, questionsKey, belowKey, showKey, linesText, rowOfNumbers, pairOfNumbers}
 use Rattle.hermitcasket.specs.declared.lines.Number.{Number}
 use Rattle.hermitcasket.specs.declared.lines.Number.the-variants.{Value, NoNumber}
 use Rattle.hermitcasket.specs.declared.lines.PairLine.{PairLine}
@@ -17,20 +20,9 @@ use Rattle.hermitcasket.specs.declared.lines.RowLine.{RowLine}
 use Rattle.hermitcasket.specs.declared.lines.RowLine.the-variants.{Row, NoRow}
 use Rattle.hermitcasket.specs.declared.text.Ask.{Ask}
 use Rattle.hermitcasket.specs.declared.text.Ask.the-variants.{Fill, Show}
-use Rattle.hermitcasket.specs.Lines.{variablesKey, rolesKey, widerKey, conceptsKey, inclusionsKey, questionsKey, belowKey, showKey, numberText, pairText, rowText, starts, numberLine, pairLine, rowLine}
+use Rattle.hermitcasket.specs.Lines.{numberLine, pairLine, rowLine}
 
 -- ---- what a right text is
-
--- So many lines, each of the next `width` numbers.
-unfoldable pub linesText : (List ℕ → List ℕ) → ℕ → ℕ → List ℕ → List ℕ
-linesText text width zero numbers = []
-linesText text width (suc count) numbers = text (take width numbers) ++ linesText text width count (drop width numbers)
-
-abbrev pub rowOfNumbers : List ℕ → List ℕ
-rowOfNumbers numbers = rowText (getD numbers 0 0) (getD numbers 1 0) (getD numbers 2 0)
-
-abbrev pub pairOfNumbers : List ℕ → List ℕ → List ℕ
-pairOfNumbers key numbers = pairText key (getD numbers 0 0) (getD numbers 1 0)
 
 -- The roles above roles, or no section.
 unfoldable pub rolesText : Bool → List ℕ → List ℕ

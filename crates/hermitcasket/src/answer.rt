@@ -1,12 +1,12 @@
 // The program's answer as bytes, in front of a buffer; or, where an interpretation is shown, what its parts are printed from.
 use crate::filled::put_filled;
 use crate::print::put_none;
-use crate::print::put_refused;
 use crate::text::Ask;
 use crate::text::Read;
 use crate::text::read_text;
 use countermodel::helpers::judge_pair;
 use matching::Match;
+use numerals::helpers::put_refused;
 use subsumption::helpers::note_roles;
 use subsumption::refusal::Outcome;
 use subsumption::refusal::Refusal;
@@ -17,10 +17,11 @@ ghost use lib.ListN.{length, replicate};
 ghost use Rattle.subsumption.specs.Tables.{tables};
 ghost use Rattle.subsumption.specs.Refusal.{codeOf};
 ghost use Rattle.subsumption.specs.Check.{tableFault};
+ghost use Rattle.numerals.specs.Inner.Printing.{Wrote};
+ghost use Rattle.numerals.specs.Printing.{Output};
 ghost use Rattle.hermitcasket.specs.Text.{accepted, judge};
 ghost use Rattle.hermitcasket.specs.Printing.{codeText};
-ghost use Rattle.hermitcasket.specs.Inner.Print.{Wrote};
-ghost use Rattle.hermitcasket.specs.Answer.{AnsweredTables, Output, Planned};
+ghost use Rattle.hermitcasket.specs.Answer.{AnsweredTables, Planned};
 
 fn answer_refused(refusal: Refusal, out: &mut [u8]) -> usize
     requires { ⌜ 4096 ≤ length (now out) ⌝ }

@@ -1,7 +1,7 @@
 // The filled answer: for each variable in turn the line of the ids that are listed for it.
-use crate::print::put_bytes;
 use crate::print::put_fill;
-use crate::print::put_line;
+use numerals::helpers::put_bytes;
+use numerals::helpers::put_line;
 ghost use mathlib.Core.Path.{_≡_};
 ghost use Prim.Native.Nat.{_+_, _<_, _≤_};
 ghost use lib.ListN.{length};
@@ -9,8 +9,8 @@ ghost use Rattle.subsumption.specs.declared.refusal.Outcome.the-variants.{Done}
 ghost use Rattle.subsumption.specs.Tables.{tables};
 ghost use Rattle.subsumption.specs.Atoms.{atoms, chosen};
 ghost use Rattle.subsumption.specs.Check.{tableFault, assignmentFault};
+ghost use Rattle.numerals.specs.Inner.Printing.{Wrote};
 ghost use Rattle.hermitcasket.specs.Printing.{fillText, fillsText, filledText};
-ghost use Rattle.hermitcasket.specs.Inner.Print.{Wrote};
 
 // Tables and assignment are accepted, so the listing is not refused.
 fn put_variable(

@@ -1,8 +1,10 @@
 // Lines of the house text, each read from the front of the text's remaining part; `behind` passes on the part behind it.
+use numerals::read_run;
+use numerals::starts_with;
 ghost use mathlib.Core.Path.{_≡_};
-ghost use Prim.Native.Nat.{_≤_};
+ghost use Prim.Native.Nat.{_≤_, _<_};
 ghost use lib.ListN.{length, drop};
-ghost use Rattle.hermitcasket.specs.Lines.{starts, wrongDigit, number, numberLine, pairLine, rowLine};
+ghost use Rattle.hermitcasket.specs.Lines.{number, numberLine, pairLine, rowLine};
 
 // A number and the length used, its end among it.
 pub enum Number {
@@ -29,65 +31,23 @@ pub fn behind<'a>(rest: &'a [u8], n: usize) -> &'a [u8]
     &rest[n..]
 }
 
-// The remaining text starts with these bytes.
-pub fn starts_with(rest: &[u8], key: &[u8]) -> bool
-    ensures { λ r. ⌜ r ≡ starts (now (key .entry)) (now (rest .entry)) ⌝ }
-{
-    let mut i: usize = 0;
-    while i < key.len() {
-        if rest.len() <= i {
-            return false;
-        }
-        if rest[i] != key[i] {
-            return false;
-        }
-        i += 1;
-    }
-    true
-}
-
-// A byte that cannot go on a number of which so many digits are read.
-fn is_wrong_digit(value: u32, count: usize, byte: u8) -> bool
-    requires { ⌜ value ≤ 65535 ⌝ }
-    ensures { λ r. ⌜ r ≡ wrongDigit value count byte ⌝ }
-{
-    if byte < 48 {
-        return true;
-    }
-    if 57 < byte {
-        return true;
-    }
-    let next = value * 10 + (byte - 48) as u32;
-    if count == 0 {
-        return 65535 < next;
-    }
-    if value == 0 {
-        return true;
-    }
-    65535 < next
-}
-
 // A number that the byte `stop` ends.
 pub fn read_number(rest: &[u8], stop: u8) -> Number
+    requires { ⌜ stop < 48 ⌝ }
     ensures { λ r. ⌜ r ≡ number stop (now (rest .entry)) ⌝ }
 {
-    let mut value: u32 = 0;
-    let mut n: usize = 0;
-    while n < rest.len() {
-        let byte = rest[n];
-        if byte == stop {
-            if n == 0 {
-                return Number::NoNumber;
-            }
-            return Number::Value(value as u16, n + 1);
-        }
-        if is_wrong_digit(value, n, byte) {
-            return Number::NoNumber;
-        }
-        value = value * 10 + (byte - 48) as u32;
-        n += 1;
+    let run = read_run(rest);
+    let n = run.length;
+    if n == 0 {
+        return Number::NoNumber;
     }
-    Number::NoNumber
+    if rest.len() <= n {
+        return Number::NoNumber;
+    }
+    if rest[n] != stop {
+        return Number::NoNumber;
+    }
+    Number::Value(run.value, n + 1)
 }
 
 // A line of one number.

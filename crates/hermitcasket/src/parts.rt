@@ -1,9 +1,9 @@
 // An interpretation that is shown, part by part: its size, the names of each element, the links of each element by each role.
-use crate::print::put_line;
 use crate::print::put_link;
-use crate::print::put_pair;
 use countermodel::helpers::note_links;
 use countermodel::helpers::note_names;
+use numerals::helpers::put_line;
+use numerals::helpers::put_pair;
 ghost use mathlib.Core.Path.{_≡_};
 ghost use Prim.Native.Nat.{_+_, _<_, _≤_};
 ghost use lib.ListN.{length};
@@ -12,9 +12,11 @@ ghost use Rattle.subsumption.specs.Table.{marked};
 ghost use Rattle.subsumption.specs.Inner.Atoms.{markedIds};
 ghost use Rattle.countermodel.specs.Countermodel.{namesAt, nameRows};
 ghost use Rattle.countermodel.specs.Inner.Show.{Checked};
+ghost use Rattle.numerals.specs.Inner.Printing.{Wrote};
+ghost use Rattle.numerals.specs.Printing.{Output};
 ghost use Rattle.hermitcasket.specs.Printing.{rowsText, partsOf};
-ghost use Rattle.hermitcasket.specs.Inner.Print.{markLine, markLines, Wrote, IsLinks};
-ghost use Rattle.hermitcasket.specs.Answer.{Output, Held, IsPart};
+ghost use Rattle.hermitcasket.specs.Inner.Print.{markLine, markLines, IsLinks};
+ghost use Rattle.hermitcasket.specs.Answer.{Held, IsPart};
 
 // The line of a mark of an element: its name, or its link by the role to another.
 fn put_mark(link: bool, i: usize, role: usize, mark: usize, at: usize, out: &mut [u8]) -> usize

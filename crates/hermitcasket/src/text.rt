@@ -6,12 +6,12 @@ use crate::lines::behind;
 use crate::lines::number_line;
 use crate::lines::pair_line;
 use crate::lines::row_line;
-use crate::lines::starts_with;
+use numerals::starts_with;
 use subsumption::refusal::Refusal;
 ghost use mathlib.Core.Path.{_≡_};
 ghost use Prim.Native.Nat.{_+_, _*_, _≤_};
 ghost use lib.ListN.{length};
-ghost use Rattle.hermitcasket.specs.Lines.{conceptsKey};
+ghost use Rattle.numerals.specs.Lines.{conceptsKey};
 ghost use Rattle.hermitcasket.specs.Text.{readLines, rowAt, pairAt, sectionAt, rolesAt, judge};
 ghost use Rattle.hermitcasket.specs.Inner.Text.{partOf, PartFits, Counts, Sectioned, Ends, Last, faultOf, judgedBy, ReadFits, TablesRead};
 

@@ -19,6 +19,8 @@ pub enum Refusal {
     BadText(usize),
     NoCountermodel,
     BadRole(usize),
+    BadSyntax(usize),
+    TooDeep(usize),
     BadOrder(usize),
     ForwardInOrder(usize),
 }
@@ -97,6 +99,14 @@ pub fn code_of(r: Refusal) -> Code
         },
         Refusal::BadRole(p) => Code {
             number: 16,
+            place: p,
+        },
+        Refusal::BadSyntax(p) => Code {
+            number: 17,
+            place: p,
+        },
+        Refusal::TooDeep(p) => Code {
+            number: 18,
             place: p,
         },
         Refusal::BadOrder(p) => Code {

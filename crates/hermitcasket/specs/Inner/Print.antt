@@ -1,22 +1,13 @@
--- What the printing functions do to the buffer (src/print.rt, src/parts.rt).
-use Prim.Native.Nat.{ℕ, _+_}
+-- What the printing functions write for the parts of an interpretation (src/parts.rt).
+use Prim.Native.Nat.{ℕ}
 use mathlib.Core.Path.{_≡_}
 use mathlib.Core.List.{List, [], _∷_, _++_}
 use mathlib.Core.Bool.{Bool, true, false}
-use lib.ListN.{length, take, drop}
 use Rattle.subsumption.specs.Table.{marked}
 use Rattle.countermodel.specs.Countermodel.{linksAt, linkRows}
 use Rattle.countermodel.specs.Inner.Show.{ForRoles}
-use Rattle.hermitcasket.specs.Lines.{pairText}
+use Rattle.numerals.specs.Printing.{pairText}
 use Rattle.hermitcasket.specs.Printing.{isKey, linkText, rowsText}
-
-unfoldable pub placed : ℕ → List ℕ → List ℕ → List ℕ
-placed at bytes before = (take at before ++ bytes) ++ drop (at + length bytes) before
-
--- The bytes stand from `at` on, `end` is the place behind them, and the rest is as it was.
-pub record Wrote (before : List ℕ) (at : ℕ) (bytes : List ℕ) (end : ℕ) (after : List ℕ) : Type 0 where
-  pub place : end ≡ at + length bytes
-  pub buffer : after ≡ placed at bytes before
 
 -- The line of a mark q of the element i: its name q, or its link by the role s to q.
 unfoldable pub markLine : Bool → ℕ → ℕ → ℕ → List ℕ

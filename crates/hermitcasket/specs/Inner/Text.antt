@@ -5,6 +5,7 @@ use mathlib.Core.List.{List}
 use lib.ListN.{length, take, drop}
 use Rattle.subsumption.specs.declared.refusal.Refusal.{Refusal}
 use Rattle.subsumption.specs.declared.refusal.Refusal.the-variants.{BadText}
+use Rattle.numerals.specs.Lines.{questionsKey, belowKey}
 use Rattle.hermitcasket.specs.declared.text.Lines.{Lines}
 use Rattle.hermitcasket.specs.declared.text.Lines.the-variants.{Upto, Off}
 use Rattle.hermitcasket.specs.declared.text.Section.{Section}
@@ -15,7 +16,6 @@ use Rattle.hermitcasket.specs.declared.text.Asked.{Asked}
 use Rattle.hermitcasket.specs.declared.text.Asked.the-variants.{Questions, Wrong}
 use Rattle.hermitcasket.specs.declared.text.Read.{Read}
 use Rattle.hermitcasket.specs.declared.text.Read.the-variants.{Problem, Rejected}
-use Rattle.hermitcasket.specs.Lines.{questionsKey, belowKey}
 use Rattle.subsumption.specs.Tables.{Tables, tables}
 use Rattle.hermitcasket.specs.Text.{pairAt, Part, part, faulty, Judged, accepted, refused, Onward, countAt, sectionAt, judgeEnd, judgeConcepts}
 

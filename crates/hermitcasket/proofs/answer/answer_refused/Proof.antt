@@ -1,4 +1,4 @@
-use Rattle.hermitcasket.proofs.SizeLaws.{refused-room}
+use Rattle.numerals.proofs.WriteLaws.{refused-room}
 use Rattle.hermitcasket.proofs.ProgramLaws.{wrote-none, wrote-code}
 use native.Mathlib.Omega.{arith}
 use borrow.Author.Needs.{needs}

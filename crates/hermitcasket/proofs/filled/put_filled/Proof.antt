@@ -1,15 +1,13 @@
 use lib.ListN.{length}
 use Rattle.subsumption.specs.Tables.{tables}
 use Rattle.subsumption.specs.Atoms.{atoms}
-use Rattle.hermitcasket.specs.Lines.{variablesKey, numberText}
+use Rattle.numerals.specs.Printing.{numberText}
+use Rattle.numerals.specs.Lines.{variablesKey}
+use Rattle.numerals.proofs.WriteLaws.{room-1, room-2, room-3, wrote-three}
 use Rattle.hermitcasket.specs.Printing.{filledLine, fillsText, filledText}
-use Rattle.hermitcasket.proofs.WriteLaws.{room-1, room-2, room-3, wrote-three}
 use borrow.Author.Needs.{needs}
 use Rattle.hermitcasket.proofs.filled.put_filled.Statement.{statement}
 use Rattle.hermitcasket.proofs.filled.put_filled.Tie as tie
-use Rattle.hermitcasket.proofs.filled.put_fills.Reads as put-fills-reads
-use Rattle.hermitcasket.proofs.print.put_bytes.Reads as put-bytes-reads
-use Rattle.hermitcasket.proofs.print.put_line.Reads as put-line-reads
 
 slice-aggregate-put-bytes : tie.Need-slice-aggregate-put-bytes
 slice-aggregate-put-bytes c = search needs

@@ -1,7 +1,8 @@
 use Prim.Native.Nat.{_-_, _≤_}
 use native.Mathlib.Omega.{arith}
 use Rattle.subsumption.specs.Tables.{tables}
-use Rattle.hermitcasket.proofs.FillLaws.{Printed, printed-none, fillsLeft, fill-room, fills-more, fills-done}
+use Rattle.numerals.proofs.PieceLaws.{Printed, printed-none}
+use Rattle.hermitcasket.proofs.FillLaws.{fillsLeft, fill-room, fills-more, fills-done}
 use Rattle.hermitcasket.proofs.filled.put_fills.Statement.{statement}
 use Rattle.hermitcasket.proofs.filled.put_fills.Tie as tie
 use Rattle.hermitcasket.proofs.filled.put_variable.Reads as put-variable-reads

@@ -1,6 +1,6 @@
 use Prim.Native.Nat.{_-_}
 use native.Mathlib.Omega.{arith}
-use Rattle.hermitcasket.proofs.FillLaws.{Printed, printed-none}
+use Rattle.numerals.proofs.PieceLaws.{Printed, printed-none}
 use Rattle.hermitcasket.proofs.MarkLines.{marksLeft, marks-room, marks-set, marks-unset, marks-done}
 use Rattle.hermitcasket.proofs.parts.put_marks.Statement.{statement}
 use Rattle.hermitcasket.proofs.parts.put_marks.Tie as tie

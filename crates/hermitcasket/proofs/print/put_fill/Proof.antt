@@ -1,6 +1,6 @@
-use Rattle.hermitcasket.proofs.WriteLaws.{room-1, room-2, room-3, wrote-three}
 use mathlib.Core.List.{[], _∷_}
 use mathlib.Core.Bool.{false}
+use Rattle.numerals.proofs.WriteLaws.{room-1, room-2, room-3, wrote-three}
 use Rattle.hermitcasket.specs.Printing.{fillKey, idsText, fillText}
 use borrow.Author.Needs.{needs}
 use Rattle.hermitcasket.proofs.print.put_fill.Statement.{statement}

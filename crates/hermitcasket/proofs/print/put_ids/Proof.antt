@@ -1,7 +1,8 @@
 use Prim.Native.Nat.{_-_, _≤_}
 use native.Mathlib.Omega.{arith}
 use lib.ListN.{length}
-use Rattle.hermitcasket.proofs.FillLaws.{Printed, printed-none, piece-room, printed-more, idsLeft, ids-next, ids-done}
+use Rattle.numerals.proofs.PieceLaws.{Printed, printed-none, piece-room, printed-more}
+use Rattle.hermitcasket.proofs.FillLaws.{idsLeft, ids-next, ids-done}
 use Rattle.hermitcasket.proofs.print.put_ids.Statement.{statement}
 use Rattle.hermitcasket.proofs.print.put_ids.Tie as tie
 

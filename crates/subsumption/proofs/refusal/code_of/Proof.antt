@@ -57,6 +57,12 @@ enum-known-r-12 c = search needs
 enum-known-r-13 : tie.Need-enum-known-r-13
 enum-known-r-13 c = search needs
 
+enum-known-r-14 : tie.Need-enum-known-r-14
+enum-known-r-14 c = search needs
+
+enum-known-r-15 : tie.Need-enum-known-r-15
+enum-known-r-15 c = search needs
+
 returns : tie.Need-returns
 returns c = ap codeOf (sym (c .before .r .given .1))
 
@@ -108,6 +114,12 @@ returns-16 c = ap codeOf (sym (c .before .r12 .given .1))
 returns-17 : tie.Need-returns-17
 returns-17 c = ap codeOf (sym (c .before .r13 .given .1))
 
+returns-18 : tie.Need-returns-18
+returns-18 c = ap codeOf (sym (c .before .r14 .given .1))
+
+returns-19 : tie.Need-returns-19
+returns-19 c = ap codeOf (sym (c .before .r15 .given .1))
+
 pub code-of-spec : {M : Type 1} → statement M
 code-of-spec =
     tie.close
@@ -129,6 +141,8 @@ code-of-spec =
     enum-known-r-11
     enum-known-r-12
     enum-known-r-13
+    enum-known-r-14
+    enum-known-r-15
     returns
     returns-2
     returns-3
@@ -145,4 +159,6 @@ code-of-spec =
     returns-14
     returns-15
     returns-16
-    returns-17)
+    returns-17
+    returns-18
+    returns-19)

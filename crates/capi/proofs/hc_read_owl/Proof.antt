@@ -1,0 +1,33 @@
+use Rattle.capi.proofs.Answers.{reads-as}
+use borrow.Author.Needs.{needs}
+use Rattle.capi.proofs.hc_read_owl.Statement.{statement}
+use Rattle.capi.proofs.hc_read_owl.Tie as tie
+use Rattle.capi.proofs.hc_read_owl.Reads as reads
+use Rattle.capi.proofs.hc_read_owl.Lts as lts
+use Rattle.capi.proofs.catalogue_of.Reads as catalogue-of-reads
+use Rattle.owl.proofs.read_catalogue.Reads as read-catalogue-reads
+
+-- src/lib.rt:455:9
+read-catalogue-requires : tie.Need-read-catalogue-requires
+read-catalogue-requires c κs = search needs
+
+-- src/lib.rt:456:5
+catalogue-of-requires : tie.Need-catalogue-of-requires
+catalogue-of-requires c κs = search needs
+
+-- src/lib.rt:447:1
+same-length : tie.Need-same-length
+same-length c = search needs
+
+-- src/lib.rt:447:1
+same-length-2 : tie.Need-same-length-2
+same-length-2 c = search needs
+
+-- src/lib.rt:447:1
+returns : tie.Need-returns
+returns c = reads-as (c .before .before .before .before .before .before .before .before .before .before .before .args .text .now) (c .before .before .before .before .before .before .before .before .before .before .before .args .concepts .now) _ (c .before .before .before .before .before .before .before .before .before .before .before .args .inclusions .now) _ (c .catalogue-of .result) (c .before .before .before .before .before .read-catalogue .result) (c .before .before .before .before .before .read-catalogue .ensures) (c .catalogue-of .ensures)
+
+pub hc-read-owl-spec : {M : Type 1} → statement M
+hc-read-owl-spec =
+    tie.close
+    (tie.spec read-catalogue-requires catalogue-of-requires same-length same-length-2 returns)
