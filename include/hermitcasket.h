@@ -9,8 +9,8 @@
  *   in an output buffer written too. Where the count is 0 the pointer may be anything, NULL too:
  *   nothing is read or written through it.
  * - An output buffer overlaps nothing else that the call is lent, no other output buffer either; a
- *   held table is one. Tables, filling, told pairs, the list of new ids, lines and the rows of a
- *   given stock may overlap one another.
+ *   held table is one. Tables, filling, told pairs, the list of new ids, lines, the rows of a given
+ *   stock and a text may overlap one another.
  * - While a call runs, nothing else writes what it is lent, nor reads its output buffers.
  * - The thread has as much stack left as the operation needs, in bytes at most:
  *     hc_check              8192
@@ -26,6 +26,7 @@
  *     hc_belongs            131072
  *     hc_update_table       65536
  *     hc_renumber           8192
+ *     hc_read_owl           8192
  *
  * Calls share no state, so any number of threads may call at once, and no call depends on one
  * before it: the library has constants and no variables that outlive a call (no statics), uses no
@@ -75,17 +76,31 @@
  * belongs to a blank. A stock obeys an inclusion when all that belongs to the left belongs to the
  * right, and a role pair when each link of the narrow role is there under the wide one too.
  *
+ * A catalogue in OWL functional syntax is a run of axioms, SubClassOf( class class ), any number of
+ * them, none too. A class is
+ *   owl:Thing                               top
+ *   :cN                                     name N, from 0 to 999
+ *   ObjectIntersectionOf( class class ... ) "and" of two or more
+ *   ObjectSomeValuesFrom( :rN class )       "some" by role N, from 0 to 99
+ * Numbers have no leading zeros except 0 itself. A token is a round bracket, or a longest run of
+ * bytes other than round brackets, spaces and line ends (bytes 10 and 13): tab, comma and bytes
+ * over 127 belong to words. Spaces and line ends may stand before and after any token. An axiom's
+ * sides are 1 deep; what stands in the brackets of a class is one deeper than that class.
+ *
  * Order of fillings: look at the pairs (blank, position), blank 0 first and positions rising. At
  * the first pair where two fillings differ, the one that leaves the part out is earlier.
  *
  * Refusals. Checks run in the order 1 to 6, 16, 7, then 9, 21, 22, 15, 8, 11, 10; 12 comes last.
  * Within one check the lowest place wins; 8 takes several buffers in turn. The checks of a given
- * stock, again 1, 2 and 4, come after 9.
+ * stock, again 1, 2 and 4, come after 9. Of a catalogue's text 8 comes first, then 17 for its
+ * length; then the first byte at fault decides between 17, 18 and 1.
  *
  *   number  condition                                          place
  *   1       over a count limit, or a ragged table              0 entries, 1 inclusions,
  *                                                              2 questions, 3 blanks, 4 roles
  *           of a stock: no things, over 192, or ragged rows    0
+ *           of a catalogue: over 192 entries, met at the last  0
+ *           byte of the class that takes them past 192
  *   2       unknown kind, number out of range, unused field    id
  *           not 0
  *           of a stock: a row of another form, or with a       row
@@ -110,6 +125,10 @@
  *           rule; the last line is another pair
  *   15      the pair holds, so there is nothing to show        0
  *   16      a role over 99 in the role pairs                   pair
+ *   17      of a catalogue: over 8192 bytes                    8192
+ *           any other token or form than the syntax has, or    first byte of the token; the
+ *           the text ends too early                            text's length
+ *   18      of a catalogue: a class begun over 32 deep         its first byte
  *   21      of a list of new ids: a number that is no id or    its place, from 0
  *           stood before, or, tested last, too few numbers     length of the list
  *   22      by a list of new ids an inner id would not be      old id
@@ -131,6 +150,15 @@ typedef struct {
     uint64_t place;
     uint64_t value;
 } hc_answer;
+
+/* Of a catalogue that was read. number 0: done, place is 0, and so many entries and inclusions were
+ * written. Otherwise the refusal, and both are 0. */
+typedef struct {
+    uint16_t number;
+    uint64_t place;
+    uint64_t entries;
+    uint64_t inclusions;
+} hc_catalogue;
 
 /* Checks the tables. value: 0. */
 hc_answer hc_check(const uint16_t *entries, size_t entries_len,
@@ -287,6 +315,19 @@ hc_answer hc_renumber(const uint16_t *entries, size_t entries_len,
                       uint16_t *entries_out, size_t entries_out_len,
                       uint16_t *inclusions_out, size_t inclusions_out_len,
                       uint16_t *questions_out, size_t questions_out_len);
+
+/* Reads a catalogue in OWL functional syntax: text_len bytes, without a closing byte 0. Each
+ * occurrence of a class becomes entries in the order in which it closes, a name and top where they
+ * are read; an intersection is paired from the left at its closing bracket, one "and" for each
+ * member after the first. Each axiom becomes an inclusion of its sides. There are no blanks, no
+ * questions and no role pairs. entries wants 576 numbers and inclusions 192, however few are
+ * written; past three for each entry and two for each inclusion they keep their values. The
+ * accepted texts are exactly those of the syntax above within the limits of 17, 18 and 1, and the
+ * tables mean what the text says. hc_check accepts them, but for more than 64 parts (7), which is
+ * not tested here. */
+hc_catalogue hc_read_owl(const uint8_t *text, size_t text_len,
+                         uint16_t *entries, size_t entries_len,
+                         uint16_t *inclusions, size_t inclusions_len);
 
 #ifdef __cplusplus
 }

@@ -2,6 +2,7 @@
  * tests/tests/header.rs compares what this prints. */
 #include <hermitcasket.h>
 #include <stdio.h>
+#include <string.h>
 
 static const uint16_t entries[] = {1, 5, 0, 1, 7, 0, 2, 1, 0, 1, 9, 0, 4, 0, 0, 3, 1, 4};
 static const uint16_t inclusions[] = {2, 3};
@@ -18,6 +19,12 @@ static void show(const char *name, hc_answer answer)
 {
     printf("%s %u %llu %llu\n", name, (unsigned)answer.number,
            (unsigned long long)answer.place, (unsigned long long)answer.value);
+}
+
+static void show_read(const char *name, hc_catalogue read)
+{
+    printf("%s %u %llu %llu %llu\n", name, (unsigned)read.number, (unsigned long long)read.place,
+           (unsigned long long)read.entries, (unsigned long long)read.inclusions);
 }
 
 /* Every operation with NULL for each list, and for one list alone beside lists that are there. */
@@ -42,6 +49,8 @@ static void nulls(void)
     show("no entry to belong to", hc_belongs(NOTHING, NULL, 0, 1, NULL, 0, 0, 0));
     show("no table to keep", hc_update_table(NOTHING, NULL, 0, NULL, 0));
     show("nothing to renumber", hc_renumber(NOTHING, NULL, 0, NULL, 0, NULL, 0, NULL, 0));
+
+    show_read("no text, no room", hc_read_owl(NULL, 0, NULL, 0, NULL, 0));
 
     show("no catalogue", hc_match(entries, LEN(entries), NULL, 0, questions, LEN(questions),
                                   roles, LEN(roles), 1, NULL, 0));
@@ -175,6 +184,37 @@ static void filing(void)
     printf("past %u %u %u\n", (unsigned)filed[18], (unsigned)pairs[2], (unsigned)asked[4]);
 }
 
+/* A supplier's catalogue, its entries and pairs on lines, and what is refused. */
+static void supplier(void)
+{
+    static const char text[] = "SubClassOf(:c5 ObjectSomeValuesFrom(:r1 :c7))\r\n"
+                               "SubClassOf( ObjectIntersectionOf(:c5 owl:Thing :c9) :c7 )\n";
+    uint16_t rows[577] = {0}, pairs[193] = {0};
+    hc_catalogue read;
+
+#define READ(text, length) \
+    hc_read_owl((const uint8_t *)(text), length, rows, LEN(rows), pairs, LEN(pairs))
+    rows[27] = rows[576] = pairs[4] = pairs[192] = 77;
+    read = READ(text, strlen(text));
+    show_read("read", read);
+    show_read("no text", READ(NULL, 0));
+    show_read("byte 0", READ(text, sizeof text));
+    show_read("cut off", READ(text, strlen(text) - 2));
+    show_read("one name", READ("SubClassOf(:c5)", 15));
+    show_read("leading zero", READ("SubClassOf(:c5 :c05)", 20));
+    show_read("no room for entries", hc_read_owl(NULL, 0, rows, 575, pairs, 191));
+    show_read("no room for pairs", hc_read_owl(NULL, 0, rows, 576, pairs, 191));
+    for (size_t entry = 0; entry < read.entries; entry++)
+        printf("entry %u %u %u\n", (unsigned)rows[3 * entry], (unsigned)rows[3 * entry + 1],
+               (unsigned)rows[3 * entry + 2]);
+    printf("pairs %u %u, %u %u\n", (unsigned)pairs[0], (unsigned)pairs[1], (unsigned)pairs[2],
+           (unsigned)pairs[3]);
+    printf("past %u %u %u %u\n", (unsigned)rows[27], (unsigned)rows[576], (unsigned)pairs[4],
+           (unsigned)pairs[192]);
+    show("checked", hc_check(rows, 3 * (size_t)read.entries, pairs, 2 * (size_t)read.inclusions,
+                             NULL, 0, NULL, 0, 0));
+}
+
 int main(void)
 {
     uint16_t atoms[64] = {0};
@@ -185,6 +225,8 @@ int main(void)
 
     printf("answer %zu %zu %zu\n", sizeof(hc_answer), offsetof(hc_answer, place),
            offsetof(hc_answer, value));
+    printf("catalogue %zu %zu %zu %zu\n", sizeof(hc_catalogue), offsetof(hc_catalogue, place),
+           offsetof(hc_catalogue, entries), offsetof(hc_catalogue, inclusions));
     show("check", hc_check(TABLES));
     show("atoms", hc_atoms(TABLES, atoms, LEN(atoms)));
     printf("ids %u %u %u\n", (unsigned)atoms[0], (unsigned)atoms[1], (unsigned)atoms[2]);
@@ -213,6 +255,7 @@ int main(void)
     stocks();
     shift();
     filing();
+    supplier();
     nulls();
     return 0;
 }

@@ -46,13 +46,16 @@ pub const SENTENCES: &[Sentence] = &[
     Sentence { of: "renumbering", file: "BelowLaws", law: "renumbered-below" },
     Sentence { of: "renumbering", file: "BelowLaws", law: "renumbered-marks" },
     Sentence { of: "renumbering", file: "FillingLaws", law: "renumbered-fills" },
+    Sentence { of: "owl", file: "GrammarLaws", law: "texts-exactly" },
+    Sentence { of: "owl", file: "MeaningLaws", law: "texts-mean" },
+    Sentence { of: "owl", file: "AcceptedLaws", law: "catalogue-accepted" },
     Sentence { of: "hermitcasket", file: "Texts", law: "texts" },
     Sentence { of: "hermitcasket", file: "ShownLaws", law: "parts-answer" },
 ];
 
 /// The functions of a program that stand for it, since a program passes nothing on.
 const PROGRAM: &[(&str, &str, &str)] =
-    &[("hermitcasket", "answer", "answer"), ("hermitcasket", "parts", "put_part")];
+    &[("hermitcasket", "answer", "answer"), ("hermitcasket", "parts", "put_part"), ("hermitcasket_owl", "answer", "answer")];
 
 type Imports = BTreeMap<String, Name>;
 

@@ -21,6 +21,26 @@ impl Answer {
     }
 }
 
+/// `hc_catalogue`: number 0 is done, with how many concepts and inclusions were read.
+#[repr(C)]
+#[derive(Clone, Copy, Debug, PartialEq, Eq)]
+pub struct Catalogue {
+    pub number: u16,
+    pub place: u64,
+    pub concepts: u64,
+    pub inclusions: u64,
+}
+
+impl Catalogue {
+    pub fn done(concepts: u64, inclusions: u64) -> Self {
+        Catalogue { number: 0, place: 0, concepts, inclusions }
+    }
+
+    pub fn refused(number: u16, place: u64) -> Self {
+        Catalogue { number, place, concepts: 0, inclusions: 0 }
+    }
+}
+
 extern "C" {
     fn hc_check(
         concepts: *const u16,
@@ -232,11 +252,20 @@ extern "C" {
         questions_out: *mut u16,
         questions_out_len: usize,
     ) -> Answer;
+
+    fn hc_read_owl(
+        text: *const u8,
+        text_len: usize,
+        concepts: *mut u16,
+        concepts_len: usize,
+        inclusions: *mut u16,
+        inclusions_len: usize,
+    ) -> Catalogue;
 }
 
 // Each call below is sound for any slices: the operations have no `requires`, read only what the
-// lengths cover, and write only to `out`, to the rows of `show`, to the table of `update_table` or to
-// the three buffers of `renumber`.
+// lengths cover, and write only to `out`, to the rows of `show`, to the table of `update_table`, to
+// the three buffers of `renumber` or to the two of `read_owl`.
 
 pub fn check(t: TablesRef) -> Answer {
     unsafe {
@@ -519,6 +548,21 @@ pub fn renumber(
             inclusions.len(),
             questions.as_mut_ptr(),
             questions.len(),
+        )
+    }
+}
+
+/// The concepts and inclusions of a catalogue in OWL functional syntax, each at the front of its
+/// buffer.
+pub fn read_owl(text: &[u8], concepts: &mut [u16], inclusions: &mut [u16]) -> Catalogue {
+    unsafe {
+        hc_read_owl(
+            text.as_ptr(),
+            text.len(),
+            concepts.as_mut_ptr(),
+            concepts.len(),
+            inclusions.as_mut_ptr(),
+            inclusions.len(),
         )
     }
 }

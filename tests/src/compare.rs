@@ -3,7 +3,7 @@
 
 use std::ops::RangeInclusive;
 
-use crate::capi::{self, Answer};
+use crate::capi::{self, Answer, Catalogue};
 use crate::lend::{Lent, LentInputs, Noise};
 use crate::limits::ROW_BYTES;
 use crate::random::{cases, full_run, seed, Random, Size};
@@ -294,6 +294,46 @@ pub fn yes_or_no(
     assert!(all_seen || !full_run(), "answers: {:?}", seen);
     let [yes, no, refused] = shares;
     tally.finish(&[("yes", yes), ("no", no), ("refused", refused)]);
+}
+
+/// A catalogue in OWL functional syntax, with buffers of these lengths. What is read must be accepted,
+/// up to the number of atoms.
+pub fn read_owl(text: &[u8], rooms: [usize; 2]) -> Catalogue {
+    let mut random = Random::new(text.len() as u64 ^ 0x5eed);
+    let lent = Lent::holding(text, &mut random);
+    let mut concepts: Lent<u16> = Lent::noise(rooms[0], &mut random);
+    let mut inclusions: Lent<u16> = Lent::noise(rooms[1], &mut random);
+    let answer = capi::read_owl(lent.slice(), concepts.slice_mut(), inclusions.slice_mut());
+    let shown = || format!("b\"{}\" ({} bytes), {:?}", text.escape_ascii(), text.len(), rooms);
+    let expected = reference::read_owl(text, rooms);
+    let wanted = match &expected {
+        Ok(read) => Catalogue::done(read.concept_count() as u64, read.inclusions.len() as u64 / 2),
+        Err(refusal) => Catalogue::refused(refusal.number, refusal.place),
+    };
+    assert!(
+        answer == wanted,
+        "hc_read_owl answers {:?}, the reference {:?}, for\n{}",
+        answer,
+        wanted,
+        shown()
+    );
+    assert!(lent.unchanged(), "hc_read_owl changed the text, for\n{}", shown());
+    let read = expected.unwrap_or_default();
+    for (name, out, written) in
+        [("entries", &concepts, &read.concepts), ("inclusions", &inclusions, &read.inclusions)]
+    {
+        assert!(
+            out.holds(written),
+            "hc_read_owl left the {} otherwise than {:?} and the rest kept, for\n{}",
+            name,
+            written,
+            shown()
+        );
+    }
+    let said = capi::check(read.lend());
+    let accepted = [Answer::done(0), Answer::refused(7, 64)].contains(&said);
+    assert!(accepted, "hc_check answers {:?} to what is read of\n{}", said, shown());
+    answer
 }
 
 fn judge(

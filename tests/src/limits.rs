@@ -16,7 +16,13 @@ pub const ROW_BYTES: usize = 24;
 /// written.
 pub const ATOM_ROOM: usize = 64;
 
-/// Bytes of the longest text that the program judges line by line.
+/// Numbers that the buffers for the concepts and the inclusions of a catalogue must hold, however few
+/// are written.
+pub const CATALOGUE_ROOMS: [usize; 2] = [3 * MAX_CONCEPTS, 2 * MAX_INCLUSIONS];
+/// How deep a class of a catalogue may be begun; an axiom's sides are 1 deep.
+pub const MAX_DEPTH: usize = 32;
+
+/// Bytes of the longest text that is judged: line by line, or token by token.
 pub const MAX_TEXT: usize = 8192;
 
 /// Numbers that the buffer for a derivation must hold, however few are written.

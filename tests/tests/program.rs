@@ -1,9 +1,7 @@
 //! The program itself, run as a process: its answer to every text, right or damaged.
 
-use std::io::{self, Read, Write};
-use std::path::{Path, PathBuf};
-use std::process::{Child, ChildStdout, Command, Stdio};
-use std::thread;
+use std::io::{Read, Write};
+use std::process::{Child, ChildStdout};
 use std::time::Duration;
 
 use hermitcasket_tests::damage;
@@ -15,6 +13,7 @@ use hermitcasket_tests::house_text::{
 use hermitcasket_tests::limits::{MAX_ROLE_PAIRS, MAX_TEXT};
 use hermitcasket_tests::nested::Large;
 use hermitcasket_tests::planted;
+use hermitcasket_tests::process;
 use hermitcasket_tests::random::{cases, full_run, seed, Random, Size};
 use hermitcasket_tests::reference::Refusal;
 use hermitcasket_tests::tables::{Stock, Tables};
@@ -104,37 +103,18 @@ below=5,0
 show=2,1
 ";
 
+const PROGRAM: &str = "hermitcasket";
+
 fn start() -> Child {
-    let package = Path::new(env!("CARGO_MANIFEST_DIR"));
-    let program: PathBuf = package.join("../target/bin/hermitcasket");
-    let missing = "is missing: run rt check hermitcasket first";
-    assert!(program.is_file(), "{} {}", program.display(), missing);
-    let mut command = Command::new(&program);
-    command.stdin(Stdio::piped()).stdout(Stdio::piped()).stderr(Stdio::piped());
-    command.spawn().unwrap_or_else(|error| panic!("{:?}: {}", command, error))
+    process::start(PROGRAM)
 }
 
-/// All that the program prints when it is given the pieces one after another.
 fn print_in_pieces(pieces: &[&[u8]], pause: Duration) -> String {
-    let mut child = start();
-    let mut input = child.stdin.take().expect("a pipe");
-    for piece in pieces {
-        match input.write_all(piece).and_then(|()| input.flush()) {
-            // it may stop reading once the text is too long
-            Err(error) if error.kind() == io::ErrorKind::BrokenPipe => break,
-            written => written.expect("a pipe takes the text"),
-        }
-        thread::sleep(pause);
-    }
-    drop(input);
-    let ended = child.wait_with_output().expect("the program ends");
-    assert!(ended.status.code().is_some(), "{}", ended.status);
-    assert!(ended.stderr.is_empty(), "{}", String::from_utf8_lossy(&ended.stderr));
-    String::from_utf8(ended.stdout).expect("the output is plain text")
+    process::print_in_pieces(PROGRAM, pieces, pause)
 }
 
 fn print(text: &[u8]) -> String {
-    print_in_pieces(&[text], Duration::ZERO)
+    process::print(PROGRAM, text)
 }
 
 /// The program prints what the reference does; what that is comes back.

@@ -72,8 +72,12 @@ fn program(lines: &str) -> String {
 fn the_c_lines_do_what_their_comments_say() {
     let readme = read("README.md");
     let is_c = |block: &String| block.contains(';');
-    let headings =
-        ["Linking it", "Keeping the table during the shift", "Renumbering before filing"];
+    let headings = [
+        "Linking it",
+        "Keeping the table during the shift",
+        "Renumbering before filing",
+        "Catalogues from suppliers",
+    ];
     let shown = headings.iter().flat_map(|heading| blocks(section(&readme, heading)));
     let lines: String = shown.filter(is_c).collect();
     let calls = lines.matches(" = hc_").count();
@@ -110,13 +114,23 @@ fn the_derivation_is_accepted() {
     assert_eq!(answer, Answer::done(0), "{}", shown);
 }
 
+/// What a line of the shell prints at the top folder.
+fn printed(line: &str, program: &str) -> String {
+    let missing = format!("target/bin/{0} is missing: run rt check {0} first", program);
+    assert!(root().join("target/bin").join(program).is_file(), "{}", missing);
+    let output = run(Command::new("bash").args(["-c", line]).current_dir(root()));
+    String::from_utf8(output.stdout).expect("plain text")
+}
+
 /// What ./run prints for a card.
 fn answer(card: &str) -> String {
-    let missing = "target/bin/hermitcasket is missing: run rt check hermitcasket first";
-    assert!(root().join("target/bin/hermitcasket").is_file(), "{}", missing);
-    let line = format!("./run < examples/{}", card);
-    let output = run(Command::new("bash").args(["-c", &line]).current_dir(root()));
-    String::from_utf8(output.stdout).expect("plain text")
+    printed(&format!("./run < examples/{}", card), "hermitcasket")
+}
+
+/// The house text of a catalogue.
+fn house_text(catalogue: &str) -> String {
+    let line = format!("target/bin/hermitcasket_owl < examples/{}", catalogue);
+    printed(&line, "hermitcasket_owl")
 }
 
 /// README's command prints what stands below it.
@@ -127,6 +141,36 @@ fn the_command_prints_what_is_shown() {
     assert_eq!(shown.len(), 2, "{:?}", shown);
     let card = shown[0].trim().strip_prefix("./run < examples/").expect("a command with a card");
     assert_eq!(answer(card), shown[1]);
+}
+
+/// The supplier's catalogue stands in README as it is in its file, and the command prints what stands
+/// below it. What is printed can be piped on.
+#[test]
+fn the_catalogue_is_printed_as_shown() {
+    let readme = read("README.md");
+    let shown = blocks(section(&readme, "Catalogues from suppliers"));
+    assert_eq!(shown[0], read("examples/supplier.ofn"));
+    let line = "target/bin/hermitcasket_owl < examples/supplier.ofn";
+    assert_eq!(shown[1].trim(), line);
+    assert_eq!(house_text("supplier.ofn"), shown[2]);
+    let piped = printed(&format!("{} | ./run", line), "hermitcasket");
+    assert_eq!(piped, "answer=filled\nblanks=0\n");
+}
+
+/// The card over it has the catalogue's entries first and its inclusions.
+#[test]
+fn the_card_holds_the_catalogue() {
+    let lists = |text: &str| {
+        let lines: Vec<String> = text.lines().map(String::from).collect();
+        let at = |key: &str| lines.iter().position(|line| line.starts_with(key)).expect("a key");
+        let [entries, inclusions, questions] = ["entries=", "inclusions=", "questions="].map(at);
+        (lines[entries + 1..inclusions].to_vec(), lines[inclusions..questions].to_vec())
+    };
+    let (entries, inclusions) = lists(&house_text("supplier.ofn"));
+    let (of_card, pairs) = lists(&read("examples/supplied.txt"));
+    assert_eq!(of_card[..entries.len()], entries[..]);
+    assert_eq!(pairs, inclusions);
+    assert!(of_card.len() > entries.len() && !inclusions.is_empty());
 }
 
 /// The cards of examples/, by name.
@@ -146,6 +190,10 @@ fn each_card_prints_its_answer() {
     let mut seen = Vec::new();
     for (heading, section) in sections(&text) {
         let card = heading.split(':').next().unwrap_or(heading);
+        if card.ends_with(".ofn") {
+            assert_eq!(blocks(section)[0], house_text(card), "{}", card);
+            continue;
+        }
         assert_eq!(blocks(section), [answer(card)], "{}", card);
         legend(card, section);
         seen.push(card.to_string());

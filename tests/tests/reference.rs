@@ -1,6 +1,6 @@
 //! The reference itself, held against 01's definition of "below" on tiny tables, and against 02's
-//! of twins, of roles above roles, of a shown interpretation, of a held table that is closed and of new
-//! ids.
+//! of twins, of roles above roles, of a shown interpretation, of a held table that is closed, of new
+//! ids and of catalogues in OWL functional syntax.
 
 use std::collections::BTreeSet;
 
@@ -10,6 +10,7 @@ use hermitcasket_tests::hard::{self, Hard};
 use hermitcasket_tests::layout::Relation;
 use hermitcasket_tests::limits::{MAX_ATOMS, MAX_CONCEPTS, MAX_ROLE, MAX_ROLE_PAIRS};
 use hermitcasket_tests::orders;
+use hermitcasket_tests::owl::{self, Axiom, Class};
 use hermitcasket_tests::random::{cases, seed, Random, Size};
 use hermitcasket_tests::reference::atoms::{self, chosen, Twins};
 use hermitcasket_tests::reference::model::{self, Canonical};
@@ -474,6 +475,39 @@ fn new_ids_keep_the_concepts() {
         }
     }
     tally.finish(&[("smaller", 50..=95), ("not smaller", 5..=40)]);
+}
+
+/// A catalogue is read back as the axioms that were written, whatever spaces stand between them, and
+/// its concepts are theirs.
+#[test]
+fn catalogues_are_read_as_written() {
+    fn meant(class: &Class) -> String {
+        match class {
+            Class::Thing => "top".to_string(),
+            Class::Name(name) => format!("n{}", name),
+            Class::Some(role, inner) => format!("r{}({})", role, meant(inner)),
+            Class::All(members) => {
+                let pair = |left: String, right: String| format!("({} and {})", left, right);
+                members.iter().map(meant).reduce(pair).expect("members")
+            }
+        }
+    }
+    let seed = seed("reference, catalogues");
+    for size in [Size::Small, Size::Medium, Size::Large] {
+        for k in 0..(cases(size) / 8).max(1) {
+            let mut random = Random::for_case(seed, k);
+            let axioms = owl::catalogue(&mut random, size);
+            let text = owl::spaced(&mut random, &owl::tokens(&axioms));
+            assert_eq!(reference::owl::read(&text), Ok(axioms.clone()));
+            let tables = reference::owl::tables(&axioms);
+            assert_eq!(tables.concept_count(), owl::concepts(&axioms));
+            let sides = |axiom: &Axiom| (meant(&axiom.left), meant(&axiom.right));
+            let read = |(l, r): (usize, usize)| (written_out(&tables, l), written_out(&tables, r));
+            let read: Vec<(String, String)> =
+                tables.inclusion_pairs().into_iter().map(read).collect();
+            assert_eq!(read, axioms.iter().map(sides).collect::<Vec<_>>());
+        }
+    }
 }
 
 /// Towers of 95 "and" over one name and its copy: 2^95 names each, one step for each pair.

@@ -1,7 +1,8 @@
 //! The independent implementation, written from 01 and 02 alone: refusals as a list of checks, atoms as
 //! a set of ids, subsumption by building a canonical interpretation and looking at its members,
 //! matching by learning clauses from assignments that fail, a held table closed pair by pair, rows
-//! written to their new ids by the old ones. It aims at being plainly right; most of it is slow.
+//! written to their new ids by the old ones, catalogues read by recursive descent. It aims at being
+//! plainly right; most of it is slow.
 
 pub mod atoms;
 pub mod blanks;
@@ -11,13 +12,14 @@ pub mod derivation;
 pub mod incremental;
 pub mod matching;
 pub mod model;
+pub mod owl;
 pub mod patterns;
 pub mod refusals;
 pub mod renumbering;
 pub mod roles;
 
 use crate::layout;
-use crate::limits::{line_room, ATOM_ROOM, ROW_BYTES};
+use crate::limits::{line_room, ATOM_ROOM, CATALOGUE_ROOMS, MAX_TEXT, ROW_BYTES};
 use crate::tables::{Case, Stock, Tables};
 
 /// A refusal of 01's table.
@@ -174,6 +176,16 @@ pub fn renumber(tables: &Tables, order: &[u16], rooms: [usize; 3]) -> Result<Tab
         refusals::of_room(room, wanted)?;
     }
     Ok(after)
+}
+
+/// Operation: read a catalogue in OWL functional syntax. The rooms are the lengths of the buffers for
+/// concepts and inclusions.
+pub fn read_owl(text: &[u8], rooms: [usize; 2]) -> Result<Tables, Refusal> {
+    for (room, wanted) in rooms.into_iter().zip(CATALOGUE_ROOMS) {
+        refusals::of_room(room, wanted)?;
+    }
+    refusals::refuse(17, (text.len() > MAX_TEXT).then_some(MAX_TEXT))?;
+    Ok(owl::tables(&owl::read(text)?))
 }
 
 /// Row x, column j: element x of the given interpretation is a member of concept j. All must be
