@@ -6,6 +6,7 @@
 pub mod checks;
 pub mod columns;
 pub mod countermodel;
+pub mod functional_syntax;
 pub mod incremental;
 pub mod membership;
 pub mod operations;

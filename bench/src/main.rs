@@ -9,6 +9,7 @@ mod external;
 mod markdown;
 mod matcher;
 mod memory;
+mod owl;
 mod plot;
 mod renumber;
 mod show;
@@ -21,13 +22,14 @@ use table::Tools;
 type Print = fn(&Tools);
 
 /// Subjects that share one table.
-const LINES: [(&str, Print); 6] = [
+const LINES: [(&str, Print); 7] = [
     ("below", below::print),
     ("matcher", matcher::print),
     ("puzzles", matcher::print_puzzles),
     ("show", show::print),
     ("belongs", belongs::print),
     ("renumber", renumber::print),
+    ("owl", owl::print),
 ];
 
 const TABLES: [(&str, fn()); 3] =

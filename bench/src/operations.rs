@@ -7,6 +7,7 @@ use hermitcasket_tests::hard::{self, Hard};
 use hermitcasket_tests::limits::*;
 use hermitcasket_tests::nested::{crowd, tower, tower_over_choice, Large, APART};
 use hermitcasket_tests::orders::rising;
+use hermitcasket_tests::owl::at_the_limits;
 use hermitcasket_tests::random::Random;
 use hermitcasket_tests::reference::atoms::chosen;
 use hermitcasket_tests::shift::told;
@@ -30,6 +31,8 @@ pub struct Input {
     told: Vec<u16>,
     /// For each id its new one.
     order: Vec<u16>,
+    /// Catalogues at the limits, the same in every input.
+    texts: Vec<Vec<u8>>,
 }
 
 /// The families of catalogues at full size, without and with role pairs, hard problems, and nested
@@ -69,7 +72,8 @@ fn input((label, tables): (String, Tables)) -> Input {
     let stock = crowd(&mut Random::new(1), 2_000, APART);
     let told = told(&mut Random::new(1), &chosen(&tables, &assignment));
     let order = rising(&mut Random::new(1), &tables);
-    Input { label, tables, assignment, pair, lines, failing, shown, stock, told, order }
+    let texts = at_the_limits().into_iter().map(|(_, text)| text).collect();
+    Input { label, tables, assignment, pair, lines, failing, shown, stock, told, order, texts }
 }
 
 /// A pair that fails, and the length that its interpretation wants; else a pair that holds.
@@ -116,7 +120,7 @@ impl Default for Room {
 
 pub type Operation = fn(&Input, &mut Room) -> Answer;
 
-pub const OPERATIONS: [(&str, Operation); 13] = [
+pub const OPERATIONS: [(&str, Operation); 14] = [
     ("hc_check", |input, _| capi::check(input.tables.lend())),
     ("hc_atoms", |input, room| capi::atoms(input.tables.lend(), &mut room.ids)),
     ("hc_blanks", |input, _| capi::blanks(input.tables.lend(), 0)),
@@ -151,6 +155,13 @@ pub const OPERATIONS: [(&str, Operation); 13] = [
     ("hc_renumber", |input, room| {
         let Room { concepts, inclusions, questions, .. } = room;
         capi::renumber(input.tables.lend(), &input.order, concepts, inclusions, questions)
+    }),
+    // all texts, one after another
+    ("hc_read_owl", |input, room| {
+        let Room { concepts, inclusions, .. } = room;
+        let read = |text: &Vec<u8>| capi::read_owl(text, concepts, inclusions);
+        let last = input.texts.iter().map(read).last().expect("a text");
+        Answer { number: last.number, place: last.place, value: last.concepts }
     }),
 ];
 

@@ -1,12 +1,15 @@
 //! The yardstick is right too: the plain implementation held against the reference.
 
 use hermitcasket_bench::checks::{Refusal, Stock};
+use hermitcasket_bench::functional_syntax::read_owl;
 use hermitcasket_bench::search::find;
 use hermitcasket_bench::{
     atoms, belongs, check, lend, renumber, show, subsumed, subsumption_table, update_table,
 };
 use hermitcasket_tests::generate;
 use hermitcasket_tests::hard::{self, Hard, Known};
+use hermitcasket_tests::limits::CATALOGUE_ROOMS;
+use hermitcasket_tests::owl;
 use hermitcasket_tests::random::{cases, seed, Random, Size};
 use hermitcasket_tests::reference;
 use hermitcasket_tests::tables::{Case, Tables};
@@ -118,6 +121,51 @@ fn new_ids_agree() {
             assert_eq!(after, numbered(expected), "{}", case);
         }
     }
+}
+
+/// Catalogues and what is left of them when a token or a byte is at fault.
+#[test]
+fn catalogues_agree() {
+    let agree = |text: &[u8], rooms: [usize; 2]| {
+        let [mut concepts, mut inclusions] = rooms.map(|room| vec![0; room]);
+        let read = read_owl(text, &mut concepts, &mut inclusions).map(|(count, axioms)| {
+            concepts.truncate(3 * count);
+            inclusions.truncate(2 * axioms);
+            Tables { concepts, inclusions, ..Tables::default() }
+        });
+        let expected = numbered(reference::read_owl(text, rooms));
+        assert_eq!(read, expected, "b\"{}\"", text.escape_ascii());
+    };
+    let seed = seed("plain implementation, catalogues");
+    for size in [Size::Small, Size::Medium, Size::Large] {
+        for k in 0..(cases(size) / 2).max(1) {
+            let mut random = Random::for_case(seed, k);
+            let axioms = owl::catalogue(&mut random, size);
+            let mut words = owl::tokens(&axioms);
+            if random.percent(50) && !words.is_empty() {
+                let (at, to) = (random.below(words.len()), random.below(words.len()));
+                match random.below(3) {
+                    0 => words.swap(at, to),
+                    1 => words.insert(at, words[to].clone()),
+                    _ => drop(words.remove(at)),
+                }
+            }
+            let mut text = owl::spaced(&mut random, &words);
+            if random.percent(30) && !text.is_empty() {
+                let at = random.below(text.len());
+                text[at] = *random.pick(b" ()\t:cr0,\xff");
+            }
+            agree(&text, CATALOGUE_ROOMS);
+        }
+    }
+    for (_, text) in owl::at_the_limits() {
+        agree(&text, CATALOGUE_ROOMS);
+        agree(&[&text[..], b"SubClassOf(:c1 :c2)SubClassOf(:c1 :c2)"].concat(), CATALOGUE_ROOMS);
+        agree(&text, [575, 191]);
+        agree(&text, [576, 191]);
+    }
+    let deep = owl::Axiom { left: owl::tower(32, 1, owl::Class::Thing), right: owl::Class::Thing };
+    agree(&owl::lines(&[deep]), CATALOGUE_ROOMS);
 }
 
 /// The puzzles at full size: what is known of their answers, and that a solution solves.

@@ -6,10 +6,11 @@ use std::fmt::Write;
 use std::fs;
 use std::process::Command;
 
+use hermitcasket_tests::konclude::is_installed;
 use hermitcasket_tests::reference::atoms;
 use hermitcasket_tests::tables::{Concept, Tables};
 
-use super::{best, is_installed, run, Scratch, Timed, LIMIT};
+use super::{best, run, Scratch, Timed, LIMIT};
 
 /// `below` is for entries without blanks, so gringo finds it; `over` goes up from an entry with
 /// blanks on a question's left, and `under` says what is below one on a question's right. Both

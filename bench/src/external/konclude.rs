@@ -1,17 +1,14 @@
 //! Konclude classifies a catalogue: each entry is a class :eN, defined over the classes of its
 //! inner entries. The table is read from the hierarchy that it writes.
 
-use std::collections::HashMap;
 use std::fmt::Write;
 use std::fs;
 use std::process::Command;
 
+use hermitcasket_tests::konclude::{is_installed, Hierarchy, PREFIX, PROGRAM};
 use hermitcasket_tests::tables::{Concept, Tables};
 
-use super::{best, is_installed, run, Scratch, Timed, LIMIT};
-
-const PROGRAM: &str = "Konclude";
-const PREFIX: &str = "http://hermitcasket.test/";
+use super::{best, run, Scratch, Timed, LIMIT};
 
 pub fn installed() -> bool {
     is_installed(PROGRAM)
@@ -69,59 +66,9 @@ fn class(concept: Concept) -> String {
     }
 }
 
-/// The classes of the hierarchy and the steps up from each.
-#[derive(Default)]
-struct Hierarchy {
-    places: HashMap<String, usize>,
-    above: Vec<Vec<usize>>,
-}
-
-impl Hierarchy {
-    fn place(&mut self, class: &str) -> usize {
-        let next = self.places.len();
-        let place = *self.places.entry(class.to_string()).or_insert(next);
-        if place == next {
-            self.above.push(Vec::new());
-        }
-        place
-    }
-
-    /// Reads OWL/XML line by line: two or more classes in one axiom.
-    fn read(text: &str) -> Hierarchy {
-        let mut made = Hierarchy::default();
-        let mut classes: Vec<usize> = Vec::new();
-        for line in text.lines().map(str::trim) {
-            if let Some(class) = line.strip_prefix("<Class IRI=\"") {
-                classes.push(made.place(class.trim_end_matches("\"/>")));
-            } else if line == "</SubClassOf>" {
-                made.above[classes[0]].push(classes[1]);
-            } else if line == "</EquivalentClasses>" {
-                for k in 0..classes.len() {
-                    made.above[classes[k]].push(classes[(k + 1) % classes.len()]);
-                }
-            } else {
-                classes.clear();
-            }
-        }
-        made
-    }
-
-    fn reached(&self, from: usize) -> Vec<bool> {
-        let mut reached = vec![false; self.above.len()];
-        let mut open = vec![from];
-        while let Some(class) = open.pop() {
-            if !reached[class] {
-                reached[class] = true;
-                open.extend(&self.above[class]);
-            }
-        }
-        reached
-    }
-}
-
 fn relation(text: &str, count: usize) -> Relation {
     let mut hierarchy = Hierarchy::read(text);
-    let of_id = |id: usize| hierarchy.place(&format!("{}e{}", PREFIX, id));
+    let of_id = |id: usize| hierarchy.place(&format!("e{}", id));
     let places: Vec<usize> = (0..count).map(of_id).collect();
     let row = |&place: &usize| {
         let reached = hierarchy.reached(place);

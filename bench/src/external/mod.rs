@@ -35,11 +35,6 @@ fn best<A>(mut run: impl FnMut() -> Option<(A, Duration)>) -> Timed<A> {
     best
 }
 
-pub fn is_installed(tool: &str) -> bool {
-    let path = env::var_os("PATH").unwrap_or_default();
-    env::split_paths(&path).any(|folder| folder.join(tool).is_file())
-}
-
 /// A folder of its own for the files of one run of the program.
 pub struct Scratch {
     folder: PathBuf,
