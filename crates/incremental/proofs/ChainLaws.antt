@@ -9,8 +9,9 @@ use lib.ListN.{length, getD, set, length-set, replicate, length-replicate, getD-
 use lib.Seq.{getD-set-same, getD-set-other}
 use Rattle.subsumption.specs.Tables.{pairsOf, leftOf}
 use Rattle.subsumption.proofs.Bools.{eq-or-ne}
-use Rattle.incremental.specs.Inner.Including.{isIn, Inserted, Pairs, NextPair, ChainTo, Chain, Idle}
-use Rattle.incremental.proofs.SetLaws.{empty-line}
+use Rattle.square.specs.Inner.Sets.{Inserted}
+use Rattle.incremental.specs.Inner.Including.{isIn, Pairs, NextPair, ChainTo, Chain, Idle}
+use Rattle.square.proofs.SetLaws.{empty-line}
 
 pub chain-none : (inclusions : List ℕ) → pairsOf inclusions ≤ 96 → ChainTo inclusions (replicate 288 96) (pairsOf inclusions)
 chain-none inclusions few =

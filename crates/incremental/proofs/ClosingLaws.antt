@@ -12,7 +12,7 @@ use Rattle.subsumption.specs.Inner.Roles.{inSet, RoleSets}
 use Rattle.subsumption.specs.Inner.Closure.{Ready}
 use Rattle.subsumption.proofs.Columns.{not-both}
 use Rattle.subsumption.proofs.Closing.{weight}
-use Rattle.incremental.specs.Inner.Square.{inRow, Square}
+use Rattle.square.specs.Inner.Square.{inRow, Square}
 use Rattle.incremental.specs.Inner.Lines.{StartLines, MeetLines, LinkLines, Lines}
 use Rattle.incremental.specs.Inner.Pass.{Pass}
 use Rattle.incremental.specs.Inner.Including.{Pairs}

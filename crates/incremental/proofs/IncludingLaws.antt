@@ -8,10 +8,12 @@ use native.Mathlib.Omega.{arith}
 use lib.ListN.{length, getD}
 use Rattle.subsumption.specs.Tables.{pairsOf, leftOf, rightOf}
 use Rattle.subsumption.proofs.Bools.{eq-or-ne, le-or-lt}
-use Rattle.incremental.specs.Inner.Square.{inRow, Square, Adds}
+use Rattle.square.specs.Inner.Square.{inRow, Square}
+use Rattle.incremental.specs.Inner.Square.{Adds}
 use Rattle.incremental.specs.Inner.Lines.{Under, IncludeAt, IncludeLines}
 use Rattle.incremental.specs.Inner.Pass.{Within, Pass}
-use Rattle.incremental.specs.Inner.Including.{isIn, Inserted, Pairs, NextPair, Idle, IncludedBy, Covers, DoneRows, Covering, NextOpen, LeftQuiet, ScanQuiet, IncludePass}
+use Rattle.square.specs.Inner.Sets.{Inserted}
+use Rattle.incremental.specs.Inner.Including.{isIn, Pairs, NextPair, Idle, IncludedBy, Covers, DoneRows, Covering, NextOpen, LeftQuiet, ScanQuiet, IncludePass}
 use Rattle.incremental.proofs.Passes.{pass-none, pass-as, pass-then, pass-seen}
 use Rattle.incremental.proofs.SettlingLaws.{flow-pass}
 

@@ -1,5 +1,4 @@
 -- Laws and machinery behind the proofs of the functions.
-pub mod BitLaws
 pub mod SquareLaws
 pub mod Passes
 pub mod SettlingLaws
@@ -11,7 +10,6 @@ pub mod LinkLaws
 pub mod RisingLaws
 pub mod StartLaws
 pub mod ClosingLaws
-pub mod TurningLaws
 pub mod ByteLaws
 pub mod ToldLaws
 pub mod UpdateLaws

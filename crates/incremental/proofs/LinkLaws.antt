@@ -16,13 +16,15 @@ use Rattle.subsumption.proofs.Bools.{both-true, both-intro, eq-or-ne, le-or-lt,
 use Rattle.subsumption.proofs.Bits.{bit-and, bit-or-cases, bit-or-left, bit-or-right}
 use Rattle.subsumption.proofs.Nodes.{node-exists, exists-node}
 use Rattle.subsumption.proofs.Columns.{not-both}
-use Rattle.incremental.specs.Inner.Square.{onLine, inHalf, inRow, Square, Adds, inThree, Holding}
+use Rattle.square.specs.Inner.Square.{onLine, inRow, Square}
+use Rattle.incremental.specs.Inner.Square.{inHalf, Adds, inThree, Holding}
 use Rattle.incremental.specs.Inner.Lines.{LinkAt, LinkLines}
-use Rattle.incremental.specs.Inner.Including.{isIn, Inserted}
+use Rattle.square.specs.Inner.Sets.{Inserted}
+use Rattle.incremental.specs.Inner.Including.{isIn}
 use Rattle.incremental.specs.Inner.Pass.{Pass}
 use Rattle.incremental.specs.Inner.Links.{WithInner, WithRole, OuterTo, RolesTo, InnersTo, Existentials, Picked, Joins, ByRole, ByInner, LinkPass}
-use Rattle.incremental.proofs.BitLaws.{Lowest, lowest, no-bits}
-use Rattle.incremental.proofs.SetLaws.{empty-line}
+use Rattle.square.proofs.BitLaws.{Lowest, lowest, no-bits}
+use Rattle.square.proofs.SetLaws.{empty-line}
 use Rattle.incremental.proofs.SquareLaws.{adds-columns}
 use Rattle.incremental.proofs.Passes.{pass-none, step-pass}
 

@@ -6,7 +6,8 @@ use mathlib.Core.Bool.{Bool, true, false, _||_}
 use native.Mathlib.Omega.{arith}
 use lib.ListN.{length}
 use Rattle.subsumption.specs.Tables.{node, countOf, pairsOf, leftOf, rightOf}
-use Rattle.incremental.specs.Inner.Square.{inRow, inColumn, Square, Adds}
+use Rattle.square.specs.Inner.Square.{inRow, inColumn, Square}
+use Rattle.incremental.specs.Inner.Square.{Adds}
 use Rattle.incremental.specs.Inner.Lines.{MeetAt, MeetLines, LinkAt, LinkLines, IncludeLines}
 use Rattle.incremental.specs.Inner.Pass.{Within, Pass}
 use Rattle.incremental.specs.Inner.Settling.{MeetPass}

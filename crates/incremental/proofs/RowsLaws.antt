@@ -8,13 +8,14 @@ use native.Mathlib.Omega.{arith}
 use lib.ListN.{length, replicate}
 use Rattle.subsumption.specs.Tables.{node, countOf}
 use Rattle.subsumption.proofs.Bools.{eq-or-ne}
-use Rattle.incremental.specs.Inner.Square.{inRow, Square}
+use Rattle.square.specs.Inner.Square.{inRow, Square}
 use Rattle.incremental.specs.Inner.Lines.{InnerAt, IncludeAt}
 use Rattle.incremental.specs.Inner.Pass.{Pass}
 use Rattle.incremental.specs.Inner.Settling.{InnerPass}
-use Rattle.incremental.specs.Inner.Including.{isIn, Inserted, DoneRows, IncludePass, Proposed}
+use Rattle.square.specs.Inner.Sets.{Inserted}
+use Rattle.incremental.specs.Inner.Including.{isIn, DoneRows, IncludePass, Proposed}
 use Rattle.incremental.specs.Inner.Rows.{RowLines, RowsPass}
-use Rattle.incremental.proofs.SetLaws.{empty-line}
+use Rattle.square.proofs.SetLaws.{empty-line}
 use Rattle.incremental.proofs.Passes.{pass-none, pass-as, pass-then, pass-law}
 
 module _ (concepts inclusions : List ℕ) (choose : ℕ → List ℕ) where

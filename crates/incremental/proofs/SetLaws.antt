@@ -1,76 +1,25 @@
--- Sets of ids: one id comes in; three words come in; the next id of a line that is not in a set.
+-- Sets of ids: three words come in; the next id of a line that is not in a set.
 use Prim.Native.Nat.{ℕ, zero, suc, _+_, _*_, _-_, _/_, _%_, _^_, _<_, _≤_}
 use mathlib.Core.Path.{_≡_, refl, ap, sym, _∙_, subst}
 use mathlib.Core.List.{List, [], _∷_}
 use mathlib.Core.Bool.{Bool, true, false, not, false≢true}
 use mathlib.Core.Logic.{_⊎_, inl, inr, ⊎-elim}
 use native.Mathlib.Omega.{arith}
-use lib.ListN.{length, getD, set, length-set, replicate, getD-replicate}
+use lib.ListN.{length, getD, set, length-set}
 use lib.Seq.{getD-set-same, getD-set-other}
 use lib.Bits.{bitAnd, bitOr, bitXor, or-lt, xor-lt}
 use lib.Pow.{shr-le}
 use lib.Count.{trailingZeros}
 use Rattle.subsumption.specs.Tables.{both}
 use Rattle.subsumption.specs.Atoms.{bit}
-use Rattle.subsumption.proofs.Bools.{both-true, both-intro, eq-or-ne, le-or-lt}
-use Rattle.subsumption.proofs.Bits.{bit-or-cases, bit-or-left, bit-or-right, bit-pow, bit-pow-other, bit-shr, bit-past}
+use Rattle.subsumption.proofs.Bools.{both-true, le-or-lt}
+use Rattle.subsumption.proofs.Bits.{bit-or-cases, bit-shr, bit-past}
 use Rattle.subsumption.proofs.Columns.{not-both}
-use Rattle.subsumption.proofs.MarkLaws.{shifted}
-use Rattle.incremental.specs.Inner.Square.{onLine, inRow, inThree, Holding}
-use Rattle.incremental.specs.Inner.Including.{isIn, Inserted, Covering, NextOpen}
-use Rattle.incremental.proofs.BitLaws.{lacking, Lowest, lowest, no-bits}
-use Rattle.incremental.proofs.SquareLaws.{line-three}
-
--- ---- one id
-module _ (before : List ℕ) (at y : ℕ) (low : y < 192) (fits : at + 3 ≤ length before) where
-  abbrev word : ℕ
-  word = bitOr (getD before (at + y / 64) 0) (1 * 2 ^ (y % 64) % 18446744073709551616)
-
-  abbrev after : List ℕ
-  after = set before (at + y / 64) word
-
-  here : getD after (at + y / 64) 0 ≡ bitOr (getD before (at + y / 64) 0) (2 ^ (y % 64))
-  here = getD-set-same before (at + y / 64) word 0 (omega arith) ∙ ap (bitOr (getD before (at + y / 64) 0)) (shifted (y % 64) (omega arith))
-
-  else : (p : ℕ) → (p ≡ at + y / 64 → ⊥) → getD after p 0 ≡ getD before p 0
-  else p n = getD-set-other before (at + y / 64) p word 0 n
-
-  insert-kept : (from q : ℕ) → onLine before from q ≡ true → onLine after from q ≡ true
-  unfolding onLine
-  insert-kept from q u =
-      ⊎-elim
-      (λ (e : from + q / 64 ≡ at + y / 64).
-      subst (λ (z : ℕ). bit (getD after z 0) (q % 64) ≡ true) (sym e)
-      (ap (λ (w : ℕ). bit w (q % 64)) here ∙ bit-or-left (getD before (at + y / 64) 0) (2 ^ (y % 64)) (q % 64) (subst (λ (z : ℕ). bit (getD before z 0) (q % 64) ≡ true) e u)))
-      (λ n. ap (λ (w : ℕ). bit w (q % 64)) (else (from + q / 64) n) ∙ u) (eq-or-ne (from + q / 64) (at + y / 64))
-
-  insert-bits : (q : ℕ) → q < 192 → onLine after at q ≡ true → (onLine before at q ≡ true) ⊎ (q ≡ y)
-  unfolding onLine
-  insert-bits q l u =
-      ⊎-elim
-      (λ (e : at + q / 64 ≡ at + y / 64).
-      ⊎-elim (λ v. inl (subst (λ (z : ℕ). bit (getD before z 0) (q % 64) ≡ true) (sym e) v))
-      (λ v. let r = bit-pow-other (q % 64) (y % 64) v in inr (omega (arith, e, r)))
-      (bit-or-cases (getD before (at + y / 64) 0) (2 ^ (y % 64)) (q % 64)
-      (ap (λ (w : ℕ). bit w (q % 64)) (sym here) ∙ subst (λ (z : ℕ). bit (getD after z 0) (q % 64) ≡ true) e u)))
-      (λ n. inl (ap (λ (w : ℕ). bit w (q % 64)) (sym (else (at + q / 64) n)) ∙ u)) (eq-or-ne (at + q / 64) (at + y / 64))
-
-  insert-there : (from q : ℕ) → q < 192 → (from + 3 ≤ at) ⊎ (at + 3 ≤ from) → onLine after from q ≡ onLine before from q
-  unfolding onLine
-  insert-there from q l (inl h) = ap (λ (w : ℕ). bit w (q % 64)) (else (from + q / 64) (λ e. omega arith))
-  insert-there from q l (inr h) = ap (λ (w : ℕ). bit w (q % 64)) (else (from + q / 64) (λ e. omega arith))
-
-  insert-taken : onLine after at y ≡ true
-  unfolding onLine
-  insert-taken = ap (λ (w : ℕ). bit w (y % 64)) here ∙ bit-or-right (getD before (at + y / 64) 0) (2 ^ (y % 64)) (y % 64) (bit-pow (y % 64))
-
-  pub inserted : Inserted before after at y
-  inserted = record { long = length-set before _ word; kept = insert-kept; bits = insert-bits; taken = insert-taken; there = insert-there }
-
--- sets that hold nothing
-pub empty-line : (n at y : ℕ) → y < 192 → at + 3 ≤ n → onLine (replicate n 0) at y ≡ true → ⊥
-unfolding onLine
-empty-line n at y l h e = false≢true (sym (ap (λ (w : ℕ). bit w (y % 64)) (getD-replicate n (at + y / 64) 0 0 (omega arith)) ∙ no-bits (y % 64)) ∙ e)
+use Rattle.square.specs.Inner.Square.{onLine, inRow}
+use Rattle.incremental.specs.Inner.Square.{inThree, Holding}
+use Rattle.incremental.specs.Inner.Including.{isIn, Covering, NextOpen}
+use Rattle.square.proofs.BitLaws.{lacking, Lowest, lowest, no-bits}
+use Rattle.square.proofs.SetLaws.{line-three}
 
 -- ---- three words
 module _ (before : List ℕ) (long : length before ≡ 3) (first second third : ℕ) where

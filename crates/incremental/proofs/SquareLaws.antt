@@ -1,8 +1,8 @@
 -- How the square changes: one bit in both halves, the bits of a word, three words; and what that says of the marks.
-use Prim.Native.Nat.{ℕ, zero, suc, _+_, _*_, _-_, _/_, _%_, _^_, _<_, _≤_}
-use mathlib.Core.Path.{_≡_, refl, ap, ap₂, sym, _∙_, subst}
+use Prim.Native.Nat.{ℕ, zero, suc, _+_, _*_, _-_, _/_, _%_, _^_, _<_}
+use mathlib.Core.Path.{_≡_, refl, ap, sym, _∙_, subst}
 use mathlib.Core.List.{List, [], _∷_}
-use mathlib.Core.Bool.{Bool, true, false, not, _||_, false≢true}
+use mathlib.Core.Bool.{Bool, true, false, not, _||_}
 use mathlib.Core.Logic.{_⊎_, inl, inr, ⊎-elim}
 use native.Mathlib.Omega.{arith}
 use lib.ListN.{length, getD}
@@ -10,13 +10,15 @@ use lib.Bits.{bitAnd, bitOr, bitXor}
 use lib.Count.{trailingZeros}
 use Rattle.subsumption.specs.Tables.{both}
 use Rattle.subsumption.specs.Atoms.{bit}
-use Rattle.subsumption.specs.Inner.Columns.{slack, Absorbs}
+use Rattle.subsumption.specs.Inner.Columns.{Absorbs}
 use Rattle.subsumption.proofs.Bools.{both-true, both-intro, same-bool, eq-or-ne}
-use Rattle.subsumption.proofs.Bits.{bit-and, bit-or-cases, bit-or-left, bit-or-right, bit-pow, bit-pow-other}
+use Rattle.subsumption.proofs.Bits.{bit-or-cases, bit-or-left, bit-or-right, bit-pow, bit-pow-other}
 use Rattle.subsumption.proofs.Columns.{any-true, any-false, not-both, falls}
 use Rattle.subsumption.proofs.MarkLaws.{shifted}
-use Rattle.incremental.specs.Inner.Square.{onLine, inHalf, inRow, inColumn, Base, Square, Adds, inWord, inThree, Holding}
-use Rattle.incremental.proofs.BitLaws.{lacking, Lowest, lowest, no-bits}
+use Rattle.square.specs.Inner.Square.{onLine, inRow, Square}
+use Rattle.incremental.specs.Inner.Square.{inHalf, Base, Adds, inWord, inThree, Holding}
+use Rattle.square.proofs.BitLaws.{lacking, Lowest, lowest, no-bits}
+use Rattle.square.proofs.SetLaws.{line-three, both-three}
 
 -- ---- the two halves
 abbrev Apart : ℕ → ℕ → Type 0
@@ -352,34 +354,6 @@ adds-columns {before} {after} S A =
       same = A .same;
       less = A .less;
     }
-
--- three words read from the line at that place are its bits
-pub line-three : (s : List ℕ) (at y : ℕ) → y < 192 → onLine (getD s at 0 ∷ getD s (at + 1) 0 ∷ getD s (at + 2) 0 ∷ []) 0 y ≡ onLine s at y
-unfolding onLine
-line-three s at y l = ap (λ (w : ℕ). bit w (y % 64)) (go (y / 64) (omega arith))
-  where
-    go : (w : ℕ) → w < 3 → getD (getD s at 0 ∷ getD s (at + 1) 0 ∷ getD s (at + 2) 0 ∷ []) (0 + w) 0 ≡ getD s (at + w) 0
-    go zero h = ap (λ (z : ℕ). getD s z 0) (omega arith)
-    go (suc zero) h = refl
-    go (suc (suc zero)) h = refl
-    go (suc (suc (suc w))) h = absurd (omega arith)
-
-pub both-three :
-    (s : List ℕ) (a b y : ℕ) → y < 192
-    → onLine (bitAnd (getD s a 0) (getD s b 0) ∷ bitAnd (getD s (a + 1) 0) (getD s (b + 1) 0) ∷ bitAnd (getD s (a + 2) 0) (getD s (b + 2) 0) ∷ []) 0 y
-    ≡ both (onLine s a y) (onLine s b y)
-unfolding onLine
-both-three s a b y l =
-    ap (λ (w : ℕ). bit w (y % 64)) (go (y / 64) (omega arith)) ∙ bit-and (getD s (a + y / 64) 0) (getD s (b + y / 64) 0) (y % 64)
-  where
-    go :
-        (w : ℕ) → w < 3
-        → getD (bitAnd (getD s a 0) (getD s b 0) ∷ bitAnd (getD s (a + 1) 0) (getD s (b + 1) 0) ∷ bitAnd (getD s (a + 2) 0) (getD s (b + 2) 0) ∷ []) (0 + w) 0
-        ≡ bitAnd (getD s (a + w) 0) (getD s (b + w) 0)
-    go zero h = ap₂ (λ (p q : ℕ). bitAnd (getD s p 0) (getD s q 0)) (omega arith) (omega arith)
-    go (suc zero) h = refl
-    go (suc (suc zero)) h = refl
-    go (suc (suc (suc w))) h = absurd (omega arith)
 
 -- what `flow` and `meet` add
 pub flow-adds :

@@ -32,11 +32,12 @@ use Rattle.subsumption.proofs.Refusals.{stops, goes-on, both-done, refused-lt, 
 use Rattle.subsumption.proofs.Rules.{Rules, follows-elim, follows-rules}
 use Rattle.incremental.specs.Told.{toldFault, tells, coded, toldAssignment}
 use Rattle.incremental.specs.Update.{updatingFault, ClosedUnder, Holds, ClosureOf, UpdatedBy, Updates}
-use Rattle.incremental.specs.Inner.Square.{inRow}
+use Rattle.square.specs.Inner.Square.{inRow}
 use Rattle.incremental.specs.Inner.Lines.{InnerAt, MeetAt, Lines}
 use Rattle.incremental.specs.Inner.Pass.{Within}
 use Rattle.incremental.specs.Inner.Closing.{Closed}
-use Rattle.incremental.specs.Inner.Bytes.{known, Loaded, Stored}
+use Rattle.square.specs.Inner.Loading.{known, Loaded}
+use Rattle.incremental.specs.Inner.Bytes.{Stored}
 use Rattle.incremental.specs.Inner.Told.{toldFaultIn, Readable, ToldChoices}
 use Rattle.incremental.proofs.ToldLaws.{told-at, pair-variable, pair-atom}
 

@@ -9,6 +9,5 @@ pub mod Links
 pub mod Rising
 pub mod Start
 pub mod Closing
-pub mod Turning
 pub mod Bytes
 pub mod Told

@@ -19,7 +19,7 @@ ghost use Rattle.subsumption.specs.Roles.{wider};
 ghost use Rattle.subsumption.specs.Inner.Roles.{inSet, LowRoles};
 ghost use Rattle.subsumption.specs.Inner.Settling.{chooseFrom};
 ghost use Rattle.subsumption.specs.Inner.Closure.{Ready};
-ghost use Rattle.incremental.specs.Inner.Square.{Square};
+ghost use Rattle.square.specs.Inner.Square.{Square};
 ghost use Rattle.incremental.specs.Inner.Including.{Chain, Idle};
 ghost use Rattle.incremental.specs.Inner.Links.{Existentials};
 ghost use Rattle.incremental.specs.Inner.Closing.{RoundPass, Rounded, Closed};

@@ -1,17 +1,17 @@
 // Rule 6: a row that has an inclusion's left side takes in the row of its right side. A row within it that is finished already has taken
 // in all that its own left sides ask, so that these need no look: in a table that was right, few are left. The order of the rows is free,
 // smaller ones first, so that rows within a row are finished before it.
-use crate::sets::has;
-use crate::sets::insert;
 use crate::square::flow;
 use crate::square::holds;
+use square::helpers::has;
+use square::helpers::insert;
 use subsumption::limits::CONCEPTS;
 ghost use mathlib.Core.Path.{_≡_};
 ghost use mathlib.Core.Bool.{true};
 ghost use Prim.Native.Nat.{ℕ, _+_, _*_, _<_, _≤_};
 ghost use lib.ListN.{length, replicate};
 ghost use Rattle.subsumption.specs.Tables.{countOf};
-ghost use Rattle.incremental.specs.Inner.Square.{inRow, Square};
+ghost use Rattle.square.specs.Inner.Square.{inRow, Square};
 ghost use Rattle.incremental.specs.Inner.Lines.{IncludeAt};
 ghost use Rattle.incremental.specs.Inner.Including.{Pairs, ChainTo, Chain, Idle, DoneRows, Covering, NextOpen, LeftQuiet, ScanQuiet, IncludePass, Proposed};
 

@@ -6,12 +6,10 @@ mod links;
 mod order;
 mod rising;
 mod rows;
-mod sets;
 mod settling;
 mod square;
 mod start;
 mod told;
-mod turning;
 mod update;
 
 pub use update::update_table;

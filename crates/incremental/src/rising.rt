@@ -1,10 +1,10 @@
 // Rules 4, 5 and 8 at every column, in rising order: what they read of a column is at smaller ids, so that a tower of existentials is
 // climbed in one pass. A column that gained takes rule 6 at once, for the storeys above it; the rows are asked for the rest.
 use crate::links::link_to;
-use crate::sets::has;
 use crate::settling::settle_column;
-use crate::square::COLUMNS;
 use crate::square::meet;
+use square::helpers::COLUMNS;
+use square::helpers::has;
 ghost use mathlib.Core.Path.{_≡_};
 ghost use Prim.Native.Nat.{_<_};
 ghost use lib.ListN.{length};
@@ -12,7 +12,7 @@ ghost use Rattle.subsumption.specs.Tables.{countOf};
 ghost use Rattle.subsumption.specs.Inner.Roles.{inSet};
 ghost use Rattle.subsumption.specs.Inner.Links.{Inner};
 ghost use Rattle.subsumption.specs.Inner.Settling.{Settleable, chooseFrom};
-ghost use Rattle.incremental.specs.Inner.Square.{Square};
+ghost use Rattle.square.specs.Inner.Square.{Square};
 ghost use Rattle.incremental.specs.Inner.Including.{Pairs};
 ghost use Rattle.incremental.specs.Inner.Links.{Existentials};
 ghost use Rattle.incremental.specs.Inner.Rising.{ColumnGains, RisenPass, AllRisen};

@@ -3,14 +3,14 @@
 use crate::including::include_row;
 use crate::including::member;
 use crate::including::proposed;
-use crate::sets::has;
-use crate::sets::insert;
 use crate::settling::settle_row;
+use square::helpers::has;
+use square::helpers::insert;
 ghost use mathlib.Core.Path.{_≡_};
 ghost use lib.ListN.{length};
 ghost use Rattle.subsumption.specs.Tables.{countOf};
 ghost use Rattle.subsumption.specs.Inner.Settling.{Settleable, chooseFrom};
-ghost use Rattle.incremental.specs.Inner.Square.{Square};
+ghost use Rattle.square.specs.Inner.Square.{Square};
 ghost use Rattle.incremental.specs.Inner.Including.{Pairs, Chain, Idle};
 ghost use Rattle.incremental.specs.Inner.Rows.{RowsPass};
 

@@ -1,8 +1,8 @@
 // Rules 3, 4, 7 and 8, at the rows of "and" and of variables. Rules 3 and 7 move rows, 4 and 8 columns.
-use crate::square::COLUMNS;
 use crate::square::flow;
 use crate::square::meet;
 use crate::square::take;
+use square::helpers::COLUMNS;
 ghost use mathlib.Core.Path.{_≡_};
 ghost use Prim.Native.Nat.{ℕ, _<_};
 ghost use mathlib.Core.Bool.{true};
@@ -12,7 +12,8 @@ ghost use Rattle.subsumption.specs.Tables.{countOf};
 ghost use Rattle.subsumption.specs.Atoms.{pick};
 ghost use Rattle.subsumption.specs.Inner.Columns.{Known, Common};
 ghost use Rattle.subsumption.specs.Inner.Settling.{Settleable, chooseFrom};
-ghost use Rattle.incremental.specs.Inner.Square.{inRow, Square, Adds};
+ghost use Rattle.square.specs.Inner.Square.{inRow, Square};
+ghost use Rattle.incremental.specs.Inner.Square.{Adds};
 ghost use Rattle.incremental.specs.Inner.Settling.{SpreadPass, InnerPass, MeetPass};
 
 const ALL: u64 = 18446744073709551615;

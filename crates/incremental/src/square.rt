@@ -1,14 +1,13 @@
 // The square of marks, held twice: as rows, what an id is below, and as columns, what is below an id. Three words of 64 bits a line, so
 // that a line takes in another by three words. Each step answers whether it changed anything.
+use square::helpers::COLUMNS;
 ghost use mathlib.Core.Path.{_≡_};
 ghost use Prim.Native.Nat.{_+_, _<_, _≤_};
 ghost use mathlib.Core.Bool.{true};
 ghost use lib.ListN.{length};
 ghost use Rattle.subsumption.specs.Inner.Columns.{Absorbs};
-ghost use Rattle.incremental.specs.Inner.Square.{inHalf, inRow, Base, Square, Adds, inWord, inThree, Holding};
-
-// Where the columns start.
-pub const COLUMNS: usize = 576;
+ghost use Rattle.square.specs.Inner.Square.{inRow, Square};
+ghost use Rattle.incremental.specs.Inner.Square.{inHalf, Base, Adds, inWord, inThree, Holding};
 
 pub const ROWS: usize = 0;
 

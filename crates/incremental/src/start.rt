@@ -1,15 +1,15 @@
 // Rules 1 and 2, which ask for no mark: an id is below itself, below each id of its own name, and below each top. One walk does them all.
-use crate::sets::insert;
-use crate::square::COLUMNS;
 use crate::square::ROWS;
 use crate::square::mark;
 use crate::square::take;
+use square::helpers::COLUMNS;
+use square::helpers::insert;
 ghost use mathlib.Core.Path.{_≡_};
 ghost use Prim.Native.Nat.{_<_};
 ghost use lib.ListN.{replicate};
 ghost use Rattle.subsumption.specs.Tables.{countOf};
 ghost use Rattle.subsumption.specs.Inner.Names.{Nameable};
-ghost use Rattle.incremental.specs.Inner.Square.{Square};
+ghost use Rattle.square.specs.Inner.Square.{Square};
 ghost use Rattle.incremental.specs.Inner.Start.{NamesTo, Begun, BegunAt};
 
 const ALL: u64 = 18446744073709551615;

@@ -1,9 +1,10 @@
 // Updating a held subsumption table.
-use crate::bytes::load;
 use crate::bytes::store;
 use crate::closing::close;
 use crate::told::check_told;
 use crate::told::read_told;
+use square::helpers::SQUARE;
+use square::helpers::load;
 use subsumption::Listed;
 use subsumption::limits::ATOMS;
 use subsumption::limits::ROW_BYTES;
@@ -14,9 +15,6 @@ ghost use Rattle.subsumption.specs.Tables.{tables};
 ghost use Rattle.subsumption.specs.Refusal.{replyOf};
 ghost use Rattle.subsumption.specs.Inner.Listing.{ForAccepted, Prepared};
 ghost use Rattle.incremental.specs.Update.{Updates};
-
-// Of the square of marks, the words: its rows and its columns.
-const SQUARE: usize = 1152;
 
 const MOST_VARIABLES: usize = 8;
 

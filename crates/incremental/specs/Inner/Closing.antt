@@ -5,7 +5,7 @@ use mathlib.Core.List.{List}
 use mathlib.Core.Bool.{Bool, true}
 use lib.ListN.{length}
 use Rattle.subsumption.specs.Tables.{countOf, pairsOf}
-use Rattle.incremental.specs.Inner.Square.{inRow, Square}
+use Rattle.square.specs.Inner.Square.{inRow, Square}
 use Rattle.incremental.specs.Inner.Lines.{MeetLines, LinkLines, Lines}
 use Rattle.incremental.specs.Inner.Rows.{RowLines}
 use Rattle.incremental.specs.Inner.Start.{Grown}

@@ -6,21 +6,13 @@ use mathlib.Core.Bool.{Bool, true}
 use mathlib.Core.Logic.{_⊎_}
 use lib.ListN.{length, getD}
 use Rattle.subsumption.specs.Tables.{pairsOf, leftOf, rightOf}
-use Rattle.incremental.specs.Inner.Square.{onLine, inRow}
+use Rattle.square.specs.Inner.Square.{onLine, inRow}
 use Rattle.incremental.specs.Inner.Lines.{Under, IncludeAt, IncludeLines}
 use Rattle.incremental.specs.Inner.Pass.{Pass}
 
 -- a set of ids: three words
 abbrev pub isIn : List ℕ → ℕ → Bool
 isIn set y = onLine set 0 y
-
--- y comes into the set of the three words from `at` on, and nothing else changes
-pub record Inserted (before after : List ℕ) (at y : ℕ) : Type 0 where
-  pub long : length after ≡ length before
-  pub kept : (from q : ℕ) → onLine before from q ≡ true → onLine after from q ≡ true
-  pub bits : (q : ℕ) → q < 192 → onLine after at q ≡ true → (onLine before at q ≡ true) ⊎ (q ≡ y)
-  pub taken : onLine after at y ≡ true
-  pub there : (from q : ℕ) → q < 192 → (from + 3 ≤ at) ⊎ (at + 3 ≤ from) → onLine after from q ≡ onLine before from q
 
 -- checks 1 and 4 passed
 pub record Pairs (count : ℕ) (inclusions : List ℕ) : Type 0 where

@@ -8,7 +8,8 @@ use lib.ListN.{length}
 use Rattle.subsumption.specs.Tables.{existsAt, node, countOf}
 use Rattle.subsumption.specs.Atoms.{bit}
 use Rattle.subsumption.specs.Inner.Roles.{inSet}
-use Rattle.incremental.specs.Inner.Square.{onLine, inRow, inThree}
+use Rattle.square.specs.Inner.Square.{onLine, inRow}
+use Rattle.incremental.specs.Inner.Square.{inThree}
 use Rattle.incremental.specs.Inner.Lines.{LinkAt, LinkLines}
 use Rattle.incremental.specs.Inner.Including.{isIn}
 use Rattle.incremental.specs.Inner.Pass.{Pass}

@@ -4,7 +4,7 @@ use mathlib.Core.Path.{_≡_}
 use mathlib.Core.List.{List}
 use mathlib.Core.Bool.{Bool, true, false}
 use Rattle.subsumption.specs.Inner.Columns.{slack}
-use Rattle.incremental.specs.Inner.Square.{inRow, Square}
+use Rattle.square.specs.Inner.Square.{inRow, Square}
 
 -- every mark of an id is at an id, and in the relation
 abbrev pub Within : ℕ → (ℕ → ℕ → Bool) → List ℕ → Type 0

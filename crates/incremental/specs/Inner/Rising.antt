@@ -3,7 +3,7 @@ use Prim.Native.Nat.{ℕ, _<_}
 use mathlib.Core.List.{List}
 use mathlib.Core.Bool.{Bool}
 use Rattle.subsumption.specs.Tables.{node, countOf}
-use Rattle.incremental.specs.Inner.Square.{inRow}
+use Rattle.square.specs.Inner.Square.{inRow}
 use Rattle.incremental.specs.Inner.Lines.{MeetAt, MeetLines, LinkAt, LinkLines, IncludeLines}
 use Rattle.incremental.specs.Inner.Pass.{Pass}
 

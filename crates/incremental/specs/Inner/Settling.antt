@@ -6,7 +6,7 @@ use mathlib.Core.Bool.{Bool, true}
 use lib.ListN.{length, getD}
 use Rattle.subsumption.specs.Tables.{node, countOf}
 use Rattle.subsumption.specs.Atoms.{pick}
-use Rattle.incremental.specs.Inner.Square.{inRow}
+use Rattle.square.specs.Inner.Square.{inRow}
 use Rattle.incremental.specs.Inner.Lines.{Under, InnerAt, InnerLines, MeetAt, MeetLines}
 use Rattle.incremental.specs.Inner.Pass.{Pass}
 

@@ -1,37 +1,20 @@
--- The square of marks (src/square.rt), held twice: its rows from word 0 on, its columns from word 576 on, three words of 64 bits a line.
--- Row i has j, and column j has i, when i is marked below j.
+-- How the square of marks changes (src/square.rt); the crate `square` has what it is.
 use Prim.Native.Nat.{ℕ, _+_, _*_, _/_, _%_, _<_, _≤_}
 use mathlib.Core.Path.{_≡_}
 use mathlib.Core.List.{List, [], _∷_}
 use mathlib.Core.Bool.{Bool, true, false}
 use mathlib.Core.Logic.{_⊎_}
-use lib.ListN.{length, getD}
 use Rattle.subsumption.specs.Atoms.{bit}
 use Rattle.subsumption.specs.Inner.Columns.{slack}
-
--- y is in the set of the three words from `at` on
-unfoldable pub onLine : List ℕ → ℕ → ℕ → Bool
-onLine words at y = bit (getD words (at + y / 64) 0) (y % 64)
+use Rattle.square.specs.Inner.Square.{onLine, Square}
 
 -- y is on the line x of the half that starts at `base`
 abbrev pub inHalf : ℕ → List ℕ → ℕ → ℕ → Bool
 inHalf base square x y = onLine square (base + x * 3) y
 
--- i is marked below j
-abbrev pub inRow : List ℕ → ℕ → ℕ → Bool
-inRow square i j = onLine square (i * 3) j
-
-abbrev pub inColumn : List ℕ → ℕ → ℕ → Bool
-inColumn square i j = onLine square (576 + j * 3) i
-
 -- where a half starts
 abbrev pub Base : ℕ → Type 0
 Base base = (base ≤ 576) × ((base ≡ 0) ⊎ (base ≡ 576))
-
--- both halves say the same
-pub record Square (square : List ℕ) : Type 0 where
-  pub long : length square ≡ 1152
-  pub mirror : (i j : ℕ) → i < 192 → j < 192 → inRow square i j ≡ inColumn square i j
 
 -- Marks come in, and none goes: read as that half, those of `new`; `changed` says whether there was anything new.
 pub record Adds (read : List ℕ → ℕ → ℕ → Bool) (before after : List ℕ) (new : ℕ → ℕ → Type 0) (changed : Bool) : Type 0 where

@@ -5,7 +5,7 @@ use mathlib.Core.List.{List}
 use mathlib.Core.Bool.{Bool, true}
 use lib.ListN.{length}
 use Rattle.subsumption.specs.Tables.{nameAt, topAt, node, countOf}
-use Rattle.incremental.specs.Inner.Square.{onLine, inRow, Square}
+use Rattle.square.specs.Inner.Square.{onLine, inRow, Square}
 use Rattle.incremental.specs.Inner.Lines.{StartLines}
 use Rattle.incremental.specs.Inner.Pass.{Within}
 

@@ -3,7 +3,7 @@ use borrow.Author.Needs.{needs}
 use Rattle.incremental.proofs.bytes.store_word.Statement.{statement}
 use Rattle.incremental.proofs.bytes.store_word.Tie as tie
 use Rattle.incremental.proofs.bytes.add_word.Reads as add-word-reads
-use Rattle.incremental.proofs.bytes.word_at.Reads as word-at-reads
+use Rattle.square.proofs.helpers.word_at.Reads as word-at-reads
 
 word-at-requires : tie.Need-word-at-requires
 word-at-requires c κs = search needs

@@ -4,7 +4,7 @@ use Rattle.incremental.proofs.SetLaws.{covering-none, covering}
 use borrow.Author.Needs.{needs}
 use Rattle.incremental.proofs.including.cover.Statement.{statement}
 use Rattle.incremental.proofs.including.cover.Tie as tie
-use Rattle.incremental.proofs.sets.has.Reads as has-reads
+use Rattle.square.proofs.helpers.has.Reads as has-reads
 use Rattle.incremental.proofs.square.holds.Reads as holds-reads
 
 has-requires : tie.Need-has-requires

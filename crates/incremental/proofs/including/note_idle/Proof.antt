@@ -6,7 +6,7 @@ use Rattle.incremental.specs.Inner.Including.{Idle}
 use Prim.Native.Nat.{_-_, _≤_}
 use Rattle.incremental.proofs.including.note_idle.Statement.{statement}
 use Rattle.incremental.proofs.including.note_idle.Tie as tie
-use Rattle.incremental.proofs.sets.insert.Reads as insert-reads
+use Rattle.square.proofs.helpers.insert.Reads as insert-reads
 
 abbrev Inv-loop : tie.InvT-loop
 Inv-loop inclusions chain idle₀ pairs l₀ idle l = (l ≤ 192) × Idle inclusions idle

@@ -5,7 +5,7 @@ use Rattle.incremental.proofs.including.scan_lefts.Statement.{statement
 use Rattle.incremental.proofs.including.scan_lefts.Tie as tie
 use Rattle.incremental.proofs.including.include_left.Reads as include-left-reads
 use Rattle.incremental.proofs.including.next_open.Reads as next-open-reads
-use Rattle.incremental.proofs.sets.insert.Reads as insert-reads
+use Rattle.square.proofs.helpers.insert.Reads as insert-reads
 
 abbrev Inv-loop : tie.InvT-loop
 Inv-loop inclusions chain count square₀ done covered₀ i from to changed₀ l₀ square covered changed l = ScanTo count inclusions done i from square₀ covered₀ l covered square changed

@@ -1,6 +1,6 @@
 use native.Mathlib.Omega.{arith}
 use Rattle.incremental.proofs.LinkLaws.{Joining, joining-first, joining-low, joining-more, joining-done}
-use Rattle.incremental.proofs.BitLaws.{rest-less}
+use Rattle.square.proofs.BitLaws.{rest-less}
 use Rattle.incremental.specs.Inner.Square.{inThree}
 use lib.Count.{trailing-le}
 use lib.Bits.{and-le-r}

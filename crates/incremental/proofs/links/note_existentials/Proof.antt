@@ -8,7 +8,7 @@ use mathlib.Core.Path.{ap}
 use Prim.Native.Nat.{_-_, _≤_, _*_, _+_}
 use Rattle.incremental.proofs.links.note_existentials.Statement.{statement}
 use Rattle.incremental.proofs.links.note_existentials.Tie as tie
-use Rattle.incremental.proofs.sets.insert.Reads as insert-reads
+use Rattle.square.proofs.helpers.insert.Reads as insert-reads
 
 abbrev Inv-loop : tie.InvT-loop
 Inv-loop concepts outer₀ inners₀ roles₀ count e₀ outer inners roles e = (e ≤ countOf concepts) × Existentials concepts outer inners roles e

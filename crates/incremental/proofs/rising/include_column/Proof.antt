@@ -10,7 +10,7 @@ use Rattle.incremental.proofs.rising.include_column.Statement.{statemen
 use Rattle.incremental.proofs.rising.include_column.Tie as tie
 use Rattle.incremental.proofs.rising.include_column.Reads as reads
 use Rattle.incremental.proofs.rising.include_column.Lts as lts
-use Rattle.incremental.proofs.sets.has.Reads as has-reads
+use Rattle.square.proofs.helpers.has.Reads as has-reads
 use Rattle.incremental.proofs.square.meet.Reads as meet-reads
 
 abbrev Inv-loop : tie.InvT-loop

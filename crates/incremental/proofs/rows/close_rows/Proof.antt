@@ -9,8 +9,8 @@ use Rattle.incremental.proofs.rows.close_rows.Tie as tie
 use Rattle.incremental.proofs.including.include_row.Reads as include-row-reads
 use Rattle.incremental.proofs.including.member.Reads as member-reads
 use Rattle.incremental.proofs.including.proposed.Reads as proposed-reads
-use Rattle.incremental.proofs.sets.has.Reads as has-reads
-use Rattle.incremental.proofs.sets.insert.Reads as insert-reads
+use Rattle.square.proofs.helpers.has.Reads as has-reads
+use Rattle.square.proofs.helpers.insert.Reads as insert-reads
 use Rattle.incremental.proofs.settling.settle_row.Reads as settle-row-reads
 
 abbrev Inv-loop : tie.InvT-loop

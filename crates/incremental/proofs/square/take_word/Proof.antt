@@ -3,7 +3,7 @@ use mathlib.Core.Bool.{true}
 use native.Mathlib.Omega.{arith}
 use lib.Bits.{and-le-r, or-lt, xor-lt}
 use lib.Count.{trailing-le}
-use Rattle.incremental.proofs.BitLaws.{rest-less}
+use Rattle.square.proofs.BitLaws.{rest-less}
 use Rattle.incremental.proofs.SquareLaws.{Taking, taking-first, taking-low, taking-more, taking-done}
 use Rattle.incremental.proofs.square.take_word.Statement.{statement}
 use Rattle.incremental.proofs.square.take_word.Tie as tie

@@ -7,7 +7,7 @@ use mathlib.Core.Path.{ap}
 use Prim.Native.Nat.{_-_, _≤_, _*_, _+_}
 use Rattle.incremental.proofs.start.note_names.Statement.{statement}
 use Rattle.incremental.proofs.start.note_names.Tie as tie
-use Rattle.incremental.proofs.sets.insert.Reads as insert-reads
+use Rattle.square.proofs.helpers.insert.Reads as insert-reads
 
 abbrev Inv-loop : tie.InvT-loop
 Inv-loop concepts names₀ count i₀ names i = (i ≤ countOf concepts) × NamesTo concepts names i

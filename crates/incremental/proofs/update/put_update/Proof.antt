@@ -4,7 +4,7 @@ use mathlib.Core.Path.{refl}
 use borrow.Author.Needs.{needs}
 use Rattle.incremental.proofs.update.put_update.Statement.{statement}
 use Rattle.incremental.proofs.update.put_update.Tie as tie
-use Rattle.incremental.proofs.bytes.load.Reads as load-reads
+use Rattle.square.proofs.helpers.load.Reads as load-reads
 use Rattle.incremental.proofs.bytes.store.Reads as store-reads
 use Rattle.incremental.proofs.closing.close.Reads as close-reads
 use Rattle.incremental.proofs.told.check_told.Reads as check-told-reads
