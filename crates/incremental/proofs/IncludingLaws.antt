@@ -9,7 +9,7 @@ use lib.ListN.{length, getD}
 use Rattle.subsumption.specs.Tables.{pairsOf, leftOf, rightOf}
 use Rattle.subsumption.proofs.Bools.{eq-or-ne, le-or-lt}
 use Rattle.square.specs.Inner.Square.{inRow, Square}
-use Rattle.incremental.specs.Inner.Square.{Adds}
+use Rattle.incremental.specs.Inner.Marking.{Adds}
 use Rattle.incremental.specs.Inner.Lines.{Under, IncludeAt, IncludeLines}
 use Rattle.incremental.specs.Inner.Pass.{Within, Pass}
 use Rattle.square.specs.Inner.Sets.{Inserted}

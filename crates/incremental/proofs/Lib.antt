@@ -1,5 +1,5 @@
 -- Laws and machinery behind the proofs of the functions.
-pub mod SquareLaws
+pub mod MarkingLaws
 pub mod Passes
 pub mod SettlingLaws
 pub mod SetLaws

@@ -17,7 +17,7 @@ use Rattle.subsumption.proofs.Bits.{bit-and, bit-or-cases, bit-or-left, bit-or-
 use Rattle.subsumption.proofs.Nodes.{node-exists, exists-node}
 use Rattle.subsumption.proofs.Columns.{not-both}
 use Rattle.square.specs.Inner.Square.{onLine, inRow, Square}
-use Rattle.incremental.specs.Inner.Square.{inHalf, Adds, inThree, Holding}
+use Rattle.incremental.specs.Inner.Marking.{inHalf, Adds, inThree, Holding}
 use Rattle.incremental.specs.Inner.Lines.{LinkAt, LinkLines}
 use Rattle.square.specs.Inner.Sets.{Inserted}
 use Rattle.incremental.specs.Inner.Including.{isIn}
@@ -25,7 +25,7 @@ use Rattle.incremental.specs.Inner.Pass.{Pass}
 use Rattle.incremental.specs.Inner.Links.{WithInner, WithRole, OuterTo, RolesTo, InnersTo, Existentials, Picked, Joins, ByRole, ByInner, LinkPass}
 use Rattle.square.proofs.BitLaws.{Lowest, lowest, no-bits}
 use Rattle.square.proofs.SetLaws.{empty-line}
-use Rattle.incremental.proofs.SquareLaws.{adds-columns}
+use Rattle.incremental.proofs.MarkingLaws.{adds-columns}
 use Rattle.incremental.proofs.Passes.{pass-none, step-pass}
 
 -- ---- noting the existentials

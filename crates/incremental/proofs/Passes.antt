@@ -9,7 +9,7 @@ use borrow.Author.Count.{below-more}
 use Rattle.subsumption.specs.Inner.Columns.{slack}
 use Rattle.subsumption.proofs.Columns.{any-true, any-false, not-both, falls}
 use Rattle.square.specs.Inner.Square.{inRow, Square}
-use Rattle.incremental.specs.Inner.Square.{Adds}
+use Rattle.incremental.specs.Inner.Marking.{Adds}
 use Rattle.incremental.specs.Inner.Pass.{Within, Pass}
 
 module _ {count : ℕ} {Law : (ℕ → ℕ → Bool) → Type 0} where

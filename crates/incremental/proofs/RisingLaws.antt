@@ -7,7 +7,7 @@ use native.Mathlib.Omega.{arith}
 use lib.ListN.{length}
 use Rattle.subsumption.specs.Tables.{node, countOf, pairsOf, leftOf, rightOf}
 use Rattle.square.specs.Inner.Square.{inRow, inColumn, Square}
-use Rattle.incremental.specs.Inner.Square.{Adds}
+use Rattle.incremental.specs.Inner.Marking.{Adds}
 use Rattle.incremental.specs.Inner.Lines.{MeetAt, MeetLines, LinkAt, LinkLines, IncludeLines}
 use Rattle.incremental.specs.Inner.Pass.{Within, Pass}
 use Rattle.incremental.specs.Inner.Settling.{MeetPass}

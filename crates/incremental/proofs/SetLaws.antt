@@ -16,7 +16,7 @@ use Rattle.subsumption.proofs.Bools.{both-true, le-or-lt}
 use Rattle.subsumption.proofs.Bits.{bit-or-cases, bit-shr, bit-past}
 use Rattle.subsumption.proofs.Columns.{not-both}
 use Rattle.square.specs.Inner.Square.{onLine, inRow}
-use Rattle.incremental.specs.Inner.Square.{inThree, Holding}
+use Rattle.incremental.specs.Inner.Marking.{inThree, Holding}
 use Rattle.incremental.specs.Inner.Including.{isIn, Covering, NextOpen}
 use Rattle.square.proofs.BitLaws.{lacking, Lowest, lowest, no-bits}
 use Rattle.square.proofs.SetLaws.{line-three}

@@ -17,12 +17,12 @@ use Rattle.subsumption.proofs.Bools.{last-cases}
 use Rattle.subsumption.proofs.Nodes.{node-and, node-var}
 use Rattle.subsumption.proofs.Picks.{ChosenBelow, picked-at, at-picked}
 use Rattle.square.specs.Inner.Square.{onLine, inRow, Square}
-use Rattle.incremental.specs.Inner.Square.{inHalf, Adds, inThree}
+use Rattle.incremental.specs.Inner.Marking.{inHalf, Adds, inThree}
 use Rattle.incremental.specs.Inner.Lines.{Under, InnerAt, InnerLines, MeetAt, MeetLines}
 use Rattle.incremental.specs.Inner.Pass.{Within, Pass}
 use Rattle.incremental.specs.Inner.Settling.{ChosenUnder, SpreadPass, InnerPass, MeetPass}
 use Rattle.square.proofs.BitLaws.{picked-bit}
-use Rattle.incremental.proofs.SquareLaws.{adds-columns, adds-as}
+use Rattle.incremental.proofs.MarkingLaws.{adds-columns, adds-as}
 use Rattle.incremental.proofs.Passes.{pass-none, pass-as, pass-then, pass-law, step-pass}
 
 -- ---- one row that takes in another, one column that takes in what two have

@@ -13,14 +13,14 @@ use Rattle.subsumption.proofs.Bools.{eq-or-ne, le-or-lt, last-cases}
 use Rattle.subsumption.proofs.Bits.{bit-ones}
 use Rattle.subsumption.proofs.Nodes.{node-name, node-exists, node-and, node-var, node-other, name-node}
 use Rattle.square.specs.Inner.Square.{onLine, inRow, Square}
-use Rattle.incremental.specs.Inner.Square.{inHalf, Adds, inThree}
+use Rattle.incremental.specs.Inner.Marking.{inHalf, Adds, inThree}
 use Rattle.incremental.specs.Inner.Lines.{StartLines}
 use Rattle.square.specs.Inner.Sets.{Inserted}
 use Rattle.incremental.specs.Inner.Pass.{Within}
 use Rattle.incremental.specs.Inner.Start.{NamesTo, StartAt, Grown, Begun, BegunAt}
 use Rattle.square.proofs.SetLaws.{empty-line}
 use Rattle.square.proofs.SetLaws.{line-three}
-use Rattle.incremental.proofs.SquareLaws.{adds-rows, adds-columns}
+use Rattle.incremental.proofs.MarkingLaws.{adds-rows, adds-columns}
 
 -- ---- the ids of a name
 pub names-none : (concepts names : List ℕ) → names ≡ replicate 3000 0 → NamesTo concepts names 0

@@ -1,5 +1,5 @@
 -- Definitions of private contracts: no operation's contract reaches them.
-pub mod Square
+pub mod Marking
 pub mod Pass
 pub mod Lines
 pub mod Settling

@@ -1,8 +1,8 @@
 // Rule 6: a row that has an inclusion's left side takes in the row of its right side. A row within it that is finished already has taken
 // in all that its own left sides ask, so that these need no look: in a table that was right, few are left. The order of the rows is free,
 // smaller ones first, so that rows within a row are finished before it.
-use crate::square::flow;
-use crate::square::holds;
+use crate::marking::flow;
+use crate::marking::holds;
 use square::helpers::has;
 use square::helpers::insert;
 use subsumption::limits::CONCEPTS;

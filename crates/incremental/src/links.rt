@@ -1,7 +1,7 @@
 // Rule 5. The existentials are noted as sets, by inner id and by role, so that for an existential all those that come below it are found
 // at once: their inner ids are below its own, and their roles count as its own.
-use crate::square::holds;
-use crate::square::take;
+use crate::marking::holds;
+use crate::marking::take;
 use square::helpers::COLUMNS;
 use square::helpers::insert;
 ghost use mathlib.Core.Path.{_≡_};
@@ -11,7 +11,7 @@ ghost use Rattle.subsumption.specs.Tables.{countOf};
 ghost use Rattle.subsumption.specs.Inner.Links.{Inner};
 ghost use Rattle.subsumption.specs.Inner.Roles.{inSet};
 ghost use Rattle.square.specs.Inner.Square.{Square};
-ghost use Rattle.incremental.specs.Inner.Square.{inThree};
+ghost use Rattle.incremental.specs.Inner.Marking.{inThree};
 ghost use Rattle.incremental.specs.Inner.Links.{Existentials, Joins, ByRole, ByInner, LinkPass};
 
 // Of the roles, the words: three a role, and lines to 128.

@@ -1,8 +1,8 @@
 // Rules 4, 5 and 8 at every column, in rising order: what they read of a column is at smaller ids, so that a tower of existentials is
 // climbed in one pass. A column that gained takes rule 6 at once, for the storeys above it; the rows are asked for the rest.
 use crate::links::link_to;
+use crate::marking::meet;
 use crate::settling::settle_column;
-use crate::square::meet;
 use square::helpers::COLUMNS;
 use square::helpers::has;
 ghost use mathlib.Core.Path.{_≡_};

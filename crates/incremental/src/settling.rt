@@ -1,7 +1,7 @@
 // Rules 3, 4, 7 and 8, at the rows of "and" and of variables. Rules 3 and 7 move rows, 4 and 8 columns.
-use crate::square::flow;
-use crate::square::meet;
-use crate::square::take;
+use crate::marking::flow;
+use crate::marking::meet;
+use crate::marking::take;
 use square::helpers::COLUMNS;
 ghost use mathlib.Core.Path.{_≡_};
 ghost use Prim.Native.Nat.{ℕ, _<_};
@@ -13,7 +13,7 @@ ghost use Rattle.subsumption.specs.Atoms.{pick};
 ghost use Rattle.subsumption.specs.Inner.Columns.{Known, Common};
 ghost use Rattle.subsumption.specs.Inner.Settling.{Settleable, chooseFrom};
 ghost use Rattle.square.specs.Inner.Square.{inRow, Square};
-ghost use Rattle.incremental.specs.Inner.Square.{Adds};
+ghost use Rattle.incremental.specs.Inner.Marking.{Adds};
 ghost use Rattle.incremental.specs.Inner.Settling.{SpreadPass, InnerPass, MeetPass};
 
 const ALL: u64 = 18446744073709551615;

@@ -1,7 +1,7 @@
 // Rules 1 and 2, which ask for no mark: an id is below itself, below each id of its own name, and below each top. One walk does them all.
-use crate::square::ROWS;
-use crate::square::mark;
-use crate::square::take;
+use crate::marking::ROWS;
+use crate::marking::mark;
+use crate::marking::take;
 use square::helpers::COLUMNS;
 use square::helpers::insert;
 ghost use mathlib.Core.Path.{_≡_};

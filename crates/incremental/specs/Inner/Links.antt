@@ -9,7 +9,7 @@ use Rattle.subsumption.specs.Tables.{existsAt, node, countOf}
 use Rattle.subsumption.specs.Atoms.{bit}
 use Rattle.subsumption.specs.Inner.Roles.{inSet}
 use Rattle.square.specs.Inner.Square.{onLine, inRow}
-use Rattle.incremental.specs.Inner.Square.{inThree}
+use Rattle.incremental.specs.Inner.Marking.{inThree}
 use Rattle.incremental.specs.Inner.Lines.{LinkAt, LinkLines}
 use Rattle.incremental.specs.Inner.Including.{isIn}
 use Rattle.incremental.specs.Inner.Pass.{Pass}

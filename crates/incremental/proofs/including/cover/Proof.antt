@@ -5,7 +5,7 @@ use borrow.Author.Needs.{needs}
 use Rattle.incremental.proofs.including.cover.Statement.{statement}
 use Rattle.incremental.proofs.including.cover.Tie as tie
 use Rattle.square.proofs.helpers.has.Reads as has-reads
-use Rattle.incremental.proofs.square.holds.Reads as holds-reads
+use Rattle.incremental.proofs.marking.holds.Reads as holds-reads
 
 has-requires : tie.Need-has-requires
 has-requires c κs = search needs

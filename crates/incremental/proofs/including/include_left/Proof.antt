@@ -5,7 +5,7 @@ use Prim.Native.Nat.{_-_, _+_, _*_}
 use Rattle.incremental.proofs.including.include_left.Statement.{statement}
 use Rattle.incremental.proofs.including.include_left.Tie as tie
 use Rattle.incremental.proofs.including.cover.Reads as cover-reads
-use Rattle.incremental.proofs.square.flow.Reads as flow-reads
+use Rattle.incremental.proofs.marking.flow.Reads as flow-reads
 
 abbrev Inv-loop : tie.InvT-loop
 Inv-loop inclusions chain count square₀ done covered₀ i l pairs changed₀ m₀ square covered changed m = LeftTo count inclusions done i l square₀ covered₀ m covered square changed

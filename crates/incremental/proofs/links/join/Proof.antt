@@ -1,7 +1,7 @@
 use native.Mathlib.Omega.{arith}
 use Rattle.incremental.proofs.LinkLaws.{Joining, joining-first, joining-low, joining-more, joining-done}
 use Rattle.square.proofs.BitLaws.{rest-less}
-use Rattle.incremental.specs.Inner.Square.{inThree}
+use Rattle.incremental.specs.Inner.Marking.{inThree}
 use lib.Count.{trailing-le}
 use lib.Bits.{and-le-r}
 use Prim.Native.Nat.{_-_}

@@ -9,8 +9,8 @@ use Rattle.incremental.proofs.links.link_to.Statement.{statement}
 use Rattle.incremental.proofs.links.link_to.Tie as tie
 use Rattle.incremental.proofs.links.of_role.Reads as of-role-reads
 use Rattle.incremental.proofs.links.over.Reads as over-reads
-use Rattle.incremental.proofs.square.holds.Reads as holds-reads
-use Rattle.incremental.proofs.square.take.Reads as take-reads
+use Rattle.incremental.proofs.marking.holds.Reads as holds-reads
+use Rattle.incremental.proofs.marking.take.Reads as take-reads
 
 mul-at : tie.Need-mul-at
 mul-at c = search needs

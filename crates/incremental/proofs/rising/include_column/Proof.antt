@@ -11,7 +11,7 @@ use Rattle.incremental.proofs.rising.include_column.Tie as tie
 use Rattle.incremental.proofs.rising.include_column.Reads as reads
 use Rattle.incremental.proofs.rising.include_column.Lts as lts
 use Rattle.square.proofs.helpers.has.Reads as has-reads
-use Rattle.incremental.proofs.square.meet.Reads as meet-reads
+use Rattle.incremental.proofs.marking.meet.Reads as meet-reads
 
 abbrev Inv-loop : tie.InvT-loop
 Inv-loop inclusions count square₀ j pairs changed₀ m₀ square changed m = ColumnGains count inclusions square₀ square changed

@@ -6,7 +6,7 @@ use borrow.Author.Needs.{needs}
 use Rattle.incremental.proofs.settling.gather.Statement.{statement}
 use Rattle.incremental.proofs.settling.gather.Tie as tie
 use Rattle.incremental.proofs.settling.common.Reads as common-reads
-use Rattle.incremental.proofs.square.take.Reads as take-reads
+use Rattle.incremental.proofs.marking.take.Reads as take-reads
 
 sub-common : tie.Need-sub-common
 sub-common c = omega (arith, c .before .before .pre .0 .long)

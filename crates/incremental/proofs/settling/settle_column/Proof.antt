@@ -6,7 +6,7 @@ use borrow.Author.Needs.{needs}
 use Rattle.incremental.proofs.settling.settle_column.Statement.{statement}
 use Rattle.incremental.proofs.settling.settle_column.Tie as tie
 use Rattle.incremental.proofs.settling.gather.Reads as gather-reads
-use Rattle.incremental.proofs.square.meet.Reads as meet-reads
+use Rattle.incremental.proofs.marking.meet.Reads as meet-reads
 
 mul-at : tie.Need-mul-at
 mul-at c = search needs

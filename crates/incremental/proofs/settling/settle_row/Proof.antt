@@ -6,7 +6,7 @@ use borrow.Author.Needs.{needs}
 use Rattle.incremental.proofs.settling.settle_row.Statement.{statement}
 use Rattle.incremental.proofs.settling.settle_row.Tie as tie
 use Rattle.incremental.proofs.settling.spread.Reads as spread-reads
-use Rattle.incremental.proofs.square.flow.Reads as flow-reads
+use Rattle.incremental.proofs.marking.flow.Reads as flow-reads
 
 mul-at : tie.Need-mul-at
 mul-at c = search needs

@@ -4,7 +4,7 @@ use lib.ListN.{length}
 use Prim.Native.Nat.{_-_}
 use Rattle.incremental.proofs.settling.spread.Statement.{statement}
 use Rattle.incremental.proofs.settling.spread.Tie as tie
-use Rattle.incremental.proofs.square.flow.Reads as flow-reads
+use Rattle.incremental.proofs.marking.flow.Reads as flow-reads
 
 abbrev Inv-loop : tie.InvT-loop
 Inv-loop atoms choice square₀ to changed₀ q₀ square changed q = Spreading q atoms choice to square₀ square changed

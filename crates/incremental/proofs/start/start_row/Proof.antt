@@ -7,8 +7,8 @@ use Prim.Native.Nat.{_*_, _+_}
 use borrow.Author.Needs.{needs}
 use Rattle.incremental.proofs.start.start_row.Statement.{statement}
 use Rattle.incremental.proofs.start.start_row.Tie as tie
-use Rattle.incremental.proofs.square.mark.Reads as mark-reads
-use Rattle.incremental.proofs.square.take.Reads as take-reads
+use Rattle.incremental.proofs.marking.mark.Reads as mark-reads
+use Rattle.incremental.proofs.marking.take.Reads as take-reads
 
 mark-requires : tie.Need-mark-requires
 mark-requires c κs = (c .before .before .before .before .pre .1 .1 .0, ((omega arith, inl refl), (omega (arith, c .before .before .before .before .pre .0 .few), omega (arith, c .before .before .before .before .pre .0 .few))))

@@ -1,8 +1,8 @@
 use native.Mathlib.Omega.{arith}
 use Rattle.subsumption.proofs.Columns.{absorbs}
 use borrow.Author.Needs.{needs}
-use Rattle.incremental.proofs.square.absorb.Statement.{statement}
-use Rattle.incremental.proofs.square.absorb.Tie as tie
+use Rattle.incremental.proofs.marking.absorb.Statement.{statement}
+use Rattle.incremental.proofs.marking.absorb.Tie as tie
 
 mul-old : tie.Need-mul-old
 mul-old c = search needs

@@ -4,10 +4,10 @@ use native.Mathlib.Omega.{arith}
 use lib.Bits.{and-le-r, or-lt, xor-lt}
 use lib.Count.{trailing-le}
 use Rattle.square.proofs.BitLaws.{rest-less}
-use Rattle.incremental.proofs.SquareLaws.{Taking, taking-first, taking-low, taking-more, taking-done}
-use Rattle.incremental.proofs.square.take_word.Statement.{statement}
-use Rattle.incremental.proofs.square.take_word.Tie as tie
-use Rattle.incremental.proofs.square.mark.Reads as mark-reads
+use Rattle.incremental.proofs.MarkingLaws.{Taking, taking-first, taking-low, taking-more, taking-done}
+use Rattle.incremental.proofs.marking.take_word.Statement.{statement}
+use Rattle.incremental.proofs.marking.take_word.Tie as tie
+use Rattle.incremental.proofs.marking.mark.Reads as mark-reads
 
 abbrev Inv-loop : tie.InvT-loop
 Inv-loop square₀ base x k add old rest₀ changed₀ square rest changed = Taking base x k add square₀ rest square changed

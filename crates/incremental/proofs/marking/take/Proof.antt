@@ -1,9 +1,9 @@
-use Rattle.incremental.proofs.SquareLaws.{take-none, take-words}
+use Rattle.incremental.proofs.MarkingLaws.{take-none, take-words}
 use borrow.Author.Needs.{needs}
-use Rattle.incremental.proofs.square.take.Statement.{statement}
-use Rattle.incremental.proofs.square.take.Tie as tie
-use Rattle.incremental.proofs.square.holds.Reads as holds-reads
-use Rattle.incremental.proofs.square.take_word.Reads as take-word-reads
+use Rattle.incremental.proofs.marking.take.Statement.{statement}
+use Rattle.incremental.proofs.marking.take.Tie as tie
+use Rattle.incremental.proofs.marking.holds.Reads as holds-reads
+use Rattle.incremental.proofs.marking.take_word.Reads as take-word-reads
 
 mul-holds : tie.Need-mul-holds
 mul-holds c = search needs

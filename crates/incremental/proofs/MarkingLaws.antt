@@ -16,7 +16,7 @@ use Rattle.subsumption.proofs.Bits.{bit-or-cases, bit-or-left, bit-or-right, bi
 use Rattle.subsumption.proofs.Columns.{any-true, any-false, not-both, falls}
 use Rattle.subsumption.proofs.MarkLaws.{shifted}
 use Rattle.square.specs.Inner.Square.{onLine, inRow, Square}
-use Rattle.incremental.specs.Inner.Square.{inHalf, Base, Adds, inWord, inThree, Holding}
+use Rattle.incremental.specs.Inner.Marking.{inHalf, Base, Adds, inWord, inThree, Holding}
 use Rattle.square.proofs.BitLaws.{lacking, Lowest, lowest, no-bits}
 use Rattle.square.proofs.SetLaws.{line-three, both-three}
 

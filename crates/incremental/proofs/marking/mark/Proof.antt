@@ -1,9 +1,9 @@
 use native.Mathlib.Omega.{arith}
-use Rattle.incremental.proofs.SquareLaws.{marks}
+use Rattle.incremental.proofs.MarkingLaws.{marks}
 use borrow.Author.Needs.{needs}
-use Rattle.incremental.proofs.square.mark.Statement.{statement}
-use Rattle.incremental.proofs.square.mark.Tie as tie
-use Rattle.incremental.proofs.square.absorb.Reads as absorb-reads
+use Rattle.incremental.proofs.marking.mark.Statement.{statement}
+use Rattle.incremental.proofs.marking.mark.Tie as tie
+use Rattle.incremental.proofs.marking.absorb.Reads as absorb-reads
 
 mul-absorb : tie.Need-mul-absorb
 mul-absorb c = search needs

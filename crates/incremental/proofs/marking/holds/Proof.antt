@@ -1,10 +1,10 @@
 use mathlib.Core.Path.{refl, sym}
 use borrow.Author.Tests.{eqb-true}
-use Rattle.incremental.proofs.SquareLaws.{holding}
+use Rattle.incremental.proofs.MarkingLaws.{holding}
 use Rattle.subsumption.proofs.Columns.{not-both}
 use borrow.Author.Needs.{needs}
-use Rattle.incremental.proofs.square.holds.Statement.{statement}
-use Rattle.incremental.proofs.square.holds.Tie as tie
+use Rattle.incremental.proofs.marking.holds.Statement.{statement}
+use Rattle.incremental.proofs.marking.holds.Tie as tie
 
 mul-if1 : tie.Need-mul-if1
 mul-if1 c = search needs

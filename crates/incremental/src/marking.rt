@@ -7,7 +7,7 @@ ghost use mathlib.Core.Bool.{true};
 ghost use lib.ListN.{length};
 ghost use Rattle.subsumption.specs.Inner.Columns.{Absorbs};
 ghost use Rattle.square.specs.Inner.Square.{inRow, Square};
-ghost use Rattle.incremental.specs.Inner.Square.{inHalf, Base, Adds, inWord, inThree, Holding};
+ghost use Rattle.incremental.specs.Inner.Marking.{inHalf, Base, Adds, inWord, inThree, Holding};
 
 pub const ROWS: usize = 0;
 

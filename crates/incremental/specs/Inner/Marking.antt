@@ -1,4 +1,4 @@
--- How the square of marks changes (src/square.rt); the crate `square` has what it is.
+-- How the square of marks changes (src/marking.rt); the crate `square` has what it is.
 use Prim.Native.Nat.{ℕ, _+_, _*_, _/_, _%_, _<_, _≤_}
 use mathlib.Core.Path.{_≡_}
 use mathlib.Core.List.{List, [], _∷_}

@@ -1,11 +1,11 @@
 use native.Mathlib.Omega.{arith}
-use Rattle.incremental.proofs.SquareLaws.{flow-adds}
+use Rattle.incremental.proofs.MarkingLaws.{flow-adds}
 use mathlib.Core.Path.{refl}
 use mathlib.Core.Logic.{inl}
 use borrow.Author.Needs.{needs}
-use Rattle.incremental.proofs.square.flow.Statement.{statement}
-use Rattle.incremental.proofs.square.flow.Tie as tie
-use Rattle.incremental.proofs.square.take.Reads as take-reads
+use Rattle.incremental.proofs.marking.flow.Statement.{statement}
+use Rattle.incremental.proofs.marking.flow.Tie as tie
+use Rattle.incremental.proofs.marking.take.Reads as take-reads
 
 mul-at : tie.Need-mul-at
 mul-at c = search needs

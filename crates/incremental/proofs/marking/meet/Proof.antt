@@ -1,11 +1,11 @@
 use native.Mathlib.Omega.{arith}
-use Rattle.incremental.proofs.SquareLaws.{meet-adds}
+use Rattle.incremental.proofs.MarkingLaws.{meet-adds}
 use mathlib.Core.Path.{refl}
 use mathlib.Core.Logic.{inr}
 use borrow.Author.Needs.{needs}
-use Rattle.incremental.proofs.square.meet.Statement.{statement}
-use Rattle.incremental.proofs.square.meet.Tie as tie
-use Rattle.incremental.proofs.square.take.Reads as take-reads
+use Rattle.incremental.proofs.marking.meet.Statement.{statement}
+use Rattle.incremental.proofs.marking.meet.Tie as tie
+use Rattle.incremental.proofs.marking.take.Reads as take-reads
 
 mul-a : tie.Need-mul-a
 mul-a c = search needs
