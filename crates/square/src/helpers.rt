@@ -5,4 +5,3 @@ pub use crate::loading::word_at;
 pub use crate::sets::has;
 pub use crate::sets::insert;
 pub use crate::turning::COLUMNS;
-pub use crate::turning::turn;
