@@ -6,3 +6,4 @@ pub mod ChosenLaws
 pub mod FindLaws
 pub mod DerivationLaws
 pub mod WriterLaws
+pub mod PatternLaws

@@ -1,20 +1,24 @@
 // Finding the first assignment that makes every question hold.
+use crate::limits::CARD;
+use crate::limits::SCRATCH;
+use crate::limits::SETS;
 use crate::limits::STORE;
+use crate::search::card::make_card;
 use crate::search::interval::Interval;
 use crate::search::interval::ones;
+use crate::search::narrow::narrow;
 use crate::search::order::first_solution;
 use crate::search::solve::some_solution;
 use subsumption::Listed;
-use subsumption::helpers::close_ground;
 use subsumption::limits::ATOMS;
-use subsumption::limits::WORDS;
 use subsumption::list_atoms;
 use subsumption::refusal::Refusal;
 ghost use Prim.Native.Nat.{_≤_};
 ghost use lib.ListN.{length};
 ghost use Rattle.subsumption.specs.Tables.{tables};
 ghost use Rattle.subsumption.specs.Inner.Listing.{Accepted};
-ghost use Rattle.matching.specs.Inner.Find.{Full, FoundBy, Copied};
+ghost use Rattle.matching.specs.Inner.Find.{Full, FoundBy, FoundIn, Copied};
+ghost use Rattle.matching.specs.Inner.Search.Card.{Shaped};
 ghost use Rattle.matching.specs.Find.{matchReply, Finds};
 
 pub enum Match {
@@ -44,6 +48,33 @@ pub struct Solution {
     pub choice: [u64; 8],
 }
 
+// The first solution of the card, if there is one.
+fn search(sets: &[u64], card: &[u16], variables: usize, count: usize) -> Solution
+    requires { ⌜ Shaped (now sets) (now card) ⌝ }
+    requires { ⌜ (variables ≤ 8) × (count ≤ 64) ⌝ }
+    ensures { λ r. ⌜ FoundIn (now (sets .entry)) (now (card .entry)) variables count (r .found) (r .choice) ⌝ }
+{
+    let mut store = [0u64; STORE];
+    let mut scratch = [0u64; SCRATCH];
+    let low = [0u64; 8];
+    let all = all_atoms(variables, count);
+    let full = narrow(sets, card, &mut scratch, all);
+    let start = Interval { low, high: full };
+    let some = some_solution(sets, card, &mut store, &mut scratch, full, start);
+    let known = some.low;
+    if some.found {
+        let choice = first_solution(sets, card, &mut store, &mut scratch, start, known);
+        return Solution {
+            found: true,
+            choice,
+        };
+    }
+    Solution {
+        found: false,
+        choice: known,
+    }
+}
+
 // The first solution of accepted tables, if there is one. The ids are the atoms.
 fn find_first(
     concepts: &[u16],
@@ -56,47 +87,19 @@ fn find_first(
     requires { ⌜ Accepted (tables (now concepts) (now inclusions) (now questions) (now roles) variables) (now ids) ⌝ }
     ensures { λ r. ⌜ FoundBy (tables (now (concepts .entry)) (now (inclusions .entry)) (now (questions .entry)) (now (roles .entry)) variables) (r .found) (r .choice) ⌝ }
 {
-    let mut ground = [0u64; WORDS];
-    close_ground(concepts, inclusions, roles, ids, variables, &mut ground);
-    let mut store = [0u64; STORE];
-    let low = [0u64; 8];
-    let full = all_atoms(variables as usize, ids.len());
-    let start = Interval { low, high: full };
-    let some = some_solution(
+    let mut sets = [0u64; SETS];
+    let mut card = [0u16; CARD];
+    make_card(
         concepts,
         inclusions,
         questions,
         roles,
         variables,
         ids,
-        &ground,
-        full,
-        &mut store,
-        start,
+        &mut sets,
+        &mut card,
     );
-    let known = some.low;
-    if some.found {
-        let choice = first_solution(
-            concepts,
-            inclusions,
-            questions,
-            roles,
-            variables,
-            ids,
-            &ground,
-            &mut store,
-            start,
-            known,
-        );
-        return Solution {
-            found: true,
-            choice,
-        };
-    }
-    Solution {
-        found: false,
-        choice: known,
-    }
+    search(&sets, &card, variables as usize, ids.len())
 }
 
 fn write_choice(choice: [u64; 8], count: usize, out: &mut [u64])

@@ -1,8 +1,12 @@
 // The search for an assignment that makes every question hold, and for the first one. Private to the crate.
+pub mod card;
 pub mod interval;
+pub mod lookup;
+pub mod narrow;
 pub mod nogoods;
 pub mod order;
 pub mod pairs;
-pub mod questions;
+pub mod patterns;
+pub mod sets;
 pub mod solve;
 pub mod widen;

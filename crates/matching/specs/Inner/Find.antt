@@ -6,8 +6,10 @@ use mathlib.Core.Bool.{Bool, true, false}
 use lib.ListN.{length, take, getD}
 use Rattle.subsumption.specs.declared.refusal.Outcome.the-variants.{Done}
 use Rattle.subsumption.specs.Tables.{Tables}
+use Rattle.subsumption.specs.Atoms.{atoms}
 use Rattle.subsumption.specs.Check.{assignmentFault}
 use Rattle.matching.specs.Solving.{Solves, First}
+use Rattle.matching.specs.Inner.Search.Card.{Card}
 
 -- Every atom for every variable.
 pub record Full (variables count : ℕ) (choice : List ℕ) : Type 0 where
@@ -22,6 +24,11 @@ pub record Found (t : Tables) (choice : List ℕ) : Type 0 where
 abbrev pub FoundBy : Tables → Bool → List ℕ → Type 0
 FoundBy t true choice = Found t choice
 FoundBy t false choice = (other : List ℕ) → assignmentFault t other ≡ Done → Solves t other → ⊥
+
+-- The same of whatever tables the sets and numbers are.
+abbrev pub FoundIn : List ℕ → List ℕ → ℕ → ℕ → Bool → List ℕ → Type 0
+FoundIn sets card variables count found choice =
+    (t : Tables) → Card t sets card → t .variables ≡ variables → length (atoms t) ≡ count → FoundBy t found choice
 
 -- The front of a choice is copied to the front of a buffer.
 pub record Copied (count : ℕ) (choice before after : List ℕ) : Type 0 where

@@ -1,9 +1,14 @@
 -- What the parts of the search share: assignments between two others, and those of them that solve.
+pub mod Card
 pub mod Interval
+pub mod Lent
+pub mod Making
+pub mod Narrow
 pub mod Nogoods
 pub mod Order
 pub mod Pairs
-pub mod Questions
+pub mod Patterns
+pub mod Sets
 pub mod Solve
 pub mod Widen
 use Prim.Native.Nat.{ℕ, _<_}
@@ -12,11 +17,9 @@ use mathlib.Core.List.{List}
 use mathlib.Core.Bool.{Bool, true, false}
 use lib.ListN.{length, take}
 use Rattle.subsumption.specs.declared.refusal.Outcome.the-variants.{Done}
-use Rattle.subsumption.specs.Tables.{Tables, pairsOf, leftOf, rightOf, tree, hasVariable}
+use Rattle.subsumption.specs.Tables.{Tables, leftOf, rightOf}
 use Rattle.subsumption.specs.Subsumption.{Subsumed}
-use Rattle.subsumption.specs.Atoms.{atoms}
-use Rattle.subsumption.specs.Check.{tableFault, assignmentFault}
-use Rattle.subsumption.specs.Inner.Ground.{Grounded}
+use Rattle.subsumption.specs.Check.{assignmentFault}
 use Rattle.matching.specs.Solving.{takes, Solves}
 
 -- A truth value tells whether a statement holds.
@@ -24,17 +27,9 @@ abbrev pub Decided : Type 0 → Bool → Type 0
 Decided P true = P
 Decided P false = P → ⊥
 
--- The tables are accepted, their atoms are at hand, and so are columns that hold under every assignment.
-pub record Prepared (t : Tables) (ids ground : List ℕ) : Type 0 where
-  pub passed : tableFault t ≡ Done
-  pub listed : ids ≡ atoms t
-  pub grounded : Grounded t ground
-
--- The questions whose right side holds a variable just where `right` says so hold under the assignment.
-abbrev pub Hold : Tables → List ℕ → Bool → Type 0
-Hold t assignment right =
-    (m : ℕ) → m < pairsOf (t .questions) → hasVariable (tree (t .concepts) (rightOf (t .questions) m)) ≡ right
-    → Subsumed t assignment (leftOf (t .questions) m) (rightOf (t .questions) m)
+-- The question at place m holds under the assignment.
+abbrev pub HoldsAt : Tables → List ℕ → ℕ → Type 0
+HoldsAt t assignment m = Subsumed t assignment (leftOf (t .questions) m) (rightOf (t .questions) m)
 
 -- What the one takes, the other takes.
 abbrev pub Within : List ℕ → List ℕ → Type 0

@@ -4,30 +4,23 @@ use crate::search::interval::Interval;
 use crate::search::interval::has_bit;
 use crate::search::solve::some_solution;
 use subsumption::limits::ATOMS;
-ghost use Rattle.subsumption.specs.Tables.{tables};
-ghost use Rattle.matching.specs.Inner.Search.Interval.{IntervalOf};
-ghost use Rattle.matching.specs.Inner.Search.{Prepared, SolutionIn};
-ghost use Rattle.matching.specs.Inner.Search.Order.{FirstIn};
-ghost use Rattle.matching.specs.Inner.Search.Nogoods.{Nogoods};
+ghost use mathlib.Core.Path.{_≡_};
+ghost use lib.ListN.{length};
+ghost use Rattle.matching.specs.Inner.Search.Lent.{Lent};
+ghost use Rattle.matching.specs.Inner.Search.Order.{FirstOf};
 
 // `known` is any solution; the last one found is kept, so that a pair it leaves out costs nothing.
 pub fn first_solution(
-    concepts: &[u16],
-    inclusions: &[u16],
-    questions: &[u16],
-    roles: &[u16],
-    variables: u16,
-    atoms: &[u16],
-    ground: &[u64],
+    sets: &[u64],
+    card: &[u16],
     store: &mut [u64],
+    scratch: &mut [u64],
     start: Interval,
     known: [u64; 8],
 ) -> [u64; 8]
-    requires { ⌜ Prepared (tables (now concepts) (now inclusions) (now questions) (now roles) variables) (now atoms) (now ground) ⌝ }
-    requires { ⌜ Nogoods (tables (now concepts) (now inclusions) (now questions) (now roles) variables) (now store) ⌝ }
-    requires { ⌜ IntervalOf (tables (now concepts) (now inclusions) (now questions) (now roles) variables) (start .low) (start .high) ⌝ }
-    requires { ⌜ SolutionIn (tables (now concepts) (now inclusions) (now questions) (now roles) variables) (start .low) (start .high) known ⌝ }
-    ensures { λ r. ⌜ FirstIn (tables (now (concepts .entry)) (now (inclusions .entry)) (now (questions .entry)) (now (roles .entry)) variables) (start .low) (start .high) r ⌝ }
+    requires { ⌜ Lent (now sets) (now card) (now store) (now scratch) ⌝ }
+    requires { ⌜ (length (start .low) ≡ 8) × (length (start .high) ≡ 8) × (length known ≡ 8) ⌝ }
+    ensures { λ r. ⌜ FirstOf (now (sets .entry)) (now (card .entry)) (start .low) (start .high) (now (store .entry)) known r ⌝ }
 {
     let full = start.high;
     let mut interval = start;
@@ -44,18 +37,7 @@ pub fn first_solution(
             interval = without;
             continue;
         }
-        let s = some_solution(
-            concepts,
-            inclusions,
-            questions,
-            roles,
-            variables,
-            atoms,
-            ground,
-            full,
-            store,
-            without,
-        );
+        let s = some_solution(sets, card, store, scratch, full, without);
         if s.found {
             let choice = s.low;
             interval = without;

@@ -2,39 +2,47 @@
 // added, the others when atoms are removed: so a failed test makes a nogood, an interval that holds no solution. An
 // interval is split until its low side passes every test or a nogood around it is known; the nogoods of the two halves
 // give one of the whole, and a half whose nogood does not mention the pair speaks for the whole at once.
+use crate::limits::HELD;
+use crate::limits::HINT;
 use crate::limits::PAIRS;
+use crate::limits::QUESTION_COUNT;
+use crate::limits::SIDES;
 use crate::search::interval::Interval;
 use crate::search::interval::Pick;
 use crate::search::interval::has_bit;
 use crate::search::interval::pick_undecided;
+use crate::search::lookup::choose;
+use crate::search::lookup::open_pair;
+use crate::search::lookup::some_pair;
 use crate::search::nogoods::add;
-use crate::search::nogoods::choose;
 use crate::search::nogoods::nogood_at;
-use crate::search::nogoods::some_pair;
 use crate::search::pairs::is_within;
 use crate::search::pairs::join;
 use crate::search::pairs::meet;
 use crate::search::pairs::with_pair;
 use crate::search::pairs::without_pair;
-use crate::search::questions::questions_hold;
+use crate::search::patterns::question_holds;
 use crate::search::widen::widen;
 use subsumption::limits::ATOMS;
 ghost use mathlib.Core.Path.{_≡_};
-ghost use mathlib.Core.Bool.{true};
+ghost use mathlib.Core.Bool.{true, false};
 ghost use Prim.Native.Nat.{_<_};
 ghost use lib.ListN.{length};
-ghost use Rattle.subsumption.specs.Tables.{tables};
 ghost use Rattle.matching.specs.Solving.{takes};
-ghost use Rattle.matching.specs.Inner.Search.Interval.{IntervalOf};
-ghost use Rattle.matching.specs.Inner.Search.{Prepared};
-ghost use Rattle.matching.specs.Inner.Search.Nogoods.{Room, Nogoods};
-ghost use Rattle.matching.specs.Inner.Search.Solve.{Answers, CanSplit, Stepped, Recalled, Merged};
+ghost use Rattle.matching.specs.Inner.Search.Card.{Shaped, questionCount};
+ghost use Rattle.matching.specs.Inner.Search.Interval.{undecided};
+ghost use Rattle.matching.specs.Inner.Search.Lent.{Lent};
+ghost use Rattle.matching.specs.Inner.Search.Nogoods.{Room};
+ghost use Rattle.matching.specs.Inner.Search.Solve.{FailingOf, Failing, RefutedBy, Searched, Answers, CanSplit, Recalled, Merged};
 
 const ALL: u64 = 18446744073709551615;
 // How many nogoods are kept: of those that tests cost all, of those that come by merging only while there is much room.
 const TESTED: u64 = 1024;
 
 const MERGED: u64 = 640;
+
+// No nogood stands there.
+const NONE: usize = 1024;
 
 // A solution, as the low side, or an interval around the asked one that holds none.
 pub struct Answer {
@@ -43,87 +51,102 @@ pub struct Answer {
     pub high: [u64; 8],
 }
 
-// The low side by itself: a solution, or a nogood around it, which is kept.
-fn try_low(
-    concepts: &[u16],
-    inclusions: &[u16],
-    questions: &[u16],
-    roles: &[u16],
-    variables: u16,
-    atoms: &[u16],
-    ground: &[u64],
-    full: [u64; 8],
-    store: &mut [u64],
-    low: [u64; 8],
-) -> Answer
-    requires { ⌜ Prepared (tables (now concepts) (now inclusions) (now questions) (now roles) variables) (now atoms) (now ground) ⌝ }
-    requires { ⌜ IntervalOf (tables (now concepts) (now inclusions) (now questions) (now roles) variables) low full ⌝ }
-    requires { ⌜ Nogoods (tables (now concepts) (now inclusions) (now questions) (now roles) variables) (now store) ⌝ }
-    ensures { λ r. ⌜ Answers (tables (now (concepts .entry)) (now (inclusions .entry)) (now (questions .entry)) (now (roles .entry)) variables) low low (r .found) (r .low) (r .high) ⌝ }
-    ensures { λ _. ⌜ Nogoods (tables (now (concepts .entry)) (now (inclusions .entry)) (now (questions .entry)) (now (roles .entry)) variables) (now (store .exit)) ⌝ }
+// The first question that does not hold, of those whose right side holds a variable just where `right` says so; their number if all hold.
+fn failing_of(
+    sets: &[u64],
+    card: &[u16],
+    scratch: &mut [u64],
+    choice: [u64; 8],
+    right: bool,
+) -> usize
+    requires { ⌜ Shaped (now sets) (now card) ⌝ }
+    requires { ⌜ length (now scratch) ≡ 16977 ⌝ }
+    ensures { λ r. ⌜ FailingOf (now (sets .entry)) (now (card .entry)) choice right r ⌝ }
 {
-    let n = variables as usize;
+    let count = card[QUESTION_COUNT] as usize;
+    let mut m: usize = 0;
+    while m < count {
+        let at = m;
+        m += 1;
+        let side = card[SIDES + at * 2 + 1] as usize;
+        if (card[HELD + side] == 1) != right {
+            continue;
+        }
+        if question_holds(sets, card, scratch, at, choice) {
+            continue;
+        }
+        return at;
+    }
+    count
+}
+
+// A question that does not hold, or their number.
+fn failing(sets: &[u64], card: &[u16], scratch: &mut [u64], choice: [u64; 8]) -> usize
+    requires { ⌜ Shaped (now sets) (now card) ⌝ }
+    requires { ⌜ length (now scratch) ≡ 16977 ⌝ }
+    ensures { λ r. ⌜ Failing (now (sets .entry)) (now (card .entry)) choice r ⌝ }
+{
+    let first = failing_of(sets, card, scratch, choice, true);
+    if first < card[QUESTION_COUNT] as usize {
+        return first;
+    }
+    failing_of(sets, card, scratch, choice, false)
+}
+
+// A nogood around the low side, where question m fails.
+fn refute(
+    sets: &[u64],
+    card: &[u16],
+    scratch: &mut [u64],
+    full: [u64; 8],
+    low: [u64; 8],
+    m: usize,
+) -> Interval
+    requires { ⌜ Shaped (now sets) (now card) ⌝ }
+    requires { ⌜ (length (now scratch) ≡ 16977) × (m < questionCount (now card)) ⌝ }
+    requires { ⌜ (length full ≡ 8) × (length low ≡ 8) ⌝ }
+    ensures { λ r. ⌜ (length (r .low) ≡ 8) × (length (r .high) ≡ 8) ⌝ }
+    ensures { λ r. ⌜ RefutedBy (now (sets .entry)) (now (card .entry)) full low m (r .low) (r .high) ⌝ }
+{
     let empty = [0u64; 8];
-    if !questions_hold(
-        concepts,
-        inclusions,
-        questions,
-        roles,
-        variables,
-        atoms,
-        ground,
-        &low[..n],
-        true,
-    ) {
-        let core = widen(
-            concepts,
-            inclusions,
-            questions,
-            roles,
-            variables,
-            atoms,
-            ground,
-            full,
-            low,
-            empty,
-            true,
-        );
-        add(store, TESTED, core, full);
-        return Answer {
-            found: false,
+    let side = card[SIDES + m * 2 + 1] as usize;
+    if card[HELD + side] == 1 {
+        let core = widen(sets, card, scratch, m, low, empty);
+        return Interval {
             low: core,
             high: full,
         };
     }
-    if !questions_hold(
-        concepts,
-        inclusions,
-        questions,
-        roles,
-        variables,
-        atoms,
-        ground,
-        &low[..n],
-        false,
-    ) {
-        let rest = widen(
-            concepts,
-            inclusions,
-            questions,
-            roles,
-            variables,
-            atoms,
-            ground,
-            full,
-            low,
-            full,
-            false,
-        );
-        add(store, TESTED, empty, rest);
+    let rest = widen(sets, card, scratch, m, low, full);
+    Interval {
+        low: empty,
+        high: rest,
+    }
+}
+
+// The low side by itself: a solution, or a nogood around it, which is kept.
+fn try_low(
+    sets: &[u64],
+    card: &[u16],
+    store: &mut [u64],
+    scratch: &mut [u64],
+    full: [u64; 8],
+    low: [u64; 8],
+) -> Answer
+    requires { ⌜ Lent (now sets) (now card) (now store) (now scratch) ⌝ }
+    requires { ⌜ (length full ≡ 8) × (length low ≡ 8) ⌝ }
+    ensures { λ r. ⌜ (length (r .low) ≡ 8) × (length (r .high) ≡ 8) ⌝ }
+    ensures { λ _. ⌜ Room (now (store .exit)) ⌝ }
+    ensures { λ r. ⌜ Searched (now (sets .entry)) (now (card .entry)) full low low (now (store .entry)) (now (store .exit)) (λ t. Answers t low low (r .found) (r .low) (r .high)) ⌝ }
+{
+    let m = failing(sets, card, scratch, low);
+    if m < card[QUESTION_COUNT] as usize {
+        let nogood = refute(sets, card, scratch, full, low, m);
+        add(store, scratch, TESTED, full, nogood);
         return Answer {
             found: false,
-            low: empty,
-            high: rest,
+            low: nogood.low,
+            high: nogood.high,
         };
     }
     Answer {
@@ -145,77 +168,76 @@ fn pair_outside(a: [u64; 8], b: [u64; 8]) -> usize {
     pair
 }
 
-// One step at an interval: an answer, or a pair to split at.
+// One step at an interval: an answer, or a pair to split at, with the place of the nogood that proposed it, and whether the pair was its last open one.
 pub struct Step {
     pub done: bool,
     pub found: bool,
     pub low: [u64; 8],
     pub high: [u64; 8],
     pub pair: usize,
+    pub place: usize,
+    pub spare: bool,
+}
+
+fn answered(found: bool, low: [u64; 8], high: [u64; 8]) -> Step
+    ensures { λ r. ⌜ (r .done ≡ true) × (r .found ≡ found) × (r .low ≡ low) × (r .high ≡ high) ⌝ }
+{
+    Step {
+        done: true,
+        found,
+        low,
+        high,
+        pair: PAIRS,
+        place: NONE,
+        spare: false,
+    }
+}
+
+fn splitting(interval: Interval, pair: usize, place: usize, spare: bool) -> Step
+    ensures { λ r. ⌜ (r .done ≡ false) × (r .pair ≡ pair) ⌝ }
+{
+    let low = interval.low;
+    let high = interval.high;
+    Step {
+        done: false,
+        found: false,
+        low,
+        high,
+        pair,
+        place,
+        spare,
+    }
 }
 
 // By testing the low side.
 fn step_by_test(
-    concepts: &[u16],
-    inclusions: &[u16],
-    questions: &[u16],
-    roles: &[u16],
-    variables: u16,
-    atoms: &[u16],
-    ground: &[u64],
-    full: [u64; 8],
+    sets: &[u64],
+    card: &[u16],
     store: &mut [u64],
+    scratch: &mut [u64],
+    full: [u64; 8],
     interval: Interval,
 ) -> Step
-    requires { ⌜ Prepared (tables (now concepts) (now inclusions) (now questions) (now roles) variables) (now atoms) (now ground) ⌝ }
-    requires { ⌜ IntervalOf (tables (now concepts) (now inclusions) (now questions) (now roles) variables) (interval .low) (interval .high) ⌝ }
-    requires { ⌜ IntervalOf (tables (now concepts) (now inclusions) (now questions) (now roles) variables) (interval .high) full ⌝ }
-    requires { ⌜ Nogoods (tables (now concepts) (now inclusions) (now questions) (now roles) variables) (now store) ⌝ }
-    ensures { λ r. ⌜ Stepped (tables (now (concepts .entry)) (now (inclusions .entry)) (now (questions .entry)) (now (roles .entry)) variables) (interval .low) (interval .high) (r .done) (r .found) (r .low) (r .high) (r .pair) ⌝ }
-    ensures { λ _. ⌜ Nogoods (tables (now (concepts .entry)) (now (inclusions .entry)) (now (questions .entry)) (now (roles .entry)) variables) (now (store .exit)) ⌝ }
+    requires { ⌜ Lent (now sets) (now card) (now store) (now scratch) ⌝ }
+    requires { ⌜ (length full ≡ 8) × (length (interval .low) ≡ 8) × (length (interval .high) ≡ 8) ⌝ }
+    ensures { λ r. ⌜ (length (r .low) ≡ 8) × (length (r .high) ≡ 8) ⌝ }
+    ensures { λ _. ⌜ Room (now (store .exit)) ⌝ }
+    ensures { λ r. ⌜ r .done ≡ false → (r .pair < 512) × (undecided (interval .low) (interval .high) (r .pair) ≡ true) ⌝ }
+    ensures { λ r. ⌜ Searched (now (sets .entry)) (now (card .entry)) full (interval .low) (interval .high) (now (store .entry)) (now (store .exit)) (λ t. r .done ≡ true → Answers t (interval .low) (interval .high) (r .found) (r .low) (r .high)) ⌝ }
 {
     let low = interval.low;
     let high = interval.high;
-    let tried = try_low(
-        concepts,
-        inclusions,
-        questions,
-        roles,
-        variables,
-        atoms,
-        ground,
-        full,
-        store,
-        low,
-    );
+    let tried = try_low(sets, card, store, scratch, full, low);
     let found = tried.found;
     let below = tried.low;
     let above = tried.high;
     if found | is_within(high, above) {
-        return Step {
-            done: true,
-            found,
-            low: below,
-            high: above,
-            pair: PAIRS,
-        };
+        return answered(found, below, above);
     }
     let pick = pick_undecided(interval, pair_outside(high, above));
     match pick {
-        Pick::At(pair) => Step {
-            done: false,
-            found: false,
-            low,
-            high,
-            pair,
-        },
-        Pick::Nothing => Step {
-            done: true,
-            found: false,
-            low,
-            high,
-            pair: PAIRS,
-        },
+        Pick::At(pair) => splitting(interval, pair, NONE, false),
+        Pick::Nothing => answered(false, low, high),
     }
 }
 
@@ -229,6 +251,7 @@ pub struct Nogood {
 fn look_up(store: &[u64], place: usize, interval: Interval) -> Nogood
     requires { ⌜ Room (now store) ⌝ }
     requires { ⌜ (length (interval .low) ≡ 8) × (length (interval .high) ≡ 8) ⌝ }
+    ensures { λ r. ⌜ (length (r .low) ≡ 8) × (length (r .high) ≡ 8) ⌝ }
     ensures { λ r. ⌜ Recalled (now (store .entry)) (interval .low) (interval .high) (r .shut) (r .low) (r .high) ⌝ }
 {
     let low = interval.low;
@@ -260,61 +283,57 @@ fn can_split(interval: Interval, pair: usize) -> bool
     false
 }
 
-// By a nogood, if one helps, else by testing the low side.
-fn next_step(
-    concepts: &[u16],
-    inclusions: &[u16],
-    questions: &[u16],
-    roles: &[u16],
-    variables: u16,
-    atoms: &[u16],
-    ground: &[u64],
-    full: [u64; 8],
+// By a nogood that the look-up finds, if one helps, else by testing the low side.
+fn step_by_choice(
+    sets: &[u64],
+    card: &[u16],
     store: &mut [u64],
+    scratch: &mut [u64],
+    full: [u64; 8],
     interval: Interval,
 ) -> Step
-    requires { ⌜ Prepared (tables (now concepts) (now inclusions) (now questions) (now roles) variables) (now atoms) (now ground) ⌝ }
-    requires { ⌜ IntervalOf (tables (now concepts) (now inclusions) (now questions) (now roles) variables) (interval .low) (interval .high) ⌝ }
-    requires { ⌜ IntervalOf (tables (now concepts) (now inclusions) (now questions) (now roles) variables) (interval .high) full ⌝ }
-    requires { ⌜ Nogoods (tables (now concepts) (now inclusions) (now questions) (now roles) variables) (now store) ⌝ }
-    ensures { λ r. ⌜ Stepped (tables (now (concepts .entry)) (now (inclusions .entry)) (now (questions .entry)) (now (roles .entry)) variables) (interval .low) (interval .high) (r .done) (r .found) (r .low) (r .high) (r .pair) ⌝ }
-    ensures { λ _. ⌜ Nogoods (tables (now (concepts .entry)) (now (inclusions .entry)) (now (questions .entry)) (now (roles .entry)) variables) (now (store .exit)) ⌝ }
+    requires { ⌜ Lent (now sets) (now card) (now store) (now scratch) ⌝ }
+    requires { ⌜ (length full ≡ 8) × (length (interval .low) ≡ 8) × (length (interval .high) ≡ 8) ⌝ }
+    ensures { λ r. ⌜ (length (r .low) ≡ 8) × (length (r .high) ≡ 8) ⌝ }
+    ensures { λ _. ⌜ Room (now (store .exit)) ⌝ }
+    ensures { λ r. ⌜ r .done ≡ false → (r .pair < 512) × (undecided (interval .low) (interval .high) (r .pair) ≡ true) ⌝ }
+    ensures { λ r. ⌜ Searched (now (sets .entry)) (now (card .entry)) full (interval .low) (interval .high) (now (store .entry)) (now (store .exit)) (λ t. r .done ≡ true → Answers t (interval .low) (interval .high) (r .found) (r .low) (r .high)) ⌝ }
 {
-    let hint = choose(store, interval);
+    let hint = choose(store, scratch, interval);
     let known = look_up(store, hint.place, interval);
     let low = known.low;
     let high = known.high;
     if known.shut {
-        return Step {
-            done: true,
-            found: false,
-            low,
-            high,
-            pair: PAIRS,
-        };
+        return answered(false, low, high);
     }
-    let pair = hint.pair;
+    let pair = open_pair(Interval { low, high }, interval);
     if can_split(interval, pair) {
-        return Step {
-            done: false,
-            found: false,
-            low,
-            high,
-            pair,
-        };
+        return splitting(interval, pair, hint.place, hint.spare);
     }
-    step_by_test(
-        concepts,
-        inclusions,
-        questions,
-        roles,
-        variables,
-        atoms,
-        ground,
-        full,
-        store,
-        interval,
-    )
+    step_by_test(sets, card, store, scratch, full, interval)
+}
+
+// By the nogood that proposed the last split, if it shuts the interval.
+fn next_step(
+    sets: &[u64],
+    card: &[u16],
+    store: &mut [u64],
+    scratch: &mut [u64],
+    full: [u64; 8],
+    interval: Interval,
+) -> Step
+    requires { ⌜ Lent (now sets) (now card) (now store) (now scratch) ⌝ }
+    requires { ⌜ (length full ≡ 8) × (length (interval .low) ≡ 8) × (length (interval .high) ≡ 8) ⌝ }
+    ensures { λ r. ⌜ (length (r .low) ≡ 8) × (length (r .high) ≡ 8) ⌝ }
+    ensures { λ _. ⌜ Room (now (store .exit)) ⌝ }
+    ensures { λ r. ⌜ r .done ≡ false → (r .pair < 512) × (undecided (interval .low) (interval .high) (r .pair) ≡ true) ⌝ }
+    ensures { λ r. ⌜ Searched (now (sets .entry)) (now (card .entry)) full (interval .low) (interval .high) (now (store .entry)) (now (store .exit)) (λ t. r .done ≡ true → Answers t (interval .low) (interval .high) (r .found) (r .low) (r .high)) ⌝ }
+{
+    let known = look_up(store, scratch[HINT] as usize, interval);
+    if known.shut {
+        return answered(false, known.low, known.high);
+    }
+    step_by_choice(sets, card, store, scratch, full, interval)
 }
 
 // Of the nogoods with a pair and without it, one that speaks of either.
@@ -336,38 +355,23 @@ fn merge(with: Answer, without: Answer, k: usize, q: usize) -> Interval
     Interval { low, high }
 }
 
-// Some solution between the two sides, or a nogood around them: no order is promised, so that any pair may be split.
+// Some solution between the two sides, or a nogood around them: no order is promised, so that any pair may be split. The nogood of two halves is
+// kept unless the pair was the last open one of a known nogood: then it says little more than that one.
 pub fn some_solution(
-    concepts: &[u16],
-    inclusions: &[u16],
-    questions: &[u16],
-    roles: &[u16],
-    variables: u16,
-    atoms: &[u16],
-    ground: &[u64],
-    full: [u64; 8],
+    sets: &[u64],
+    card: &[u16],
     store: &mut [u64],
+    scratch: &mut [u64],
+    full: [u64; 8],
     interval: Interval,
 ) -> Answer
-    requires { ⌜ Prepared (tables (now concepts) (now inclusions) (now questions) (now roles) variables) (now atoms) (now ground) ⌝ }
-    requires { ⌜ IntervalOf (tables (now concepts) (now inclusions) (now questions) (now roles) variables) (interval .low) (interval .high) ⌝ }
-    requires { ⌜ IntervalOf (tables (now concepts) (now inclusions) (now questions) (now roles) variables) (interval .high) full ⌝ }
-    requires { ⌜ Nogoods (tables (now concepts) (now inclusions) (now questions) (now roles) variables) (now store) ⌝ }
-    ensures { λ r. ⌜ Answers (tables (now (concepts .entry)) (now (inclusions .entry)) (now (questions .entry)) (now (roles .entry)) variables) (interval .low) (interval .high) (r .found) (r .low) (r .high) ⌝ }
-    ensures { λ _. ⌜ Nogoods (tables (now (concepts .entry)) (now (inclusions .entry)) (now (questions .entry)) (now (roles .entry)) variables) (now (store .exit)) ⌝ }
+    requires { ⌜ Lent (now sets) (now card) (now store) (now scratch) ⌝ }
+    requires { ⌜ (length full ≡ 8) × (length (interval .low) ≡ 8) × (length (interval .high) ≡ 8) ⌝ }
+    ensures { λ r. ⌜ (length (r .low) ≡ 8) × (length (r .high) ≡ 8) ⌝ }
+    ensures { λ _. ⌜ Room (now (store .exit)) ⌝ }
+    ensures { λ r. ⌜ Searched (now (sets .entry)) (now (card .entry)) full (interval .low) (interval .high) (now (store .entry)) (now (store .exit)) (λ t. Answers t (interval .low) (interval .high) (r .found) (r .low) (r .high)) ⌝ }
 {
-    let step = next_step(
-        concepts,
-        inclusions,
-        questions,
-        roles,
-        variables,
-        atoms,
-        ground,
-        full,
-        store,
-        interval,
-    );
+    let step = next_step(sets, card, store, scratch, full, interval);
     if step.done {
         let found = step.found;
         let low = step.low;
@@ -376,36 +380,17 @@ pub fn some_solution(
     }
     let k = step.pair / ATOMS;
     let q = step.pair % ATOMS;
+    let place = step.place as u64;
+    scratch[HINT] = place;
     let taken = interval.take(k, q);
-    let with = some_solution(
-        concepts,
-        inclusions,
-        questions,
-        roles,
-        variables,
-        atoms,
-        ground,
-        full,
-        store,
-        taken,
-    );
+    let with = some_solution(sets, card, store, scratch, full, taken);
     let needs = with.low;
     if with.found | !has_bit(needs[k], q) {
         return with;
     }
+    scratch[HINT] = place;
     let left = interval.leave(k, q);
-    let without = some_solution(
-        concepts,
-        inclusions,
-        questions,
-        roles,
-        variables,
-        atoms,
-        ground,
-        full,
-        store,
-        left,
-    );
+    let without = some_solution(sets, card, store, scratch, full, left);
     let allows = without.high;
     if without.found | has_bit(allows[k], q) {
         return without;
@@ -413,7 +398,14 @@ pub fn some_solution(
     let both = merge(with, without, k, q);
     let low = both.low;
     let high = both.high;
-    add(store, MERGED, low, high);
+    if step.spare {
+        return Answer {
+            found: false,
+            low,
+            high,
+        };
+    }
+    add(store, scratch, MERGED, full, both);
     Answer {
         found: false,
         low,

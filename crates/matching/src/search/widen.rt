@@ -1,17 +1,15 @@
-// A failed test is carried as far as it goes on failing: towards no pair where the questions want fewer, towards every
-// pair where they want more. What comes out shuts a whole side of an interval.
+// A failed question is carried by itself as far as it goes on failing: towards no pair where it wants fewer, towards every pair where it wants
+// more. What comes out shuts a whole side of an interval. The variables that it does not hold go first, all at once.
+use crate::limits::HOLDS;
 use crate::limits::PAIRS;
 use crate::search::interval::ones;
-use crate::search::questions::questions_hold;
+use crate::search::patterns::question_holds;
 use subsumption::limits::ATOMS;
 ghost use mathlib.Core.Path.{_≡_};
-ghost use mathlib.Core.Bool.{false};
 ghost use Prim.Native.Nat.{_≤_, _<_};
-ghost use lib.ListN.{length, take};
-ghost use Rattle.subsumption.specs.Tables.{tables};
-ghost use Rattle.matching.specs.Inner.Search.{Decided, Hold, Prepared};
-ghost use Rattle.matching.specs.Inner.Search.Interval.{IntervalOf};
-ghost use Rattle.matching.specs.Inner.Search.Widen.{Mixed, Widened};
+ghost use lib.ListN.{length};
+ghost use Rattle.matching.specs.Inner.Search.Card.{Shaped};
+ghost use Rattle.matching.specs.Inner.Search.Widen.{Mixed, StillFails};
 
 const ALL: u64 = 18446744073709551615;
 
@@ -87,28 +85,40 @@ fn start_of(end: usize, size: usize) -> usize
     0
 }
 
-// Runs are set as in the target, from the last pair down, and halved where the test would pass: so the first variables
+// The choice with the variables as in the target that are not in the set.
+fn with_others(choice: [u64; 8], target: [u64; 8], held: u16) -> [u64; 8]
+    requires { ⌜ (length choice ≡ 8) × (length target ≡ 8) ⌝ }
+    ensures { λ r. ⌜ Mixed choice target r ⌝ }
+{
+    let mut mix = choice;
+    let mut k: usize = 0;
+    while k < 8 {
+        let v = k;
+        k += 1;
+        if (held >> v) % 2 == 1 {
+            continue;
+        }
+        mix[v] = target[v];
+    }
+    mix
+}
+
+// Runs are set as in the target, from the last pair down, and halved where the question would hold: so the first variables
 // are left to be what a failure is about.
-pub fn widen(
-    concepts: &[u16],
-    inclusions: &[u16],
-    questions: &[u16],
-    roles: &[u16],
-    variables: u16,
-    atoms: &[u16],
-    ground: &[u64],
-    full: [u64; 8],
+fn widen_runs(
+    sets: &[u64],
+    card: &[u16],
+    scratch: &mut [u64],
+    m: usize,
     choice: [u64; 8],
     target: [u64; 8],
-    right: bool,
 ) -> [u64; 8]
-    requires { ⌜ Prepared (tables (now concepts) (now inclusions) (now questions) (now roles) variables) (now atoms) (now ground) ⌝ }
-    requires { ⌜ IntervalOf (tables (now concepts) (now inclusions) (now questions) (now roles) variables) choice full ⌝ }
-    requires { ⌜ IntervalOf (tables (now concepts) (now inclusions) (now questions) (now roles) variables) target full ⌝ }
-    requires { ⌜ Decided (Hold (tables (now concepts) (now inclusions) (now questions) (now roles) variables) (take variables choice) right) false ⌝ }
-    ensures { λ r. ⌜ Widened (tables (now (concepts .entry)) (now (inclusions .entry)) (now (questions .entry)) (now (roles .entry)) variables) choice target right r ⌝ }
+    requires { ⌜ Shaped (now sets) (now card) ⌝ }
+    requires { ⌜ (length (now scratch) ≡ 16977) × (m < 32) ⌝ }
+    requires { ⌜ (length choice ≡ 8) × (length target ≡ 8) ⌝ }
+    ensures { λ r. ⌜ Mixed choice target r ⌝ }
+    ensures { λ r. ⌜ StillFails (now (sets .entry)) (now (card .entry)) m choice target r ⌝ }
 {
-    let n = variables as usize;
     let mut failing = choice;
     let mut from: usize = 0;
     let mut size: usize = PAIRS;
@@ -121,17 +131,7 @@ pub fn widen(
             size = twice(size);
             continue;
         }
-        if !questions_hold(
-            concepts,
-            inclusions,
-            questions,
-            roles,
-            variables,
-            atoms,
-            ground,
-            &next[..n],
-            right,
-        ) {
+        if !question_holds(sets, card, scratch, m, next) {
             failing = next;
             from += size;
             size = twice(size);
@@ -144,4 +144,25 @@ pub fn widen(
         size = size / 2;
     }
     failing
+}
+
+pub fn widen(
+    sets: &[u64],
+    card: &[u16],
+    scratch: &mut [u64],
+    m: usize,
+    choice: [u64; 8],
+    target: [u64; 8],
+) -> [u64; 8]
+    requires { ⌜ Shaped (now sets) (now card) ⌝ }
+    requires { ⌜ (length (now scratch) ≡ 16977) × (m < 32) ⌝ }
+    requires { ⌜ (length choice ≡ 8) × (length target ≡ 8) ⌝ }
+    ensures { λ r. ⌜ Mixed choice target r ⌝ }
+    ensures { λ r. ⌜ StillFails (now (sets .entry)) (now (card .entry)) m choice target r ⌝ }
+{
+    let own = with_others(choice, target, card[HOLDS + m]);
+    if question_holds(sets, card, scratch, m, own) {
+        return widen_runs(sets, card, scratch, m, choice, target);
+    }
+    widen_runs(sets, card, scratch, m, own, target)
 }

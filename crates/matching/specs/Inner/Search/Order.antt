@@ -9,6 +9,9 @@ use Rattle.subsumption.specs.Tables.{Tables}
 use Rattle.subsumption.specs.Check.{assignmentFault}
 use Rattle.matching.specs.Solving.{Solves, Earlier}
 use Rattle.matching.specs.Inner.Search.{Between, SolutionIn}
+use Rattle.matching.specs.Inner.Search.Card.{Card}
+use Rattle.matching.specs.Inner.Search.Interval.{IntervalOf}
+use Rattle.matching.specs.Inner.Search.Nogoods.{Nogoods}
 
 -- The first of the solutions between.
 pub record FirstIn (t : Tables) (low high choice : List ℕ) : Type 0 where
@@ -16,3 +19,8 @@ pub record FirstIn (t : Tables) (low high choice : List ℕ) : Type 0 where
   pub first :
       (other : List ℕ) → assignmentFault t other ≡ Done → Between (take (t .variables) low) (take (t .variables) high) other → Solves t other
       → (other ≡ take (t .variables) choice) ⊎ Earlier (take (t .variables) choice) other
+
+-- The same of whatever tables the sets and numbers are, from a known solution.
+abbrev pub FirstOf : List ℕ → List ℕ → List ℕ → List ℕ → List ℕ → List ℕ → List ℕ → Type 0
+FirstOf sets card low high store known choice =
+    (t : Tables) → Card t sets card → IntervalOf t low high → Nogoods t store → SolutionIn t low high known → FirstIn t low high choice

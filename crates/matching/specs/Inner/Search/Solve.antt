@@ -1,14 +1,31 @@
 -- What the steps of the search promise.
-use Prim.Native.Nat.{ℕ, _<_}
+use Prim.Native.Nat.{ℕ, _<_, _≤_}
 use mathlib.Core.Path.{_≡_}
 use mathlib.Core.List.{List}
 use mathlib.Core.Bool.{Bool, true, false}
-use lib.ListN.{length}
-use Rattle.subsumption.specs.Tables.{Tables}
-use Rattle.matching.specs.Inner.Search.{Within, SolutionIn, NoSolution}
+use lib.ListN.{length, take}
+use Rattle.subsumption.specs.declared.refusal.Outcome.the-variants.{Done}
+use Rattle.subsumption.specs.Tables.{Tables, pairsOf, rightOf, tree, hasVariable}
+use Rattle.subsumption.specs.Check.{assignmentFault}
+use Rattle.matching.specs.Inner.Search.{HoldsAt, Within, SolutionIn, NoSolution}
+use Rattle.matching.specs.Inner.Search.Card.{Card, questionCount}
 use Rattle.matching.specs.Inner.Search.Pairs.{Changed, Joined, Met}
-use Rattle.matching.specs.Inner.Search.Interval.{undecided}
-use Rattle.matching.specs.Inner.Search.Nogoods.{used, lowAt, highAt}
+use Rattle.matching.specs.Inner.Search.Interval.{IntervalOf, undecided}
+use Rattle.matching.specs.Inner.Search.Nogoods.{used, lowAt, highAt, Nogoods}
+
+-- A question that fails under the choice, or the number of questions if all of the kind hold.
+pub record FailingFor (t : Tables) (assignment : List ℕ) (kind : ℕ → Type 0) (m : ℕ) : Type 0 where
+  pub fails : m < pairsOf (t .questions) → HoldsAt t assignment m → ⊥
+  pub hold : pairsOf (t .questions) ≤ m → (n : ℕ) → n < pairsOf (t .questions) → kind n → HoldsAt t assignment n
+
+abbrev pub FailingOf : List ℕ → List ℕ → List ℕ → Bool → ℕ → Type 0
+FailingOf sets card choice right m =
+    (t : Tables) → Card t sets card → assignmentFault t (take (t .variables) choice) ≡ Done
+    → FailingFor t (take (t .variables) choice) (λ n. hasVariable (tree (t .concepts) (rightOf (t .questions) n)) ≡ right) m
+
+abbrev pub Failing : List ℕ → List ℕ → List ℕ → ℕ → Type 0
+Failing sets card choice m =
+    (t : Tables) → Card t sets card → assignmentFault t (take (t .variables) choice) ≡ Done → FailingFor t (take (t .variables) choice) (λ n. Unit {0}) m
 
 -- An interval around another that holds no solution.
 pub record Refuted (t : Tables) (low high low₁ high₁ : List ℕ) : Type 0 where
@@ -18,19 +35,25 @@ pub record Refuted (t : Tables) (low high low₁ high₁ : List ℕ) : Type 0 wh
   pub below : Within high high₁
   pub none : NoSolution t low₁ high₁
 
+-- A question that fails at the low side gives an interval around it.
+abbrev pub RefutedBy : List ℕ → List ℕ → List ℕ → List ℕ → ℕ → List ℕ → List ℕ → Type 0
+RefutedBy sets card full low m low₁ high₁ =
+    (t : Tables) → Card t sets card → m < pairsOf (t .questions) → IntervalOf t low full → (HoldsAt t (take (t .variables) low) m → ⊥)
+    → Refuted t low low low₁ high₁
+
 -- A search's answer names no order: a solution between, or an interval around that holds none.
 abbrev pub Answers : Tables → List ℕ → List ℕ → Bool → List ℕ → List ℕ → Type 0
 Answers t low high true choice rest = SolutionIn t low high choice
 Answers t low high false low₁ high₁ = Refuted t low high low₁ high₁
 
+-- What a search in an interval gives of whatever tables the sets and numbers are: nogoods stay nogoods.
+abbrev pub Searched : List ℕ → List ℕ → List ℕ → List ℕ → List ℕ → List ℕ → List ℕ → (Tables → Type 0) → Type 0
+Searched sets card full low high before after Given =
+    (t : Tables) → Card t sets card → IntervalOf t low high → IntervalOf t high full → Nogoods t before → Given t × Nogoods t after
+
 abbrev pub CanSplit : List ℕ → List ℕ → ℕ → Bool → Type 0
 CanSplit low high pair true = (pair < 512) × (undecided low high pair ≡ true)
 CanSplit low high pair false = Unit {0}
-
--- One step answers, or names a pair to split at.
-abbrev pub Stepped : Tables → List ℕ → List ℕ → Bool → Bool → List ℕ → List ℕ → ℕ → Type 0
-Stepped t low high true found low₁ high₁ pair = Answers t low high found low₁ high₁
-Stepped t low high false found low₁ high₁ pair = (pair < 512) × (undecided low high pair ≡ true)
 
 -- The intervals with a pair and without it, made one.
 pub record Merged (low₁ high₁ low₂ high₂ : List ℕ) (k q : ℕ) (low high : List ℕ) : Type 0 where

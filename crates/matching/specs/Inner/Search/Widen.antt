@@ -1,13 +1,15 @@
 -- What carrying a failed test on promises.
-use Prim.Native.Nat.{ℕ}
+use Prim.Native.Nat.{ℕ, _<_}
 use mathlib.Core.Path.{_≡_}
 use mathlib.Core.List.{List}
 use mathlib.Core.Bool.{Bool, true}
 use mathlib.Core.Logic.{_⊎_}
 use lib.ListN.{length, take}
-use Rattle.subsumption.specs.Tables.{Tables}
+use Rattle.subsumption.specs.Tables.{Tables, pairsOf}
 use Rattle.matching.specs.Solving.{takes}
-use Rattle.matching.specs.Inner.Search.{Hold}
+use Rattle.matching.specs.Inner.Search.{HoldsAt}
+use Rattle.matching.specs.Inner.Search.Card.{Card}
+use Rattle.matching.specs.Inner.Search.Interval.{IntervalOf}
 
 -- Every pair is as in one of the two.
 pub record Mixed (a b mix : List ℕ) : Type 0 where
@@ -15,7 +17,8 @@ pub record Mixed (a b mix : List ℕ) : Type 0 where
   pub upper : (k q : ℕ) → takes mix k q ≡ true → (takes a k q ≡ true) ⊎ (takes b k q ≡ true)
   pub lower : (k q : ℕ) → takes a k q ≡ true → takes b k q ≡ true → takes mix k q ≡ true
 
--- Between the choice and the target the test still fails.
-pub record Widened (t : Tables) (choice target : List ℕ) (right : Bool) (failing : List ℕ) : Type 0 where
-  pub mixed : Mixed choice target failing
-  pub fails : Hold t (take (t .variables) failing) right → ⊥
+-- A question that fails at the choice fails there too.
+abbrev pub StillFails : List ℕ → List ℕ → ℕ → List ℕ → List ℕ → List ℕ → Type 0
+StillFails sets card m choice target failing =
+    (t : Tables) → Card t sets card → m < pairsOf (t .questions) → (full : List ℕ) → IntervalOf t choice full → IntervalOf t target full
+    → (HoldsAt t (take (t .variables) choice) m → ⊥) → HoldsAt t (take (t .variables) failing) m → ⊥

@@ -1,0 +1,135 @@
+-- What tests are lent in place of the tables (src/search/card.rt): sets of ids, three words each, and the numbers that a test reads.
+use Prim.Native.Nat.{ℕ, _+_, _*_, _<_, _≤_}
+use mathlib.Core.Path.{_≡_}
+use mathlib.Core.List.{List}
+use mathlib.Core.Bool.{Bool, true, false, not}
+use mathlib.Core.Logic.{_↔_}
+use lib.Dec.{eqb}
+use lib.ListN.{length, getD, take, replicate}
+use Rattle.subsumption.specs.declared.refusal.Outcome.the-variants.{Done}
+use Rattle.subsumption.specs.Tables.{Tables, both, or, Node, topAt, nameAt, existsAt, andAt, varAt, node, countOf, pairsOf, leftOf, rightOf, tree, hasVariable}
+use Rattle.subsumption.specs.Atoms.{atoms}
+use Rattle.subsumption.specs.Roles.{wider}
+use Rattle.subsumption.specs.Rules.{isTop}
+use Rattle.subsumption.specs.Subsumption.{Subsumed}
+use Rattle.subsumption.specs.Check.{tableFault}
+use Rattle.square.specs.Inner.Square.{onLine}
+
+-- ---- the sets
+-- where the line of a variable-free id starts: on the right side of a question its column, on the left side its row
+abbrev pub lineAt : Bool → ℕ → ℕ
+lineAt true i = 576 + i * 3
+lineAt false i = i * 3
+
+-- where the existentials stand that fit an existential with a variable
+abbrev pub fitAt : Bool → ℕ → ℕ
+fitAt true i = 1152 + i * 3
+fitAt false i = 1728 + i * 3
+
+-- where the cone of a question starts: the ids of its sides that hold a variable
+abbrev pub coneAt : ℕ → ℕ
+coneAt m = 2304 + m * 3
+
+-- where the variable-free tops and conjunctions stand
+abbrev pub closersAt : ℕ
+closersAt = 2400
+
+-- ---- the numbers: from 0 on the rows of the ids
+abbrev pub heldAt : List ℕ → ℕ → Bool
+heldAt card i = eqb (getD card (576 + i) 0) 1
+
+abbrev pub atomAt : List ℕ → ℕ → ℕ
+atomAt card q = getD card (768 + q) 0
+
+abbrev pub leftAt : List ℕ → ℕ → ℕ
+leftAt card m = getD card (832 + m * 2) 0
+
+abbrev pub rightAt : List ℕ → ℕ → ℕ
+rightAt card m = getD card (832 + m * 2 + 1) 0
+
+abbrev pub questionCount : List ℕ → ℕ
+questionCount card = getD card 897 0
+
+-- the inner id of an existential, the second one of a conjunction
+abbrev pub innerAt : List ℕ → ℕ → ℕ
+innerAt card i = getD card (i * 3 + 2) 0
+
+-- What keeps every reading of the numbers inside the lists.
+pub record Numbers (card : List ℕ) : Type 0 where
+  pub long : length card ≡ 931
+  pub kind-low : (i : ℕ) → i < 192 → getD card (i * 3) 0 < 5
+  pub inner-low : (i : ℕ) → i < 192 → innerAt card i < 192
+  pub first-low : (i : ℕ) → i < 192 → getD card (i * 3) 0 ≡ 3 → getD card (i * 3 + 1) 0 < 192
+  pub variable-low : (i : ℕ) → i < 192 → getD card (i * 3) 0 ≡ 4 → getD card (i * 3 + 1) 0 < 8
+  pub atoms-low : (q : ℕ) → q < 64 → atomAt card q < 192
+  pub left-low : (m : ℕ) → m < 32 → leftAt card m < 192
+  pub right-low : (m : ℕ) → m < 32 → rightAt card m < 192
+  pub few : questionCount card ≤ 32
+
+pub record Shaped (sets card : List ℕ) : Type 0 where
+  pub sets-long : length sets ≡ 2403
+  pub numbers : Numbers card
+
+-- ---- what they tell of the tables
+-- the id is known and holds no variable
+pub record FreeId (t : Tables) (i : ℕ) : Type 0 where
+  pub ground : hasVariable (tree (t .concepts) i) ≡ false
+  pub known : i < countOf (t .concepts)
+
+-- the assignment that chooses nothing
+abbrev pub nothing : Tables → List ℕ
+nothing t = take (t .variables) (replicate 8 0)
+
+-- Of two existentials, the role of the one counts as that of the other: on the right the variable-free one's as the other's, on the left
+-- the other way.
+abbrev pub counting : Bool → (ℕ → ℕ → Bool) → ℕ → ℕ → Bool
+counting true wide own free = wide free own
+counting false wide own free = wide own free
+
+pub record Fitting (t : Tables) (right : Bool) (j e : ℕ) : Type 0 where
+  pub free : FreeId t e
+  pub own-role : ℕ
+  pub own-inner : ℕ
+  pub role : ℕ
+  pub inner : ℕ
+  pub own : node (t .concepts) j ≡ existsAt own-role own-inner
+  pub row : node (t .concepts) e ≡ existsAt role inner
+  pub counts : counting right (wider (t .roles)) own-role role ≡ true
+
+-- top, or a conjunction
+unfoldable pub closes : Node → Bool
+closes topAt = true
+closes (nameAt n) = false
+closes (existsAt r j) = false
+closes (andAt i j) = true
+closes (varAt k) = false
+
+-- a side of question m that holds a variable is in the cone, and with an id its inner ids that hold a variable
+pub record Cone (t : Tables) (sets : List ℕ) (m : ℕ) : Type 0 where
+  pub known : (i : ℕ) → i < 192 → onLine sets (coneAt m) i ≡ true → (i < countOf (t .concepts)) × (hasVariable (tree (t .concepts) i) ≡ true)
+  pub left : hasVariable (tree (t .concepts) (leftOf (t .questions) m)) ≡ true → onLine sets (coneAt m) (leftOf (t .questions) m) ≡ true
+  pub right : hasVariable (tree (t .concepts) (rightOf (t .questions) m)) ≡ true → onLine sets (coneAt m) (rightOf (t .questions) m) ≡ true
+  pub inner :
+      (i r j : ℕ) → i < 192 → onLine sets (coneAt m) i ≡ true → node (t .concepts) i ≡ existsAt r j → hasVariable (tree (t .concepts) j) ≡ true
+      → onLine sets (coneAt m) j ≡ true
+  pub first :
+      (i j k : ℕ) → i < 192 → onLine sets (coneAt m) i ≡ true → node (t .concepts) i ≡ andAt j k → hasVariable (tree (t .concepts) j) ≡ true
+      → onLine sets (coneAt m) j ≡ true
+  pub second :
+      (i j k : ℕ) → i < 192 → onLine sets (coneAt m) i ≡ true → node (t .concepts) i ≡ andAt j k → hasVariable (tree (t .concepts) k) ≡ true
+      → onLine sets (coneAt m) k ≡ true
+
+-- The sets and numbers are those of accepted tables.
+pub record Card (t : Tables) (sets card : List ℕ) : Type 0 where
+  pub passed : tableFault t ≡ Done
+  pub rows : (i : ℕ) → i < countOf (t .concepts) → node card i ≡ node (t .concepts) i
+  pub held : (i : ℕ) → i < countOf (t .concepts) → heldAt card i ≡ hasVariable (tree (t .concepts) i)
+  pub atom : (q : ℕ) → q < length (atoms t) → atomAt card q ≡ getD (atoms t) q 0
+  pub questions : questionCount card ≡ pairsOf (t .questions)
+  pub left : (m : ℕ) → m < pairsOf (t .questions) → leftAt card m ≡ leftOf (t .questions) m
+  pub right : (m : ℕ) → m < pairsOf (t .questions) → rightAt card m ≡ rightOf (t .questions) m
+  pub above : (i j : ℕ) → FreeId t i → FreeId t j → (onLine sets (lineAt false i) j ≡ true) ↔ Subsumed t (nothing t) i j
+  pub below : (i j : ℕ) → FreeId t i → FreeId t j → (onLine sets (lineAt true j) i ≡ true) ↔ Subsumed t (nothing t) i j
+  pub fits : (right : Bool) (j e : ℕ) → j < countOf (t .concepts) → e < 192 → heldAt card j ≡ true → (onLine sets (fitAt right j) e ≡ true) ↔ Fitting t right j e
+  pub closers : (e : ℕ) → e < 192 → (onLine sets closersAt e ≡ true) ↔ (FreeId t e × (closes (node (t .concepts) e) ≡ true))
+  pub cones : (m : ℕ) → m < pairsOf (t .questions) → Cone t sets m

@@ -1,0 +1,295 @@
+// What tests read, made once from the tables: sets of ids, three words each, and numbers. The sets are the rows and columns of one
+// subsumption table, written by the operation for it under the assignment that chooses nothing; for each existential with a variable the
+// variable-free ones that fit it by their roles; the variable-free tops and conjunctions; and the cone of each question, the ids of its
+// sides that hold a variable. The search knows neither inclusions nor pairs of roles.
+use crate::limits::ATOM_IDS;
+use crate::limits::CLOSERS;
+use crate::limits::CONES;
+use crate::limits::HELD;
+use crate::limits::HOLDS;
+use crate::limits::QUESTION_COUNT;
+use crate::limits::SIDES;
+use crate::limits::TABLE;
+use crate::search::sets::fit_at;
+use square::helpers::has;
+use square::helpers::insert;
+use square::helpers::load;
+use subsumption::helpers::counts;
+use subsumption::helpers::mark_variables;
+use subsumption::helpers::note_roles;
+use subsumption::limits::CONCEPTS;
+use subsumption::limits::ROLE_WORDS;
+use subsumption::write_table;
+ghost use mathlib.Core.Path.{_≡_};
+ghost use mathlib.Core.Bool.{true};
+ghost use Prim.Native.Nat.{ℕ, _+_, _*_, _<_, _≤_};
+ghost use lib.ListN.{length, getD, replicate};
+ghost use Rattle.subsumption.specs.declared.refusal.Outcome.the-variants.{Done};
+ghost use Rattle.subsumption.specs.Tables.{tables, countOf, pairsOf};
+ghost use Rattle.subsumption.specs.Check.{tableFault};
+ghost use Rattle.subsumption.specs.Inner.Atoms.{Layered};
+ghost use Rattle.subsumption.specs.Inner.Listing.{Accepted};
+ghost use Rattle.matching.specs.Inner.Search.Card.{Shaped, Card};
+ghost use Rattle.matching.specs.Inner.Search.Making.{CopiedAt, HeldNoted, NumbersOf, LinesOf};
+
+// ---- the numbers
+fn copy_at(from: &[u16], to: &mut [u16], at: usize)
+    requires { ⌜ at + length (now from) ≤ length (now to) ⌝ }
+    ensures { λ _. ⌜ CopiedAt (now (from .entry)) at (now (to .entry)) (now (to .exit)) ⌝ }
+{
+    let mut p: usize = 0;
+    while p < from.len() {
+        to[at + p] = from[p];
+        p += 1;
+    }
+}
+
+// A 1 for each id that holds a variable.
+fn note_held(concepts: &[u16], card: &mut [u16])
+    requires { ⌜ Layered (now concepts) ⌝ }
+    requires { ⌜ length (now card) ≡ 931 ⌝ }
+    ensures { λ _. ⌜ HeldNoted (now (concepts .entry)) (now (card .entry)) (now (card .exit)) ⌝ }
+{
+    let mut marks = [false; CONCEPTS];
+    mark_variables(concepts, &mut marks);
+    let mut i: usize = 0;
+    while i < CONCEPTS {
+        card[HELD + i] = marks[i] as u16;
+        i += 1;
+    }
+}
+
+// The variables of an id, a bit each, given those of smaller ids.
+fn variables_of(card: &[u16], sets: &[u16], i: usize) -> u16
+    requires { ⌜ (length (now card) ≡ 931) × (length (now sets) ≡ 192) × (i < 192) ⌝ }
+{
+    let kind = card[i * 3];
+    let a = card[i * 3 + 1] as usize;
+    let b = card[i * 3 + 2] as usize;
+    if (kind == 4) & (a < 8) {
+        return 1 << a;
+    }
+    if (a >= CONCEPTS) | (b >= CONCEPTS) {
+        return 0;
+    }
+    if kind == 3 {
+        return sets[a] | sets[b];
+    }
+    if kind == 2 {
+        return sets[b];
+    }
+    0
+}
+
+fn note_variables(card: &[u16], sets: &mut [u16])
+    requires { ⌜ (length (now card) ≡ 931) × (length (now sets) ≡ 192) ⌝ }
+{
+    let mut i: usize = 0;
+    while i < CONCEPTS {
+        sets[i] = variables_of(card, sets, i);
+        i += 1;
+    }
+}
+
+// The variables of each question, a hint for narrowing and widening.
+fn note_holds(card: &mut [u16])
+    requires { ⌜ length (now card) ≡ 931 ⌝ }
+    ensures { λ _. ⌜ ((p : ℕ) → p < 899 → getD (now (card .exit)) p 0 ≡ getD (now (card .entry)) p 0) ⌝ }
+{
+    let mut sets = [0u16; CONCEPTS];
+    note_variables(card, &mut sets);
+    let mut m: usize = 0;
+    while m < 32 {
+        let at = m;
+        m += 1;
+        let left = card[SIDES + at * 2] as usize;
+        let right = card[SIDES + at * 2 + 1] as usize;
+        if (left < CONCEPTS) & (right < CONCEPTS) {
+            card[HOLDS + at] = sets[left] | sets[right];
+        }
+    }
+}
+
+fn note_numbers(concepts: &[u16], questions: &[u16], ids: &[u16], card: &mut [u16])
+    requires { ⌜ Layered (now concepts) ⌝ }
+    requires { ⌜ (length (now questions) ≤ 64) × (length (now ids) ≤ 64) ⌝ }
+    requires { ⌜ now card ≡ replicate 931 0 ⌝ }
+    ensures { λ _. ⌜ NumbersOf (now (concepts .entry)) (now (questions .entry)) (now (ids .entry)) (now (card .exit)) ⌝ }
+{
+    copy_at(concepts, card, 0);
+    note_held(concepts, card);
+    copy_at(ids, card, ATOM_IDS);
+    copy_at(questions, card, SIDES);
+    card[QUESTION_COUNT] = (questions.len() / 2) as u16;
+    note_holds(card);
+}
+
+// ---- the sets
+// The rows and columns, of the subsumption table under the assignment that chooses nothing.
+fn note_lines(
+    concepts: &[u16],
+    inclusions: &[u16],
+    questions: &[u16],
+    roles: &[u16],
+    variables: u16,
+    square: &mut [u64],
+)
+    requires { ⌜ tableFault (tables (now concepts) (now inclusions) (now questions) (now roles) variables) ≡ Done ⌝ }
+    requires { ⌜ length (now square) ≡ 1152 ⌝ }
+    ensures { λ _. ⌜ LinesOf (tables (now (concepts .entry)) (now (inclusions .entry)) (now (questions .entry)) (now (roles .entry)) variables) (now (square .exit)) ⌝ }
+{
+    let mut table = [0u8; TABLE];
+    let nothing = [0u64; 8];
+    let n = variables as usize;
+    let tabled = write_table(
+        concepts,
+        inclusions,
+        questions,
+        roles,
+        variables,
+        &nothing[..n],
+        &mut table,
+    );
+    load(&table, concepts.len() / 3, square);
+}
+
+// Whether the existential e holds no variable and fits the existential j.
+fn is_fitting(card: &[u16], into: &[u64], right: bool, j: usize, e: usize) -> bool {
+    if card[e * 3] != 2 {
+        return false;
+    }
+    if card[HELD + e] == 1 {
+        return false;
+    }
+    let own = card[j * 3 + 1] as usize;
+    let free = card[e * 3 + 1] as usize;
+    if right {
+        return counts(into, free, own);
+    }
+    counts(into, own, free)
+}
+
+fn note_fit(card: &[u16], into: &[u64], count: usize, right: bool, j: usize, sets: &mut [u64]) {
+    let at = fit_at(right, j);
+    let mut e: usize = 0;
+    while e < count {
+        let f = e;
+        e += 1;
+        if is_fitting(card, into, right, j, f) {
+            insert(sets, at, f);
+        }
+    }
+}
+
+fn note_fits(card: &[u16], into: &[u64], count: usize, right: bool, sets: &mut [u64]) {
+    let mut j: usize = 0;
+    while j < count {
+        let i = j;
+        j += 1;
+        if card[i * 3] != 2 {
+            continue;
+        }
+        if card[HELD + i] == 1 {
+            note_fit(card, into, count, right, i, sets);
+        }
+    }
+}
+
+fn is_closer(card: &[u16], e: usize) -> bool {
+    if card[HELD + e] == 1 {
+        return false;
+    }
+    if card[e * 3] == 0 {
+        return true;
+    }
+    card[e * 3] == 3
+}
+
+fn note_closers(card: &[u16], count: usize, sets: &mut [u64]) {
+    let mut e: usize = 0;
+    while e < count {
+        let f = e;
+        e += 1;
+        if is_closer(card, f) {
+            insert(sets, CLOSERS, f);
+        }
+    }
+}
+
+// The id comes to the cone if it holds a variable.
+fn mark_held(card: &[u16], sets: &mut [u64], at: usize, id: usize) {
+    if card[HELD + id] == 1 {
+        insert(sets, at, id);
+    }
+}
+
+// The inner ids of an id of the cone.
+fn mark_inside(card: &[u16], sets: &mut [u64], at: usize, i: usize) {
+    let kind = card[i * 3];
+    if kind == 3 {
+        mark_held(card, sets, at, card[i * 3 + 1] as usize);
+        mark_held(card, sets, at, card[i * 3 + 2] as usize);
+        return;
+    }
+    if kind == 2 {
+        mark_held(card, sets, at, card[i * 3 + 2] as usize);
+    }
+}
+
+// Inner ids are smaller, so one walk down reaches all.
+fn note_cone(card: &[u16], count: usize, m: usize, sets: &mut [u64]) {
+    let at = CONES + m * 3;
+    mark_held(card, sets, at, card[SIDES + m * 2] as usize);
+    mark_held(card, sets, at, card[SIDES + m * 2 + 1] as usize);
+    let mut i = count;
+    while 0 < i {
+        i -= 1;
+        if has(sets, at, i) {
+            mark_inside(card, sets, at, i);
+        }
+    }
+}
+
+fn note_cones(card: &[u16], count: usize, sets: &mut [u64]) {
+    let rows = card[QUESTION_COUNT] as usize;
+    let mut m: usize = 0;
+    while m < rows {
+        note_cone(card, count, m, sets);
+        m += 1;
+    }
+}
+
+// All of it. The ids are the atoms.
+pub fn make_card(
+    concepts: &[u16],
+    inclusions: &[u16],
+    questions: &[u16],
+    roles: &[u16],
+    variables: u16,
+    ids: &[u16],
+    sets: &mut [u64],
+    card: &mut [u16],
+)
+    requires { ⌜ Accepted (tables (now concepts) (now inclusions) (now questions) (now roles) variables) (now ids) ⌝ }
+    requires { ⌜ now sets ≡ replicate 2403 0 ⌝ }
+    requires { ⌜ now card ≡ replicate 931 0 ⌝ }
+    ensures { λ _. ⌜ Shaped (now (sets .exit)) (now (card .exit)) ⌝ }
+    ensures { λ _. ⌜ Card (tables (now (concepts .entry)) (now (inclusions .entry)) (now (questions .entry)) (now (roles .entry)) variables) (now (sets .exit)) (now (card .exit)) ⌝ }
+{
+    note_numbers(concepts, questions, ids, card);
+    note_lines(
+        concepts,
+        inclusions,
+        questions,
+        roles,
+        variables,
+        &mut sets[..1152],
+    );
+    let mut into = [0u64; ROLE_WORDS];
+    note_roles(roles, &mut into);
+    let count = concepts.len() / 3;
+    note_fits(card, &into, count, true, sets);
+    note_fits(card, &into, count, false, sets);
+    note_closers(card, count, sets);
+    note_cones(card, count, sets);
+}

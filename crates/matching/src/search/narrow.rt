@@ -1,0 +1,95 @@
+// Narrowing, once before the search: a question with variables on the right only gets harder with more atoms. So if it fails with one
+// pair alone, no solution takes that pair, and the pair leaves the high side.
+use crate::limits::HELD;
+use crate::limits::HOLDS;
+use crate::limits::QUESTION_COUNT;
+use crate::limits::SIDES;
+use crate::search::pairs::with_pair;
+use crate::search::pairs::without_pair;
+use crate::search::patterns::question_holds;
+use crate::search::sets::next_bit;
+ghost use mathlib.Core.Path.{_≡_};
+ghost use mathlib.Core.Bool.{true};
+ghost use Prim.Native.Nat.{_<_};
+ghost use lib.ListN.{length};
+ghost use Rattle.matching.specs.Inner.Search.Card.{Shaped, heldAt, rightAt, questionCount};
+ghost use Rattle.matching.specs.Inner.Search.Narrow.{Narrowed};
+
+// By one question and variable.
+fn narrow_variable(
+    sets: &[u64],
+    card: &[u16],
+    scratch: &mut [u64],
+    m: usize,
+    k: usize,
+    full: [u64; 8],
+) -> [u64; 8]
+    requires { ⌜ Shaped (now sets) (now card) ⌝ }
+    requires { ⌜ (length (now scratch) ≡ 16977) × (length full ≡ 8) ⌝ }
+    requires { ⌜ (m < questionCount (now card)) × (k < 8) ⌝ }
+    requires { ⌜ heldAt (now card) (rightAt (now card) m) ≡ true ⌝ }
+    ensures { λ r. ⌜ length r ≡ 8 ⌝ }
+    ensures { λ r. ⌜ Narrowed (now (sets .entry)) (now (card .entry)) full r ⌝ }
+{
+    let none = [0u64; 8];
+    let mut high = full;
+    let mut q = next_bit(full[k], 0);
+    while q < 64 {
+        let at = q;
+        q = next_bit(full[k], at + 1);
+        let alone = with_pair(none, k, at);
+        if question_holds(sets, card, scratch, m, alone) {
+            continue;
+        }
+        high = without_pair(high, k, at);
+    }
+    high
+}
+
+// By one question.
+fn narrow_question(
+    sets: &[u64],
+    card: &[u16],
+    scratch: &mut [u64],
+    m: usize,
+    full: [u64; 8],
+) -> [u64; 8]
+    requires { ⌜ Shaped (now sets) (now card) ⌝ }
+    requires { ⌜ (length (now scratch) ≡ 16977) × (length full ≡ 8) ⌝ }
+    requires { ⌜ m < questionCount (now card) ⌝ }
+    ensures { λ r. ⌜ length r ≡ 8 ⌝ }
+    ensures { λ r. ⌜ Narrowed (now (sets .entry)) (now (card .entry)) full r ⌝ }
+{
+    let right = card[SIDES + m * 2 + 1] as usize;
+    if card[HELD + right] != 1 {
+        return full;
+    }
+    let held = card[HOLDS + m];
+    let mut high = full;
+    let mut k: usize = 0;
+    while k < 8 {
+        let v = k;
+        k += 1;
+        if (held >> v) % 2 == 0 {
+            continue;
+        }
+        high = narrow_variable(sets, card, scratch, m, v, high);
+    }
+    high
+}
+
+pub fn narrow(sets: &[u64], card: &[u16], scratch: &mut [u64], full: [u64; 8]) -> [u64; 8]
+    requires { ⌜ Shaped (now sets) (now card) ⌝ }
+    requires { ⌜ (length (now scratch) ≡ 16977) × (length full ≡ 8) ⌝ }
+    ensures { λ r. ⌜ length r ≡ 8 ⌝ }
+    ensures { λ r. ⌜ Narrowed (now (sets .entry)) (now (card .entry)) full r ⌝ }
+{
+    let count = card[QUESTION_COUNT] as usize;
+    let mut high = full;
+    let mut m: usize = 0;
+    while m < count {
+        high = narrow_question(sets, card, scratch, m, high);
+        m += 1;
+    }
+    high
+}
