@@ -240,6 +240,11 @@ impl Columns {
         });
     }
 
+    /// Column j: the ids below j.
+    pub fn columns(&self) -> &[Set; MOST] {
+        &self.columns
+    }
+
     pub fn holds(&self, left: usize, right: usize) -> bool {
         has(&self.columns[right], left)
     }

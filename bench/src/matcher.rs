@@ -1,6 +1,6 @@
 //! The matcher on the hard families.
 
-use hermitcasket_bench::search;
+use hermitcasket_bench::{lend, search};
 use hermitcasket_tests::capi;
 use hermitcasket_tests::hard::{self, Hard};
 use hermitcasket_tests::limits::MAX_VARIABLES;
@@ -20,7 +20,7 @@ fn proved(tables: &Tables) -> Found {
 
 fn plain(tables: &Tables) -> Found {
     let mut out = [0; MAX_VARIABLES];
-    let answer = search::find(tables, &mut out);
+    let answer = search::find(lend(tables), &mut out);
     (answer.map_or_else(|refusal| refusal.0, |()| 0), out)
 }
 

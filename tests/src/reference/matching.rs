@@ -83,10 +83,6 @@ fn search_over(tables: &Tables, ids: &[usize]) -> (Option<Vec<u64>>, Effort) {
     search_with_effort(&patterns, usize::from(tables.variables))
 }
 
-pub fn search(patterns: &Patterns, variables: usize) -> Option<Vec<u64>> {
-    search_with_effort(patterns, variables).0
-}
-
 fn search_with_effort(patterns: &Patterns, variables: usize) -> (Option<Vec<u64>>, Effort) {
     let atoms = patterns.atom_count();
     let mut clauses = Clauses::new(variables * atoms);
