@@ -11,7 +11,10 @@ use crate::external::{konclude::Relation, Timed};
 use crate::table::{told, Line, Tools};
 use crate::timing::{measure, Times};
 
+/// Of the picture; the table has the last.
 pub const SIZES: [usize; 4] = [24, 48, 96, 192];
+
+const GOAL_RATIO: f64 = 3.0;
 
 /// How many pairs are below.
 fn proved(tables: &Tables, out: &mut [u8]) -> u64 {
@@ -47,7 +50,7 @@ fn check(told: &Option<Timed<Relation>>, rows: &[u8]) {
 }
 
 /// Prints a line; `half` has the times for half as many entries.
-fn print_line(label: &str, tables: &Tables, half: Option<Times>, tools: &Tools) -> Times {
+fn print_line(label: &str, tables: &Tables, half: Option<Times>, tools: &Tools) {
     let (times, rows, marks) = compare(tables);
     let konclude = tools.classify(tables);
     check(&konclude, &rows);
@@ -55,21 +58,20 @@ fn print_line(label: &str, tables: &Tables, half: Option<Times>, tools: &Tools) 
         label,
         tables,
         answer: marks.to_string(),
-        times,
+        proved: times.proved,
+        plain: Some(times.plain),
         growth: half.map(|half| times.proved / half.proved),
         konclude: told(&konclude),
         clasp: String::new(),
     };
     line.print();
-    times
+    tools.hold(times.ratio() <= GOAL_RATIO, label, "at most 3 times plain Rust");
 }
 
-/// A line for each size, and one for the largest with 32 role pairs, which change no answer.
+/// A line at full size, and one with 32 role pairs, which change no answer.
 fn print_lines(family: Family, tools: &Tools) {
-    let mut before = None;
-    for n in SIZES {
-        before = Some(print_line(family.label(), &family.tables(n), before, tools));
-    }
+    let half = times(family, SIZES[2]);
+    print_line(family.label(), &family.tables(SIZES[3]), Some(half), tools);
     let label = format!("{}, 32 role pairs", family.label());
     print_line(&label, &family.tables_with_role_pairs(SIZES[3]), None, tools);
 }

@@ -22,18 +22,21 @@ use table::Tools;
 type Print = fn(&Tools);
 
 /// Subjects that share one table.
-const LINES: [(&str, Print); 7] = [
+const LINES: [(&str, Print); 8] = [
     ("below", below::print),
     ("matcher", matcher::print),
     ("puzzles", matcher::print_puzzles),
+    ("derivations", derivations::print),
     ("show", show::print),
     ("belongs", belongs::print),
     ("renumber", renumber::print),
     ("owl", owl::print),
 ];
 
-const TABLES: [(&str, fn()); 3] =
-    [("update", update::print), ("derivations", derivations::print), ("stack", memory::print)];
+/// What docs/PERFORMANCE.md shows, by the word `results`.
+const RESULTS: [&str; 4] = ["below", "matcher", "puzzles", "derivations"];
+
+const TABLES: [(&str, fn()); 2] = [("update", update::print), ("stack", memory::print)];
 
 fn main() {
     let words: Vec<String> = std::env::args().skip(1).collect();
@@ -42,11 +45,15 @@ fn main() {
             return plot::write(file);
         }
     }
-    let wanted = |subject: &str| words.is_empty() || words.iter().any(|word| word == subject);
+    let named = |word: &str| words.iter().any(|other| other == word);
+    let wanted = |subject: &str| {
+        words.is_empty() || named(subject) || named("results") && RESULTS.contains(&subject)
+    };
     if LINES.iter().any(|line| wanted(line.0)) {
         let tools = Tools::find();
         table::print_head(&tools);
         LINES.iter().filter(|line| wanted(line.0)).for_each(|line| line.1(&tools));
+        tools.print_missed();
     }
     for (_, print) in TABLES.iter().filter(|table| wanted(table.0)) {
         println!();

@@ -6,8 +6,12 @@ use hermitcasket_tests::hard::{self, Hard};
 use hermitcasket_tests::limits::MAX_VARIABLES;
 use hermitcasket_tests::tables::Tables;
 
+use crate::external::Timed;
 use crate::table::{told, Line, Tools};
-use crate::timing::measure;
+use crate::timing::{measure, Times};
+
+const GOAL_MICROS: f64 = 10_000.0;
+const GOAL_RATIO: f64 = 3.0;
 
 /// Refusal number, 0 for a solution, and the solution.
 type Found = (u16, [u64; MAX_VARIABLES]);
@@ -40,12 +44,22 @@ fn print_line(problem: &Hard, tools: &Tools) {
         label: &problem.label,
         tables,
         answer: if filled { "filled" } else { "none" }.to_string(),
-        times,
+        proved: times.proved,
+        plain: Some(times.plain),
         growth: None,
         konclude: String::new(),
         clasp: told(&clasp),
     };
     line.print();
+    hold_goals(&problem.label, times, &clasp, tools);
+}
+
+fn hold_goals(label: &str, times: Times, clasp: &Option<Timed<bool>>, tools: &Tools) {
+    tools.hold(times.proved < GOAL_MICROS, label, "under 10 ms");
+    tools.hold(times.ratio() <= GOAL_RATIO, label, "at most 3 times plain Rust");
+    if let Some(timed) = clasp {
+        tools.hold(times.proved < timed.micros, label, "faster than gringo and clasp");
+    }
 }
 
 pub fn print(tools: &Tools) {

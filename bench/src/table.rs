@@ -1,5 +1,7 @@
 //! The one table: a line for each family.
 
+use std::cell::RefCell;
+
 use hermitcasket_tests::reference::atoms;
 use hermitcasket_tests::tables::Tables;
 
@@ -7,17 +9,33 @@ use crate::external::{clasp, konclude, Scratch, Timed, LIMIT};
 use crate::markdown::{self, print_row, Column};
 use crate::timing::{in_words, three_digits, Times};
 
-/// The tools of others that are installed.
+/// The tools of others that are installed, and the lines of this run that miss a goal.
 pub struct Tools {
     pub scratch: Scratch,
     konclude: bool,
     clasp: bool,
+    missed: RefCell<Vec<String>>,
 }
 
 impl Tools {
     pub fn find() -> Tools {
         let scratch = Scratch::new().expect("a folder for the files of other tools");
-        Tools { scratch, konclude: konclude::installed(), clasp: clasp::installed() }
+        let (konclude, clasp) = (konclude::installed(), clasp::installed());
+        Tools { scratch, konclude, clasp, missed: RefCell::default() }
+    }
+
+    /// Notes the line where it misses the goal.
+    pub fn hold(&self, met: bool, line: &str, goal: &str) {
+        if !met {
+            self.missed.borrow_mut().push(format!("- {}: not {}", line, goal));
+        }
+    }
+
+    pub fn print_missed(&self) {
+        match &self.missed.borrow()[..] {
+            [] => println!("\nEvery line meets its goals."),
+            missed => println!("\nGoals missed:\n\n{}", missed.join("\n")),
+        }
     }
 
     /// Where the tool is missing, nothing.
@@ -34,7 +52,8 @@ pub struct Line<'a> {
     pub label: &'a str,
     pub tables: &'a Tables,
     pub answer: String,
-    pub times: Times,
+    pub proved: f64,
+    pub plain: Option<f64>,
     pub growth: Option<f64>,
     pub konclude: String,
     pub clasp: String,
@@ -60,7 +79,7 @@ const COLUMNS: [Column; 11] = [
     ("ratio", 6),
     ("growth", 6),
     ("Konclude", 8),
-    ("clasp", 7),
+    ("gringo, clasp", 13),
 ];
 
 pub fn print_head(tools: &Tools) {
@@ -82,8 +101,20 @@ pub fn print_head(tools: &Tools) {
 impl<'a> Line<'a> {
     /// A line that no other tool has part in.
     pub fn of_two(label: &'a str, tables: &'a Tables, answer: String, times: Times) -> Line<'a> {
+        let plain = Some(times.plain);
+        Line { plain, ..Line::alone(label, tables, answer, times.proved, None) }
+    }
+
+    /// A line of the proved library only.
+    pub fn alone(
+        label: &'a str,
+        tables: &'a Tables,
+        answer: String,
+        proved: f64,
+        growth: Option<f64>,
+    ) -> Line<'a> {
         let (konclude, clasp) = (String::new(), String::new());
-        Line { label, tables, answer, times, growth: None, konclude, clasp }
+        Line { label, tables, answer, proved, plain: None, growth, konclude, clasp }
     }
 
     pub fn print(self) {
@@ -93,9 +124,9 @@ impl<'a> Line<'a> {
             self.tables.variables.to_string(),
             atoms::list(self.tables).len().to_string(),
             self.answer,
-            in_words(self.times.proved),
-            in_words(self.times.plain),
-            three_digits(self.times.ratio()),
+            in_words(self.proved),
+            self.plain.map_or(String::new(), in_words),
+            self.plain.map_or(String::new(), |plain| three_digits(self.proved / plain)),
             self.growth.map_or(String::new(), three_digits),
             self.konclude,
             self.clasp,
