@@ -9,8 +9,7 @@ use Rattle.subsumption.specs.Roles.{wider}
 use Rattle.subsumption.specs.Subsumption.{Subsumed}
 use Rattle.subsumption.specs.Inner.Columns.{has}
 use Rattle.subsumption.specs.Inner.Settling.{chooseFrom}
-use Rattle.subsumption.specs.Inner.Closure.{Steps, Closed}
-use Rattle.subsumption.specs.Inner.Ground.{ColumnsOf}
+use Rattle.subsumption.specs.Inner.Closure.{Steps, Closed, ColumnsOf}
 use Rattle.subsumption.proofs.WellFormed.{WellFormed}
 use Rattle.subsumption.proofs.Inward.{below-inward}
 use Rattle.subsumption.proofs.Soundness.{flow-sound}

@@ -18,9 +18,9 @@ use Rattle.subsumption.specs.Check.{bufferFault, noConcept, aloneFault, 
 use Rattle.subsumption.specs.Inner.Columns.{has, Empty}
 use Rattle.subsumption.specs.Inner.Roles.{LowRoles}
 use Rattle.subsumption.specs.Inner.Settling.{chooseFrom}
-use Rattle.subsumption.specs.Inner.Closure.{Ready, Closed}
+use Rattle.subsumption.specs.Inner.Closure.{Ready, Closed, ColumnsOf}
+use Rattle.subsumption.specs.Inner.Atoms.{Layered}
 use Rattle.subsumption.specs.Inner.Listing.{Accepted, Prepared, ForAccepted}
-use Rattle.subsumption.specs.Inner.Ground.{ColumnsOf}
 use Rattle.subsumption.specs.Inner.Rows.{Written}
 use Rattle.subsumption.specs.Table.{rowStart, counted, total, marksIn, writingFault, TableOf, Left, Wrote}
 use Rattle.subsumption.specs.Decide.{decidingFault, decisionReply, Tells, Decides}
@@ -28,7 +28,7 @@ use Rattle.subsumption.proofs.Bools.{or-false, or-skip}
 use Rattle.subsumption.proofs.Refusals.{passed-first, passed-second, passed-if, done-if, stops, goes-on, both-done, refuses}
 use Rattle.subsumption.proofs.AtomLaws.{atom-known}
 use Rattle.subsumption.proofs.Chosen.{getD-member}
-use Rattle.subsumption.proofs.Accepted.{wellFormed, table-concepts, concepts-named, roles-low}
+use Rattle.subsumption.proofs.Accepted.{wellFormed, table-concepts, concepts-named, concepts-layered, roles-low}
 use Rattle.subsumption.proofs.ListingLaws.{pair-tables}
 use Rattle.subsumption.proofs.Closing.{nothing}
 use Rattle.subsumption.proofs.RowLaws.{table-of}
@@ -87,6 +87,9 @@ module _ (cs is rs : List ℕ) (v : ℕ) (ids : List ℕ) (p : Prepared cs is rs
 
   pub few-concepts : countOf cs ≤ 192
   few-concepts = wellFormed _ (p .accepted .passed) .few
+
+  pub layered : Layered cs
+  layered = concepts-layered _ (table-concepts _ (p .accepted .passed))
 
   pub few-numbers : (j k : ℕ) → node cs j ≡ varAt k → k < 8
   few-numbers j k e =

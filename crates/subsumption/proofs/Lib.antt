@@ -46,5 +46,5 @@ pub mod Closing
 pub mod RowLaws
 pub mod MarkLaws
 pub mod RoleSetLaws
-pub mod GroundLaws
+pub mod Nothing
 pub mod Blocks

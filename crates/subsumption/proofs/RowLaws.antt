@@ -12,7 +12,7 @@ use Rattle.subsumption.specs.Tables.{Tables, countOf}
 use Rattle.subsumption.specs.Atoms.{bit}
 use Rattle.subsumption.specs.Inner.Columns.{has}
 use Rattle.subsumption.specs.Table.{rowStart, marked, TableOf}
-use Rattle.subsumption.specs.Inner.Ground.{ColumnsOf}
+use Rattle.subsumption.specs.Inner.Closure.{ColumnsOf}
 use Rattle.subsumption.specs.Inner.Rows.{shown, banded, BandOf, RowWritten, Written}
 use Rattle.subsumption.proofs.Bits.{bit-shr, bit-mod}
 use Rattle.subsumption.proofs.Blocks.{shows-below, shows-over}

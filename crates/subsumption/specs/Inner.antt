@@ -11,4 +11,3 @@ pub mod Settling
 pub mod Links
 pub mod Closure
 pub mod Rows
-pub mod Ground

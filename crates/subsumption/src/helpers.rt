@@ -2,10 +2,7 @@
 // checks have shown.
 pub use crate::atoms::mark_variables;
 pub use crate::check::check_assignment;
-pub use crate::closure::columns::below;
 pub use crate::decide::decide_known;
-pub use crate::ground::close_ground;
-pub use crate::ground::close_over;
 pub use crate::listing::list_asked;
 pub use crate::roles::counts;
 pub use crate::roles::note_roles;

@@ -5,7 +5,6 @@ mod check;
 mod closure;
 mod counting;
 mod decide;
-mod ground;
 pub mod helpers;
 pub mod limits;
 mod listing;

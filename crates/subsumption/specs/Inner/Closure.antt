@@ -4,7 +4,8 @@ use mathlib.Core.Path.{_≡_}
 use mathlib.Core.List.{List, List·Memᴰ}
 use mathlib.Core.Bool.{Bool, true, false}
 use lib.ListN.{length, getD}
-use Rattle.subsumption.specs.Tables.{topAt, nameAt, existsAt, andAt, varAt, node, countOf, pairsOf, leftOf, rightOf}
+use Rattle.subsumption.specs.Tables.{Tables, topAt, nameAt, existsAt, andAt, varAt, node, countOf, pairsOf, leftOf, rightOf}
+use Rattle.subsumption.specs.Subsumption.{Subsumed}
 use Rattle.subsumption.specs.Inner.Tables.{Rising}
 use Rattle.subsumption.specs.Inner.Columns.{has, slack, Into}
 use Rattle.subsumption.specs.Inner.Settling.{AllSettled}
@@ -115,3 +116,9 @@ abbrev pub IncludePass : List ℕ → List ℕ → List ℕ → Bool → Type 0
 IncludePass inclusions before after changed =
     (concepts : List ℕ) (wide : ℕ → ℕ → Bool) (choose : ℕ → List ℕ) → LeftKnown concepts inclusions
     → Pass concepts inclusions wide choose (AllIncluded concepts inclusions) before after changed
+
+-- The columns hold exactly what is subsumed under the assignment.
+pub record ColumnsOf (t : Tables) (assignment columns : List ℕ) : Type 0 where
+  pub long : length columns ≡ 576
+  pub sound : (i j : ℕ) → i < countOf (t .concepts) → j < countOf (t .concepts) → has columns i j ≡ true → Subsumed t assignment i j
+  pub complete : (i j : ℕ) → i < countOf (t .concepts) → j < countOf (t .concepts) → Subsumed t assignment i j → has columns i j ≡ true

@@ -1,5 +1,4 @@
-use Rattle.subsumption.proofs.GroundLaws.{layered}
-use Rattle.subsumption.proofs.Deciding.{few-concepts, few-numbers}
+use Rattle.subsumption.proofs.Deciding.{few-concepts, few-numbers, layered}
 use mathlib.Core.Path.{refl}
 use native.Mathlib.Omega.{arith}
 use borrow.Author.Needs.{needs}
