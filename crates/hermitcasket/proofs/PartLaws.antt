@@ -4,8 +4,9 @@ use mathlib.Core.Path.{_≡_, refl, sym, ap, _∙_}
 use mathlib.Core.List.{List, [], _∷_, _++_, append-assoc, append-nil}
 use native.Mathlib.Omega.{arith}
 use native.Mathlib.Nat.{zero-mul}
-use lib.ListN.{length, take, drop, set, length-set, length-drop}
-use lib.Seq.{take-suc-set, drop-drop}
+use lib.ListN.{length, take, drop, set, length-drop}
+use lib.Seq.{drop-drop}
+use Rattle.subsumption.proofs.Lists.{take-two, take-three}
 use Rattle.hermitcasket.specs.declared.lines.PairLine.{PairLine}
 use Rattle.hermitcasket.specs.declared.lines.PairLine.the-variants.{Two, NoPair}
 use Rattle.hermitcasket.specs.declared.lines.RowLine.{RowLine}
@@ -76,19 +77,6 @@ module _ (line : List ℕ → Line) (width count at : ℕ) (text : List ℕ) whe
       ∙ rw (f, s .here) (ap (λ (z : List ℕ). part z (at + used) (drop used text)) (append-nil (take (count * width) out)))
 
 -- ---- rows of three numbers and pairs of two
-take-set : (k i : ℕ) (l : List ℕ) (v : ℕ) → k ≡ suc i → i < length l → take k (set l i v) ≡ take i l ++ (v ∷ [])
-take-set k i l v e h = rw e (take-suc-set l i v h)
-
-take-two : (m k a b : ℕ) (l : List ℕ) → k ≡ m + 2 → m + 1 < length l → take k (set (set l m a) (m + 1) b) ≡ take m l ++ (a ∷ b ∷ [])
-take-two m k a b l e h =
-    take-set k (m + 1) (set l m a) b (omega arith) (rw length-set h)
-    ∙ ap (λ (z : List ℕ). z ++ (b ∷ [])) (take-set (m + 1) m l a (omega arith) (omega arith)) ∙ append-assoc (take m l) (a ∷ []) (b ∷ [])
-
-take-three : (m k a b c : ℕ) (l : List ℕ) → k ≡ m + 3 → m + 2 < length l → take k (set (set (set l m a) (m + 1) b) (m + 2) c) ≡ take m l ++ (a ∷ b ∷ c ∷ [])
-take-three m k a b c l e h =
-    take-set k (m + 2) (set (set l m a) (m + 1) b) c (omega arith) (simp length-set h)
-    ∙ ap (λ (z : List ℕ). z ++ (c ∷ [])) (take-two m (m + 2) a b l refl (omega arith)) ∙ append-assoc (take m l) (a ∷ b ∷ []) (c ∷ [])
-
 module _ (count at : ℕ) (text out rest : List ℕ) (i used : ℕ) (h : i < count) where
   module _ (line : RowLine) (s : Lined rowAt 3 count at text out rest i used) (e : line ≡ rowLine rest) where
     pub rows-off : line ≡ NoRow → readLines rowAt count at text ≡ partOf (Off (at + used)) at text (count * 3) out

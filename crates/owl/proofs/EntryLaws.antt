@@ -1,18 +1,18 @@
 -- Entries put behind others: the concepts of the ids before stay.
 use Prim.Native.Nat.{ℕ, suc, _+_, _*_, _<_, _≤_}
-use mathlib.Core.Path.{_≡_, refl, sym, ap, ap₂, _∙_, subst}
+use mathlib.Core.Path.{_≡_, refl, sym, ap, _∙_, subst}
 use mathlib.Core.List.{List, [], _∷_, _++_, append-nil, append-assoc}
 use mathlib.Core.Bool.{false}
 use mathlib.Core.Logic.{⊎-elim}
 use native.Mathlib.Omega.{arith}
 use lib.ListN.{length, getD, length-append, List·getD-append, List·getD-eq-default}
 use lib.Seq.{getD-append-add}
-use Rattle.subsumption.specs.Tables.{Node, topAt, nameAt, existsAt, andAt, varAt, node, decode, Concept, exists, and, shape, tree}
+use Rattle.subsumption.specs.Tables.{topAt, node, decode, Concept, and, shape, tree}
 use Rattle.subsumption.specs.Inner.Tables.{Rising}
 use Rattle.subsumption.specs.Check.{malformedRow, malformed}
 use Rattle.subsumption.proofs.Bools.{last-cases, le-or-lt}
 use Rattle.subsumption.proofs.Depth.{by-smaller}
-use Rattle.subsumption.proofs.Trees.{tree-eq}
+use Rattle.subsumption.proofs.Trees.{shape-smaller, tree-eq}
 use Rattle.owl.specs.Judgement.{pairRows}
 
 -- n entries that pass the checks 1 to 3 without variables
@@ -32,14 +32,6 @@ grown-none rows n t = record { tabled = t; longer = omega arith; kept = λ i l. 
 
 pub grown-on : {rows : List ℕ} {n : ℕ} {rows′ : List ℕ} {n′ : ℕ} {rows″ : List ℕ} {n″ : ℕ} → Grown rows n rows′ n′ → Grown rows′ n′ rows″ n″ → Grown rows n rows″ n″
 grown-on g h = record { tabled = h .tabled; longer = omega arith; kept = λ i l. h .kept i (omega arith) ∙ g .kept i l }
-
-shape-same : (f g : ℕ → Concept) (i : ℕ) (m : Node) → Rising i m → ((j : ℕ) → j < i → f j ≡ g j) → shape f m ≡ shape g m
-unfolding shape
-shape-same f g i topAt up h = refl
-shape-same f g i (nameAt n) up h = refl
-shape-same f g i (existsAt r j) up h = ap (exists r) (h j up)
-shape-same f g i (andAt j k) up h = ap₂ and (h j (up .0)) (h k (up .1))
-shape-same f g i (varAt k) up h = refl
 
 pub none-tabled : Tabled [] 0
 unfolding node decode
@@ -98,14 +90,14 @@ module _ (rows : List ℕ) (n : ℕ) (t : Tabled rows n) (kind a b : ℕ) (fine 
       step : (i : ℕ) → ((j : ℕ) → j < i → j < n → tree after j ≡ tree rows j) → i < n → tree after i ≡ tree rows i
       step i h l =
           tree-eq after after-rising i ∙ ap (shape (tree after)) (node-before i l)
-          ∙ shape-same (tree after) (tree rows) i (node rows i) (t .rising i) (λ j k. h j k (omega arith))
+          ∙ shape-smaller (tree after) (tree rows) i (node rows i) (t .rising i) (λ j k. h j k (omega arith))
           ∙ sym (tree-eq rows (t .rising) i)
 
   one-grown : Grown rows n after (suc n)
   one-grown = record { tabled = record { size = length-after; right = after-right; rising = after-rising }; longer = omega arith; kept = after-kept }
 
   one-tree : tree after n ≡ shape (tree rows) (decode kind a b)
-  one-tree = tree-eq after after-rising n ∙ ap (shape (tree after)) node-new ∙ shape-same (tree after) (tree rows) n (decode kind a b) up after-kept
+  one-tree = tree-eq after after-rising n ∙ ap (shape (tree after)) node-new ∙ shape-smaller (tree after) (tree rows) n (decode kind a b) up after-kept
 
   -- its concept is its row's
   pub one-more : Grown rows n (rows ++ (kind ∷ a ∷ b ∷ [])) (suc n) × (tree (rows ++ (kind ∷ a ∷ b ∷ [])) n ≡ shape (tree rows) (decode kind a b))

@@ -1,39 +1,23 @@
 -- Entries for classes that are closed.
-use Prim.Native.Nat.{ℕ, zero, suc, _+_, _-_, _*_, _/_, _<_, _≤_}
-use mathlib.Core.Path.{_≡_, refl, sym, ap, _∙_, subst}
+use Prim.Native.Nat.{ℕ, suc, _+_, _-_, _*_, _<_, _≤_}
+use mathlib.Core.Path.{_≡_, refl, sym, ap, _∙_}
 use mathlib.Core.List.{List, [], _∷_, _++_, append-assoc, append-nil}
-use mathlib.Core.Bool.{Bool, true, false}
 use native.Mathlib.Omega.{arith}
 use native.Mathlib.Numerals.{add-one}
 use lib.Dec.{ltb}
 use lib.ListN.{length, getD, take, drop, set, length-append, length-set}
-use lib.Seq.{length-take-le, take-suc-set, getD-drop, drop-drop, drop-cons, take-append-le}
+use lib.Seq.{length-take-le, drop-cons}
 use borrow.Author.Tests.{lt-ltb, le-ltb}
-use Rattle.subsumption.specs.declared.refusal.Refusal.{Refusal}
 use Rattle.subsumption.specs.declared.refusal.Refusal.the-variants.{Limit}
 use Rattle.subsumption.specs.Tables.{countOf}
+use Rattle.subsumption.proofs.Lists.{take-three}
 use Rattle.owl.specs.declared.frames.Reader.{Reader}
 use Rattle.owl.specs.declared.frames.Next.{Next}
 use Rattle.owl.specs.declared.frames.Next.the-variants.{Go, Stop}
-use Rattle.owl.specs.Judgement.{Frame, item, State, Step, go, stop, goIf, joins, closed, pairRows, meetRows}
-use Rattle.owl.specs.Inner.Frames.{between, startOf, framesOf, stateOf, Nested, Bounds, Fits, NextOf, Closes}
+use Rattle.owl.specs.Judgement.{item, State, Step, go, stop, goIf, joins, closed, pairRows, meetRows}
+use Rattle.owl.specs.Inner.Frames.{between, framesOf, stateOf, Fits, NextOf, Closes}
 use Rattle.owl.specs.Inner.Rows.{rowPut, Paired}
 use Rattle.owl.proofs.FrameLaws.{member-joins, nested-more, same-state, stops, goes}
-
--- ---- numbers behind those before
-take-set : (k i : ℕ) (l : List ℕ) (v : ℕ) → k ≡ suc i → i < length l → take k (set l i v) ≡ take i l ++ (v ∷ [])
-take-set k i l v e h = rw e (take-suc-set l i v h)
-
-pub take-two : (m k a b : ℕ) (l : List ℕ) → k ≡ m + 2 → m + 1 < length l → take k (set (set l m a) (m + 1) b) ≡ take m l ++ (a ∷ b ∷ [])
-take-two m k a b l e h =
-    take-set k (m + 1) (set l m a) b (omega arith) (rw length-set h)
-    ∙ ap (λ (z : List ℕ). z ++ (b ∷ [])) (take-set (m + 1) m l a (omega arith) (omega arith)) ∙ append-assoc (take m l) (a ∷ []) (b ∷ [])
-
-pub take-three :
-    (m k a b c : ℕ) (l : List ℕ) → k ≡ m + 3 → m + 2 < length l → take k (set (set (set l m a) (m + 1) b) (m + 2) c) ≡ take m l ++ (a ∷ b ∷ c ∷ [])
-take-three m k a b c l e h =
-    take-set k (m + 2) (set (set l m a) (m + 1) b) c (omega arith) (simp length-set h)
-    ∙ ap (λ (z : List ℕ). z ++ (c ∷ [])) (take-two m (m + 2) a b l refl (omega arith)) ∙ append-assoc (take m l) (a ∷ b ∷ []) (c ∷ [])
 
 -- ---- a class that is closed, with so many rows
 pub rows-count : (count more : ℕ) (rows row : List ℕ) → count * 3 ≤ length rows → length row ≡ more * 3 → countOf (take (count * 3) rows ++ row) ≡ count + more

@@ -20,7 +20,8 @@ use Rattle.owl.specs.Inner.Frames.{kindOf, between, startOf, frameOf, fr
 use Rattle.owl.specs.Inner.Rows.{Paired}
 use Rattle.owl.specs.Inner.Judging.{ShutsFrame}
 use Rattle.owl.proofs.FrameLaws.{between-length, top-frame, top-nested, kind-exist, same-state, stops, goes}
-use Rattle.owl.proofs.RowLaws.{take-two, behind, closes-not, closes-row, between-cons, between-end, meet-length}
+use Rattle.subsumption.proofs.Lists.{take-two}
+use Rattle.owl.proofs.RowLaws.{behind, closes-not, closes-row, between-cons, between-end, meet-length}
 
 module _ (outer : Reader) (used place : ℕ) (pending : List ℕ) (long : length pending ≡ 192) where
   members : List ℕ

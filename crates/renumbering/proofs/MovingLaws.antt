@@ -9,19 +9,21 @@ use native.Mathlib.Numerals.{add-one}
 use native.Mathlib.Nat.{zero-add}
 use lib.Dec.{eqb}
 use lib.ListN.{length, getD, take, set, length-append}
-use lib.Seq.{set-append-seam, drop-cons, take-suc, length-take-le, take-all, length-front}
+use lib.Seq.{take-suc, length-take-le, take-all, length-front}
 use borrow.Author.Tests.{eqb-true}
 use Rattle.subsumption.specs.declared.tables.Row.{Row}
 use Rattle.subsumption.specs.Tables.{or, countOf}
 use Rattle.subsumption.specs.Inner.Tables.{rowOf}
 use Rattle.subsumption.specs.Inner.Atoms.{inFront}
 use Rattle.subsumption.proofs.Bools.{or-cases}
+use Rattle.subsumption.proofs.Lists.{front-more}
 use Rattle.subsumption.proofs.Nodes.{node-exists, node-and}
 use Rattle.renumbering.specs.declared.moving.Moved.{Moved}
 use Rattle.renumbering.specs.Order.{newId, placeOf, movedIds}
 use Rattle.renumbering.specs.Renumbering.{movedField, movedFirst, movedSecond, movedRow, movedRows, movedConcepts}
 use Rattle.renumbering.specs.Inner.Moving.{Known, Inward, movedParts}
 use Rattle.renumbering.proofs.OrderLaws.{moved-length}
+use Rattle.renumbering.proofs.TreeLaws.{rows-length}
 
 -- ---- a field
 pub field-moved : (order : List ℕ) (inner : Bool) (x : ℕ) → inner ≡ true → getD order x 0 ≡ movedField order inner x
@@ -61,11 +63,8 @@ row-moved concepts order i row first second e f g =
     rw (f, g, e) (rw bars refl)
 
 -- ---- one number more in front
-front-more : (xs before : List ℕ) (n v : ℕ) → n ≡ length xs → n < length before → set (inFront xs before) n v ≡ inFront (xs ++ (v ∷ [])) before
-front-more xs before n v e h = rw e (more (omega (arith, e)))
-  where
-    more : length xs < length before → set (inFront xs before) (length xs) v ≡ inFront (xs ++ (v ∷ [])) before
-    more l = rw (drop-cons before (length xs) 0 l, set-append-seam, append-assoc) (rw (length-append xs (v ∷ []), add-one) refl)
+front-next : (xs before : List ℕ) (n v : ℕ) → n ≡ length xs → n < length before → set (inFront xs before) n v ≡ inFront (xs ++ (v ∷ [])) before
+front-next xs before n v e h = rw e (front-more xs before v (omega (arith, e)))
 
 front-long : (xs before : List ℕ) → length xs ≤ length before → length (inFront xs before) ≡ length before
 front-long xs before h = length-front before xs (length xs) (sym (length-take-le (length xs) before h))
@@ -74,9 +73,9 @@ front-three :
     (xs before : List ℕ) (n a b c : ℕ) → n ≡ length xs → n + 2 < length before
     → set (set (set (inFront xs before) n a) (n + 1) b) (n + 2) c ≡ inFront (xs ++ (a ∷ b ∷ c ∷ [])) before
 front-three xs before n a b c e h =
-    ap (λ (z : List ℕ). set (set z (n + 1) b) (n + 2) c) (front-more xs before n a e (omega arith))
-    ∙ ap (λ (z : List ℕ). set z (n + 2) c) (front-more (xs ++ (a ∷ [])) before (n + 1) b (omega (arith, e, length-append xs (a ∷ []))) (omega arith))
-    ∙ front-more ((xs ++ (a ∷ [])) ++ (b ∷ [])) before (n + 2) c (omega (arith, e, length-append xs (a ∷ []), length-append (xs ++ (a ∷ [])) (b ∷ []))) (omega arith)
+    ap (λ (z : List ℕ). set (set z (n + 1) b) (n + 2) c) (front-next xs before n a e (omega arith))
+    ∙ ap (λ (z : List ℕ). set z (n + 2) c) (front-next (xs ++ (a ∷ [])) before (n + 1) b (omega (arith, e, length-append xs (a ∷ []))) (omega arith))
+    ∙ front-next ((xs ++ (a ∷ [])) ++ (b ∷ [])) before (n + 2) c (omega (arith, e, length-append xs (a ∷ []), length-append (xs ++ (a ∷ [])) (b ∷ []))) (omega arith)
     ∙ ap (λ (z : List ℕ). inFront z before) joined
   where
     joined : ((xs ++ (a ∷ [])) ++ (b ∷ [])) ++ (c ∷ []) ≡ xs ++ (a ∷ b ∷ c ∷ [])
@@ -112,7 +111,7 @@ module _ (order : List ℕ) where
           within = omega arith;
           buffer =
               rw (s .buffer)
-              (front-more (movedIds order (take p ids)) before p v (sym (moved-length order (take p ids) ∙ length-take-le p ids (omega arith))) (omega arith)
+              (front-next (movedIds order (take p ids)) before p v (sym (moved-length order (take p ids) ∙ length-take-le p ids (omega arith))) (omega arith)
               ∙ ap (λ (z : List ℕ). inFront z before) (sym snoc));
         }
       where
@@ -131,11 +130,6 @@ module _ (order : List ℕ) where
 
 -- ---- rows
 module _ (order concepts : List ℕ) where
-  pub rows-long : (from count : ℕ) → length (movedRows order concepts from count) ≡ count * 3
-  unfolding movedRows movedRow
-  rows-long from zero = refl
-  rows-long from (suc count) = omega (arith, rows-long (suc from) count)
-
   rows-snoc : (from count : ℕ) → movedRows order concepts from (suc count) ≡ movedRows order concepts from count ++ movedRow order concepts (placeOf (from + count) order)
   unfolding movedRows movedRow
   rows-snoc from zero = let e : from + 0 ≡ from = omega arith in rw e refl
@@ -166,12 +160,12 @@ module _ (order concepts : List ℕ) where
             within = omega arith;
             buffer =
                 rw (s .buffer, e, q)
-                (front-three (movedRows order concepts 0 k) before (k * 3) _ _ _ (sym (rows-long 0 k)) (omega arith)
+                (front-three (movedRows order concepts 0 k) before (k * 3) _ _ _ (sym (rows-length order concepts 0 k)) (omega arith)
                 ∙ ap (λ (z : List ℕ). inFront z before) (sym (rows-more k)));
           }
 
       pub rows-size : (out : List ℕ) (k : ℕ) → RowsTo out k → length out ≡ length before
-      rows-size out k s = ap length (s .buffer) ∙ front-long (movedRows order concepts 0 k) before (omega (arith, s .within, rows-long 0 k))
+      rows-size out k s = ap length (s .buffer) ∙ front-long (movedRows order concepts 0 k) before (omega (arith, s .within, rows-length order concepts 0 k))
 
     pub rows-done : (out : List ℕ) (k : ℕ) → RowsTo out k → countOf concepts ≤ k → out ≡ inFront (movedConcepts order concepts) before
     unfolding movedConcepts

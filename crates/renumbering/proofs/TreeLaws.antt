@@ -26,7 +26,7 @@ use Rattle.renumbering.proofs.OrderLaws.{order-arranges, place-of, of-p
 
 -- ---- the numbers of the new rows, for any list
 module _ (order concepts : List ℕ) where
-  rows-length : (from count : ℕ) → length (movedRows order concepts from count) ≡ count * 3
+  pub rows-length : (from count : ℕ) → length (movedRows order concepts from count) ≡ count * 3
   unfolding movedRows movedRow
   rows-length from zero = refl
   rows-length from (suc count) = omega (arith, rows-length (suc from) count)

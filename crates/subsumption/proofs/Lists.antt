@@ -1,21 +1,35 @@
--- Marked ids, listed in front of a buffer.
+-- Numbers put in front of a buffer, and marked ids listed there.
 use Prim.Native.Nat.{ℕ, zero, suc, _+_, _<_, _≤_}
-use mathlib.Core.Path.{_≡_, refl, ap, subst}
+use mathlib.Core.Path.{_≡_, refl, ap, _∙_, subst}
 use mathlib.Core.List.{List, [], _∷_, _++_, append-assoc}
 use mathlib.Core.Bool.{Bool, true, false}
 use native.Mathlib.Omega.{arith}
 use native.Mathlib.Numerals.{add-one}
 use native.Mathlib.Nat.{zero-add, eq-or-lt-of-le}
 use mathlib.Core.Logic.{⊎-elim}
-use lib.ListN.{length, set, length-append}
-use lib.Seq.{set-append-seam, drop-cons}
+use lib.ListN.{length, take, set, length-append, length-set}
+use lib.Seq.{set-append-seam, drop-cons, take-suc-set}
 use Rattle.subsumption.specs.Atoms.{keep}
 use Rattle.subsumption.specs.Inner.Atoms.{inFront}
 
-front-more : (xs before : List ℕ) (v : ℕ) → length xs < length before → set (inFront xs before) (length xs) v ≡ inFront (xs ++ (v ∷ [])) before
+pub front-more : (xs before : List ℕ) (v : ℕ) → length xs < length before → set (inFront xs before) (length xs) v ≡ inFront (xs ++ (v ∷ [])) before
 front-more xs before v h =
     rw (drop-cons before (length xs) 0 h, set-append-seam, append-assoc)
     (rw (length-append xs (v ∷ []), add-one) refl)
+
+-- ---- numbers behind those before
+take-set : (k i : ℕ) (l : List ℕ) (v : ℕ) → k ≡ suc i → i < length l → take k (set l i v) ≡ take i l ++ (v ∷ [])
+take-set k i l v e h = rw e (take-suc-set l i v h)
+
+pub take-two : (m k a b : ℕ) (l : List ℕ) → k ≡ m + 2 → m + 1 < length l → take k (set (set l m a) (m + 1) b) ≡ take m l ++ (a ∷ b ∷ [])
+take-two m k a b l e h =
+    take-set k (m + 1) (set l m a) b (omega arith) (rw length-set h)
+    ∙ ap (λ (z : List ℕ). z ++ (b ∷ [])) (take-set (m + 1) m l a (omega arith) (omega arith)) ∙ append-assoc (take m l) (a ∷ []) (b ∷ [])
+
+pub take-three : (m k a b c : ℕ) (l : List ℕ) → k ≡ m + 3 → m + 2 < length l → take k (set (set (set l m a) (m + 1) b) (m + 2) c) ≡ take m l ++ (a ∷ b ∷ c ∷ [])
+take-three m k a b c l e h =
+    take-set k (m + 2) (set (set l m a) (m + 1) b) c (omega arith) (simp length-set h)
+    ∙ ap (λ (z : List ℕ). z ++ (c ∷ [])) (take-two m (m + 2) a b l refl (omega arith)) ∙ append-assoc (take m l) (a ∷ b ∷ []) (c ∷ [])
 
 module _ (test : ℕ → Bool) where
   snoc-yes : (from count : ℕ) → test (from + count) ≡ true → keep test from (suc count) ≡ keep test from count ++ ((from + count) ∷ [])

@@ -10,7 +10,7 @@ use Rattle.subsumption.specs.Inner.Atoms.{setBy}
 use Rattle.subsumption.proofs.Depth.{enough}
 use Rattle.subsumption.proofs.VariableLaws.{variable-both, variable-one}
 
-shape-smaller : (f g : ℕ → Concept) (i : ℕ) (m : Node) → Rising i m → ((j : ℕ) → j < i → f j ≡ g j) → shape f m ≡ shape g m
+pub shape-smaller : (f g : ℕ → Concept) (i : ℕ) (m : Node) → Rising i m → ((j : ℕ) → j < i → f j ≡ g j) → shape f m ≡ shape g m
 unfolding shape
 shape-smaller f g i topAt up h = refl
 shape-smaller f g i (nameAt n) up h = refl

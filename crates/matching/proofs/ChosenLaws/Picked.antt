@@ -1,20 +1,21 @@
 -- What a choice picks: as many ids as it has ones, the next one at its lowest one.
 use Prim.Native.Nat.{ℕ, zero, suc, _+_, _-_, _*_, _/_, _%_, _^_, _<_, _≤_}
 use mathlib.Core.Path.{_≡_, refl, sym, ap, _∙_, subst}
-use mathlib.Core.List.{List, [], _∷_, _++_, append-assoc}
+use mathlib.Core.List.{List, [], _∷_, _++_}
 use mathlib.Core.Bool.{true, false}
 use mathlib.Core.Logic.{_⊎_, inl, inr, ⊎-elim}
 use native.Mathlib.Omega.{arith}
 use native.Mathlib.Nat.{pow-suc}
 use native.Mathlib.Numerals.{add-one}
 use lib.Dec.{eqb}
-use lib.ListN.{length, getD, set, take, drop, length-append, length-drop}
-use lib.Seq.{drop-cons, take-suc, set-append-seam, length-take-le, take-length}
+use lib.ListN.{length, getD, set, take, drop, length-drop}
+use lib.Seq.{drop-cons, take-suc, length-take-le, take-length}
 use lib.Bits.{bitAnd, and-step, and-self, and-le-r}
 use lib.Count.{ones, ones-step, ones-le, trailingZeros}
 use Rattle.subsumption.specs.Atoms.{bit, pick}
 use Rattle.subsumption.specs.Inner.Atoms.{inFront}
 use Rattle.subsumption.proofs.Bools.{eq-or-ne}
+use Rattle.subsumption.proofs.Lists.{front-more}
 
 -- the lowest bit
 odd-bit : (x : ℕ) → x % 2 ≡ 1 → bit x 0 ≡ true
@@ -89,10 +90,6 @@ pick-next (a ∷ ids) (suc d) x l p h = go (λ q. pick-next ids d (x / 2) (omega
 
 pub pick-few : (ids : List ℕ) (x : ℕ) → x < 2 ^ length ids → length (pick ids x) ≤ length ids
 pick-few ids x h = omega (arith, pick-length ids x h, ones-le (length ids) x h)
-
-front-more : (xs before : List ℕ) (v : ℕ) → length xs < length before → set (inFront xs before) (length xs) v ≡ inFront (xs ++ (v ∷ [])) before
-front-more xs before v h =
-    rw (drop-cons before (length xs) 0 h, set-append-seam, append-assoc) (rw (length-append xs (v ∷ []), add-one) refl)
 
 -- Some of the ids that the choice picks stand in front of the buffer, and `rest` picks the others.
 pub record Writing (ids : List ℕ) (choice : ℕ) (before out : List ℕ) (rest listed : ℕ) : Type 0 where
