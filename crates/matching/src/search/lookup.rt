@@ -22,7 +22,7 @@ const LEFT: usize = 16;
 // Sets the bit of nogood c in the masks of the pairs of one word.
 fn note_word(scratch: &mut [u64], c: usize, word: u64, from: usize)
     requires { ⌜ length (now scratch) ≡ 16977 ⌝ }
-    requires { ⌜ (c < 1024) × (from ≤ 14880) ⌝ }
+    requires { ⌜ (c < 1024) × (from ≤ 14928) ⌝ }
 {
     let mut q = next_bit(word, 0);
     while q < 64 {
@@ -64,7 +64,7 @@ pub struct Weights {
 // With the masks of the pairs in the word that make a nogood dead.
 fn kill(scratch: &[u64], word: u64, from: usize, dead: u64) -> u64
     requires { ⌜ length (now scratch) ≡ 16977 ⌝ }
-    requires { ⌜ from ≤ 14880 ⌝ }
+    requires { ⌜ from ≤ 14943 ⌝ }
 {
     let mut sum = dead;
     let mut q = next_bit(word, 0);
@@ -83,7 +83,7 @@ pub struct Counted {
 
 fn count(scratch: &[u64], word: u64, from: usize, before: Counted) -> Counted
     requires { ⌜ length (now scratch) ≡ 16977 ⌝ }
-    requires { ⌜ from ≤ 14880 ⌝ }
+    requires { ⌜ from ≤ 14943 ⌝ }
 {
     let mut once = before.once;
     let mut twice = before.twice;
@@ -194,7 +194,9 @@ fn better(found: Hint, w: usize, unit: u64, around: u64, none: usize) -> Hint
 }
 
 // The nogoods of the word w that are there.
-fn present(w: usize, count: usize) -> u64 {
+fn present(w: usize, count: usize) -> u64
+    requires { ⌜ w < 16 ⌝ }
+{
     if w * 64 + 64 <= count {
         return ALL;
     }

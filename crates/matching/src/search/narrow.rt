@@ -41,7 +41,8 @@ fn narrow_variable(
         if question_holds(sets, card, scratch, m, alone) {
             continue;
         }
-        high = without_pair(high, k, at);
+        let fewer = without_pair(high, k, at);
+        high = fewer;
     }
     high
 }
@@ -73,7 +74,8 @@ fn narrow_question(
         if (held >> v) % 2 == 0 {
             continue;
         }
-        high = narrow_variable(sets, card, scratch, m, v, high);
+        let fewer = narrow_variable(sets, card, scratch, m, v, high);
+        high = fewer;
     }
     high
 }
@@ -88,7 +90,8 @@ pub fn narrow(sets: &[u64], card: &[u16], scratch: &mut [u64], full: [u64; 8]) -
     let mut high = full;
     let mut m: usize = 0;
     while m < count {
-        high = narrow_question(sets, card, scratch, m, high);
+        let fewer = narrow_question(sets, card, scratch, m, high);
+        high = fewer;
         m += 1;
     }
     high

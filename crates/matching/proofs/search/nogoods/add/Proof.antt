@@ -9,7 +9,7 @@ slice-read-filled : tie.Need-slice-read-filled
 slice-read-filled c = omega arith
 
 returns : tie.Need-returns
-returns c = added-none _ _ _ (c .before .before .before .pre .0)
+returns c = added-none _ _ _ (c .before .before .before .before .pre .0)
 
 mul-at : tie.Need-mul-at
 mul-at c = omega arith
@@ -32,11 +32,17 @@ add-store c = omega arith
 slice-write-store : tie.Need-slice-write-store
 slice-write-store c = omega arith
 
+note-requires : tie.Need-note-requires
+note-requires c κs = (omega arith, omega arith)
+
 same-length : tie.Need-same-length
-same-length c = simp length-set (c .before .before .put2 .ensures .size ∙ c .before .before .before .before .before .before .put .ensures .size)
+same-length c = simp length-set (c .before .before .before .before .before .before .put2 .ensures .size ∙ c .before .before .before .before .before .before .before .before .before .before .put .ensures .size)
+
+same-length-2 : tie.Need-same-length-2
+same-length-2 c = omega arith
 
 returns-2 : tie.Need-returns-2
-returns-2 c = added-one _ _ _ _ _ (c .before .before .before .before .before .before .before .before .before .before .before .pre .0) (omega arith) (c .before .before .before .before .before .before .before .before .before .before .before .pre .1 .1 .0) (c .before .before .before .before .before .before .before .before .before .before .before .pre .1 .1 .1) (c .before .before .before .before .before .before .put .ensures) (c .before .before .put2 .ensures)
+returns-2 c = added-one _ _ _ _ _ (c .before .before .before .before .before .before .before .before .before .before .before .before .before .before .before .before .before .before .pre .0) (omega arith) (c .before .before .before .before .before .before .before .before .before .before .before .before .before .before .before .before .before .before .pre .1 .1 .1 .0) (c .before .before .before .before .before .before .before .before .before .before .before .before .before .before .before .before .before .before .pre .1 .1 .1 .1) (c .before .before .before .before .before .before .before .before .before .before .put .ensures) (c .before .before .before .before .before .before .put2 .ensures)
 
 pub add-spec : {M : Type 1} → statement M
 add-spec =
@@ -51,5 +57,7 @@ add-spec =
     put-requires-2
     add-store
     slice-write-store
+    note-requires
     same-length
+    same-length-2
     returns-2)

@@ -1,14 +1,13 @@
-use native.Mathlib.Omega.{arith}
 use lib.Count.{leading-le}
-use borrow.Author.Needs.{needs}
-use Rattle.matching.proofs.search.nogoods.some_pair.Statement.{statement}
-use Rattle.matching.proofs.search.nogoods.some_pair.Tie as tie
+use native.Mathlib.Omega.{arith}
+use Rattle.matching.proofs.search.lookup.some_pair.Statement.{statement}
+use Rattle.matching.proofs.search.lookup.some_pair.Tie as tie
 
 returns : tie.Need-returns
-returns c = search needs
+returns c = tt
 
 mul-after : tie.Need-mul-after
-mul-after c = search needs
+mul-after c = omega arith
 
 cast-after : tie.Need-cast-after
 cast-after c = omega (arith, leading-le 64 (c .before .args .word))
@@ -17,16 +16,16 @@ sub-after : tie.Need-sub-after
 sub-after c = omega (arith, leading-le 64 (c .before .args .word))
 
 add-after : tie.Need-add-after
-add-after c = search needs
+add-after c = omega arith
 
 returns-2 : tie.Need-returns-2
-returns-2 c = search needs
+returns-2 c = tt
 
 sub-result : tie.Need-sub-result
-sub-result c = search needs
+sub-result c = omega arith
 
 returns-3 : tie.Need-returns-3
-returns-3 c = search needs
+returns-3 c = tt
 
 pub some-pair-spec : {M : Type 1} → statement M
 some-pair-spec =
