@@ -1,22 +1,21 @@
 -- Rounds until nothing changes.
 use Prim.Native.Nat.{ℕ, _+_, _*_, _/_, _%_, _<_}
 use mathlib.Core.Path.{_≡_, refl, ap, sym, _∙_, subst}
-use mathlib.Core.List.{List}
+use mathlib.Core.List.{List, []}
 use mathlib.Core.Bool.{Bool, true, false, _||_}
 use native.Mathlib.Omega.{arith}
 use native.Mathlib.Nat.{le-antisymm}
-use lib.ListN.{length, getD}
-use Rattle.subsumption.specs.Tables.{Node, topAt, nameAt, existsAt, andAt, varAt, node, countOf}
+use lib.ListN.{length, getD, replicate, length-replicate}
+use Rattle.subsumption.specs.Tables.{Node, topAt, nameAt, andAt, varAt, node, countOf}
 use Rattle.subsumption.specs.Atoms.{bit}
 use Rattle.subsumption.specs.Inner.Columns.{has, slack, Empty}
 use Rattle.subsumption.specs.Inner.Names.{Firsts}
 use Rattle.subsumption.specs.Inner.Settling.{SettledBy, AllSettled}
 use Rattle.subsumption.specs.Inner.Links.{AllLinked}
-use Rattle.subsumption.specs.Inner.Closure.{Steps, Flow, flow-given, flow-same, flow-top, flow-named, flow-first, flow-second, flow-meet, flow-included, flow-linked, flow-chooses, flow-all-chosen, Sound, Pass, AllTaken, AllIncluded, Closed}
+use Rattle.subsumption.specs.Inner.Closure.{Steps, flow-given, Sound, LowPairs, LeftKnown, Pass, IncludePass, AllTaken, AllIncluded, Closed}
 use Rattle.subsumption.proofs.Bits.{bit-of-zero}
 use Rattle.subsumption.proofs.Columns.{not-both}
-use Rattle.subsumption.proofs.Passes.{pass-as, pass-then}
-use Rattle.subsumption.proofs.Soundness.{flow-least}
+use Rattle.subsumption.proofs.Passes.{pass-none, pass-as, pass-then}
 
 pub nothing :
     (columns : List ℕ) → Empty columns → (i j : ℕ) → i < 192 → j < 192 → has columns i j ≡ true → ⊥
@@ -27,6 +26,13 @@ nothing columns E i j h l e = bit-of-zero (i % 64) (ap (λ (w : ℕ). bit w (i %
 abbrev pub weight : Bool → ℕ
 weight true = 1
 weight false = 0
+
+pub pass-less :
+    {concepts inclusions : List ℕ} {wide : ℕ → ℕ → Bool} {choose : ℕ → List ℕ} {Q : List ℕ → Type 0} (before after : List ℕ) (busy changed : Bool) → busy ≡ true
+    → Pass concepts inclusions wide choose Q before after changed → slack after + weight changed < slack before + weight busy
+pass-less before after true true e p = omega (arith, p .less refl)
+pass-less before after true false e p = omega (arith, ap slack (p .same refl))
+pass-less before after false changed e p = not-both true refl (sym e)
 
 module _ (concepts inclusions : List ℕ) (wide : ℕ → ℕ → Bool) (choose : ℕ → List ℕ) (firsts : List ℕ) where
   pub record Closing (given columns : List ℕ) (busy : Bool) : Type 0 where
@@ -47,24 +53,13 @@ module _ (concepts inclusions : List ℕ) (wide : ℕ → ℕ → Bool) (choose 
         taken = λ e. subst (λ (l : List ℕ). AllTaken concepts inclusions wide choose firsts l) (sym (p .same e)) (p .quiet e);
       }
 
-  pub closing-less :
-      (before after : List ℕ) (busy changed : Bool) → busy ≡ true
-      → Pass concepts inclusions wide choose (AllTaken concepts inclusions wide choose firsts) before after changed
-      → slack after + weight changed < slack before + weight busy
-  closing-less before after true true e p = omega (arith, p .less refl)
-  closing-less before after true false e p = omega (arith, ap slack (p .same refl))
-  closing-less before after false changed e p = not-both true refl (sym e)
-
   -- one round
-  pub round-quiet :
-      (before one two after : List ℕ) (a b changed : Bool) → (a || b) ≡ false
-      → Pass concepts inclusions wide choose (AllSettled concepts firsts choose) before one a
-      → Pass concepts inclusions wide choose (AllIncluded concepts inclusions) one two b
-      → Pass concepts inclusions wide choose (AllLinked concepts wide) two after changed
-      → Pass concepts inclusions wide choose (AllTaken concepts inclusions wide choose firsts) before after changed
-  round-quiet before one two after a b changed e p q r =
-      subst (λ (t : Bool). Pass concepts inclusions wide choose (AllTaken concepts inclusions wide choose firsts) before after (t || changed)) e
-      (pass-as (pass-then (pass-then p q) r) (λ u. record { settled = u .0 .0; included = u .0 .1; linked = u .1 }))
+  pub round-pass :
+      {before one after : List ℕ} {a b : Bool}
+      → Pass concepts inclusions wide choose (λ l. AllSettled concepts firsts choose l × AllLinked concepts wide l) before one a
+      → Pass concepts inclusions wide choose (AllIncluded concepts inclusions) one after b
+      → Pass concepts inclusions wide choose (AllTaken concepts inclusions wide choose firsts) before after (a || b)
+  round-pass p q = pass-as (pass-then p q) (λ u. record { settled = u .0 .0; included = u .1; linked = u .0 .1 })
 
   module _ (columns : List ℕ) (F : Firsts concepts firsts) (A : AllTaken concepts inclusions wide choose firsts columns) where
     at : (j : ℕ) (m : Node) → j < countOf concepts → node concepts j ≡ m → SettledBy (countOf concepts) choose (getD firsts j 0) j columns m
@@ -97,41 +92,31 @@ module _ (concepts inclusions : List ℕ) (wide : ℕ → ℕ → Bool) (choose 
       → Closed concepts inclusions wide choose given columns
   closing-done given columns busy e F C = record { long = C .long; sound = C .sound; closed = all-steps columns F (C .taken e) }
 
--- what holds by one test of roles holds by another that agrees with it on the rows' roles
-module _ (concepts inclusions : List ℕ) (wide wide′ : ℕ → ℕ → Bool) (choose : ℕ → List ℕ) (given columns : List ℕ)
-    (low : (i r x : ℕ) → node concepts i ≡ existsAt r x → r < 100) (agree : (r s : ℕ) → r < 100 → s < 100 → wide r s ≡ wide′ r s) where
-  flow-steps : Steps concepts inclusions wide (choose) (Flow concepts inclusions wide′ choose given)
-  flow-steps =
-      record {
-        same = flow-same;
-        top = flow-top;
-        named = flow-named;
-        first = flow-first;
-        second = flow-second;
-        meet = flow-meet;
-        included = flow-included;
-        linked = λ i e f r s x y li le lf p q w. flow-linked i e f r s x y li le lf p q (sym (agree r s (low e r x p) (low f s y q)) ∙ w);
-        chooses = flow-chooses;
-        all-chosen = flow-all-chosen;
-      }
+-- the inclusions until they are quiet
+module _ (inclusions : List ℕ) where
+  abbrev pub Quieting : List ℕ → List ℕ → Bool → Bool → Type 0
+  Quieting before columns changed busy =
+      (concepts : List ℕ) (wide : ℕ → ℕ → Bool) (choose : ℕ → List ℕ) → LeftKnown concepts inclusions
+      → Pass concepts inclusions wide choose (λ l. busy ≡ false → AllIncluded concepts inclusions l) before columns changed
 
-  pub closed-as : Closed concepts inclusions wide choose given columns → Closed concepts inclusions wide′ choose given columns
-  closed-as C =
-      record {
-        long = C .long;
-        sound = λ i j l k e. flow-least concepts inclusions wide choose (Flow concepts inclusions wide′ choose given) flow-steps given (λ i j l k e. flow-given i j l k e) (C .sound i j l k e);
-        closed =
-            let S = C .closed in
-            record {
-              same = S .same;
-              top = S .top;
-              named = S .named;
-              first = S .first;
-              second = S .second;
-              meet = S .meet;
-              included = S .included;
-              linked = λ i e f r s x y li le lf p q w. S .linked i e f r s x y li le lf p q (agree r s (low e r x p) (low f s y q) ∙ w);
-              chooses = S .chooses;
-              all-chosen = S .all-chosen;
-            };
-      }
+  pub quieting-first : (columns : List ℕ) → Quieting columns columns false true
+  quieting-first columns concepts wide choose K = pass-none (λ e. not-both true refl e)
+
+  pub quieting-more :
+      (before columns after : List ℕ) (changed busy again : Bool) → Quieting before columns changed busy → IncludePass inclusions columns after again
+      → Quieting before after (changed || again) again
+  quieting-more before columns after changed busy again Q p concepts wide choose K = pass-as (pass-then (Q concepts wide choose K) (p concepts wide choose K)) (λ u _. u .1)
+
+  pub quieting-done : (before columns : List ℕ) (changed busy : Bool) → Quieting before columns changed busy → busy ≡ false → IncludePass inclusions before columns changed
+  quieting-done before columns changed busy Q e concepts wide choose K = pass-as (Q concepts wide choose K) (λ u. u e)
+
+  -- rows enough for any left side
+  known : LowPairs inclusions → LeftKnown (replicate 576 0) inclusions
+  known L =
+      let n : length {A = ℕ} (replicate 576 0) ≡ 576 = length-replicate {A = ℕ} 576 0 in
+      record { few = omega (arith, n); left = λ m h. omega (arith, n, L .left m h) }
+
+  pub quieting-less :
+      (columns after : List ℕ) (busy again : Bool) → LowPairs inclusions → busy ≡ true → IncludePass inclusions columns after again
+      → slack after + weight again < slack columns + weight busy
+  quieting-less columns after busy again L e p = pass-less columns after busy again e (p (replicate 576 0) (λ r s. true) (λ k. []) (known L))

@@ -132,7 +132,7 @@ takes-as t there back =
       less = t .less;
     }
 
-three-has : (l : List ℕ) (from q : ℕ) → q < 3 → getD (getD l (from * 3) 0 ∷ getD l (from * 3 + 1) 0 ∷ getD l (from * 3 + 2) 0 ∷ []) q 0 ≡ getD l (from * 3 + q) 0
+pub three-has : (l : List ℕ) (from q : ℕ) → q < 3 → getD (getD l (from * 3) 0 ∷ getD l (from * 3 + 1) 0 ∷ getD l (from * 3 + 2) 0 ∷ []) q 0 ≡ getD l (from * 3 + q) 0
 three-has l from zero h = ap (λ (p : ℕ). getD l p 0) (omega arith)
 three-has l from (suc zero) h = refl
 three-has l from (suc (suc zero)) h = refl

@@ -41,6 +41,8 @@ pub mod Choices
 pub mod Passes
 pub mod Settling
 pub mod Including
+pub mod WordLaws
+pub mod SetLaws
 pub mod Linking
 pub mod Closing
 pub mod RowLaws

@@ -1,24 +1,30 @@
 -- Looking for existentials, and rows of one name.
-use Prim.Native.Nat.{ℕ, _+_, _*_, _-_, _<_, _≤_}
+use Prim.Native.Nat.{ℕ, zero, suc, _+_, _*_, _/_, _%_, _<_, _≤_}
 use mathlib.Core.Path.{_≡_, refl, ap, sym, _∙_, subst}
-use mathlib.Core.List.{List}
-use mathlib.Core.Bool.{Bool, true, false, _||_}
-use mathlib.Core.Logic.{⊎-elim}
+use mathlib.Core.List.{List, [], _∷_}
+use mathlib.Core.Bool.{Bool, true, false}
+use mathlib.Core.Logic.{_⊎_, inl, inr, ⊎-elim}
 use native.Mathlib.Omega.{arith}
 use lib.ListN.{length, getD, set, replicate, length-set, length-replicate, getD-replicate}
 use lib.Seq.{getD-set-same, getD-set-other}
-use lib.Dec.{eqb, ltb}
-use borrow.Author.Tests.{eqb-true, eqb-false, ltb-true, ltb-false}
+use lib.Bits.{bitAnd}
+use lib.Dec.{eqb}
+use borrow.Author.Tests.{eqb-true, eqb-false}
 use Rattle.subsumption.specs.Tables.{Node, nameAt, existsAt, node, countOf}
+use Rattle.subsumption.specs.Roles.{wider}
 use Rattle.subsumption.specs.Inner.Tables.{Rising}
-use Rattle.subsumption.specs.Inner.Columns.{has, Into, Takes}
+use Rattle.subsumption.specs.Atoms.{bit}
+use Rattle.subsumption.specs.Inner.Columns.{has, inThree, Takes}
+use Rattle.subsumption.specs.Inner.Roles.{inSet, RoleSets}
 use Rattle.subsumption.specs.Inner.Names.{FirstNamed, Nameable, Seen, Firsts, IsNamed}
-use Rattle.subsumption.specs.Inner.Links.{Inner, OnwardFrom, OnwardTo, Linkable, Links, NextLink, LinkedTo}
-use Rattle.subsumption.specs.Inner.Closure.{Ready, Flow, flow-linked, LinkPass}
-use Rattle.subsumption.proofs.Bools.{le-or-lt}
+use Rattle.subsumption.specs.Inner.Links.{Inner, LinkedTo, Inserted, Put, Union, WithInner, WithRole, Existentials, KindsTo, Laid, Sorted}
+use Rattle.subsumption.specs.Inner.Closure.{Ready, Flow, flow-linked, Sound, LinkPass}
+use Rattle.subsumption.proofs.Bools.{le-or-lt, last-cases}
 use Rattle.subsumption.proofs.Nodes.{name-node, exists-node, node-name, node-exists}
+use Rattle.subsumption.proofs.Bits.{bit-of-zero}
 use Rattle.subsumption.proofs.Columns.{not-both}
-use Rattle.subsumption.proofs.Passes.{pass-as, pass-none, pass-then, pass-seen, step-pass}
+use Rattle.subsumption.proofs.SetLaws.{empty-sets, and-three, in-line, of-line}
+use Rattle.subsumption.proofs.Passes.{pass-none, step-pass}
 
 pub ready-nameable : {concepts inclusions atoms assignment : List ℕ} → Ready concepts inclusions atoms assignment → Nameable concepts
 ready-nameable R = record { few = R .few; low = R .low-names }
@@ -27,38 +33,6 @@ pub ready-inner : {concepts inclusions atoms assignment : List ℕ} → Ready co
 ready-inner {concepts} R =
     record { few = R .few; known = λ e r x h n. omega (arith, subst (λ (m : Node). Rising e m) n (R .rising e h)); low = R .low-roles }
 
-module _ (concepts columns : List ℕ) (counts : ℕ → Bool) (inner e : ℕ) where
-  pub links-kind : (getD concepts (e * 3) 0 ≡ 2 → ⊥) → Links concepts columns counts inner e false
-  links-kind ne =
-      record { found = λ p. not-both false p refl; none = λ _ l. ne (exists-node concepts e (l .narrow) (l .from) (l .row) .0) }
-
-  pub links-role : counts (getD concepts (e * 3 + 1) 0) ≡ false → Links concepts columns counts inner e false
-  links-role none′ =
-      record {
-        found = λ p. not-both false p refl;
-        none = λ _ l. not-both _ (ap counts (exists-node concepts e (l .narrow) (l .from) (l .row) .1) ∙ l .counting) none′;
-      }
-
-  pub links-below :
-      (answer : Bool) → getD concepts (e * 3) 0 ≡ 2 → counts (getD concepts (e * 3 + 1) 0) ≡ true
-      → answer ≡ has columns (getD concepts (e * 3 + 2) 0) inner → Links concepts columns counts inner e answer
-  links-below answer kind of r =
-      record {
-        found =
-            λ p.
-            record {
-              narrow = getD concepts (e * 3 + 1) 0;
-              from = getD concepts (e * 3 + 2) 0;
-              row = node-exists concepts e kind;
-              counting = of;
-              below = sym r ∙ p;
-            };
-        none =
-            λ p l.
-            not-both (has columns (getD concepts (e * 3 + 2) 0) inner)
-            (subst (λ (x : ℕ). has columns x inner ≡ true) (sym (exists-node concepts e (l .narrow) (l .from) (l .row) .2)) (l .below)) (sym r ∙ p);
-      }
-
 module _ (concepts : List ℕ) (e : ℕ) where
   pub inner-low : Inner concepts → e < countOf concepts → getD concepts (e * 3) 0 ≡ 2 → getD concepts (e * 3 + 2) 0 < 192
   inner-low I h kind = omega (arith, I .known e _ _ h (node-exists concepts e kind), I .few)
@@ -66,167 +40,256 @@ module _ (concepts : List ℕ) (e : ℕ) where
   pub role-low : Inner concepts → getD concepts (e * 3) 0 ≡ 2 → getD concepts (e * 3 + 1) 0 < 100
   role-low I kind = I .low e _ _ (node-exists concepts e kind)
 
-module _ (concepts columns : List ℕ) (counts : ℕ → Bool) (inner start : ℕ) where
-  pub record NoLink (e : ℕ) : Type 0 where
-    pub from : start ≤ e
-    pub within : e ≤ countOf concepts
-    pub none : (d : ℕ) → start ≤ d → d < e → Linkable concepts columns counts inner d → ⊥
+-- ---- noting the existentials
+pub existentials-none :
+    (concepts outer inners lines : List ℕ) → outer ≡ replicate 576 0 → inners ≡ replicate 3 0 → lines ≡ replicate 576 0 → Existentials concepts outer inners lines 0
+existentials-none concepts outer inners lines e f g =
+    record {
+      outer-long = ap length e ∙ length-replicate {A = ℕ} 576 0;
+      inners-long = ap length f ∙ length-replicate {A = ℕ} 3 0;
+      lines-long = ap length g ∙ length-replicate {A = ℕ} 576 0;
+      outer-only = λ x i l u. absurd (empty-sets 576 i x (subst (λ (z : List ℕ). has z i x ≡ true) e u));
+      outer-every = λ x i w. absurd (omega (arith, w .before));
+      inners-every = λ x i w. absurd (omega (arith, w .before));
+      lines-only = λ r i l u. absurd (empty-sets 576 i r (subst (λ (z : List ℕ). has z i r ≡ true) g u));
+      lines-every = λ r i w. absurd (omega (arith, w .before));
+    }
 
-  pub no-link-first : start ≤ countOf concepts → NoLink start
-  no-link-first h = record { from = omega arith; within = h; none = λ d p q l. omega arith }
+module _ (concepts : List ℕ) (n : ℕ) where
+  more-inner : (x e : ℕ) → WithInner concepts n x e → WithInner concepts (n + 1) x e
+  more-inner x e w = record { before = omega (arith, w .before); role = w .role; row = w .row }
 
-  pub no-link-more : (e : ℕ) (answer : Bool) → NoLink e → e < countOf concepts → Links concepts columns counts inner e answer → answer ≡ false → NoLink (e + 1)
-  no-link-more e answer N h L b =
-      record { from = omega (arith, N .from); within = omega arith; none = λ d p q. go d p q (eqb d e) refl }
+  more-role : (r e : ℕ) → WithRole concepts n r e → WithRole concepts (n + 1) r e
+  more-role r e w = record { before = omega (arith, w .before); inner = w .inner; row = w .row }
+
+  inner-cases : (x e : ℕ) → WithInner concepts (n + 1) x e → (e ≡ n) ⊎ WithInner concepts n x e
+  inner-cases x e w = ⊎-elim (λ u. inl u) (λ l. inr (record { before = l; role = w .role; row = w .row })) (last-cases e n (omega (arith, w .before)))
+
+  role-cases : (r e : ℕ) → WithRole concepts (n + 1) r e → (e ≡ n) ⊎ WithRole concepts n r e
+  role-cases r e w = ⊎-elim (λ u. inl u) (λ l. inr (record { before = l; inner = w .inner; row = w .row })) (last-cases e n (omega (arith, w .before)))
+
+  -- one row more that is no existential
+  pub existentials-skip :
+      (outer inners lines : List ℕ) → (getD concepts (n * 3) 0 ≡ 2 → ⊥) → Existentials concepts outer inners lines n → Existentials concepts outer inners lines (n + 1)
+  existentials-skip outer inners lines k E =
+      record {
+        outer-long = E .outer-long;
+        inners-long = E .inners-long;
+        lines-long = E .lines-long;
+        outer-only = λ x e l u. more-inner x e (E .outer-only x e l u);
+        outer-every = λ x e w. ⊎-elim (λ u. none-inner x e u w) (λ v. E .outer-every x e v) (inner-cases x e w);
+        inners-every = λ x e w. ⊎-elim (λ u. none-inner x e u w) (λ v. E .inners-every x e v) (inner-cases x e w);
+        lines-only = λ r e l u. more-role r e (E .lines-only r e l u);
+        lines-every = λ r e w. ⊎-elim (λ u. none-role r e u w) (λ v. E .lines-every r e v) (role-cases r e w);
+      }
     where
-      go : (d : ℕ) → start ≤ d → d < e + 1 → (t : Bool) → eqb d e ≡ t → Linkable concepts columns counts inner d → ⊥
-      go d p q true s l = L .none b (subst (λ (x : ℕ). Linkable concepts columns counts inner x) (eqb-true d e s) l)
-      go d p q false s l = N .none d p (omega (arith, eqb-false d e s)) l
+      none-inner : {A : Type 0} (x e : ℕ) → e ≡ n → WithInner concepts (n + 1) x e → A
+      none-inner x e u w = absurd (k (exists-node concepts n (w .role) x (ap (node concepts) (sym u) ∙ w .row) .0))
 
-  pub next-found : (e : ℕ) (answer : Bool) → NoLink e → e < countOf concepts → Links concepts columns counts inner e answer → answer ≡ true → NextLink concepts columns counts inner start e
-  next-found e answer N h L b = record { from = N .from; within = N .within; none = N .none; found = λ _. L .found b }
+      none-role : {A : Type 0} (r e : ℕ) → e ≡ n → WithRole concepts (n + 1) r e → A
+      none-role r e u w = absurd (k (exists-node concepts n r (w .inner) (ap (node concepts) (sym u) ∙ w .row) .0))
 
-  pub next-none : (e : ℕ) → NoLink e → countOf concepts ≤ e → NextLink concepts columns counts inner start (countOf concepts)
-  next-none e N h =
-      record {
-        from = omega (arith, N .from, N .within);
-        within = omega arith;
-        none = λ d p q. N .none d p (omega arith);
-        found = λ p. absurd (omega arith);
-      }
+  module _ (outer inners lines outer′ inners′ lines′ : List ℕ) (E : Existentials concepts outer inners lines n) (k : getD concepts (n * 3) 0 ≡ 2)
+      (A : Inserted outer outer′ (getD concepts (n * 3 + 2) 0) n) (B : Inserted inners inners′ 0 (getD concepts (n * 3 + 2) 0))
+      (C : Inserted lines lines′ (getD concepts (n * 3 + 1) 0) n) where
+    abbrev inner : ℕ
+    inner = getD concepts (n * 3 + 2) 0
 
--- only existentials link
-pub no-link-onward :
-    (concepts columns : List ℕ) (counts : ℕ → Bool) (inner start e n : ℕ) → NoLink concepts columns counts inner start e → OnwardFrom concepts e n → NoLink concepts columns counts inner start n
-no-link-onward concepts columns counts inner start e n N O =
-    record {
-      from = omega (arith, N .from, O .from);
-      within = O .within;
-      none =
-          λ d p q l.
-          ⊎-elim (λ (u : e ≤ d). O .none d (l .narrow) (l .from) u q (l .row)) (λ u. N .none d p u l) (le-or-lt e d);
-    }
+    abbrev role : ℕ
+    role = getD concepts (n * 3 + 1) 0
 
--- where the existentials are, from the last row down
-pub onward-end : (concepts onward : List ℕ) → length onward ≡ 193 → countOf concepts ≤ 192 → OnwardTo concepts (set onward (countOf concepts) (countOf concepts)) (countOf concepts)
-onward-end concepts onward h few =
-    record {
-      long = length-set onward _ _ ∙ h;
-      each =
-          λ e l m.
-          let same : e ≡ countOf concepts = omega arith in
-          subst (λ (z : ℕ). OnwardFrom concepts z (getD (set onward (countOf concepts) (countOf concepts)) z 0)) (sym same)
-          (subst (OnwardFrom concepts (countOf concepts)) (sym (getD-set-same onward (countOf concepts) (countOf concepts) 0 (omega (arith, h))))
-          (record { from = omega arith; within = omega arith; none = λ d r x a b n. omega arith }));
-    }
+    row : node concepts n ≡ existsAt role inner
+    row = node-exists concepts n k
 
-pub onward-here : (concepts : List ℕ) (e : ℕ) → e < countOf concepts → OnwardFrom concepts e e
-onward-here concepts e l = record { from = omega arith; within = omega arith; none = λ d r x a b n. omega arith }
+    same-inner : (x e : ℕ) → e ≡ n → WithInner concepts (n + 1) x e → x ≡ inner
+    same-inner x e u w = let q = ap (node concepts) (sym u) ∙ w .row in sym (exists-node concepts n (w .role) x q .2)
 
-pub onward-next : (concepts onward : List ℕ) (e : ℕ) → e < countOf concepts → (getD concepts (e * 3) 0 ≡ 2 → ⊥) → OnwardTo concepts onward (e + 1) → OnwardFrom concepts e (getD onward (e + 1) 0)
-onward-next concepts onward e l ne O =
-    let n = O .each (e + 1) (omega arith) (omega arith) in
-    record {
-      from = omega (arith, n .from);
-      within = n .within;
-      none =
-          λ d r x a b m.
-          ⊎-elim (λ (u : e + 1 ≤ d). n .none d r x u b m)
-          (λ u. let same : d ≡ e = omega arith in ne (exists-node concepts e r x (subst (λ (z : ℕ). node concepts z ≡ existsAt r x) same m) .0))
-          (le-or-lt (e + 1) d);
-    }
+    same-role : (r e : ℕ) → e ≡ n → WithRole concepts (n + 1) r e → r ≡ role
+    same-role r e u w = let q = ap (node concepts) (sym u) ∙ w .row in sym (exists-node concepts n r (w .inner) q .1)
 
-pub onward-more : (concepts onward : List ℕ) (e v : ℕ) → e < countOf concepts → countOf concepts ≤ 192 → OnwardFrom concepts e v → OnwardTo concepts onward (e + 1) → OnwardTo concepts (set onward e v) e
-onward-more concepts onward e v l few f O =
-    record {
-      long = length-set onward e v ∙ O .long;
-      each =
-          λ d a b.
-          ⊎-elim
-          (λ (u : e + 1 ≤ d). subst (OnwardFrom concepts d) (sym (getD-set-other onward e d v 0 (λ z. omega arith))) (O .each d u b))
-          (λ u.
-          let same : d ≡ e = omega arith in
-          subst (λ (z : ℕ). OnwardFrom concepts z (getD (set onward e v) z 0)) (sym same) (subst (OnwardFrom concepts e) (sym (getD-set-same onward e v 0 (omega (arith, O .long)))) f))
-          (le-or-lt (e + 1) d);
-    }
-
--- the row before e, when e is not the first
-pub onward-back : (concepts onward : List ℕ) (e : ℕ) → 0 < e → OnwardTo concepts onward e → OnwardTo concepts onward (e - 1 + 1)
-onward-back concepts onward e h O = record { long = O .long; each = λ d a b. O .each d (omega arith) b }
-
-pub onward-all : (concepts onward : List ℕ) (e : ℕ) → e ≤ 0 → OnwardTo concepts onward e → OnwardTo concepts onward 0
-onward-all concepts onward e h O = record { long = O .long; each = λ d a b. O .each d (omega arith) b }
-
--- the loop over what links to f
-pub record Linked (concepts : List ℕ) (wide : ℕ → ℕ → Bool) (f : ℕ) (before after : List ℕ) (changed : Bool) (e : ℕ) : Type 0 where
-  pub within : e ≤ countOf concepts
-  pub long : length after ≡ length before
-  pub passed :
-      LinkPass concepts wide
-      (λ l. (d : ℕ) → d < e → Linkable concepts l (λ r. wide r (getD concepts (f * 3 + 1) 0)) (getD concepts (f * 3 + 2) 0) d → Into (countOf concepts) l d f)
-      before after changed
-  pub next : e < countOf concepts → Linkable concepts after (λ r. wide r (getD concepts (f * 3 + 1) 0)) (getD concepts (f * 3 + 2) 0) e
-
-module _ (concepts : List ℕ) (wide : ℕ → ℕ → Bool) (f : ℕ) where
-  pub not-linked : (columns : List ℕ) → (getD concepts (f * 3) 0 ≡ 2 → ⊥) → LinkPass concepts wide (LinkedTo concepts wide f) columns columns false
-  not-linked columns ne inclusions choose = pass-none (λ e r y h n l. absurd (ne (exists-node concepts f r y n .0)))
-
-  pub linked-first :
-      (columns : List ℕ) (e : ℕ) → NextLink concepts columns (λ r. wide r (getD concepts (f * 3 + 1) 0)) (getD concepts (f * 3 + 2) 0) 0 e
-      → Linked concepts wide f columns columns false e
-  linked-first columns e N =
-      record {
-        within = N .within;
-        long = refl;
-        passed = λ inclusions choose. pass-none (λ d h l. absurd (N .none d (omega arith) h l));
-        next = N .found;
-      }
-
-  pub linked-done :
-      (before after : List ℕ) (changed : Bool) (e : ℕ) → Linked concepts wide f before after changed e → countOf concepts ≤ e
-      → LinkPass concepts wide (LinkedTo concepts wide f) before after changed
-  linked-done before after changed e L h inclusions choose =
-      pass-as (L .passed inclusions choose)
-      (λ q d r y l n k.
-      let m : (getD concepts (f * 3) 0 ≡ 2) × (getD concepts (f * 3 + 1) 0 ≡ r) × (getD concepts (f * 3 + 2) 0 ≡ y) = exists-node concepts f r y n in
-      q d (omega arith)
-      (subst (λ (x : ℕ). Linkable concepts before (λ z. wide z x) (getD concepts (f * 3 + 2) 0) d) (sym (m .1))
-      (subst (λ (x : ℕ). Linkable concepts before (λ z. wide z r) x d) (sym (m .2)) k)))
-
-  module _ (I : Inner concepts) (inside : f < countOf concepts) (kind : getD concepts (f * 3) 0 ≡ 2)
-      (before mid after : List ℕ) (a b : Bool) (e g : ℕ) (L : Linked concepts wide f before mid a e)
-      (h : e < countOf concepts) (T : Takes mid after (λ j. j ≡ f) (λ i. has mid i e ≡ true) b)
-      (N : NextLink concepts after (λ r. wide r (getD concepts (f * 3 + 1) 0)) (getD concepts (f * 3 + 2) 0) (e + 1) g) where
-    linked-step : LinkPass concepts wide (λ l. Into (countOf concepts) l e f) mid after b
-    linked-step inclusions choose =
-        step-pass (I .few) T
-        (λ g′ s i j l _ p q.
-        let k = L .next h in
-        let n : node concepts f ≡ existsAt (getD concepts (f * 3 + 1) 0) (getD concepts (f * 3 + 2) 0) = node-exists concepts f kind in
-        subst (λ (x : ℕ). Flow concepts inclusions wide choose g′ i x) (sym p)
-        (flow-linked i e f (k .narrow) (getD concepts (f * 3 + 1) 0) (k .from) (getD concepts (f * 3 + 2) 0) l h inside (k .row) n (k .counting)
-        (s (k .from) (getD concepts (f * 3 + 2) 0) (I .known e _ _ h (k .row)) (I .known f _ _ inside n) (k .below))
-        (s i e l h q)))
-        (λ w i l u. w i f l refl u)
-
-    pub linked-more : Linked concepts wide f before after (a || b) g
-    linked-more =
+    pub existentials-more : Existentials concepts outer′ inners′ lines′ (n + 1)
+    existentials-more =
         record {
-          within = N .within;
-          long = T .long ∙ L .long;
-          passed = λ inclusions choose. pass-as (pass-seen {Q′ = λ l. (d : ℕ) → e + 1 ≤ d → d < g → Linkable concepts l (λ r. wide r (getD concepts (f * 3 + 1) 0)) (getD concepts (f * 3 + 2) 0) d → ⊥} (pass-then (L .passed inclusions choose) (linked-step inclusions choose)) (N .none)) (λ q d l k. go q d l k (eqb d e) refl (ltb d e) refl);
-          next = N .found;
+          outer-long = A .long ∙ E .outer-long;
+          inners-long = B .long ∙ E .inners-long;
+          lines-long = C .long ∙ E .lines-long;
+          outer-only =
+              λ x e l u.
+              ⊎-elim (λ v. more-inner x e (E .outer-only x e l v))
+              (λ (v : (x ≡ inner) × (e ≡ n)). record { before = omega (arith, v .1); role = role; row = ap (node concepts) (v .1) ∙ row ∙ ap (existsAt role) (sym (v .0)) })
+              (A .bits e x l u);
+          outer-every =
+              λ x e w.
+              ⊎-elim
+              (λ (u : e ≡ n). subst (λ (z : ℕ). has outer′ e z ≡ true) (sym (same-inner x e u w)) (subst (λ (z : ℕ). has outer′ z inner ≡ true) (sym u) (A .taken)))
+              (λ v. A .kept e x (E .outer-every x e v)) (inner-cases x e w);
+          inners-every =
+              λ x e w.
+              ⊎-elim (λ (u : e ≡ n). subst (λ (z : ℕ). has inners′ z 0 ≡ true) (sym (same-inner x e u w)) (B .taken))
+              (λ v. B .kept x 0 (E .inners-every x e v)) (inner-cases x e w);
+          lines-only =
+              λ r e l u.
+              ⊎-elim (λ v. more-role r e (E .lines-only r e l v))
+              (λ (v : (r ≡ role) × (e ≡ n)). record { before = omega (arith, v .1); inner = inner; row = ap (node concepts) (v .1) ∙ row ∙ ap (λ (z : ℕ). existsAt z inner) (sym (v .0)) })
+              (C .bits e r l u);
+          lines-every =
+              λ r e w.
+              ⊎-elim
+              (λ (u : e ≡ n). subst (λ (z : ℕ). has lines′ e z ≡ true) (sym (same-role r e u w)) (subst (λ (z : ℕ). has lines′ z role ≡ true) (sym u) (C .taken)))
+              (λ v. C .kept e r (E .lines-every r e v)) (role-cases r e w);
         }
+
+pub existentials-all :
+    (concepts outer inners lines : List ℕ) (n : ℕ) → n ≤ countOf concepts → countOf concepts ≤ n → Existentials concepts outer inners lines n
+    → Existentials concepts outer inners lines (countOf concepts)
+existentials-all concepts outer inners lines n h l E = subst (λ (z : ℕ). Existentials concepts outer inners lines z) (omega arith) E
+
+-- ---- the existentials by the roles that theirs counts as
+-- the set of roles as three words
+module _ (into : List ℕ) (s : ℕ) where
+  roles-only : (r : ℕ) → r < 192 → inThree (getD into (s * 2) 0) (getD into (s * 2 + 1) 0) 0 r → inSet into r s ≡ true
+  unfolding inSet
+  roles-only r l u = go (r / 64) (omega arith) u
+    where
+      go : (w : ℕ) → w < 3 → bit (getD (getD into (s * 2) 0 ∷ getD into (s * 2 + 1) 0 ∷ 0 ∷ []) w 0) (r % 64) ≡ true → bit (getD into (s * 2 + w) 0) (r % 64) ≡ true
+      go zero h v = let z : s * 2 + 0 ≡ s * 2 = omega arith in subst (λ (p : ℕ). bit (getD into p 0) (r % 64) ≡ true) (sym z) v
+      go (suc zero) h v = v
+      go (suc (suc zero)) h v = absurd (bit-of-zero (r % 64) v)
+      go (suc (suc (suc w))) h v = absurd (omega arith)
+
+  roles-every : (r : ℕ) → r < 128 → inSet into r s ≡ true → inThree (getD into (s * 2) 0) (getD into (s * 2 + 1) 0) 0 r
+  unfolding inSet
+  roles-every r l u = go (r / 64) (omega arith) u
+    where
+      go : (w : ℕ) → w < 2 → bit (getD into (s * 2 + w) 0) (r % 64) ≡ true → bit (getD (getD into (s * 2) 0 ∷ getD into (s * 2 + 1) 0 ∷ 0 ∷ []) w 0) (r % 64) ≡ true
+      go zero h v = let z : s * 2 + 0 ≡ s * 2 = omega arith in subst (λ (p : ℕ). bit (getD into p 0) (r % 64) ≡ true) z v
+      go (suc zero) h v = v
+      go (suc (suc w)) h v = absurd (omega arith)
+
+module _ (into lines : List ℕ) where
+  pub kinds-none : (kinds : List ℕ) → length kinds ≡ 300 → KindsTo into lines kinds 0
+  kinds-none kinds h = record { long = h; only = λ s e l. absurd (omega arith); every = λ s e r l. absurd (omega arith) }
+
+  pub kinds-more :
+      (kinds kinds′ : List ℕ) (s first second third : ℕ) → KindsTo into lines kinds s
+      → Union lines (inThree (getD into (s * 2) 0) (getD into (s * 2 + 1) 0) 0) (inThree first second third) → Put kinds kinds′ s first second third
+      → KindsTo into lines kinds′ (s + 1)
+  kinds-more kinds kinds′ s first second third K U P =
+      record {
+        long = P .long ∙ K .long;
+        only = λ t e l h u. ⊎-elim (λ (q : t ≡ s). here-only t e q h u) (λ m. K .only t e m h (sym (P .there e t h (λ q. omega arith)) ∙ u)) (last-cases t s (omega arith));
+        every = λ t e r l h k u v. ⊎-elim (λ (q : t ≡ s). here-every t e r q h k u v) (λ m. P .there e t h (λ q. omega arith) ∙ K .every t e r m h k u v) (last-cases t s (omega arith));
+      }
+    where
+      here-only : (t e : ℕ) → t ≡ s → e < 192 → has kinds′ e t ≡ true → (r : ℕ) × (inSet into r t ≡ true) × (has lines e r ≡ true)
+      here-only t e q h u =
+          let (r, l, v, w) = U .only e h (P .only e h (subst (λ (z : ℕ). has kinds′ e z ≡ true) q u)) in
+          (r, subst (λ (z : ℕ). inSet into r z ≡ true) (sym q) (roles-only into s r l v), w)
+
+      here-every : (t e r : ℕ) → t ≡ s → e < 192 → r < 100 → inSet into r t ≡ true → has lines e r ≡ true → has kinds′ e t ≡ true
+      here-every t e r q h k u v =
+          subst (λ (z : ℕ). has kinds′ e z ≡ true) (sym q)
+          (P .every e h (U .every e r h (omega arith) (roles-every into s r (omega arith) (subst (λ (z : ℕ). inSet into r z ≡ true) q u)) v))
+
+  pub kinds-done : (kinds : List ℕ) (s : ℕ) → KindsTo into lines kinds s → 100 ≤ s → KindsTo into lines kinds 100
+  kinds-done kinds s K h = record { long = K .long; only = λ t e l. K .only t e (omega arith); every = λ t e r l. K .every t e r (omega arith) }
+
+pub sorted :
+    (concepts roles into outer inners lines kinds : List ℕ) → Inner concepts → RoleSets roles into → Existentials concepts outer inners lines (countOf concepts) → KindsTo into lines kinds 100
+    → Sorted concepts (wider roles) outer inners kinds
+sorted concepts roles into outer inners lines kinds I R E K =
+    record {
+      outer-only = E .outer-only;
+      outer-every = E .outer-every;
+      inners-every = E .inners-every;
+      kinds-only =
+          λ s e l h u.
+          let (r, v, w) = K .only s e l h u in
+          let o = E .lines-only r e h w in
+          (r, sym (R .each r s (I .low e r (o .inner) (o .row)) l) ∙ v, o);
+      kinds-every =
+          λ s e r l u w.
+          let low = I .low e r (w .inner) (w .row) in
+          K .every s e r l (omega (arith, w .before, I .few)) low (R .each r s low l ∙ u) (E .lines-every r e w);
+    }
+
+pub laid :
+    (concepts into outer inners lines kinds : List ℕ) → Existentials concepts outer inners lines (countOf concepts) → KindsTo into lines kinds 100 → Laid outer inners kinds
+laid concepts into outer inners lines kinds E K = record { outer-long = E .outer-long; inners-long = E .inners-long; kinds-long = K .long }
+
+-- ---- what an existential takes in
+pub over-union :
+    (columns outer inners : List ℕ) (y : ℕ) (set : ℕ → Type 0)
+    → Union outer (inThree (bitAnd (getD columns (y * 3) 0) (getD inners 0 0)) (bitAnd (getD columns (y * 3 + 1) 0) (getD inners 1 0)) (bitAnd (getD columns (y * 3 + 2) 0) (getD inners 2 0))) set
+    → Union outer (λ x. (has columns x y ≡ true) × (has inners x 0 ≡ true)) set
+unfolding has
+over-union columns outer inners y set U =
+    record {
+      only =
+          λ e l u.
+          let (x, h, v, w) = U .only e l u in
+          let m = and-three (getD columns (y * 3) 0) (getD columns (y * 3 + 1) 0) (getD columns (y * 3 + 2) 0) (getD inners 0 0) (getD inners 1 0) (getD inners 2 0) x h .0 v in
+          (x, h, (in-line columns y x h (m .0), in-line inners 0 x h (m .1)), w);
+      every =
+          λ e x l h v w.
+          U .every e x l h
+          (and-three (getD columns (y * 3) 0) (getD columns (y * 3 + 1) 0) (getD columns (y * 3 + 2) 0) (getD inners 0 0) (getD inners 1 0) (getD inners 2 0) x h .1
+          (of-line columns y x h (v .0), of-line inners 0 x h (v .1))) w;
+    }
+
+module _ (concepts outer inners kinds : List ℕ) (I : Inner concepts) (f : ℕ) (inside : f < countOf concepts) where
+  pub not-linked : (columns : List ℕ) → (getD concepts (f * 3) 0 ≡ 2 → ⊥) → LinkPass concepts outer inners kinds (λ wide. LinkedTo concepts wide f) columns columns false
+  not-linked columns ne inclusions wide choose S = pass-none (λ e r y h n l. absurd (ne (exists-node concepts f r y n .0)))
+
+  module _ (kind : getD concepts (f * 3) 0 ≡ 2) (before after : List ℕ) (changed : Bool) (a b c first second third : ℕ)
+      (O : Union outer (λ x. (has before x (getD concepts (f * 3 + 2) 0) ≡ true) × (has inners x 0 ≡ true)) (inThree a b c))
+      (U : Union before
+      (inThree (bitAnd a (getD kinds (getD concepts (f * 3 + 1) 0 * 3) 0)) (bitAnd b (getD kinds (getD concepts (f * 3 + 1) 0 * 3 + 1) 0))
+      (bitAnd c (getD kinds (getD concepts (f * 3 + 1) 0 * 3 + 2) 0))) (inThree first second third))
+      (T : Takes before after (λ j. j ≡ f) (inThree first second third) changed) where
+    abbrev s : ℕ
+    s = getD concepts (f * 3 + 1) 0
+
+    abbrev y : ℕ
+    y = getD concepts (f * 3 + 2) 0
+
+    row-f : node concepts f ≡ existsAt s y
+    row-f = node-exists concepts f kind
+
+    pub linked-pass : LinkPass concepts outer inners kinds (λ wide. LinkedTo concepts wide f) before after changed
+    linked-pass inclusions wide choose S = step-pass (I .few) T flows done
       where
-        go :
-            (((d : ℕ) → d < e → Linkable concepts before (λ r. wide r (getD concepts (f * 3 + 1) 0)) (getD concepts (f * 3 + 2) 0) d → Into (countOf concepts) before d f)
-            × Into (countOf concepts) before e f)
-            × ((d : ℕ) → e + 1 ≤ d → d < g → Linkable concepts before (λ r. wide r (getD concepts (f * 3 + 1) 0)) (getD concepts (f * 3 + 2) 0) d → ⊥)
-            → (d : ℕ) → d < g → Linkable concepts before (λ r. wide r (getD concepts (f * 3 + 1) 0)) (getD concepts (f * 3 + 2) 0) d
-            → (t : Bool) → eqb d e ≡ t → (u : Bool) → ltb d e ≡ u → Into (countOf concepts) before d f
-        go q d l k true s u v = subst (λ (x : ℕ). Into (countOf concepts) before x f) (sym (eqb-true d e s)) (q .0 .1)
-        go q d l k false s true v = q .0 .0 d (ltb-true d e v) k
-        go q d l k false s false v = absurd (q .1 d (omega (arith, eqb-false d e s, ltb-false d e v)) l k)
+        low : s < 100
+        low = I .low f s y row-f
+
+        row-of : (i r x t z : ℕ) → node concepts i ≡ existsAt r x → node concepts i ≡ existsAt t z → node concepts i ≡ existsAt t x
+        row-of i r x t z p q = q ∙ ap (existsAt t) (sym (exists-node concepts i t z q .2) ∙ exists-node concepts i r x p .2)
+
+        flows :
+            (g : List ℕ) → Sound concepts inclusions wide choose g before → (i j : ℕ) → i < countOf concepts → j < countOf concepts → j ≡ f → inThree first second third i
+            → Flow concepts inclusions wide choose g i j
+        flows g k i j l _ p u =
+            let (e, el, v, w) = U .only i (omega (arith, I .few)) u in
+            let m = and-three a b c (getD kinds (s * 3) 0) (getD kinds (s * 3 + 1) 0) (getD kinds (s * 3 + 2) 0) e el .0 v in
+            let (x, xl, xy, xe) = O .only e el (m .0) in
+            let o = S .outer-only x e el xe in
+            let (r, rs, q) = S .kinds-only s e low el (in-line kinds s e el (m .1)) in
+            let row-e = row-of e (o .role) x r (q .inner) (o .row) (q .row) in
+            subst (λ (z : ℕ). Flow concepts inclusions wide choose g i z) (sym p)
+            (flow-linked i e f r s x y l (o .before) inside row-e row-f rs
+            (k x y (I .known e r x (o .before) row-e) (I .known f s y inside row-f) (xy .0)) (k i e l (o .before) w))
+
+        done : ((i j : ℕ) → i < countOf concepts → j ≡ f → inThree first second third i → has before i j ≡ true) → LinkedTo concepts wide f before
+        done q e s′ y′ l n k i h u =
+            let same = exists-node concepts f s′ y′ n in
+            let el : e < 192 = omega (arith, I .few) in
+            let w : WithInner concepts (countOf concepts) (k .from) e = record { before = l; role = k .narrow; row = k .row } in
+            let xl : k .from < 192 = omega (arith, I .known e _ _ l (k .row), I .few) in
+            let found : inThree a b c e = O .every e (k .from) el xl (subst (λ (z : ℕ). has before (k .from) z ≡ true) (sym (same .2)) (k .below), S .inners-every (k .from) e w) (S .outer-every (k .from) e w) in
+            let of : has kinds e s ≡ true = S .kinds-every s e (k .narrow) low (subst (λ (z : ℕ). wide (k .narrow) z ≡ true) (sym (same .1)) (k .counting)) (record { before = l; inner = k .from; row = k .row }) in
+            q i f h refl
+            (U .every i e (omega (arith, I .few)) el
+            (and-three a b c (getD kinds (s * 3) 0) (getD kinds (s * 3 + 1) 0) (getD kinds (s * 3 + 2) 0) e el .1 (found, of-line kinds s e el of)) u)
 
 -- rows of one name
 module _ (concepts : List ℕ) (k name : ℕ) where

@@ -2,24 +2,30 @@
 pub mod columns;
 pub mod links;
 pub mod names;
+pub mod sets;
 pub mod settling;
 
 use crate::closure::columns::flow;
-use crate::closure::links::link_all;
-use crate::closure::links::note_onward;
+use crate::closure::links::link_to;
+use crate::closure::links::note_existentials;
+use crate::closure::links::note_kinds;
 use crate::closure::names::note_firsts;
-use crate::closure::settling::settle_all;
+use crate::closure::settling::settle;
 use crate::limits::CONCEPTS;
 use crate::limits::ROLE_WORDS;
+use crate::limits::WORDS;
 use crate::roles::note_roles;
 ghost use mathlib.Core.Path.{_≡_};
 ghost use lib.ListN.{length};
 ghost use Rattle.subsumption.specs.Roles.{wider};
-ghost use Rattle.subsumption.specs.Inner.Roles.{inSet, LowRoles};
+ghost use Rattle.subsumption.specs.Inner.Roles.{LowRoles};
 ghost use Rattle.subsumption.specs.Inner.Names.{Firsts};
-ghost use Rattle.subsumption.specs.Inner.Settling.{chooseFrom};
-ghost use Rattle.subsumption.specs.Inner.Links.{Onward};
-ghost use Rattle.subsumption.specs.Inner.Closure.{Ready, LowPairs, Pass, IncludePass, AllTaken, Closed};
+ghost use Rattle.subsumption.specs.Inner.Settling.{Settleable, chooseFrom, AllSettled};
+ghost use Rattle.subsumption.specs.Inner.Links.{Inner, Laid, AllLinked};
+ghost use Rattle.subsumption.specs.Inner.Closure.{Ready, LowPairs, IncludePass, RisePass, RoundPass, Closed};
+
+// Of the existentials by role, the words: three a role.
+const KIND_WORDS: usize = 300;
 
 // The inclusions: what is below a left side is below the right side.
 fn include_all(inclusions: &[u16], columns: &mut [u64]) -> bool
@@ -40,32 +46,85 @@ fn include_all(inclusions: &[u16], columns: &mut [u64]) -> bool
     changed
 }
 
-// One round. Existentials are looked for only when all the rest is quiet.
+// The inclusions until they are quiet: a pass over them costs little beside one over the rows.
+fn include_until_quiet(inclusions: &[u16], columns: &mut [u64]) -> bool
+    requires { ⌜ LowPairs (now inclusions) ⌝ }
+    requires { ⌜ length (now columns) ≡ 576 ⌝ }
+    ensures { λ r. ⌜ IncludePass (now (inclusions .entry)) (now (columns .entry)) (now (columns .exit)) r ⌝ }
+{
+    let mut changed = false;
+    let mut busy = true;
+    while busy {
+        busy = include_all(inclusions, columns);
+        changed = changed | busy;
+    }
+    changed
+}
+
+// The steps at every row, and those of existentials into it. In rising order: inner ids are smaller, so that a tower of existentials
+// is climbed in one pass.
+fn rise(
+    concepts: &[u16],
+    atoms: &[u16],
+    assignment: &[u64],
+    firsts: &[u16],
+    outer: &[u64],
+    inners: &[u64],
+    kinds: &[u64],
+    columns: &mut [u64],
+) -> bool
+    requires { ⌜ Settleable (now concepts) (now atoms) (now assignment) ⌝ }
+    requires { ⌜ Firsts (now concepts) (now firsts) ⌝ }
+    requires { ⌜ Inner (now concepts) ⌝ }
+    requires { ⌜ Laid (now outer) (now inners) (now kinds) ⌝ }
+    requires { ⌜ length (now columns) ≡ 576 ⌝ }
+    ensures { λ r. ⌜ RisePass (now (concepts .entry)) (now (outer .entry)) (now (inners .entry)) (now (kinds .entry)) (chooseFrom (now (atoms .entry)) (now (assignment .entry)))
+        (λ wide l. AllSettled (now (concepts .entry)) (now (firsts .entry)) (chooseFrom (now (atoms .entry)) (now (assignment .entry))) l × AllLinked (now (concepts .entry)) wide l)
+        (now (columns .entry)) (now (columns .exit)) r ⌝ }
+{
+    let count = concepts.len() / 3;
+    let mut changed = false;
+    let mut j = 0;
+    while j < count {
+        let a = settle(concepts, atoms, assignment, firsts, columns, j);
+        let b = link_to(concepts, outer, inners, kinds, columns, j);
+        let new = a | b;
+        changed = changed | new;
+        j += 1;
+    }
+    changed
+}
+
 fn round(
     concepts: &[u16],
     inclusions: &[u16],
     atoms: &[u16],
     assignment: &[u64],
     firsts: &[u16],
-    onward: &[u16],
-    into: &[u64],
+    outer: &[u64],
+    inners: &[u64],
+    kinds: &[u64],
     columns: &mut [u64],
 ) -> bool
     requires { ⌜ Ready (now concepts) (now inclusions) (now atoms) (now assignment) ⌝ }
     requires { ⌜ Firsts (now concepts) (now firsts) ⌝ }
+    requires { ⌜ Laid (now outer) (now inners) (now kinds) ⌝ }
     requires { ⌜ length (now columns) ≡ 576 ⌝ }
-    requires { ⌜ Onward (now concepts) (now onward) ⌝ }
-    requires { ⌜ length (now into) ≡ 200 ⌝ }
-    ensures { λ r. ⌜ Pass (now (concepts .entry)) (now (inclusions .entry)) (inSet (now (into .entry))) (chooseFrom (now (atoms .entry)) (now (assignment .entry)))
-        (AllTaken (now (concepts .entry)) (now (inclusions .entry)) (inSet (now (into .entry))) (chooseFrom (now (atoms .entry)) (now (assignment .entry))) (now (firsts .entry)))
-        (now (columns .entry)) (now (columns .exit)) r ⌝ }
+    ensures { λ r. ⌜ RoundPass (now (concepts .entry)) (now (inclusions .entry)) (now (outer .entry)) (now (inners .entry)) (now (kinds .entry))
+        (chooseFrom (now (atoms .entry)) (now (assignment .entry))) (now (firsts .entry)) (now (columns .entry)) (now (columns .exit)) r ⌝ }
 {
-    let a = settle_all(concepts, atoms, assignment, firsts, columns);
-    let b = include_all(inclusions, columns);
-    if a | b {
-        return true;
-    }
-    link_all(concepts, onward, into, columns)
+    let a = rise(
+        concepts,
+        atoms,
+        assignment,
+        firsts,
+        outer,
+        inners,
+        kinds,
+        columns,
+    );
+    let b = include_until_quiet(inclusions, columns);
+    a | b
 }
 
 // Closes the columns from what they hold.
@@ -84,10 +143,14 @@ pub fn close(
 {
     let mut firsts = [0u16; CONCEPTS];
     note_firsts(concepts, &mut firsts);
-    let mut onward = [0u16; CONCEPTS + 1];
-    note_onward(concepts, &mut onward);
+    let mut outer = [0u64; WORDS];
+    let mut inners = [0u64; 3];
+    let mut lines = [0u64; WORDS];
+    note_existentials(concepts, &mut outer, &mut inners, &mut lines);
     let mut into = [0u64; ROLE_WORDS];
     note_roles(roles, &mut into);
+    let mut kinds = [0u64; KIND_WORDS];
+    note_kinds(&into, &lines, &mut kinds);
     let mut busy = true;
     while busy {
         busy = round(
@@ -96,8 +159,9 @@ pub fn close(
             atoms,
             assignment,
             &firsts,
-            &onward,
-            &into,
+            &outer,
+            &inners,
+            &kinds,
             columns,
         );
     }

@@ -9,7 +9,7 @@ use Rattle.subsumption.specs.Subsumption.{Subsumed}
 use Rattle.subsumption.specs.Inner.Tables.{Rising}
 use Rattle.subsumption.specs.Inner.Columns.{has, slack, Into}
 use Rattle.subsumption.specs.Inner.Settling.{AllSettled}
-use Rattle.subsumption.specs.Inner.Links.{AllLinked}
+use Rattle.subsumption.specs.Inner.Links.{AllLinked, Sorted}
 
 -- what the closure asks: the checks have passed, and the atoms are at hand
 pub record Ready (concepts inclusions atoms assignment : List ℕ) : Type 0 where
@@ -108,9 +108,15 @@ abbrev pub SettlePass : List ℕ → (ℕ → List ℕ) → (List ℕ → Type 0
 SettlePass concepts choose Quiet before after changed =
     (inclusions : List ℕ) (wide : ℕ → ℕ → Bool) → Pass concepts inclusions wide choose Quiet before after changed
 
-abbrev pub LinkPass : List ℕ → (ℕ → ℕ → Bool) → (List ℕ → Type 0) → List ℕ → List ℕ → Bool → Type 0
-LinkPass concepts wide Quiet before after changed =
-    (inclusions : List ℕ) (choose : ℕ → List ℕ) → Pass concepts inclusions wide choose Quiet before after changed
+abbrev pub LinkPass : List ℕ → List ℕ → List ℕ → List ℕ → ((ℕ → ℕ → Bool) → List ℕ → Type 0) → List ℕ → List ℕ → Bool → Type 0
+LinkPass concepts outer inners kinds Quiet before after changed =
+    (inclusions : List ℕ) (wide : ℕ → ℕ → Bool) (choose : ℕ → List ℕ) → Sorted concepts wide outer inners kinds
+    → Pass concepts inclusions wide choose (Quiet wide) before after changed
+
+abbrev pub RisePass : List ℕ → List ℕ → List ℕ → List ℕ → (ℕ → List ℕ) → ((ℕ → ℕ → Bool) → List ℕ → Type 0) → List ℕ → List ℕ → Bool → Type 0
+RisePass concepts outer inners kinds choose Quiet before after changed =
+    (inclusions : List ℕ) (wide : ℕ → ℕ → Bool) → Sorted concepts wide outer inners kinds
+    → Pass concepts inclusions wide choose (Quiet wide) before after changed
 
 abbrev pub IncludePass : List ℕ → List ℕ → List ℕ → Bool → Type 0
 IncludePass inclusions before after changed =
@@ -122,3 +128,8 @@ pub record ColumnsOf (t : Tables) (assignment columns : List ℕ) : Type 0 where
   pub long : length columns ≡ 576
   pub sound : (i j : ℕ) → i < countOf (t .concepts) → j < countOf (t .concepts) → has columns i j ≡ true → Subsumed t assignment i j
   pub complete : (i j : ℕ) → i < countOf (t .concepts) → j < countOf (t .concepts) → Subsumed t assignment i j → has columns i j ≡ true
+
+abbrev pub RoundPass : List ℕ → List ℕ → List ℕ → List ℕ → List ℕ → (ℕ → List ℕ) → List ℕ → List ℕ → List ℕ → Bool → Type 0
+RoundPass concepts inclusions outer inners kinds choose firsts before after changed =
+    (wide : ℕ → ℕ → Bool) → Sorted concepts wide outer inners kinds
+    → Pass concepts inclusions wide choose (AllTaken concepts inclusions wide choose firsts) before after changed

@@ -20,7 +20,7 @@ fn absorb(columns: &mut [u64], at: usize, add: u64) -> bool
     old != new
 }
 
-fn take(columns: &mut [u64], to: usize, first: u64, second: u64, third: u64) -> bool
+pub fn take(columns: &mut [u64], to: usize, first: u64, second: u64, third: u64) -> bool
     requires { ⌜ length (now columns) ≡ 576 ⌝ }
     requires { ⌜ to < 192 ⌝ }
     ensures { λ r. ⌜ Takes (now (columns .entry)) (now (columns .exit)) (λ j. j ≡ to) (inThree first second third) r ⌝ }

@@ -1,140 +1,101 @@
-// The steps at the existentials, and finding them.
-use crate::closure::columns::below;
-use crate::closure::columns::flow;
-use crate::roles::counts;
+// The steps at the existentials. These are noted as sets, by inner id and by role, so that for one of them all those that it takes
+// in are found at once: their inner ids are below its own, and their roles count as its own.
+use crate::closure::columns::Words;
+use crate::closure::columns::take;
+use crate::closure::sets::insert;
+use crate::closure::sets::put;
+use crate::closure::sets::union;
 ghost use mathlib.Core.Path.{_≡_};
-ghost use Prim.Native.Nat.{_+_, _≤_, _<_};
+ghost use mathlib.Core.Bool.{true};
+ghost use Prim.Native.Nat.{_<_};
 ghost use Rattle.subsumption.specs.Tables.{countOf};
-ghost use lib.ListN.{length};
-ghost use Rattle.subsumption.specs.Inner.Links.{LinkedTo, AllLinked, Inner, OnwardFrom, OnwardTo, Onward, Links, NextLink};
-ghost use Rattle.subsumption.specs.Inner.Roles.{inSet};
+ghost use lib.ListN.{length, replicate};
+ghost use Rattle.subsumption.specs.Inner.Columns.{has, inThree};
+ghost use Rattle.subsumption.specs.Inner.Links.{Inner, Union, Existentials, KindsTo, Laid, LinkedTo};
 ghost use Rattle.subsumption.specs.Inner.Closure.{LinkPass};
 
-// Whether the row e is an existential, of a role that counts as that role, whose inner id is below that inner id.
-fn links(
+// Notes the existentials: those of each inner id, all inner ids, those of each role.
+pub fn note_existentials(concepts: &[u16], outer: &mut [u64], inners: &mut [u64], lines: &mut [u64])
+    requires { ⌜ Inner (now concepts) ⌝ }
+    requires { ⌜ now outer ≡ replicate 576 0 ⌝ }
+    requires { ⌜ now inners ≡ replicate 3 0 ⌝ }
+    requires { ⌜ now lines ≡ replicate 576 0 ⌝ }
+    ensures { λ _. ⌜ Existentials (now (concepts .entry)) (now (outer .exit)) (now (inners .exit)) (now (lines .exit)) (countOf (now (concepts .entry))) ⌝ }
+{
+    let count = concepts.len() / 3;
+    let mut e: usize = 0;
+    while e < count {
+        let id = e;
+        let at = e * 3;
+        e += 1;
+        if concepts[at] != 2 {
+            continue;
+        }
+        let role = concepts[at + 1] as usize;
+        let inner = concepts[at + 2] as usize;
+        insert(outer, inner, id);
+        insert(inners, 0, inner);
+        insert(lines, role, id);
+    }
+}
+
+// For each role the existentials whose role counts as it.
+pub fn note_kinds(into: &[u64], lines: &[u64], kinds: &mut [u64])
+    requires { ⌜ length (now into) ≡ 200 ⌝ }
+    requires { ⌜ length (now lines) ≡ 576 ⌝ }
+    requires { ⌜ length (now kinds) ≡ 300 ⌝ }
+    ensures { λ _. ⌜ KindsTo (now (into .entry)) (now (lines .entry)) (now (kinds .exit)) 100 ⌝ }
+{
+    let mut s: usize = 0;
+    while s < 100 {
+        let low = into[s * 2];
+        let high = into[s * 2 + 1];
+        let all = union(lines, low, high, 0);
+        put(kinds, s, all.first, all.second, all.third);
+        s += 1;
+    }
+}
+
+// The existentials whose inner id is below that id.
+fn over(columns: &[u64], outer: &[u64], inners: &[u64], inner: usize) -> Words
+    requires { ⌜ length (now columns) ≡ 576 ⌝ }
+    requires { ⌜ length (now outer) ≡ 576 ⌝ }
+    requires { ⌜ length (now inners) ≡ 3 ⌝ }
+    requires { ⌜ inner < 192 ⌝ }
+    ensures { λ r. ⌜ Union (now (outer .entry)) (λ x. (has (now (columns .entry)) x inner ≡ true) × (has (now (inners .entry)) x 0 ≡ true)) (inThree (r .first) (r .second) (r .third)) ⌝ }
+{
+    let at = inner * 3;
+    let first = columns[at] & inners[0];
+    let second = columns[at + 1] & inners[1];
+    let third = columns[at + 2] & inners[2];
+    union(outer, first, second, third)
+}
+
+// An existential f: what is below an existential whose role counts as f's and whose inner id is below f's is below f.
+pub fn link_to(
     concepts: &[u16],
-    into: &[u64],
-    columns: &[u64],
-    role: usize,
-    inner: usize,
-    e: usize,
+    outer: &[u64],
+    inners: &[u64],
+    kinds: &[u64],
+    columns: &mut [u64],
+    f: usize,
 ) -> bool
     requires { ⌜ Inner (now concepts) ⌝ }
-    requires { ⌜ length (now columns) ≡ 576 ⌝ }
-    requires { ⌜ length (now into) ≡ 200 ⌝ }
-    requires { ⌜ (role < 100) × (inner < 192) × (e < countOf (now concepts)) ⌝ }
-    ensures { λ r. ⌜ Links (now (concepts .entry)) (now (columns .entry)) (λ n. inSet (now (into .entry)) n role) inner e r ⌝ }
-{
-    let at = e * 3;
-    if concepts[at] != 2 {
-        return false;
-    }
-    let narrow = concepts[at + 1] as usize;
-    if counts(into, narrow, role) {
-        let from = concepts[at + 2] as usize;
-        return below(columns, from, inner);
-    }
-    false
-}
-
-// The first such row, from `start` on.
-fn next_link(
-    concepts: &[u16],
-    onward: &[u16],
-    into: &[u64],
-    columns: &[u64],
-    role: usize,
-    inner: usize,
-    start: usize,
-) -> usize
-    requires { ⌜ Inner (now concepts) ⌝ }
-    requires { ⌜ length (now columns) ≡ 576 ⌝ }
-    requires { ⌜ length (now into) ≡ 200 ⌝ }
-    requires { ⌜ (role < 100) × (inner < 192) × (start ≤ countOf (now concepts)) ⌝ }
-    requires { ⌜ Onward (now concepts) (now onward) ⌝ }
-    ensures { λ r. ⌜ NextLink (now (concepts .entry)) (now (columns .entry)) (λ n. inSet (now (into .entry)) n role) inner start r ⌝ }
-{
-    let count = concepts.len() / 3;
-    let mut e = onward[start] as usize;
-    while e < count {
-        if links(concepts, into, columns, role, inner, e) {
-            return e;
-        }
-        e = onward[e + 1] as usize;
-    }
-    count
-}
-
-// An existential f: what is below an existential of f's role whose inner id is below f's inner id is below f.
-fn link_to(concepts: &[u16], onward: &[u16], into: &[u64], columns: &mut [u64], f: usize) -> bool
-    requires { ⌜ Inner (now concepts) ⌝ }
+    requires { ⌜ Laid (now outer) (now inners) (now kinds) ⌝ }
     requires { ⌜ length (now columns) ≡ 576 ⌝ }
     requires { ⌜ f < countOf (now concepts) ⌝ }
-    requires { ⌜ Onward (now concepts) (now onward) ⌝ }
-    requires { ⌜ length (now into) ≡ 200 ⌝ }
-    ensures { λ r. ⌜ LinkPass (now (concepts .entry)) (inSet (now (into .entry))) (LinkedTo (now (concepts .entry)) (inSet (now (into .entry))) f)
-        (now (columns .entry)) (now (columns .exit)) r ⌝ }
+    ensures { λ r. ⌜ LinkPass (now (concepts .entry)) (now (outer .entry)) (now (inners .entry)) (now (kinds .entry))
+        (λ wide. LinkedTo (now (concepts .entry)) wide f) (now (columns .entry)) (now (columns .exit)) r ⌝ }
 {
-    let at = f * 3;
-    if concepts[at] != 2 {
+    if concepts[f * 3] != 2 {
         return false;
     }
-    let role = concepts[at + 1] as usize;
-    let inner = concepts[at + 2] as usize;
-    let count = concepts.len() / 3;
-    let mut changed = false;
-    let mut e = next_link(concepts, onward, into, columns, role, inner, 0);
-    while e < count {
-        let new = flow(columns, e, f);
-        changed = changed | new;
-        e = next_link(concepts, onward, into, columns, role, inner, e + 1);
-    }
-    changed
-}
-
-pub fn link_all(concepts: &[u16], onward: &[u16], into: &[u64], columns: &mut [u64]) -> bool
-    requires { ⌜ Inner (now concepts) ⌝ }
-    requires { ⌜ length (now columns) ≡ 576 ⌝ }
-    requires { ⌜ Onward (now concepts) (now onward) ⌝ }
-    requires { ⌜ length (now into) ≡ 200 ⌝ }
-    ensures { λ r. ⌜ LinkPass (now (concepts .entry)) (inSet (now (into .entry))) (AllLinked (now (concepts .entry)) (inSet (now (into .entry))))
-        (now (columns .entry)) (now (columns .exit)) r ⌝ }
-{
-    let count = concepts.len() / 3;
-    let mut changed = false;
-    let mut f = 0;
-    while f < count {
-        let new = link_to(concepts, onward, into, columns, f);
-        changed = changed | new;
-        f += 1;
-    }
-    changed
-}
-
-// The first existential from the row e on, given those from the next row on; the number of rows if there is none.
-fn onward_from(concepts: &[u16], onward: &[u16], e: usize) -> u16
-    requires { ⌜ countOf (now concepts) ≤ 192 ⌝ }
-    requires { ⌜ e < countOf (now concepts) ⌝ }
-    requires { ⌜ OnwardTo (now concepts) (now onward) (e + 1) ⌝ }
-    ensures { λ r. ⌜ OnwardFrom (now (concepts .entry)) e r ⌝ }
-{
-    if concepts[e * 3] == 2 {
-        return e as u16;
-    }
-    onward[e + 1]
-}
-
-pub fn note_onward(concepts: &[u16], onward: &mut [u16])
-    requires { ⌜ countOf (now concepts) ≤ 192 ⌝ }
-    requires { ⌜ length (now onward) ≡ 193 ⌝ }
-    ensures { λ r. ⌜ Onward (now (concepts .entry)) (now (onward .exit)) ⌝ }
-{
-    let count = concepts.len() / 3;
-    onward[count] = count as u16;
-    let mut e = count;
-    while e > 0 {
-        e -= 1;
-        let next = onward_from(concepts, onward, e);
-        onward[e] = next;
-    }
+    let role = concepts[f * 3 + 1] as usize;
+    let inner = concepts[f * 3 + 2] as usize;
+    let found = over(columns, outer, inners, inner);
+    let first = found.first & kinds[role * 3];
+    let second = found.second & kinds[role * 3 + 1];
+    let third = found.third & kinds[role * 3 + 2];
+    let all = union(columns, first, second, third);
+    take(columns, f, all.first, all.second, all.third)
 }

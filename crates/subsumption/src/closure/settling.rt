@@ -10,11 +10,11 @@ ghost use Prim.Native.Nat.{_<_};
 ghost use Rattle.subsumption.specs.Tables.{countOf};
 ghost use lib.ListN.{length};
 ghost use Rattle.subsumption.specs.Inner.Names.{Firsts};
-ghost use Rattle.subsumption.specs.Inner.Settling.{Settleable, Settled, chooseFrom, AllSettled};
+ghost use Rattle.subsumption.specs.Inner.Settling.{Settleable, Settled, chooseFrom};
 ghost use Rattle.subsumption.specs.Inner.Closure.{SettlePass};
 
 // The steps at the row j.
-fn settle(
+pub fn settle(
     concepts: &[u16],
     atoms: &[u16],
     assignment: &[u64],
@@ -58,30 +58,4 @@ fn settle(
     }
     let a = fill(columns, j);
     own | a
-}
-
-// The steps at every row.
-pub fn settle_all(
-    concepts: &[u16],
-    atoms: &[u16],
-    assignment: &[u64],
-    firsts: &[u16],
-    columns: &mut [u64],
-) -> bool
-    requires { ⌜ Settleable (now concepts) (now atoms) (now assignment) ⌝ }
-    requires { ⌜ Firsts (now concepts) (now firsts) ⌝ }
-    requires { ⌜ length (now columns) ≡ 576 ⌝ }
-    ensures { λ r. ⌜ SettlePass (now (concepts .entry)) (chooseFrom (now (atoms .entry)) (now (assignment .entry)))
-        (AllSettled (now (concepts .entry)) (now (firsts .entry)) (chooseFrom (now (atoms .entry)) (now (assignment .entry))))
-        (now (columns .entry)) (now (columns .exit)) r ⌝ }
-{
-    let count = concepts.len() / 3;
-    let mut changed = false;
-    let mut j = 0;
-    while j < count {
-        let new = settle(concepts, atoms, assignment, firsts, columns, j);
-        changed = changed | new;
-        j += 1;
-    }
-    changed
 }

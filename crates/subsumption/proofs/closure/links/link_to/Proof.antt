@@ -1,106 +1,133 @@
-use Prim.Native.Nat.{_-_}
+use Prim.Native.Nat.{_+_, _*_}
 use native.Mathlib.Omega.{arith}
-use Rattle.subsumption.proofs.Linking.{Linked, inner-low, not-linked, linked-first, linked-more, linked-done}
-use Rattle.subsumption.specs.Inner.Roles.{inSet}
-use Rattle.subsumption.proofs.Linking.{role-low}
+use Rattle.subsumption.proofs.Linking.{inner-low, role-low, not-linked, linked-pass}
 use Rattle.subsumption.proofs.closure.links.link_to.Statement.{statement}
 use Rattle.subsumption.proofs.closure.links.link_to.Tie as tie
-use Rattle.subsumption.proofs.closure.columns.flow.Reads as flow-reads
-use Rattle.subsumption.proofs.closure.links.next_link.Reads as next-link-reads
+use Rattle.subsumption.proofs.closure.columns.take.Reads as take-reads
+use Rattle.subsumption.proofs.closure.links.over.Reads as over-reads
+use Rattle.subsumption.proofs.closure.sets.union.Reads as union-reads
 
-abbrev Inv-loop : tie.InvT-loop
-Inv-loop concepts onward into columns₀ f at role inner count changed₀ e₀ columns changed e = Linked concepts (inSet into) f columns₀ columns changed e
-
-abbrev μ-loop : tie.MeasureT-loop
-μ-loop concepts onward into columns₀ f at role inner count changed₀ e₀ columns changed e = count - e
-
-mul-at : tie.Need-mul-at Inv-loop μ-loop
-mul-at c = omega arith
-
-mul-if1 : tie.Need-mul-if1 Inv-loop μ-loop
+mul-if1 : tie.Need-mul-if1
 mul-if1 c = omega arith
 
-shared-slice-read-if1 : tie.Need-shared-slice-read-if1 Inv-loop μ-loop
+mul-if1-2 : tie.Need-mul-if1-2
+mul-if1-2 c = omega arith
+
+shared-slice-read-if1 : tie.Need-shared-slice-read-if1
 shared-slice-read-if1 c = omega arith
 
-returns : tie.Need-returns Inv-loop μ-loop
-returns c = not-linked _ _ _ _ (c .if1 .taken)
+returns : tie.Need-returns
+returns c = not-linked _ _ _ _ (c .before .before .before .before .before .before .before .pre .0) _ (c .before .before .before .before .before .before .before .pre .1 .1 .1) _ (c .if1 .taken)
 
-add-role : tie.Need-add-role Inv-loop μ-loop
-add-role c = omega arith
-
-mul-role : tie.Need-mul-role Inv-loop μ-loop
+mul-role : tie.Need-mul-role
 mul-role c = omega arith
 
-shared-slice-read-role : tie.Need-shared-slice-read-role Inv-loop μ-loop
+add-role : tie.Need-add-role
+add-role c = omega arith
+
+mul-role-2 : tie.Need-mul-role-2
+mul-role-2 c = omega arith
+
+shared-slice-read-role : tie.Need-shared-slice-read-role
 shared-slice-read-role c = omega arith
 
-cast-role : tie.Need-cast-role Inv-loop μ-loop
-cast-role c = omega (arith, role-low _ _ (c .before .before .before .before .before .before .before .pre .0) (c .before .if1 .left))
+cast-role : tie.Need-cast-role
+cast-role c = omega (arith, c .shared-slice-known6 .given (c .before .before .before .before .before .before .before .before .args .f * 3 + 1))
 
-add-inner : tie.Need-add-inner Inv-loop μ-loop
-add-inner c = omega arith
-
-mul-inner : tie.Need-mul-inner Inv-loop μ-loop
+mul-inner : tie.Need-mul-inner
 mul-inner c = omega arith
 
-shared-slice-read-inner : tie.Need-shared-slice-read-inner Inv-loop μ-loop
+add-inner : tie.Need-add-inner
+add-inner c = omega arith
+
+mul-inner-2 : tie.Need-mul-inner-2
+mul-inner-2 c = omega arith
+
+shared-slice-read-inner : tie.Need-shared-slice-read-inner
 shared-slice-read-inner c = omega arith
 
-cast-inner : tie.Need-cast-inner Inv-loop μ-loop
-cast-inner c = omega (arith, inner-low _ _ (c .before .before .before .before .before .before .before .before .pre .0) (c .before .before .before .before .before .before .before .before .pre .1 .1 .0) (c .before .before .if1 .left))
+cast-inner : tie.Need-cast-inner
+cast-inner c = omega (arith, c .shared-slice-known7 .given (c .before .before .before .before .before .before .before .before .before .args .f * 3 + 2))
 
-next-link-requires : tie.Need-next-link-requires Inv-loop μ-loop
-next-link-requires c κs = (c .before .before .before .before .before .before .before .before .before .pre .0, (c .before .before .before .before .before .before .before .before .before .pre .1 .0, (c .before .before .before .before .before .before .before .before .before .pre .1 .1 .1 .1, ((role-low _ _ (c .before .before .before .before .before .before .before .before .before .pre .0) (c .before .before .before .if1 .left), inner-low _ _ (c .before .before .before .before .before .before .before .before .before .pre .0) (c .before .before .before .before .before .before .before .before .before .pre .1 .1 .0) (c .before .before .before .if1 .left), omega arith), c .before .before .before .before .before .before .before .before .before .pre .1 .1 .1 .0))))
+over-requires : tie.Need-over-requires
+over-requires c κs = (omega arith, (c .before .before .before .before .before .before .before .before .before .before .pre .1 .0 .outer-long, (c .before .before .before .before .before .before .before .before .before .before .pre .1 .0 .inners-long, inner-low _ _ (c .before .before .before .before .before .before .before .before .before .before .pre .0) (c .before .before .before .before .before .before .before .before .before .before .pre .1 .1 .1) (c .before .before .before .if1 .left))))
 
-loop-holds : tie.Need-loop-holds Inv-loop μ-loop
-loop-holds c = linked-first _ _ _ _ _ (c .next-link .ensures)
+mul-first : tie.Need-mul-first
+mul-first c = omega (arith, role-low _ _ (c .before .before .before .before .before .before .before .before .before .before .before .pre .0) (c .before .before .before .before .if1 .left))
 
-flow-requires : tie.Need-flow-requires Inv-loop μ-loop
-flow-requires c κs = (omega (arith, c .before .before .loop .inv .long, c .before .before .before .before .before .before .before .before .before .before .before .before .before .pre .1 .0), (omega (arith, c .before .before .before .before .before .before .before .before .before .before .before .before .before .pre .0 .few), omega (arith, c .before .before .before .before .before .before .before .before .before .before .before .before .before .pre .0 .few)))
+mul-first-2 : tie.Need-mul-first-2
+mul-first-2 c = omega (arith, role-low _ _ (c .before .before .before .before .before .before .before .before .before .before .before .pre .0) (c .before .before .before .before .if1 .left))
 
-add-next-link : tie.Need-add-next-link Inv-loop μ-loop
-add-next-link c = omega arith
+shared-slice-read-first : tie.Need-shared-slice-read-first
+shared-slice-read-first c = omega (arith, role-low _ _ (c .before .before .before .before .before .before .before .before .before .before .before .before .pre .0) (c .before .before .before .before .before .if1 .left), c .before .before .before .before .before .before .before .before .before .before .before .before .pre .1 .0 .kinds-long)
 
-next-link-requires-2 : tie.Need-next-link-requires-2 Inv-loop μ-loop
-next-link-requires-2 c κs = (c .before .before .before .before .before .before .before .before .before .before .before .before .before .before .before .before .before .pre .0, (omega (arith, c .before .before .before .before .before .before .loop .inv .long, c .before .before .before .before .before .before .before .before .before .before .before .before .before .before .before .before .before .pre .1 .0), (c .before .before .before .before .before .before .before .before .before .before .before .before .before .before .before .before .before .pre .1 .1 .1 .1, ((role-low _ _ (c .before .before .before .before .before .before .before .before .before .before .before .before .before .before .before .before .before .pre .0) (c .before .before .before .before .before .before .before .before .before .before .before .if1 .left), inner-low _ _ (c .before .before .before .before .before .before .before .before .before .before .before .before .before .before .before .before .before .pre .0) (c .before .before .before .before .before .before .before .before .before .before .before .before .before .before .before .before .before .pre .1 .1 .0) (c .before .before .before .before .before .before .before .before .before .before .before .if1 .left), omega arith), c .before .before .before .before .before .before .before .before .before .before .before .before .before .before .before .before .before .pre .1 .1 .1 .0))))
+mul-second : tie.Need-mul-second
+mul-second c = omega (arith, role-low _ _ (c .before .before .before .before .before .before .before .before .before .before .before .before .before .pre .0) (c .before .before .before .before .before .before .if1 .left))
 
-loop-less : tie.Need-loop-less Inv-loop μ-loop
-loop-less c = omega (arith, c .next-link2 .ensures .from, c .next-link2 .ensures .within)
+add-second : tie.Need-add-second
+add-second c = omega (arith, role-low _ _ (c .before .before .before .before .before .before .before .before .before .before .before .before .before .pre .0) (c .before .before .before .before .before .before .if1 .left))
 
-loop-again : tie.Need-loop-again Inv-loop μ-loop
-loop-again c = linked-more _ _ _ (c .before .before .before .before .before .before .before .before .before .before .before .before .before .before .before .before .before .before .pre .0) (c .before .before .before .before .before .before .before .before .before .before .before .before .before .before .before .before .before .before .pre .1 .1 .0) (c .before .before .before .before .before .before .before .before .before .before .before .before .if1 .left) _ _ _ _ _ _ _ (c .before .before .before .before .before .before .before .loop .inv) (omega arith) (c .before .before .before .before .flow .ensures) (c .next-link2 .ensures)
+mul-second-2 : tie.Need-mul-second-2
+mul-second-2 c = omega (arith, role-low _ _ (c .before .before .before .before .before .before .before .before .before .before .before .before .before .pre .0) (c .before .before .before .before .before .before .if1 .left))
 
-same-length : tie.Need-same-length Inv-loop μ-loop
-same-length c = c .before .loop .inv .long
+shared-slice-read-second : tie.Need-shared-slice-read-second
+shared-slice-read-second c = omega (arith, role-low _ _ (c .before .before .before .before .before .before .before .before .before .before .before .before .before .before .pre .0) (c .before .before .before .before .before .before .before .if1 .left), c .before .before .before .before .before .before .before .before .before .before .before .before .before .before .pre .1 .0 .kinds-long)
 
-returns-2 : tie.Need-returns-2 Inv-loop μ-loop
-returns-2 c = linked-done _ _ _ _ _ _ _ (c .before .loop .inv) (omega arith)
+mul-third : tie.Need-mul-third
+mul-third c = omega (arith, role-low _ _ (c .before .before .before .before .before .before .before .before .before .before .before .before .before .before .before .pre .0) (c .before .before .before .before .before .before .before .before .if1 .left))
+
+add-third : tie.Need-add-third
+add-third c = omega (arith, role-low _ _ (c .before .before .before .before .before .before .before .before .before .before .before .before .before .before .before .pre .0) (c .before .before .before .before .before .before .before .before .if1 .left))
+
+mul-third-2 : tie.Need-mul-third-2
+mul-third-2 c = omega (arith, role-low _ _ (c .before .before .before .before .before .before .before .before .before .before .before .before .before .before .before .pre .0) (c .before .before .before .before .before .before .before .before .if1 .left))
+
+shared-slice-read-third : tie.Need-shared-slice-read-third
+shared-slice-read-third c = omega (arith, role-low _ _ (c .before .before .before .before .before .before .before .before .before .before .before .before .before .before .before .before .pre .0) (c .before .before .before .before .before .before .before .before .before .if1 .left), c .before .before .before .before .before .before .before .before .before .before .before .before .before .before .before .before .pre .1 .0 .kinds-long)
+
+union-requires : tie.Need-union-requires
+union-requires c κs = omega arith
+
+take-requires : tie.Need-take-requires
+take-requires c κs = (c .before .before .before .before .before .before .before .before .before .before .before .before .before .before .before .before .before .before .before .before .pre .1 .1 .0, omega (arith, c .before .before .before .before .before .before .before .before .before .before .before .before .before .before .before .before .before .before .before .before .pre .0 .few, c .before .before .before .before .before .before .before .before .before .before .before .before .before .before .before .before .before .before .before .before .pre .1 .1 .1))
+
+same-length : tie.Need-same-length
+same-length c = omega arith
+
+returns-2 : tie.Need-returns-2
+returns-2 c = linked-pass _ _ _ _ (c .before .before .before .before .before .before .before .before .before .before .before .before .before .before .before .before .before .before .before .before .before .before .before .pre .0) _ (c .before .before .before .before .before .before .before .before .before .before .before .before .before .before .before .before .before .before .before .before .before .before .before .pre .1 .1 .1) (c .before .before .before .before .before .before .before .before .before .before .before .before .before .before .before .before .if1 .left) _ _ _ _ _ _ _ _ _ (c .before .before .before .before .before .before .before .before .before .before .before .before .over .ensures) (c .before .before .before .before .union .ensures) (c .before .before .take .ensures)
 
 pub link-to-spec : {M : Type 1} → statement M
 link-to-spec =
     tie.close
     (tie.spec
-    Inv-loop
-    μ-loop
-    mul-at
     mul-if1
+    mul-if1-2
     shared-slice-read-if1
     returns
-    add-role
     mul-role
+    add-role
+    mul-role-2
     shared-slice-read-role
     cast-role
-    add-inner
     mul-inner
+    add-inner
+    mul-inner-2
     shared-slice-read-inner
     cast-inner
-    next-link-requires
-    loop-holds
-    flow-requires
-    add-next-link
-    next-link-requires-2
-    loop-less
-    loop-again
+    over-requires
+    mul-first
+    mul-first-2
+    shared-slice-read-first
+    mul-second
+    add-second
+    mul-second-2
+    shared-slice-read-second
+    mul-third
+    add-third
+    mul-third-2
+    shared-slice-read-third
+    union-requires
+    take-requires
     same-length
     returns-2)
