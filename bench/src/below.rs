@@ -77,5 +77,5 @@ fn print_lines(family: Family, tools: &Tools) {
 }
 
 pub fn print(tools: &Tools) {
-    FAMILIES.iter().for_each(|&family| print_lines(family, tools));
+    FAMILIES.iter().chain(&[Family::Towers]).for_each(|&family| print_lines(family, tools));
 }

@@ -13,8 +13,10 @@ pub enum Family {
     Cyclic,
     Diamonds,
     Equivalent,
+    Towers,
 }
 
+/// All but the towers, which only the subsumption table is timed on.
 pub const FAMILIES: [Family; 6] = [
     Family::Random,
     Family::Acyclic,
@@ -33,6 +35,7 @@ impl Family {
             Family::Cyclic => "cyclic",
             Family::Diamonds => "diamonds",
             Family::Equivalent => "equivalent",
+            Family::Towers => "towers",
         }
     }
 
@@ -47,6 +50,7 @@ impl Family {
             Family::Cyclic => cyclic(&mut builder),
             Family::Diamonds => diamonds(&mut builder),
             Family::Equivalent => equivalent(&mut builder),
+            Family::Towers => towers(&mut builder),
         }
         builder.finish()
     }
@@ -239,6 +243,33 @@ fn equivalent(builder: &mut Builder) {
     ring.push(builder.conjunction(top, names[0]));
     for k in (0..ring.len()).rev() {
         builder.inclusion(ring[(k + 1) % ring.len()], ring[k]);
+    }
+    builder.fill_up(1);
+}
+
+/// Three towers on names that are below one another: two of nested existentials, sixty of them for
+/// 192 concepts, and one of existentials and conjunctions in turn. Each storey is known only after
+/// the one below it.
+fn towers(builder: &mut Builder) {
+    let names = builder.names(builder.n / 24 + 2);
+    let last = names.len() - 1;
+    for k in 0..last {
+        builder.inclusion(names[k + 1], names[k]);
+    }
+    while builder.wants_inclusions() {
+        let left = builder.random.between(1, last);
+        let right = builder.random.below(left);
+        builder.inclusion(names[left], names[right]);
+    }
+    let storeys = (builder.n - names.len()) / 3;
+    let [mut low, mut middle, mut mixed] = [names[0], names[last / 2], names[last]];
+    for storey in 0..storeys {
+        low = builder.existential(0, low);
+        middle = builder.existential(0, middle);
+        mixed = match storey % 2 {
+            0 => builder.existential(0, mixed),
+            _ => builder.conjunction(names[last], mixed),
+        };
     }
     builder.fill_up(1);
 }

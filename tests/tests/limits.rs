@@ -2,7 +2,7 @@
 
 use hermitcasket_tests::capi::Answer;
 use hermitcasket_tests::compare;
-use hermitcasket_tests::families::FAMILIES;
+use hermitcasket_tests::families::{Family, FAMILIES};
 use hermitcasket_tests::generate;
 use hermitcasket_tests::random::{cases, seed, Random, Size};
 use hermitcasket_tests::reference::{self, atoms};
@@ -158,7 +158,7 @@ fn last_row_and_column() {
 /// change no mark.
 #[test]
 fn families_agree() {
-    for family in FAMILIES {
+    for family in FAMILIES.into_iter().chain([Family::Towers]) {
         for n in [24, 48, 96, 192] {
             let tables = family.tables(n);
             assert_eq!(reference::check(&tables), Ok(()), "{:?} {}", family, n);
