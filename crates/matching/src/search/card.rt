@@ -21,16 +21,19 @@ use subsumption::limits::CONCEPTS;
 use subsumption::limits::ROLE_WORDS;
 use subsumption::write_table;
 ghost use mathlib.Core.Path.{_≡_};
-ghost use mathlib.Core.Bool.{true};
-ghost use Prim.Native.Nat.{ℕ, _+_, _*_, _<_, _≤_};
-ghost use lib.ListN.{length, getD, replicate};
+ghost use mathlib.Core.Bool.{false};
+ghost use Prim.Native.Nat.{ℕ, _+_, _<_, _≤_};
+ghost use lib.Dec.{ltb};
+ghost use lib.ListN.{length, replicate};
 ghost use Rattle.subsumption.specs.declared.refusal.Outcome.the-variants.{Done};
-ghost use Rattle.subsumption.specs.Tables.{tables, countOf, pairsOf};
+ghost use Rattle.subsumption.specs.Tables.{tables, both, node};
 ghost use Rattle.subsumption.specs.Check.{tableFault};
 ghost use Rattle.subsumption.specs.Inner.Atoms.{Layered};
 ghost use Rattle.subsumption.specs.Inner.Listing.{Accepted};
-ghost use Rattle.matching.specs.Inner.Search.Card.{Shaped, Card};
-ghost use Rattle.matching.specs.Inner.Search.Making.{CopiedAt, HeldNoted, NumbersOf, LinesOf};
+ghost use Rattle.subsumption.specs.Inner.Tables.{Rising};
+ghost use Rattle.square.specs.Inner.Square.{onLine};
+ghost use Rattle.matching.specs.Inner.Search.Card.{fitAt, coneAt, closersAt, questionCount, Shaped, Card};
+ghost use Rattle.matching.specs.Inner.Search.Making.{CopiedAt, HeldNoted, HintsNoted, NumbersOf, LinesOf, Readable, kindAt, fitsBy, isCloser, closerIn, heldId, heldInside, Filled, FitsNoted, ConeNoted, NoCones, ConesNoted};
 
 // ---- the numbers
 fn copy_at(from: &[u16], to: &mut [u16], at: usize)
@@ -66,10 +69,16 @@ fn variables_of(card: &[u16], sets: &[u16], i: usize) -> u16
     let kind = card[i * 3];
     let a = card[i * 3 + 1] as usize;
     let b = card[i * 3 + 2] as usize;
-    if (kind == 4) & (a < 8) {
-        return 1 << a;
+    if kind == 4 {
+        if a < 8 {
+            return 1 << a;
+        }
+        return 0;
     }
-    if (a >= CONCEPTS) | (b >= CONCEPTS) {
+    if a >= CONCEPTS {
+        return 0;
+    }
+    if b >= CONCEPTS {
         return 0;
     }
     if kind == 3 {
@@ -94,7 +103,7 @@ fn note_variables(card: &[u16], sets: &mut [u16])
 // The variables of each question, a hint for narrowing and widening.
 fn note_holds(card: &mut [u16])
     requires { ⌜ length (now card) ≡ 931 ⌝ }
-    ensures { λ _. ⌜ ((p : ℕ) → p < 899 → getD (now (card .exit)) p 0 ≡ getD (now (card .entry)) p 0) ⌝ }
+    ensures { λ _. ⌜ HintsNoted (now (card .entry)) (now (card .exit)) ⌝ }
 {
     let mut sets = [0u16; CONCEPTS];
     note_variables(card, &mut sets);
@@ -104,9 +113,13 @@ fn note_holds(card: &mut [u16])
         m += 1;
         let left = card[SIDES + at * 2] as usize;
         let right = card[SIDES + at * 2 + 1] as usize;
-        if (left < CONCEPTS) & (right < CONCEPTS) {
-            card[HOLDS + at] = sets[left] | sets[right];
+        if left >= CONCEPTS {
+            continue;
         }
+        if right >= CONCEPTS {
+            continue;
+        }
+        card[HOLDS + at] = sets[left] | sets[right];
     }
 }
 
@@ -141,7 +154,7 @@ fn note_lines(
     let mut table = [0u8; TABLE];
     let nothing = [0u64; 8];
     let n = variables as usize;
-    let tabled = write_table(
+    write_table(
         concepts,
         inclusions,
         questions,
@@ -154,7 +167,12 @@ fn note_lines(
 }
 
 // Whether the existential e holds no variable and fits the existential j.
-fn is_fitting(card: &[u16], into: &[u64], right: bool, j: usize, e: usize) -> bool {
+fn is_fitting(card: &[u16], into: &[u64], count: usize, right: bool, j: usize, e: usize) -> bool
+    requires { ⌜ Readable (now card) count ⌝ }
+    requires { ⌜ length (now into) ≡ 200 ⌝ }
+    requires { ⌜ (j < count) × (e < count) × (kindAt (now card) j ≡ 2) ⌝ }
+    ensures { λ r. ⌜ r ≡ fitsBy (now (card .entry)) (now (into .entry)) right j e ⌝ }
+{
     if card[e * 3] != 2 {
         return false;
     }
@@ -169,19 +187,30 @@ fn is_fitting(card: &[u16], into: &[u64], right: bool, j: usize, e: usize) -> bo
     counts(into, own, free)
 }
 
-fn note_fit(card: &[u16], into: &[u64], count: usize, right: bool, j: usize, sets: &mut [u64]) {
+fn note_fit(card: &[u16], into: &[u64], count: usize, right: bool, j: usize, sets: &mut [u64])
+    requires { ⌜ Readable (now card) count ⌝ }
+    requires { ⌜ length (now into) ≡ 200 ⌝ }
+    requires { ⌜ (j < count) × (kindAt (now card) j ≡ 2) ⌝ }
+    requires { ⌜ length (now sets) ≡ 2403 ⌝ }
+    ensures { λ _. ⌜ Filled (fitAt right j) (λ q. both (ltb q count) (fitsBy (now (card .entry)) (now (into .entry)) right j q)) (now (sets .entry)) (now (sets .exit)) ⌝ }
+{
     let at = fit_at(right, j);
     let mut e: usize = 0;
     while e < count {
         let f = e;
         e += 1;
-        if is_fitting(card, into, right, j, f) {
+        if is_fitting(card, into, count, right, j, f) {
             insert(sets, at, f);
         }
     }
 }
 
-fn note_fits(card: &[u16], into: &[u64], count: usize, right: bool, sets: &mut [u64]) {
+fn note_fits(card: &[u16], into: &[u64], count: usize, right: bool, sets: &mut [u64])
+    requires { ⌜ Readable (now card) count ⌝ }
+    requires { ⌜ length (now into) ≡ 200 ⌝ }
+    requires { ⌜ length (now sets) ≡ 2403 ⌝ }
+    ensures { λ _. ⌜ FitsNoted (now (card .entry)) (now (into .entry)) count right (now (sets .entry)) (now (sets .exit)) ⌝ }
+{
     let mut j: usize = 0;
     while j < count {
         let i = j;
@@ -195,7 +224,11 @@ fn note_fits(card: &[u16], into: &[u64], count: usize, right: bool, sets: &mut [
     }
 }
 
-fn is_closer(card: &[u16], e: usize) -> bool {
+fn is_closer(card: &[u16], e: usize) -> bool
+    requires { ⌜ length (now card) ≡ 931 ⌝ }
+    requires { ⌜ e < 192 ⌝ }
+    ensures { λ r. ⌜ r ≡ isCloser (now (card .entry)) e ⌝ }
+{
     if card[HELD + e] == 1 {
         return false;
     }
@@ -205,7 +238,12 @@ fn is_closer(card: &[u16], e: usize) -> bool {
     card[e * 3] == 3
 }
 
-fn note_closers(card: &[u16], count: usize, sets: &mut [u64]) {
+fn note_closers(card: &[u16], count: usize, sets: &mut [u64])
+    requires { ⌜ length (now card) ≡ 931 ⌝ }
+    requires { ⌜ count ≤ 192 ⌝ }
+    requires { ⌜ length (now sets) ≡ 2403 ⌝ }
+    ensures { λ _. ⌜ Filled closersAt (closerIn (now (card .entry)) count) (now (sets .entry)) (now (sets .exit)) ⌝ }
+{
     let mut e: usize = 0;
     while e < count {
         let f = e;
@@ -217,14 +255,24 @@ fn note_closers(card: &[u16], count: usize, sets: &mut [u64]) {
 }
 
 // The id comes to the cone if it holds a variable.
-fn mark_held(card: &[u16], sets: &mut [u64], at: usize, id: usize) {
+fn mark_held(card: &[u16], sets: &mut [u64], at: usize, id: usize)
+    requires { ⌜ length (now card) ≡ 931 ⌝ }
+    requires { ⌜ at + 3 ≤ length (now sets) ⌝ }
+    requires { ⌜ id < 192 ⌝ }
+    ensures { λ _. ⌜ Filled at (heldId (now (card .entry)) id) (now (sets .entry)) (now (sets .exit)) ⌝ }
+{
     if card[HELD + id] == 1 {
         insert(sets, at, id);
     }
 }
 
 // The inner ids of an id of the cone.
-fn mark_inside(card: &[u16], sets: &mut [u64], at: usize, i: usize) {
+fn mark_inside(card: &[u16], sets: &mut [u64], at: usize, i: usize)
+    requires { ⌜ length (now card) ≡ 931 ⌝ }
+    requires { ⌜ at + 3 ≤ length (now sets) ⌝ }
+    requires { ⌜ (i < 192) × Rising i (node (now card) i) ⌝ }
+    ensures { λ _. ⌜ Filled at (heldInside (now (card .entry)) i) (now (sets .entry)) (now (sets .exit)) ⌝ }
+{
     let kind = card[i * 3];
     if kind == 3 {
         mark_held(card, sets, at, card[i * 3 + 1] as usize);
@@ -237,7 +285,13 @@ fn mark_inside(card: &[u16], sets: &mut [u64], at: usize, i: usize) {
 }
 
 // Inner ids are smaller, so one walk down reaches all.
-fn note_cone(card: &[u16], count: usize, m: usize, sets: &mut [u64]) {
+fn note_cone(card: &[u16], count: usize, m: usize, sets: &mut [u64])
+    requires { ⌜ Readable (now card) count ⌝ }
+    requires { ⌜ m < questionCount (now card) ⌝ }
+    requires { ⌜ length (now sets) ≡ 2403 ⌝ }
+    requires { ⌜ ((q : ℕ) → q < 192 → onLine (now sets) (coneAt m) q ≡ false) ⌝ }
+    ensures { λ _. ⌜ ConeNoted (now (card .entry)) count m (now (sets .entry)) (now (sets .exit)) ⌝ }
+{
     let at = CONES + m * 3;
     mark_held(card, sets, at, card[SIDES + m * 2] as usize);
     mark_held(card, sets, at, card[SIDES + m * 2 + 1] as usize);
@@ -250,7 +304,12 @@ fn note_cone(card: &[u16], count: usize, m: usize, sets: &mut [u64]) {
     }
 }
 
-fn note_cones(card: &[u16], count: usize, sets: &mut [u64]) {
+fn note_cones(card: &[u16], count: usize, sets: &mut [u64])
+    requires { ⌜ Readable (now card) count ⌝ }
+    requires { ⌜ length (now sets) ≡ 2403 ⌝ }
+    requires { ⌜ NoCones (now sets) ⌝ }
+    ensures { λ _. ⌜ ConesNoted (now (card .entry)) count (now (sets .entry)) (now (sets .exit)) ⌝ }
+{
     let rows = card[QUESTION_COUNT] as usize;
     let mut m: usize = 0;
     while m < rows {

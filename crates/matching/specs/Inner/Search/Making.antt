@@ -1,23 +1,34 @@
 -- What making the sets and numbers of a card promises (src/search/card.rt).
-use Prim.Native.Nat.{ℕ, _+_, _*_, _/_, _<_, _≤_}
+use Prim.Native.Nat.{ℕ, _+_, _*_, _<_, _≤_}
 use mathlib.Core.Path.{_≡_}
 use mathlib.Core.List.{List}
-use mathlib.Core.Bool.{Bool, true, false}
+use mathlib.Core.Bool.{Bool, true, false, not}
 use mathlib.Core.Logic.{_⊎_, _↔_}
+use lib.Dec.{eqb, ltb}
 use lib.ListN.{length, getD}
-use Rattle.subsumption.specs.Tables.{Tables, Node, existsAt, andAt, node, countOf, pairsOf, leftOf, rightOf, tree, hasVariable}
+use Rattle.subsumption.specs.Tables.{Tables, or, both, node, countOf, pairsOf, tree, hasVariable}
+use Rattle.subsumption.specs.Atoms.{inside}
 use Rattle.subsumption.specs.Subsumption.{Subsumed}
+use Rattle.subsumption.specs.Inner.Tables.{Rising}
+use Rattle.subsumption.specs.Inner.Roles.{inSet}
 use Rattle.square.specs.Inner.Square.{onLine}
-use Rattle.matching.specs.Inner.Search.Card.{lineAt, fitAt, coneAt, closersAt, heldAt, leftAt, rightAt, questionCount, counting, closes, nothing}
+use Rattle.matching.specs.Inner.Search.Card.{lineAt, fitAt, coneAt, closersAt, heldAt, leftAt, rightAt, questionCount, counting, nothing}
 
 -- a list stands at a place of another, and the rest is as before
 pub record CopiedAt (from : List ℕ) (at : ℕ) (before after : List ℕ) : Type 0 where
+  pub long : length after ≡ length before
   pub here : (p : ℕ) → p < length from → getD after (at + p) 0 ≡ getD from p 0
   pub there : (p : ℕ) → (p < at) ⊎ (at + length from ≤ p) → getD after p 0 ≡ getD before p 0
 
 pub record HeldNoted (concepts before after : List ℕ) : Type 0 where
+  pub long : length after ≡ length before
   pub here : (i : ℕ) → i < countOf concepts → heldAt after i ≡ hasVariable (tree concepts i)
   pub there : (p : ℕ) → (p < 576) ⊎ (768 ≤ p) → getD after p 0 ≡ getD before p 0
+
+-- the numbers before the hints are as before
+pub record HintsNoted (before after : List ℕ) : Type 0 where
+  pub long : length after ≡ length before
+  pub front : (p : ℕ) → p < 899 → getD after p 0 ≡ getD before p 0
 
 -- the rows, which ids hold a variable, the atoms, the questions and their number
 pub record NumbersOf (concepts questions ids card : List ℕ) : Type 0 where
@@ -32,22 +43,87 @@ pub record NumbersOf (concepts questions ids card : List ℕ) : Type 0 where
   pub count : questionCount card ≡ pairsOf questions
 
 -- ---- the sets
--- the words outside a stretch are as before
-abbrev pub Outside : ℕ → ℕ → List ℕ → List ℕ → Type 0
-Outside from to before after = (p : ℕ) → (p < from) ⊎ (to ≤ p) → getD after p 0 ≡ getD before p 0
+-- the kind of an id, and the first of the two numbers beside it
+abbrev pub kindAt : List ℕ → ℕ → ℕ
+kindAt card i = getD card (i * 3) 0
+
+abbrev pub firstAt : List ℕ → ℕ → ℕ
+firstAt card i = getD card (i * 3 + 1) 0
+
+-- what the sets are made from: ids and roles of the numbers are low
+pub record Readable (card : List ℕ) (count : ℕ) : Type 0 where
+  pub long : length card ≡ 931
+  pub few : count ≤ 192
+  pub rising : (i : ℕ) → i < count → Rising i (node card i)
+  pub low-roles : (i : ℕ) → i < count → kindAt card i ≡ 2 → firstAt card i < 100
+  pub few-questions : questionCount card ≤ 32
+  pub left-known : (m : ℕ) → m < questionCount card → leftAt card m < count
+  pub right-known : (m : ℕ) → m < questionCount card → rightAt card m < count
 
 -- the rows and columns are those of the subsumption table under the assignment that chooses nothing
 pub record LinesOf (t : Tables) (sets : List ℕ) : Type 0 where
+  pub long : length sets ≡ 1152
   pub above : (i j : ℕ) → i < countOf (t .concepts) → j < countOf (t .concepts) → (onLine sets (lineAt false i) j ≡ true) ↔ Subsumed t (nothing t) i j
   pub below : (i j : ℕ) → i < countOf (t .concepts) → j < countOf (t .concepts) → (onLine sets (lineAt true j) i ≡ true) ↔ Subsumed t (nothing t) i j
 
--- the existential e holds no variable, and its role and that of j count, by a test of roles
-pub record FitsBy (card : List ℕ) (wide : ℕ → ℕ → Bool) (right : Bool) (j e : ℕ) : Type 0 where
-  pub own-role : ℕ
-  pub own-inner : ℕ
-  pub role : ℕ
-  pub inner : ℕ
-  pub own : node card j ≡ existsAt own-role own-inner
-  pub row : node card e ≡ existsAt role inner
-  pub free : heldAt card e ≡ false
-  pub counts : counting right wide own-role role ≡ true
+-- the lines outside a stretch of words are as before
+abbrev pub Outside : ℕ → ℕ → List ℕ → List ℕ → Type 0
+Outside start end before after = (at q : ℕ) → q < 192 → (at + 3 ≤ start) ⊎ (end ≤ at) → onLine after at q ≡ onLine before at q
+
+-- the ids that pass the test come to the line, and no other line changes
+pub record Filled (at : ℕ) (test : ℕ → Bool) (before after : List ℕ) : Type 0 where
+  pub long : length after ≡ length before
+  pub here : (q : ℕ) → q < 192 → onLine after at q ≡ or (test q) (onLine before at q)
+  pub there : Outside at (at + 3) before after
+
+-- the existential e holds no variable, and its role and that of j count, by the sets of roles
+unfoldable pub fitsBy : List ℕ → List ℕ → Bool → ℕ → ℕ → Bool
+fitsBy card into right j e =
+    both (eqb (kindAt card e) 2) (both (not (heldAt card e)) (counting right (inSet into) (firstAt card j) (firstAt card e)))
+
+-- an existential with a variable
+unfoldable pub isOpen : List ℕ → ℕ → Bool
+isOpen card j = both (eqb (kindAt card j) 2) (heldAt card j)
+
+unfoldable pub fitsIn : List ℕ → List ℕ → ℕ → Bool → ℕ → ℕ → Bool
+fitsIn card into count right j e = both (isOpen card j) (both (ltb e count) (fitsBy card into right j e))
+
+pub record FitsNoted (card into : List ℕ) (count : ℕ) (right : Bool) (before after : List ℕ) : Type 0 where
+  pub long : length after ≡ length before
+  pub here :
+      (j q : ℕ) → j < count → q < 192 → onLine after (fitAt right j) q ≡ or (fitsIn card into count right j q) (onLine before (fitAt right j) q)
+  pub there : Outside (fitAt right 0) (fitAt right 192) before after
+
+-- a variable-free top or conjunction
+unfoldable pub isCloser : List ℕ → ℕ → Bool
+isCloser card e = both (not (heldAt card e)) (or (eqb (kindAt card e) 0) (eqb (kindAt card e) 3))
+
+abbrev pub closerIn : List ℕ → ℕ → ℕ → Bool
+closerIn card count e = both (ltb e count) (isCloser card e)
+
+-- the id itself, if it holds a variable; the inner ids of i that hold one
+abbrev pub heldId : List ℕ → ℕ → ℕ → Bool
+heldId card id q = both (eqb q id) (heldAt card q)
+
+abbrev pub heldInside : List ℕ → ℕ → ℕ → Bool
+heldInside card i q = both (inside (eqb q) (node card i)) (heldAt card q)
+
+-- a cone: ids that hold a variable, among them the sides, and with an id its inner ones
+pub record ConeOf (card : List ℕ) (count m : ℕ) (line : ℕ → Bool) : Type 0 where
+  pub known : (i : ℕ) → i < 192 → line i ≡ true → (i < count) × (heldAt card i ≡ true)
+  pub left : heldAt card (leftAt card m) ≡ true → line (leftAt card m) ≡ true
+  pub right : heldAt card (rightAt card m) ≡ true → line (rightAt card m) ≡ true
+  pub inner : (i q : ℕ) → i < 192 → line i ≡ true → heldInside card i q ≡ true → line q ≡ true
+
+pub record ConeNoted (card : List ℕ) (count m : ℕ) (before after : List ℕ) : Type 0 where
+  pub long : length after ≡ length before
+  pub cone : ConeOf card count m (onLine after (coneAt m))
+  pub there : Outside (coneAt m) (coneAt m + 3) before after
+
+abbrev pub NoCones : List ℕ → Type 0
+NoCones sets = (m q : ℕ) → m < 32 → q < 192 → onLine sets (coneAt m) q ≡ false
+
+pub record ConesNoted (card : List ℕ) (count : ℕ) (before after : List ℕ) : Type 0 where
+  pub long : length after ≡ length before
+  pub cones : (m : ℕ) → m < questionCount card → ConeOf card count m (onLine after (coneAt m))
+  pub there : Outside (coneAt 0) closersAt before after

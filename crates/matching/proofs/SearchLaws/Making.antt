@@ -1,0 +1,6 @@
+-- Why the sets and numbers are those of the tables (src/search/card.rt).
+pub mod Filling
+pub mod Cones
+pub mod Numbers
+pub mod Lines
+pub mod Whole
