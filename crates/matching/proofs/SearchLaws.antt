@@ -9,3 +9,4 @@ pub mod Nogoods
 pub mod Widen
 pub mod Narrow
 pub mod Order
+pub mod Making

@@ -48,5 +48,4 @@ pub mod Closing
 pub mod RowLaws
 pub mod MarkLaws
 pub mod RoleSetLaws
-pub mod Nothing
 pub mod Blocks
