@@ -1,6 +1,9 @@
 // Writing a derivation: lines are noted until the asked pair is found; of them, those that it needs are written.
 pub mod explain;
+pub mod load;
 pub mod needed;
+pub mod propose;
+pub mod sets;
 
 use crate::derivation::marks::has_mark;
 use crate::derivation::marks::mark_pair;
@@ -8,7 +11,13 @@ use crate::limits::NOTES;
 use crate::limits::SQUARE;
 use crate::writer::explain::Next;
 use crate::writer::explain::next_line;
+use crate::writer::explain::test_line;
 use crate::writer::needed::need_lines;
+use crate::writer::propose::line_at;
+use crate::writer::propose::propose;
+use crate::writer::sets::LINES;
+use crate::writer::sets::WORK;
+use crate::writer::sets::number;
 use subsumption::Decision;
 use subsumption::Listed;
 use subsumption::helpers::check_assignment;
@@ -20,6 +29,7 @@ use subsumption::limits::ROLE_WORDS;
 use subsumption::refusal::Outcome;
 use subsumption::refusal::Refusal;
 ghost use mathlib.Core.Path.{_≡_};
+ghost use mathlib.Core.Bool.{false};
 ghost use Prim.Native.Nat.{ℕ, _+_, _*_, _<_, _≤_};
 ghost use lib.Dec.{eqb};
 ghost use lib.ListN.{length};
@@ -27,8 +37,8 @@ ghost use Rattle.subsumption.specs.Tables.{tables, both, countOf};
 ghost use Rattle.subsumption.specs.Inner.Listing.{Prepared, ForAccepted};
 ghost use Rattle.matching.specs.Derivation.{leftAt, rightAt};
 ghost use Rattle.matching.specs.Writer.{derivedReply, Derives};
-ghost use Rattle.matching.specs.Inner.Derivation.{Square};
-ghost use Rattle.matching.specs.Inner.Writer.{Grounds, inFront, LineWritten, Blank, Asked, NotedTo, Copied, WrittenFor};
+ghost use Rattle.matching.specs.Inner.Derivation.{Square, seen};
+ghost use Rattle.matching.specs.Inner.Writer.{Grounds, inFront, LineWritten, Blank, Asked, Noted, NotedTo, Begun, Copied, WrittenFor};
 
 pub enum Derived {
     Lines(usize),
@@ -64,6 +74,136 @@ fn is_pair(left: usize, right: usize, i: usize, j: usize) -> bool
     right == j
 }
 
+// Notes more lines, each from earlier ones, until the asked pair is found; answers their number. The proposals leave nothing to it.
+fn note_more(
+    concepts: &[u16],
+    inclusions: &[u16],
+    into: &[u64],
+    atoms: &[u16],
+    assignment: &[u64],
+    left: usize,
+    right: usize,
+    marks: &mut [bool],
+    notes: &mut [u16],
+    noted: usize,
+) -> usize
+    requires { ⌜ Grounds (now concepts) (now inclusions) (now atoms) (now assignment) ⌝ }
+    requires { ⌜ length (now into) ≡ 200 ⌝ }
+    requires { ⌜ Asked (now concepts) (now inclusions) (now into) (now atoms) (now assignment) left right ⌝ }
+    requires { ⌜ Noted (now concepts) (now inclusions) (now into) (now atoms) (now assignment) (now marks) (now notes) noted ⌝ }
+    requires { ⌜ seen (countOf (now concepts)) (now marks) left right ≡ false ⌝ }
+    requires { ⌜ length (now notes) ≡ countOf (now concepts) * countOf (now concepts) * 4 ⌝ }
+    ensures { λ r. ⌜ NotedTo (now (concepts .entry)) (now (inclusions .entry)) (now (into .entry)) (now (atoms .entry)) (now (assignment .entry)) left right (now (marks .exit)) (now (notes .exit)) r ⌝ }
+{
+    let count = concepts.len() / 3;
+    let mut n = noted;
+    let mut from = 0;
+    loop {
+        let next = next_line(concepts, inclusions, into, atoms, assignment, marks, from);
+        if let Next::Line(rule, i, j, extra) = next {
+            write_line(notes, n, rule as u16, i as u16, j as u16, extra as u16);
+            mark_pair(marks, count, i, j);
+            n += 1;
+            from = i * count + j + 1;
+            if is_pair(left, right, i, j) {
+                return n;
+            }
+            continue;
+        }
+        // A whole scan without a new pair would mean that the marks are closed, and hold the asked pair.
+        if from == 0 {
+            return 0;
+        }
+        from = 0;
+    }
+}
+
+// Notes the proposals that follow, until the asked pair is found; answers their number.
+fn note_tested(
+    concepts: &[u16],
+    inclusions: &[u16],
+    into: &[u64],
+    atoms: &[u16],
+    assignment: &[u64],
+    left: usize,
+    right: usize,
+    work: &[u64],
+    first: u16,
+    marks: &mut [bool],
+    notes: &mut [u16],
+) -> usize
+    requires { ⌜ Grounds (now concepts) (now inclusions) (now atoms) (now assignment) ⌝ }
+    requires { ⌜ length (now into) ≡ 200 ⌝ }
+    requires { ⌜ (left < countOf (now concepts)) × (right < countOf (now concepts)) ⌝ }
+    requires { ⌜ Blank (countOf (now concepts)) (now marks) ⌝ }
+    requires { ⌜ length (now notes) ≡ countOf (now concepts) * countOf (now concepts) * 4 ⌝ }
+    ensures { λ r. ⌜ Begun (now (concepts .entry)) (now (inclusions .entry)) (now (into .entry)) (now (atoms .entry)) (now (assignment .entry)) left right (now (marks .exit)) (now (notes .exit)) r ⌝ }
+{
+    let count = concepts.len() / 3;
+    let end = number(work, LINES, 0, 0);
+    let mut n = 0;
+    let mut k = first;
+    while k < end {
+        let line = line_at(work, k);
+        k += 1;
+        let next = test_line(concepts, inclusions, into, atoms, assignment, marks, line);
+        if let Next::Line(rule, i, j, extra) = next {
+            write_line(notes, n, rule as u16, i as u16, j as u16, extra as u16);
+            mark_pair(marks, count, i, j);
+            n += 1;
+            if is_pair(left, right, i, j) {
+                return n;
+            }
+            continue;
+        }
+    }
+    n
+}
+
+fn note_proposed(
+    concepts: &[u16],
+    inclusions: &[u16],
+    into: &[u64],
+    atoms: &[u16],
+    assignment: &[u64],
+    left: usize,
+    right: usize,
+    marks: &mut [bool],
+    notes: &mut [u16],
+) -> usize
+    requires { ⌜ Grounds (now concepts) (now inclusions) (now atoms) (now assignment) ⌝ }
+    requires { ⌜ length (now into) ≡ 200 ⌝ }
+    requires { ⌜ (left < countOf (now concepts)) × (right < countOf (now concepts)) ⌝ }
+    requires { ⌜ Blank (countOf (now concepts)) (now marks) ⌝ }
+    requires { ⌜ length (now notes) ≡ countOf (now concepts) * countOf (now concepts) * 4 ⌝ }
+    ensures { λ r. ⌜ Begun (now (concepts .entry)) (now (inclusions .entry)) (now (into .entry)) (now (atoms .entry)) (now (assignment .entry)) left right (now (marks .exit)) (now (notes .exit)) r ⌝ }
+{
+    let mut work = [0u64; WORK];
+    let first = propose(
+        concepts,
+        inclusions,
+        into,
+        atoms,
+        assignment,
+        left as u16,
+        right as u16,
+        &mut work,
+    );
+    note_tested(
+        concepts,
+        inclusions,
+        into,
+        atoms,
+        assignment,
+        left,
+        right,
+        &work,
+        first,
+        marks,
+        notes,
+    )
+}
+
 // Notes lines, each from earlier ones, until the asked pair is found; answers their number.
 fn note_lines(
     concepts: &[u16],
@@ -84,26 +224,32 @@ fn note_lines(
     ensures { λ r. ⌜ NotedTo (now (concepts .entry)) (now (inclusions .entry)) (now (into .entry)) (now (atoms .entry)) (now (assignment .entry)) left right (now (marks .exit)) (now (notes .exit)) r ⌝ }
 {
     let count = concepts.len() / 3;
-    let mut n = 0;
-    let mut from = 0;
-    loop {
-        let next = next_line(concepts, inclusions, into, atoms, assignment, marks, from);
-        if let Next::Line(rule, i, j, extra) = next {
-            write_line(notes, n, rule as u16, i as u16, j as u16, extra as u16);
-            mark_pair(marks, count, i, j);
-            n += 1;
-            from = i * count + j + 1;
-            if is_pair(left, right, i, j) {
-                return n;
-            }
-            continue;
-        }
-        // A whole scan without a new pair would mean that the marks are closed, and hold the asked pair.
-        if from == 0 {
-            return 0;
-        }
-        from = 0;
+    let n = note_proposed(
+        concepts,
+        inclusions,
+        into,
+        atoms,
+        assignment,
+        left,
+        right,
+        marks,
+        notes,
+    );
+    if has_mark(marks, count, left, right) {
+        return n;
     }
+    note_more(
+        concepts,
+        inclusions,
+        into,
+        atoms,
+        assignment,
+        left,
+        right,
+        marks,
+        notes,
+        n,
+    )
 }
 
 // Writes the noted lines whose pair is needed; answers their number.

@@ -179,6 +179,18 @@ module _ (concepts inclusions into ids assignment : List ℕ) (marks : List Bool
     pub explained-not : x ≡ Unknown → (t : Tables) → Of t concepts inclusions into ids → (r extra : ℕ) → byRule t assignment (seen (countOf concepts) marks) r left right extra ≡ false
     explained-not e = subst (Explained concepts inclusions into ids assignment marks left right) e h
 
+  -- ---- a proposed line
+  pub tested-new :
+      (rule left right extra : ℕ) (x y : Bool) → rule < 9 → left < countOf concepts → right < countOf concepts → extra < 192 → x ≡ seen (countOf concepts) marks left right → x ≡ false
+      → ByRule concepts inclusions into ids assignment marks rule left right extra y → y ≡ true → New concepts inclusions into ids assignment marks rule left right extra
+  tested-new rule left right extra x y r l k e f g b h =
+      record {
+        left-known = l;
+        right-known = k;
+        fresh = sym f ∙ g;
+        gives = record { rule-low = r; extra-low = e; by = λ t of. sym h ∙ b t of };
+      }
+
   -- ---- all pairs
   pub quiet-none : (from : ℕ) → QuietFrom concepts inclusions into ids assignment marks from from
   quiet-none from = record { each = λ i j h l u v. absurd (omega arith) }

@@ -18,8 +18,8 @@ use Rattle.matching.specs.declared.writer.explain.Next.{Next}
 use Rattle.matching.specs.declared.writer.explain.Next.the-variants.{Line, Nothing}
 use Rattle.matching.specs.Derivation.{leftAt, rightAt, pairAt, provedBy, lineFollows}
 use Rattle.matching.specs.Inner.Derivation.{seen, MarksOf, LineTest}
-use Rattle.matching.specs.Inner.Writer.Explain.{QuietFrom, New, Found}
-use Rattle.matching.specs.Inner.Writer.{LineWritten, unset, Blank, Asked, Noted, NotedTo}
+use Rattle.matching.specs.Inner.Writer.Explain.{QuietFrom, New, Tested, Found}
+use Rattle.matching.specs.Inner.Writer.{LineWritten, unset, Blank, Asked, Noted, NotedTo, Begun}
 use Rattle.matching.proofs.DerivationLaws.Cells.{cell-room, cell-below, square-small}
 use Rattle.matching.proofs.DerivationLaws.Lines.{marks-none, marks-more, line-rule, proved-more, empty-square, empty-seen}
 use Rattle.matching.proofs.DerivationLaws.Monotone.{of-reads}
@@ -147,6 +147,22 @@ module _ (concepts inclusions into ids assignment : List ℕ) where
           → seen (countOf concepts) marks' a b ≡ false
       noted-other a b x u v f g h =
           noted-more .marked .same a b u v ∙ proved-more notes' n a b ∙ or-skip _ _ (asked-pair a b x f ∙ g) ∙ sym (marked-same .same a b u v) ∙ h
+
+  -- the proposals are at an end, with the asked pair last or not found
+  pub begun-last :
+      (left right : ℕ) (marks : List Bool) (notes : List ℕ) (n : ℕ) → NotedTo concepts inclusions into ids assignment left right marks notes n
+      → Begun concepts inclusions into ids assignment left right marks notes n
+  begun-last left right marks notes n d = record { noted = d .noted; asked = λ e. d }
+
+  pub begun-open :
+      (left right : ℕ) (marks : List Bool) (notes : List ℕ) (n : ℕ) → Noted concepts inclusions into ids assignment marks notes n → seen (countOf concepts) marks left right ≡ false
+      → Begun concepts inclusions into ids assignment left right marks notes n
+  begun-open left right marks notes n d f = record { noted = d; asked = λ e. absurd (true≢false (sym e ∙ f)) }
+
+  pub tested-line :
+      (marks : List Bool) (x : Next) → Tested concepts inclusions into ids assignment marks x → (rule left right extra : ℕ) → x ≡ Line rule left right extra
+      → New concepts inclusions into ids assignment marks rule left right extra
+  tested-line marks x h rule left right extra e = subst (Tested concepts inclusions into ids assignment marks) e h
 
   -- a whole scan found nothing: the marks are closed under the rules
   pub scan-closed :

@@ -70,6 +70,11 @@ pub record NotedTo (concepts inclusions into ids assignment : List ℕ) (left ri
   pub some : 0 < n
   pub last : pairAt notes left right (n - 1) ≡ true
 
+-- if the asked pair is noted, it is noted last
+pub record Begun (concepts inclusions into ids assignment : List ℕ) (left right : ℕ) (marks : List Bool) (notes : List ℕ) (n : ℕ) : Type 0 where
+  pub noted : Noted concepts inclusions into ids assignment marks notes n
+  pub asked : seen (countOf concepts) marks left right ≡ true → NotedTo concepts inclusions into ids assignment left right marks notes n
+
 -- line m is the noted line q, and before it stand the needed lines before q
 pub record Copy (count : ℕ) (needed : List Bool) (notes after : List ℕ) (k m : ℕ) : Type 0 where
   pub source : ℕ

@@ -1,6 +1,10 @@
 // The search for a pair that follows from marked pairs, with its rule and extra. Private to the crate.
 use crate::derivation::marks::has_mark;
 use crate::derivation::rules::by_rule;
+use crate::writer::propose::extra_of;
+use crate::writer::propose::left_of;
+use crate::writer::propose::right_of;
+use crate::writer::propose::rule_of;
 use subsumption::helpers::row_at;
 ghost use Prim.Native.Nat.{_<_, _≤_};
 ghost use Rattle.subsumption.specs.Tables.{countOf, pairsOf};
@@ -8,7 +12,7 @@ ghost use mathlib.Core.Path.{_≡_};
 ghost use lib.ListN.{length};
 ghost use Rattle.matching.specs.Inner.Derivation.{Square};
 ghost use Rattle.matching.specs.Inner.Writer.{Grounds};
-ghost use Rattle.matching.specs.Inner.Writer.Explain.{ExtraBound, Tried, Explained, Found};
+ghost use Rattle.matching.specs.Inner.Writer.Explain.{ExtraBound, Tried, Explained, Tested, Found};
 
 pub enum Extra {
     At(usize),
@@ -126,6 +130,58 @@ fn explain(
         rule += 1;
     }
     Why::Unknown
+}
+
+// The proposed line, if its pair is not marked and follows from the marks.
+pub fn test_line(
+    concepts: &[u16],
+    inclusions: &[u16],
+    into: &[u64],
+    atoms: &[u16],
+    assignment: &[u64],
+    marks: &[bool],
+    line: u64,
+) -> Next
+    requires { ⌜ Grounds (now concepts) (now inclusions) (now atoms) (now assignment) ⌝ }
+    requires { ⌜ length (now into) ≡ 200 ⌝ }
+    requires { ⌜ Square (countOf (now concepts)) (now marks) ⌝ }
+    ensures { λ r. ⌜ Tested (now (concepts .entry)) (now (inclusions .entry)) (now (into .entry)) (now (atoms .entry)) (now (assignment .entry)) (now (marks .entry)) r ⌝ }
+{
+    let count = concepts.len() / 3;
+    let rule = rule_of(line) as usize;
+    let left = left_of(line) as usize;
+    let right = right_of(line) as usize;
+    let extra = extra_of(line) as usize;
+    if 9 <= rule {
+        return Next::Nothing;
+    }
+    if count <= left {
+        return Next::Nothing;
+    }
+    if count <= right {
+        return Next::Nothing;
+    }
+    if 192 <= extra {
+        return Next::Nothing;
+    }
+    if has_mark(marks, count, left, right) {
+        return Next::Nothing;
+    }
+    if by_rule(
+        concepts,
+        inclusions,
+        into,
+        atoms,
+        assignment,
+        marks,
+        rule,
+        left,
+        right,
+        extra,
+    ) {
+        return Next::Line(rule, left, right, extra);
+    }
+    Next::Nothing
 }
 
 // The first pair from a cell on that is not marked and follows from the marks.

@@ -65,6 +65,10 @@ module _ (concepts inclusions into ids assignment : List ℕ) (marks : List Bool
   Explained left right (By rule extra) = Gives rule left right extra
   Explained left right Unknown = (t : Tables) → Of t concepts inclusions into ids → (rule extra : ℕ) → byRule t assignment (seen (countOf concepts) marks) rule left right extra ≡ false
 
+  abbrev pub Tested : Next → Type 0
+  Tested (Line rule left right extra) = New rule left right extra
+  Tested Nothing = Unit {0}
+
   abbrev pub Found : ℕ → Next → Type 0
   Found from (Line rule left right extra) = New rule left right extra
   Found from Nothing = QuietFrom from (countOf concepts * countOf concepts)
