@@ -1,3 +1,4 @@
+use native.Mathlib.Omega.{arith}
 use mathlib.Core.Path.{sym, _∙_}
 use borrow.Author.Needs.{needs}
 use Rattle.matching.proofs.writer.note_lines.Statement.{statement}
@@ -14,15 +15,15 @@ note-proposed-requires c κs = (c .before .before .before .before .before .befor
 
 -- src/writer.rt:238:8
 has-mark-requires : tie.Need-has-mark-requires
-has-mark-requires c κs = search needs
+has-mark-requires c κs = omega arith
 
 -- src/writer.rt:239:9
 same-length : tie.Need-same-length
-same-length c = search needs
+same-length c = omega arith
 
 -- src/writer.rt:239:9
 same-length-2 : tie.Need-same-length-2
-same-length-2 c = search needs
+same-length-2 c = omega arith
 
 -- src/writer.rt:239:9
 returns : tie.Need-returns
@@ -34,11 +35,11 @@ note-more-requires c κs = (c .before .before .before .before .before .before .b
 
 -- src/writer.rt:208:1
 same-length-3 : tie.Need-same-length-3
-same-length-3 c = search needs
+same-length-3 c = omega arith
 
 -- src/writer.rt:208:1
 same-length-4 : tie.Need-same-length-4
-same-length-4 c = search needs
+same-length-4 c = omega arith
 
 -- src/writer.rt:208:1
 returns-2 : tie.Need-returns-2

@@ -1,3 +1,4 @@
+use native.Mathlib.Omega.{arith}
 use Rattle.matching.proofs.WriterLaws.Explain.{tested-new}
 use borrow.Author.Needs.{needs}
 use Rattle.matching.proofs.writer.explain.test_line.Statement.{statement}
@@ -13,59 +14,59 @@ use Rattle.matching.proofs.writer.propose.rule_of.Reads as rule-of-read
 
 -- src/writer/explain.rt:151:16
 rule-of-requires : tie.Need-rule-of-requires
-rule-of-requires c κs = search needs
+rule-of-requires c κs = omega arith
 
 -- src/writer/explain.rt:151:16
 cast-rule : tie.Need-cast-rule
-cast-rule c = search needs
+cast-rule c = omega arith
 
 -- src/writer/explain.rt:152:16
 left-of-requires : tie.Need-left-of-requires
-left-of-requires c κs = search needs
+left-of-requires c κs = omega arith
 
 -- src/writer/explain.rt:152:16
 cast-left : tie.Need-cast-left
-cast-left c = search needs
+cast-left c = omega arith
 
 -- src/writer/explain.rt:153:17
 right-of-requires : tie.Need-right-of-requires
-right-of-requires c κs = search needs
+right-of-requires c κs = omega arith
 
 -- src/writer/explain.rt:153:17
 cast-right : tie.Need-cast-right
-cast-right c = search needs
+cast-right c = omega arith
 
 -- src/writer/explain.rt:154:17
 extra-of-requires : tie.Need-extra-of-requires
-extra-of-requires c κs = search needs
+extra-of-requires c κs = omega arith
 
 -- src/writer/explain.rt:154:17
 cast-extra : tie.Need-cast-extra
-cast-extra c = search needs
+cast-extra c = omega arith
 
 -- src/writer/explain.rt:156:9
 returns : tie.Need-returns
-returns c = search needs
+returns c = omega arith
 
 -- src/writer/explain.rt:159:9
 returns-2 : tie.Need-returns-2
-returns-2 c = search needs
+returns-2 c = omega arith
 
 -- src/writer/explain.rt:162:9
 returns-3 : tie.Need-returns-3
-returns-3 c = search needs
+returns-3 c = omega arith
 
 -- src/writer/explain.rt:165:9
 returns-4 : tie.Need-returns-4
-returns-4 c = search needs
+returns-4 c = omega arith
 
 -- src/writer/explain.rt:167:8
 has-mark-requires : tie.Need-has-mark-requires
-has-mark-requires c κs = search needs
+has-mark-requires c κs = omega arith
 
 -- src/writer/explain.rt:168:9
 returns-5 : tie.Need-returns-5
-returns-5 c = search needs
+returns-5 c = omega arith
 
 -- src/writer/explain.rt:170:8
 by-rule-requires : tie.Need-by-rule-requires
@@ -77,7 +78,7 @@ returns-6 c = tested-new _ _ _ _ _ _ _ _ _ _ _ _ (c .before .before .before .bef
 
 -- src/writer/explain.rt:136:1
 returns-7 : tie.Need-returns-7
-returns-7 c = search needs
+returns-7 c = omega arith
 
 pub test-line-spec : {M : Type 1} → statement M
 test-line-spec =

@@ -1,3 +1,4 @@
+use native.Mathlib.Omega.{arith}
 use borrow.Author.Needs.{needs}
 use lib.ListN.{length}
 use mathlib.Core.Path.{_≡_}
@@ -16,59 +17,59 @@ abbrev μ-loop : tie.MeasureT-loop
 
 -- src/writer/load.rt:52:5
 loop-holds : tie.Need-loop-holds Inv-loop μ-loop
-loop-holds c = search needs
+loop-holds c = omega arith
 
 -- src/writer/load.rt:54:13
 same-length : tie.Need-same-length Inv-loop μ-loop
-same-length c = search needs
+same-length c = omega arith
 
 -- src/writer/load.rt:54:13
 returns : tie.Need-returns Inv-loop μ-loop
-returns c = search needs
+returns c = omega arith
 
 -- src/writer/load.rt:56:23
 shr-picked : tie.Need-shr-picked Inv-loop μ-loop
-shr-picked c = search needs
+shr-picked c = omega arith
 
 -- src/writer/load.rt:57:20
 mul-atom : tie.Need-mul-atom Inv-loop μ-loop
-mul-atom c = search needs
+mul-atom c = omega arith
 
 -- src/writer/load.rt:57:20
 shared-slice-read-atom : tie.Need-shared-slice-read-atom Inv-loop μ-loop
-shared-slice-read-atom c = search needs
+shared-slice-read-atom c = omega arith
 
 -- src/writer/load.rt:58:9
 add-q : tie.Need-add-q Inv-loop μ-loop
-add-q c = search needs
+add-q c = omega arith
 
 -- src/writer/load.rt:60:13
 load-member-requires : tie.Need-load-member-requires Inv-loop μ-loop
-load-member-requires c κs = search needs
+load-member-requires c κs = omega arith
 
 -- src/writer/load.rt:52:5
 loop-less : tie.Need-loop-less Inv-loop μ-loop
-loop-less c = search needs
+loop-less c = omega arith
 
 -- src/writer/load.rt:52:5
 loop-again : tie.Need-loop-again Inv-loop μ-loop
-loop-again c = search needs
+loop-again c = omega arith
 
 -- src/writer/load.rt:52:5
 loop-less-2 : tie.Need-loop-less-2 Inv-loop μ-loop
-loop-less-2 c = search needs
+loop-less-2 c = omega arith
 
 -- src/writer/load.rt:52:5
 loop-again-2 : tie.Need-loop-again-2 Inv-loop μ-loop
-loop-again-2 c = search needs
+loop-again-2 c = omega arith
 
 -- src/writer/load.rt:50:1
 same-length-2 : tie.Need-same-length-2 Inv-loop μ-loop
-same-length-2 c = search needs
+same-length-2 c = omega arith
 
 -- src/writer/load.rt:50:1
 returns-2 : tie.Need-returns-2 Inv-loop μ-loop
-returns-2 c = search needs
+returns-2 c = omega arith
 
 pub load-choice-spec : {M : Type 1} → statement M
 load-choice-spec =

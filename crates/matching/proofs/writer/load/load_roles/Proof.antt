@@ -1,3 +1,4 @@
+use native.Mathlib.Omega.{arith}
 use borrow.Author.Needs.{needs}
 use lib.ListN.{length}
 use mathlib.Core.Path.{_≡_}
@@ -16,75 +17,75 @@ abbrev μ-loop : tie.MeasureT-loop
 
 -- src/writer/load.rt:17:5
 loop-holds : tie.Need-loop-holds Inv-loop μ-loop
-loop-holds c = search needs
+loop-holds c = omega arith
 
 -- src/writer/load.rt:18:18
 cast-at : tie.Need-cast-at Inv-loop μ-loop
-cast-at c = search needs
+cast-at c = omega arith
 
 -- src/writer/load.rt:18:18
 mul-at : tie.Need-mul-at Inv-loop μ-loop
-mul-at c = search needs
+mul-at c = omega arith
 
 -- src/writer/load.rt:19:26
 add-if1 : tie.Need-add-if1 Inv-loop μ-loop
-add-if1 c = search needs
+add-if1 c = omega arith
 
 -- src/writer/load.rt:20:13
 same-length : tie.Need-same-length Inv-loop μ-loop
-same-length c = search needs
+same-length c = omega arith
 
 -- src/writer/load.rt:20:13
 returns : tie.Need-returns Inv-loop μ-loop
-returns c = search needs
+returns c = omega arith
 
 -- src/writer/load.rt:22:34
 mul-store : tie.Need-mul-store Inv-loop μ-loop
-mul-store c = search needs
+mul-store c = omega arith
 
 -- src/writer/load.rt:22:34
 shared-slice-read-store : tie.Need-shared-slice-read-store Inv-loop μ-loop
-shared-slice-read-store c = search needs
+shared-slice-read-store c = omega arith
 
 -- src/writer/load.rt:22:9
 store-requires : tie.Need-store-requires Inv-loop μ-loop
-store-requires c κs = search needs
+store-requires c κs = omega arith
 
 -- src/writer/load.rt:23:39
 add-store : tie.Need-add-store Inv-loop μ-loop
-add-store c = search needs
+add-store c = omega arith
 
 -- src/writer/load.rt:23:34
 mul-store-2 : tie.Need-mul-store-2 Inv-loop μ-loop
-mul-store-2 c = search needs
+mul-store-2 c = omega arith
 
 -- src/writer/load.rt:23:34
 shared-slice-read-store-2 : tie.Need-shared-slice-read-store-2 Inv-loop μ-loop
-shared-slice-read-store-2 c = search needs
+shared-slice-read-store-2 c = omega arith
 
 -- src/writer/load.rt:23:9
 store-requires-2 : tie.Need-store-requires-2 Inv-loop μ-loop
-store-requires-2 c κs = search needs
+store-requires-2 c κs = omega arith
 
 -- src/writer/load.rt:24:9
 add-s : tie.Need-add-s Inv-loop μ-loop
-add-s c = search needs
+add-s c = omega arith
 
 -- src/writer/load.rt:17:5
 loop-less : tie.Need-loop-less Inv-loop μ-loop
-loop-less c = search needs
+loop-less c = omega arith
 
 -- src/writer/load.rt:17:5
 loop-again : tie.Need-loop-again Inv-loop μ-loop
-loop-again c = search needs
+loop-again c = omega arith
 
 -- src/writer/load.rt:15:1
 same-length-2 : tie.Need-same-length-2 Inv-loop μ-loop
-same-length-2 c = search needs
+same-length-2 c = omega arith
 
 -- src/writer/load.rt:15:1
 returns-2 : tie.Need-returns-2 Inv-loop μ-loop
-returns-2 c = search needs
+returns-2 c = omega arith
 
 pub load-roles-spec : {M : Type 1} → statement M
 load-roles-spec =

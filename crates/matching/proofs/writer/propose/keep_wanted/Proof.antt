@@ -1,3 +1,4 @@
+use native.Mathlib.Omega.{arith}
 use borrow.Author.Needs.{needs}
 use lib.ListN.{length}
 use mathlib.Core.Path.{_≡_}
@@ -26,83 +27,83 @@ abbrev μ-loop : tie.MeasureT-loop
 
 -- src/writer/propose.rt:290:5
 put-requires : tie.Need-put-requires Inv-loop μ-loop
-put-requires c κs = search needs
+put-requires c κs = omega arith
 
 -- src/writer/propose.rt:291:9
 number-requires : tie.Need-number-requires Inv-loop μ-loop
-number-requires c κs = search needs
+number-requires c κs = omega arith
 
 -- src/writer/propose.rt:293:5
 loop-holds : tie.Need-loop-holds Inv-loop μ-loop
-loop-holds c = search needs
+loop-holds c = omega arith
 
 -- src/writer/propose.rt:294:9
 sub-k : tie.Need-sub-k Inv-loop μ-loop
-sub-k c = search needs
+sub-k c = omega arith
 
 -- src/writer/propose.rt:295:13
 line-at-requires : tie.Need-line-at-requires Inv-loop μ-loop
-line-at-requires c κs = search needs
+line-at-requires c κs = omega arith
 
 -- src/writer/propose.rt:296:13
 left-of-requires : tie.Need-left-of-requires Inv-loop μ-loop
-left-of-requires c κs = search needs
+left-of-requires c κs = omega arith
 
 -- src/writer/propose.rt:297:13
 right-of-requires : tie.Need-right-of-requires Inv-loop μ-loop
-right-of-requires c κs = search needs
+right-of-requires c κs = omega arith
 
 -- src/writer/propose.rt:298:13
 has-requires : tie.Need-has-requires Inv-loop μ-loop
-has-requires c κs = search needs
+has-requires c κs = omega arith
 
 -- src/writer/propose.rt:293:5
 loop-less : tie.Need-loop-less Inv-loop μ-loop
-loop-less c = search needs
+loop-less c = omega arith
 
 -- src/writer/propose.rt:293:5
 loop-again : tie.Need-loop-again Inv-loop μ-loop
-loop-again c = search needs
+loop-again c = omega arith
 
 -- src/writer/propose.rt:301:13
 rule-of-requires : tie.Need-rule-of-requires Inv-loop μ-loop
-rule-of-requires c κs = search needs
+rule-of-requires c κs = omega arith
 
 -- src/writer/propose.rt:303:13
 extra-of-requires : tie.Need-extra-of-requires Inv-loop μ-loop
-extra-of-requires c κs = search needs
+extra-of-requires c κs = omega arith
 
 -- src/writer/propose.rt:304:9
 want-requires : tie.Need-want-requires Inv-loop μ-loop
-want-requires c κs = search needs
+want-requires c κs = omega arith
 
 -- src/writer/propose.rt:305:9
 sub-to : tie.Need-sub-to Inv-loop μ-loop
-sub-to c = search needs
+sub-to c = omega arith
 
 -- src/writer/propose.rt:306:13
 proposed-requires : tie.Need-proposed-requires Inv-loop μ-loop
-proposed-requires c κs = search needs
+proposed-requires c κs = omega arith
 
 -- src/writer/propose.rt:307:9
 put-line-requires : tie.Need-put-line-requires Inv-loop μ-loop
-put-line-requires c κs = search needs
+put-line-requires c κs = omega arith
 
 -- src/writer/propose.rt:293:5
 loop-less-2 : tie.Need-loop-less-2 Inv-loop μ-loop
-loop-less-2 c = search needs
+loop-less-2 c = omega arith
 
 -- src/writer/propose.rt:293:5
 loop-again-2 : tie.Need-loop-again-2 Inv-loop μ-loop
-loop-again-2 c = search needs
+loop-again-2 c = omega arith
 
 -- src/writer/propose.rt:289:1
 same-length : tie.Need-same-length Inv-loop μ-loop
-same-length c = search needs
+same-length c = omega arith
 
 -- src/writer/propose.rt:289:1
 returns : tie.Need-returns Inv-loop μ-loop
-returns c = search needs
+returns c = omega arith
 
 pub keep-wanted-spec : {M : Type 1} → statement M
 keep-wanted-spec =

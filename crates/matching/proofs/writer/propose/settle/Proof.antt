@@ -1,3 +1,4 @@
+use native.Mathlib.Omega.{arith}
 use borrow.Author.Needs.{needs}
 use lib.ListN.{length}
 use mathlib.Core.Path.{_≡_}
@@ -19,47 +20,47 @@ abbrev μ-loop : tie.MeasureT-loop
 
 -- src/writer/propose.rt:160:5
 loop-holds : tie.Need-loop-holds Inv-loop μ-loop
-loop-holds c = search needs
+loop-holds c = omega arith
 
 -- src/writer/propose.rt:161:13
 line-at-requires : tie.Need-line-at-requires Inv-loop μ-loop
-line-at-requires c κs = search needs
+line-at-requires c κs = omega arith
 
 -- src/writer/propose.rt:162:13
 left-of-requires : tie.Need-left-of-requires Inv-loop μ-loop
-left-of-requires c κs = search needs
+left-of-requires c κs = omega arith
 
 -- src/writer/propose.rt:163:13
 right-of-requires : tie.Need-right-of-requires Inv-loop μ-loop
-right-of-requires c κs = search needs
+right-of-requires c κs = omega arith
 
 -- src/writer/propose.rt:164:9
 put-requires : tie.Need-put-requires Inv-loop μ-loop
-put-requires c κs = search needs
+put-requires c κs = omega arith
 
 -- src/writer/propose.rt:165:9
 put-requires-2 : tie.Need-put-requires-2 Inv-loop μ-loop
-put-requires-2 c κs = search needs
+put-requires-2 c κs = omega arith
 
 -- src/writer/propose.rt:166:9
 add-k : tie.Need-add-k Inv-loop μ-loop
-add-k c = search needs
+add-k c = omega arith
 
 -- src/writer/propose.rt:160:5
 loop-less : tie.Need-loop-less Inv-loop μ-loop
-loop-less c = search needs
+loop-less c = omega arith
 
 -- src/writer/propose.rt:160:5
 loop-again : tie.Need-loop-again Inv-loop μ-loop
-loop-again c = search needs
+loop-again c = omega arith
 
 -- src/writer/propose.rt:158:1
 same-length : tie.Need-same-length Inv-loop μ-loop
-same-length c = search needs
+same-length c = omega arith
 
 -- src/writer/propose.rt:158:1
 returns : tie.Need-returns Inv-loop μ-loop
-returns c = search needs
+returns c = omega arith
 
 pub settle-spec : {M : Type 1} → statement M
 settle-spec =

@@ -1,3 +1,4 @@
+use native.Mathlib.Omega.{arith}
 use borrow.Author.Needs.{needs}
 use lib.ListN.{length}
 use mathlib.Core.Path.{_≡_}
@@ -17,39 +18,39 @@ abbrev μ-loop : tie.MeasureT-loop
 
 -- src/writer/propose.rt:226:5
 loop-holds : tie.Need-loop-holds Inv-loop μ-loop
-loop-holds c = search needs
+loop-holds c = omega arith
 
 -- src/writer/propose.rt:227:13
 word-requires : tie.Need-word-requires Inv-loop μ-loop
-word-requires c κs = search needs
+word-requires c κs = omega arith
 
 -- src/writer/propose.rt:228:13
 word-requires-2 : tie.Need-word-requires-2 Inv-loop μ-loop
-word-requires-2 c κs = search needs
+word-requires-2 c κs = omega arith
 
 -- src/writer/propose.rt:229:9
 store-requires : tie.Need-store-requires Inv-loop μ-loop
-store-requires c κs = search needs
+store-requires c κs = omega arith
 
 -- src/writer/propose.rt:230:9
 add-w : tie.Need-add-w Inv-loop μ-loop
-add-w c = search needs
+add-w c = omega arith
 
 -- src/writer/propose.rt:226:5
 loop-less : tie.Need-loop-less Inv-loop μ-loop
-loop-less c = search needs
+loop-less c = omega arith
 
 -- src/writer/propose.rt:226:5
 loop-again : tie.Need-loop-again Inv-loop μ-loop
-loop-again c = search needs
+loop-again c = omega arith
 
 -- src/writer/propose.rt:224:1
 same-length : tie.Need-same-length Inv-loop μ-loop
-same-length c = search needs
+same-length c = omega arith
 
 -- src/writer/propose.rt:224:1
 returns : tie.Need-returns Inv-loop μ-loop
-returns c = search needs
+returns c = omega arith
 
 pub want-members-spec : {M : Type 1} → statement M
 want-members-spec =

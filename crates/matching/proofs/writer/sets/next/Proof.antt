@@ -16,27 +16,27 @@ abbrev μ-loop : tie.MeasureT-loop
 
 -- src/writer/sets.rt:92:5
 loop-holds : tie.Need-loop-holds Inv-loop μ-loop
-loop-holds c = search needs
+loop-holds c = omega arith
 
 -- src/writer/sets.rt:93:20
 fresh-requires : tie.Need-fresh-requires Inv-loop μ-loop
-fresh-requires c κs = search needs
+fresh-requires c κs = omega arith
 
 -- src/writer/sets.rt:93:50
 cast-rest : tie.Need-cast-rest Inv-loop μ-loop
-cast-rest c = search needs
+cast-rest c = omega arith
 
 -- src/writer/sets.rt:93:20
 shr-rest : tie.Need-shr-rest Inv-loop μ-loop
-shr-rest c = search needs
+shr-rest c = omega arith
 
 -- src/writer/sets.rt:95:20
 mul-result : tie.Need-mul-result Inv-loop μ-loop
-mul-result c = search needs
+mul-result c = omega arith
 
 -- src/writer/sets.rt:95:20
 add-result : tie.Need-add-result Inv-loop μ-loop
-add-result c = search needs
+add-result c = omega arith
 
 -- src/writer/sets.rt:95:35
 cast-result : tie.Need-cast-result Inv-loop μ-loop
@@ -48,23 +48,23 @@ add-result-2 c = omega (arith, trailing-le 64 (c .before .fresh .result / 2 ^ c 
 
 -- src/writer/sets.rt:95:13
 returns : tie.Need-returns Inv-loop μ-loop
-returns c = search needs
+returns c = omega arith
 
 -- src/writer/sets.rt:98:9
 add-w : tie.Need-add-w Inv-loop μ-loop
-add-w c = search needs
+add-w c = omega arith
 
 -- src/writer/sets.rt:92:5
 loop-less : tie.Need-loop-less Inv-loop μ-loop
-loop-less c = search needs
+loop-less c = omega arith
 
 -- src/writer/sets.rt:92:5
 loop-again : tie.Need-loop-again Inv-loop μ-loop
-loop-again c = search needs
+loop-again c = omega arith
 
 -- src/writer/sets.rt:86:1
 returns-2 : tie.Need-returns-2 Inv-loop μ-loop
-returns-2 c = search needs
+returns-2 c = omega arith
 
 pub next-spec : {M : Type 1} → statement M
 next-spec =
