@@ -18,21 +18,26 @@ use Rattle.subsumption.specs.Tables.{Tables}
 use Rattle.subsumption.specs.Atoms.{atoms, bit}
 use Rattle.subsumption.specs.Check.{tableFault, assignmentFault, bufferFault}
 use Rattle.subsumption.specs.Refusal.{replyRefused}
-use Rattle.subsumption.specs.Inner.Listing.{Accepted}
 use Rattle.subsumption.proofs.Bools.{last-cases, both-true}
 use Rattle.subsumption.proofs.Bits.{bit-and, bit-pow, bit-of-zero}
 use Rattle.subsumption.proofs.Refusals.{stops, goes-on, done-le, refused-lt}
 use Rattle.subsumption.proofs.Accepted.{wellFormed}
 use Rattle.matching.specs.Solving.{takes, Solves, First}
-use Rattle.matching.specs.Inner.Search.{Between, NoSolution}
+use Rattle.matching.specs.Inner.Search.{Within, Between, NoSolution}
+use Rattle.matching.specs.Inner.Search.Card.{Card}
+use Rattle.matching.specs.Inner.Search.Nogoods.{used, Room, Nogoods}
+use Rattle.matching.specs.Inner.Search.Narrow.{Narrower, Narrowed}
+use Rattle.matching.specs.Inner.Search.Solve.{Answers, Searched}
 use Rattle.matching.specs.Inner.Search.Interval.{IntervalOf}
-use Rattle.matching.specs.Inner.Search.Order.{FirstIn}
-use Rattle.matching.specs.Inner.Find.{Full, Found, FoundBy, Copied}
+use Rattle.matching.specs.Inner.Search.Order.{FirstIn, FirstOf}
+use Rattle.matching.specs.Inner.Find.{Full, Found, FoundBy, FoundIn, Copied}
 use Rattle.matching.specs.declared.find.Match.the-variants.{Filled}
 use Rattle.matching.specs.Find.{findingFault, matchReply, FindsAfter, Finds}
 use Rattle.matching.proofs.SearchLaws.Choices.{one-bit}
 use Rattle.matching.proofs.SubstitutionLaws.Conjoined.{some-solves}
 use Rattle.matching.proofs.SubstitutionLaws.Locality.{none-by-substitution}
+use Rattle.matching.proofs.SearchLaws.Nogoods.{nogoods-none}
+use Rattle.matching.proofs.SearchLaws.Solve.{full-interval, answers-found, answers-none, refuted-none}
 use Rattle.matching.proofs.SearchLaws.Fronts.{front-known, front-within, accepted-bits, accept, within-accepted}
 
 -- ---- all ones
@@ -103,60 +108,88 @@ all-zeros (suc (suc (suc (suc (suc (suc zero)))))) = refl
 all-zeros (suc (suc (suc (suc (suc (suc (suc zero))))))) = refl
 all-zeros (suc (suc (suc (suc (suc (suc (suc (suc k)))))))) = refl
 
--- the number of atoms as it was counted
-pub full-atoms : (t : Tables) (ids high : List ℕ) → Accepted t ids → Full (t .variables) (length ids) high → Full (t .variables) (length (atoms t)) high
-full-atoms t ids high a f = subst (λ (z : List ℕ). Full (t .variables) (length z) high) (a .listed) f
-
-module _ (t : Tables) (h : tableFault t ≡ Done) (low high : List ℕ) (zeros : (k : ℕ) → getD low k 0 ≡ 0) (long : length low ≡ 8) (full : Full (t .variables) (length (atoms t)) high) where
+-- Every solution is between nothing and the narrowed high side.
+module _ (t : Tables) (h : tableFault t ≡ Done) (low all : List ℕ) (zeros : (k : ℕ) → getD low k 0 ≡ 0) (long : length low ≡ 8)
+    (full : Full (t .variables) (length (atoms t)) all) where
   none-low : (k q : ℕ) → takes low k q ≡ true → ⊥
   none-low k q e = bit-of-zero q (subst (λ (z : ℕ). bit z q ≡ true) (zeros k) e)
 
-  pub whole : IntervalOf t low high
-  whole =
-      record {
-        low-long = long;
-        high-long = full .long;
-        accepted =
-            accept t _ (length-take-le _ high (omega (arith, full .long, wellFormed t h .few-variables)))
-            (λ k l. subst (λ (z : ℕ). z < 2 ^ length (atoms t)) (sym (getD-take _ high k 0 l ∙ full .all k l)) (ones-lt (length (atoms t))));
-        ordered = λ k q e. absurd (none-low k q e);
-      }
+  pub all-accepted : assignmentFault t (take (t .variables) all) ≡ Done
+  all-accepted =
+      accept t _ (length-take-le _ all (omega (arith, full .long, wellFormed t h .few-variables)))
+      (λ k l. subst (λ (z : ℕ). z < 2 ^ length (atoms t)) (sym (getD-take _ all k 0 l ∙ full .all k l)) (ones-lt (length (atoms t))))
 
-  all-between : (other : List ℕ) → assignmentFault t other ≡ Done → Between (take (t .variables) low) (take (t .variables) high) other
-  all-between other a =
-      record {
-        above = λ k q e. absurd (none-low k q (front-known (t .variables) low k q e .1));
-        below =
-            λ k q e.
-            let (l, m) = accepted-bits t other a k q e in
-            subst (λ (z : ℕ). bit z q ≡ true) (sym (getD-take _ high k 0 l ∙ full .all k l)) (bit-of-ones (length (atoms t)) q m);
-      }
+  within-all : (other : List ℕ) → assignmentFault t other ≡ Done → Within other (take (t .variables) all)
+  within-all other a k q e =
+      let (l, m) = accepted-bits t other a k q e in
+      subst (λ (z : ℕ). bit z q ≡ true) (sym (getD-take _ all k 0 l ∙ full .all k l)) (bit-of-ones (length (atoms t)) q m)
 
-  pub nothing-found : NoSolution t low high → (other : List ℕ) → assignmentFault t other ≡ Done → Solves t other → ⊥
-  nothing-found n other a s = n other a (all-between other a) s
+  module _ (high : List ℕ) (size : length high ≡ 8) (n : Narrower t all high) where
+    pub whole : IntervalOf t low high
+    whole =
+        record {
+          low-long = long;
+          high-long = size;
+          accepted =
+              within-accepted t _ _ all-accepted (length-take-le _ high (omega (arith, wellFormed t h .few-variables)))
+              (front-within (t .variables) high all (n .fewer));
+          ordered = λ k q e. absurd (none-low k q e);
+        }
 
-  pub first-found : (choice : List ℕ) → FirstIn t low high choice → Found t choice
-  first-found choice f =
-      record {
-        long = f .solution .long;
-        first =
-            record {
-              accepted =
-                  within-accepted t _ _ (whole .accepted) (length-take-le _ choice (omega (arith, f .solution .long, wellFormed t h .few-variables)))
-                  (front-within (t .variables) choice high (f .solution .between .below));
-              solves = f .solution .solves;
-              first = λ other a s. f .first other a (all-between other a) s;
-            };
-      }
+    all-between : (other : List ℕ) → assignmentFault t other ≡ Done → Solves t other → Between (take (t .variables) low) (take (t .variables) high) other
+    all-between other a s =
+        record {
+          above = λ k q e. absurd (none-low k q (front-known (t .variables) low k q e .1));
+          below = n .all other a s (within-all other a);
+        }
 
-pub every-atom : (t : Tables) (h : tableFault t ≡ Done) (high : List ℕ) → Full (t .variables) (length (atoms t)) high → IntervalOf t high high
-every-atom t h high f =
-    record {
-      low-long = f .long;
-      high-long = f .long;
-      accepted = whole t h (0 ∷ 0 ∷ 0 ∷ 0 ∷ 0 ∷ 0 ∷ 0 ∷ 0 ∷ []) high all-zeros refl f .accepted;
-      ordered = λ k q e. e;
-    }
+    pub nothing-found : NoSolution t low high → (other : List ℕ) → assignmentFault t other ≡ Done → Solves t other → ⊥
+    nothing-found x other a s = x other a (all-between other a s) s
+
+    pub first-found : (choice : List ℕ) → FirstIn t low high choice → Found t choice
+    first-found choice f =
+        record {
+          long = f .solution .long;
+          first =
+              record {
+                accepted =
+                    within-accepted t _ _ (whole .accepted) (length-take-le _ choice (omega (arith, f .solution .long, wellFormed t h .few-variables)))
+                    (front-within (t .variables) choice high (f .solution .between .below));
+                solves = f .solution .solves;
+                first = λ other a s. f .first other a (all-between other a s) s;
+              };
+        }
+
+-- ---- the search, whatever the tables
+pub room-none : (store : List ℕ) → length store ≡ 16385 → used store ≡ 0 → Room store
+room-none store e f = record { long = e; few = omega arith }
+
+module _ (sets card : List ℕ) (variables count : ℕ) (low all high : List ℕ) (zeros : (k : ℕ) → getD low k 0 ≡ 0) (long : length low ≡ 8)
+    (full : Full variables count all) (size : length high ≡ 8) (n : Narrowed sets card all high)
+    (before after : List ℕ) (fits : length before ≡ 16385) (none : used before ≡ 0) (found : Bool) (known rest : List ℕ)
+    (s : Searched sets card high low high before after (λ t. Answers t low high found known rest)) where
+  module _ (t : Tables) (c : Card t sets card) (v : t .variables ≡ variables) (k : length (atoms t) ≡ count) where
+    full-of : Full (t .variables) (length (atoms t)) all
+    full-of = subst (λ (z : ℕ). Full z (length (atoms t)) all) (sym v) (subst (λ (z : ℕ). Full variables z all) (sym k) full)
+
+    narrower : Narrower t all high
+    narrower = n t c (all-accepted t (c .passed) low all zeros long full-of)
+
+    start : IntervalOf t low high
+    start = whole t (c .passed) low all zeros long full-of high size narrower
+
+    searched : Answers t low high found known rest × Nogoods t after
+    searched = s t c start (full-interval t low high start) (nogoods-none t before fits none)
+
+  pub found-first : (choice : List ℕ) → found ≡ true → FirstOf sets card low high after known choice → FoundIn sets card variables count true choice
+  found-first choice e f t c v k =
+      first-found t (c .passed) low all zeros long (full-of t c v k) high size (narrower t c v k) choice
+      (f t c (start t c v k) (searched t c v k .1) (answers-found t low high found known rest (searched t c v k .0) e))
+
+  pub found-none : found ≡ false → FoundIn sets card variables count false known
+  found-none e t c v k =
+      nothing-found t (c .passed) low all zeros long (full-of t c v k) high size (narrower t c v k)
+      (refuted-none t low high known rest (answers-none t low high found known rest (searched t c v k .0) e))
 
 -- ---- the answer
 module _ (t : Tables) (before : List ℕ) where

@@ -16,7 +16,7 @@ use Rattle.subsumption.proofs.Bools.{both-true, both-intro, eq-or-ne, last-case
 use Rattle.subsumption.proofs.MarkLaws.{counted-less}
 use Rattle.subsumption.proofs.Accepted.{wellFormed}
 use Rattle.matching.specs.Solving.{takes, Solves}
-use Rattle.matching.specs.Inner.Search.{Decided, Hold, Within, SolutionIn, NoSolution}
+use Rattle.matching.specs.Inner.Search.{Decided, HoldsAt, Within, SolutionIn, NoSolution}
 use Rattle.matching.specs.Inner.Search.Pairs.{Changed}
 use Rattle.matching.specs.Inner.Search.Interval.{IntervalOf, undecided, openPairs, Picked}
 use Rattle.matching.specs.Inner.Search.Solve.{Refuted}
@@ -63,11 +63,46 @@ module _ (before after : List ℕ) (k q : ℕ) where
   pub shrunk-cases : Changed before after k q false → (l r : ℕ) → takes before l r ≡ true → ((l ≡ k) × (r ≡ q)) ⊎ (takes after l r ≡ true)
   shrunk-cases c l r e = ⊎-elim (λ x. inl x) (λ n. inr (c .elsewhere l r n ∙ e)) (same-or-not l r k q)
 
+-- ---- splitting, whatever the tables
+module _ (low high : List ℕ) (p : ℕ) (l : p < 512) (u : undecided low high p ≡ true) where
+  pub take-less : (low₂ high₂ : List ℕ) → high₂ ≡ high → Changed low low₂ (p / 64) (p % 64) true → openPairs low₂ high₂ < openPairs low high
+  unfolding openPairs
+  take-less low₂ high₂ e c =
+      subst (λ (z : List ℕ). counted (undecided low₂ z) 512 < counted (undecided low high) 512) (sym e)
+      (counted-less _ _ 512 p l decided u more)
+    where
+      decided : undecided low₂ high p ≡ false
+      decided = go (undecided low₂ high p) refl
+        where
+          go : (b : Bool) → undecided low₂ high p ≡ b → undecided low₂ high p ≡ false
+          go true x = absurd (true≢false (sym (c .here) ∙ open-low low₂ high p x))
+          go false x = x
+
+      more : (q : ℕ) → q < 512 → undecided low₂ high q ≡ true → undecided low high q ≡ true
+      more q m x = open-intro low high q (open-high low₂ high q x) (go (takes low (q / 64) (q % 64)) refl)
+        where
+          go : (b : Bool) → takes low (q / 64) (q % 64) ≡ b → takes low (q / 64) (q % 64) ≡ false
+          go true y = absurd (true≢false (sym (grown low low₂ _ _ c _ _ y) ∙ open-low low₂ high q x))
+          go false y = y
+
+  pub leave-less : (low₁ high₁ : List ℕ) → low₁ ≡ low → Changed high high₁ (p / 64) (p % 64) false → openPairs low₁ high₁ < openPairs low high
+  unfolding openPairs
+  leave-less low₁ high₁ e c =
+      subst (λ (z : List ℕ). counted (undecided z high₁) 512 < counted (undecided low high) 512) (sym e)
+      (counted-less _ _ 512 p l decided u more)
+    where
+      decided : undecided low high₁ p ≡ false
+      decided = go (undecided low high₁ p) refl
+        where
+          go : (b : Bool) → undecided low high₁ p ≡ b → undecided low high₁ p ≡ false
+          go true x = absurd (true≢false (sym (open-high low high₁ p x) ∙ c .here))
+          go false x = x
+
+      more : (q : ℕ) → q < 512 → undecided low high₁ q ≡ true → undecided low high q ≡ true
+      more q m x = open-intro low high q (shrunk high high₁ _ _ c _ _ (open-high low high₁ q x)) (open-low low high₁ q x)
+
 -- ---- tests of an interval
 module _ (t : Tables) (h : tableFault t ≡ Done) where
-  hold-up : (a b : List ℕ) → Within a b → Hold t a false → Hold t b false
-  hold-up a b w f m l e = monotone t (wellFormed t h) a b w _ _ e (f m l e)
-
   left-free : (m : ℕ) → m < pairsOf (t .questions) → hasVariable (tree (t .concepts) (rightOf (t .questions) m)) ≡ true → hasVariable (tree (t .concepts) (leftOf (t .questions) m)) ≡ false
   left-free m l e = go (hasVariable (tree (t .concepts) (leftOf (t .questions) m))) refl
     where
@@ -75,23 +110,18 @@ module _ (t : Tables) (h : tableFault t ≡ Done) where
       go true x = absurd (true≢false (sym (both-intro _ _ x e) ∙ wellFormed t h .one-sided m l))
       go false x = x
 
-  hold-down : (a b : List ℕ) → Within a b → Hold t b true → Hold t a true
-  hold-down a b w f m l e = antitone t (wellFormed t h) a b w _ _ (left-free m l e) (f m l e)
+  module _ (low high : List ℕ) (m : ℕ) (l : m < pairsOf (t .questions)) where
+    -- a question with a variable on the right that fails at the low side
+    pub low-shuts :
+        hasVariable (tree (t .concepts) (rightOf (t .questions) m)) ≡ true → (HoldsAt t (take (t .variables) low) m → ⊥) → NoSolution t low high
+    low-shuts e n other a b s = n (antitone t (wellFormed t h) _ other (b .above) _ _ (left-free m l e) (s m l))
 
-  pub holds-solve : (a : List ℕ) → Hold t a true → Hold t a false → Solves t a
-  holds-solve a x y m l = go (hasVariable (tree (t .concepts) (rightOf (t .questions) m))) refl
-    where
-      go : (b : Bool) → hasVariable (tree (t .concepts) (rightOf (t .questions) m)) ≡ b → Subsumed t a (leftOf (t .questions) m) (rightOf (t .questions) m)
-      go true e = x m l e
-      go false e = y m l e
+    -- another one that fails at the high side
+    pub high-shuts :
+        hasVariable (tree (t .concepts) (rightOf (t .questions) m)) ≡ false → (HoldsAt t (take (t .variables) high) m → ⊥) → NoSolution t low high
+    high-shuts e n other a b s = n (monotone t (wellFormed t h) other _ (b .below) _ _ e (s m l))
 
   module _ (low high : List ℕ) where
-    pub low-shuts : (Hold t (take (t .variables) low) true → ⊥) → NoSolution t low high
-    low-shuts n other a b s = n (hold-down _ other (b .above) (λ m l e. s m l))
-
-    pub high-shuts : (Hold t (take (t .variables) high) false → ⊥) → NoSolution t low high
-    high-shuts n other a b s = n (hold-up other _ (b .below) (λ m l e. s m l))
-
     module _ (i : IntervalOf t low high) where
       pub low-fits : t .variables ≤ length low
       low-fits = omega (arith, i .low-long, wellFormed t h .few-variables)
@@ -135,26 +165,6 @@ module _ (t : Tables) (h : tableFault t ≡ Done) where
                     λ k q x. ⊎-elim (λ y. at-pair high k q _ _ true y (open-high low high p u)) (λ y. i .ordered k q y) (grown-cases low low₂ _ _ c k q x);
               })
 
-          pub take-less : p < 512 → openPairs low₂ high₂ < openPairs low high
-          unfolding openPairs
-          take-less l =
-              subst (λ (z : List ℕ). counted (undecided low₂ z) 512 < counted (undecided low high) 512) (sym e)
-              (counted-less _ _ 512 p l decided u more)
-            where
-              decided : undecided low₂ high p ≡ false
-              decided = go (undecided low₂ high p) refl
-                where
-                  go : (b : Bool) → undecided low₂ high p ≡ b → undecided low₂ high p ≡ false
-                  go true x = absurd (true≢false (sym (c .here) ∙ open-low low₂ high p x))
-                  go false x = x
-
-              more : (q : ℕ) → q < 512 → undecided low₂ high q ≡ true → undecided low high q ≡ true
-              more q m x = open-intro low high q (open-high low₂ high q x) (go (takes low (q / 64) (q % 64)) refl)
-                where
-                  go : (b : Bool) → takes low (q / 64) (q % 64) ≡ b → takes low (q / 64) (q % 64) ≡ false
-                  go true y = absurd (true≢false (sym (grown low low₂ _ _ c _ _ y) ∙ open-low low₂ high q x))
-                  go false y = y
-
           pub take-found : (choice : List ℕ) → SolutionIn t low₂ high₂ choice → SolutionIn t low high choice
           take-found choice s =
               record {
@@ -182,22 +192,6 @@ module _ (t : Tables) (h : tableFault t ≡ Done) where
                     ⊎-elim (λ y. absurd (true≢false (sym x ∙ at-pair low k q _ _ false y (open-low low high p u)))) (λ y. y)
                     (shrunk-cases high high₁ _ _ c k q (i .ordered k q x));
               })
-
-          pub leave-less : p < 512 → openPairs low₁ high₁ < openPairs low high
-          unfolding openPairs
-          leave-less l =
-              subst (λ (z : List ℕ). counted (undecided z high₁) 512 < counted (undecided low high) 512) (sym e)
-              (counted-less _ _ 512 p l decided u more)
-            where
-              decided : undecided low high₁ p ≡ false
-              decided = go (undecided low high₁ p) refl
-                where
-                  go : (b : Bool) → undecided low high₁ p ≡ b → undecided low high₁ p ≡ false
-                  go true x = absurd (true≢false (sym (open-high low high₁ p x) ∙ c .here))
-                  go false x = x
-
-              more : (q : ℕ) → q < 512 → undecided low high₁ q ≡ true → undecided low high q ≡ true
-              more q m x = open-intro low high q (shrunk high high₁ _ _ c _ _ (open-high low high₁ q x)) (open-low low high₁ q x)
 
           pub leave-found : (choice : List ℕ) → SolutionIn t low₁ high₁ choice → SolutionIn t low high choice
           leave-found choice s =

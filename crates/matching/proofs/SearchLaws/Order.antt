@@ -1,11 +1,11 @@
 -- The walk over the pairs in their order: all before a place are decided, and every solution is still between or comes later.
 use Prim.Native.Nat.{ℕ, _+_, _*_, _/_, _%_, _<_, _≤_}
-use mathlib.Core.Path.{_≡_, refl, sym, _∙_, subst}
+use mathlib.Core.Path.{_≡_, refl, sym, ap, _∙_, subst}
 use mathlib.Core.List.{List}
 use mathlib.Core.Bool.{Bool, true, false, true≢false}
 use mathlib.Core.Logic.{_⊎_, inl, inr, ⊎-elim}
 use native.Mathlib.Omega.{arith}
-use lib.ListN.{take}
+use lib.ListN.{length, take}
 use lib.Seq.{length-take-le}
 use Rattle.subsumption.specs.declared.refusal.Outcome.the-variants.{Done}
 use Rattle.subsumption.specs.Tables.{Tables}
@@ -16,9 +16,13 @@ use Rattle.matching.specs.Solving.{takes, Solves, Earlier}
 use Rattle.matching.specs.Inner.Search.{Within, Between, SolutionIn, NoSolution}
 use Rattle.matching.specs.Inner.Search.Pairs.{Changed}
 use Rattle.matching.specs.Inner.Search.Interval.{IntervalOf, undecided}
-use Rattle.matching.specs.Inner.Search.Order.{FirstIn}
+use Rattle.matching.specs.Inner.Search.Card.{Card}
+use Rattle.matching.specs.Inner.Search.Nogoods.{Room, Nogoods}
+use Rattle.matching.specs.Inner.Search.Solve.{Answers, Searched}
+use Rattle.matching.specs.Inner.Search.Order.{FirstIn, FirstOf}
 use Rattle.matching.proofs.SearchLaws.Fronts.{front-known, front-takes, front-within, accepted-bits, within-accepted, same-taken}
 use Rattle.matching.proofs.SearchLaws.Interval.{open-high, open-low, open-intro, at-pair, grown, grown-cases, shrunk, shrunk-cases, take-keeps, leave-keeps}
+use Rattle.matching.proofs.SearchLaws.Solve.{answers-found, answers-none, refuted-none}
 
 abbrev at : List ℕ → ℕ → Bool
 at a p = takes a (p / 64) (p % 64)
@@ -307,3 +311,101 @@ module _ (t : Tables) (h : tableFault t ≡ Done) (low₀ high₀ : List ℕ) wh
                 };
             first = λ other a b s. ⊎-elim (λ y. inl (equal other a y)) (λ y. inr (earlier other a y)) (w .rest other a b s);
           }
+
+-- ---- whatever the tables
+module _ (sets card low₀ high₀ store₀ known : List ℕ) where
+  pub record Walking (low high witness store : List ℕ) (p : ℕ) : Type 0 where
+    pub low-long : length low ≡ 8
+    pub high-long : length high ≡ 8
+    pub witness-long : length witness ≡ 8
+    pub room : Room store
+    pub walk :
+        (t : Tables) → Card t sets card → IntervalOf t low₀ high₀ → Nogoods t store₀ → SolutionIn t low₀ high₀ known
+        → Walk t low₀ high₀ low high witness p × Nogoods t store
+
+  pub walking-start : (length low₀ ≡ 8) × (length high₀ ≡ 8) × (length known ≡ 8) → Room store₀ → Walking low₀ high₀ known store₀ 0
+  walking-start (a, b, d) r =
+      record {
+        low-long = a;
+        high-long = b;
+        witness-long = d;
+        room = r;
+        walk = λ t c i n s. (walk-start t (c .passed) low₀ high₀ known i s, n);
+      }
+
+  module _ (low high witness store : List ℕ) (p : ℕ) (w : Walking low high witness store p) where
+    pub walking-done : 512 ≤ p → FirstOf sets card low₀ high₀ store₀ known witness
+    walking-done l t c i n s = walk-done t (c .passed) low₀ high₀ low high witness p (w .walk t c i n s .0) l
+
+    module _ (l : p < 512) where
+      pub walking-skip : undecided low high p ≡ false → Walking low high witness store (p + 1)
+      walking-skip d =
+          record {
+            low-long = w .low-long;
+            high-long = w .high-long;
+            witness-long = w .witness-long;
+            room = w .room;
+            walk =
+                λ t c i n s. let (v, m) = w .walk t c i n s in (walk-skip t (c .passed) low₀ high₀ low high witness p v l d, m);
+          }
+
+      module _ (u : undecided low high p ≡ true) (low₁ high₁ : List ℕ) (e : low₁ ≡ low) (d : Changed high high₁ (p / 64) (p % 64) false) where
+        pub walking-witness : at witness p ≡ false → Walking low₁ high₁ witness store (p + 1)
+        walking-witness x =
+            record {
+              low-long = ap length e ∙ w .low-long;
+              high-long = d .long;
+              witness-long = w .witness-long;
+              room = w .room;
+              walk =
+                  λ t c i n s.
+                  let (v, m) = w .walk t c i n s in (walk-witness t (c .passed) low₀ high₀ low high witness p v l u high₁ d low₁ e x, m);
+            }
+
+        module _ (after : List ℕ) (room : Room after) (found : Bool) (choice rest : List ℕ)
+            (s : Searched sets card high₀ low₁ high₁ store after (λ t. Answers t low₁ high₁ found choice rest)) where
+          searched :
+              (t : Tables) → Card t sets card → IntervalOf t low₀ high₀ → Walk t low₀ high₀ low high witness p → Nogoods t store
+              → Answers t low₁ high₁ found choice rest × Nogoods t after
+          searched t c i v m =
+              s t c (leave-keeps t (c .passed) low high (v .interval) p u low₁ high₁ e d)
+              (record {
+                low-long = d .long;
+                high-long = i .high-long;
+                accepted = i .accepted;
+                ordered = λ k q x. v .below k q (shrunk high high₁ _ _ d k q x);
+              })
+              m
+
+          pub walking-leave : found ≡ true → length choice ≡ 8 → Walking low₁ high₁ choice after (p + 1)
+          walking-leave f g =
+              record {
+                low-long = ap length e ∙ w .low-long;
+                high-long = d .long;
+                witness-long = g;
+                room = room;
+                walk =
+                    λ t c i n x.
+                    let (v, m) = w .walk t c i n x in
+                    let (a, o) = searched t c i v m in
+                    (walk-leave t (c .passed) low₀ high₀ low high witness p v l u high₁ d low₁ choice e (answers-found t low₁ high₁ found choice rest a f), o);
+              }
+
+          pub walking-take :
+              found ≡ false → (low₂ high₂ : List ℕ) → high₂ ≡ high → Changed low low₂ (p / 64) (p % 64) true → at witness p ≡ true
+              → Walking low₂ high₂ witness after (p + 1)
+          walking-take f low₂ high₂ g y x =
+              record {
+                low-long = y .long;
+                high-long = ap length g ∙ w .high-long;
+                witness-long = w .witness-long;
+                room = room;
+                walk =
+                    λ t c i n z.
+                    let (v, m) = w .walk t c i n z in
+                    let (a, o) = searched t c i v m in (
+                      walk-take t (c .passed) low₀ high₀ low high witness p v l u high₁ d low₁ low₂ high₂ e g y x
+                          (refuted-none t low₁ high₁ choice rest (answers-none t low₁ high₁ found choice rest a f)),
+                      o,
+                    );
+              }

@@ -2,87 +2,172 @@
 use Prim.Native.Nat.{ℕ, _+_, _*_, _/_, _%_, _<_, _≤_}
 use mathlib.Core.Path.{_≡_, refl, sym, ap, _∙_, subst}
 use mathlib.Core.List.{List}
-use mathlib.Core.Bool.{Bool, true, false, not, _||_, _&&_, false≢true, true≢false}
+use mathlib.Core.Bool.{Bool, true, false, not, Bool·beq, _||_, _&&_, false≢true, true≢false}
 use mathlib.Core.Logic.{⊎-elim}
 use native.Mathlib.Omega.{arith}
 use lib.ListN.{length, take, getD}
 use lib.Seq.{length-take-le}
 use Rattle.subsumption.specs.declared.refusal.Outcome.the-variants.{Done}
-use Rattle.subsumption.specs.Tables.{Tables}
+use Rattle.subsumption.specs.Tables.{Tables, pairsOf, rightOf, tree, hasVariable}
 use Rattle.subsumption.specs.Atoms.{bit}
 use Rattle.subsumption.specs.Check.{tableFault, assignmentFault}
-use Rattle.subsumption.proofs.Bools.{or-cases, or-first, or-second, both-true, both-intro}
+use Rattle.subsumption.proofs.Bools.{last-cases, or-cases, or-first, or-second, both-true, both-intro}
 use Rattle.subsumption.proofs.Bits.{bit-of-zero}
 use Rattle.subsumption.proofs.Accepted.{wellFormed}
 use Rattle.subsumption.proofs.Columns.{any-false}
 use Rattle.matching.specs.Solving.{takes}
-use Rattle.matching.specs.Inner.Search.{Decided, Hold, Within, SolutionIn, NoSolution}
+use Rattle.matching.specs.Inner.Search.{HoldsAt, Within, SolutionIn, NoSolution}
+use Rattle.matching.specs.Inner.Search.Card.{Card, heldAt, rightAt, questionCount}
 use Rattle.matching.specs.Inner.Search.Pairs.{Changed, Contained}
 use Rattle.matching.specs.Inner.Search.Interval.{IntervalOf, undecided, Picked}
 use Rattle.matching.specs.declared.search.interval.Pick.{Pick}
 use Rattle.matching.specs.declared.search.interval.Pick.the-variants.{Nothing}
-use Rattle.matching.specs.Inner.Search.Nogoods.{used, lowAt, highAt, Nogoods}
-use Rattle.matching.specs.Inner.Search.Widen.{Mixed, Widened}
-use Rattle.matching.specs.Inner.Search.Solve.{Refuted, Answers, CanSplit, Stepped, Known, Recalled, Merged}
+use Rattle.matching.specs.Inner.Search.Nogoods.{used, lowAt, highAt, Room, Nogoods, Added}
+use Rattle.matching.specs.Inner.Search.Patterns.{Tested}
+use Rattle.matching.specs.Inner.Search.Widen.{Mixed, StillFails}
+use Rattle.matching.specs.Inner.Search.Solve.{FailingFor, FailingOf, Failing, Refuted, RefutedBy, Answers, Searched, CanSplit, Known, Recalled, Merged}
 use Rattle.matching.proofs.SearchLaws.Fronts.{front-known, front-takes, front-within, within-accepted}
-use Rattle.matching.proofs.SearchLaws.Pairs.{mixed-same, mixed-again, mixed-within}
-use Rattle.matching.proofs.SearchLaws.Nogoods.{words-long}
-use Rattle.matching.proofs.SearchLaws.Interval.{at-pair, grown, grown-cases, shrunk, shrunk-cases, holds-solve, low-shuts, high-shuts, decided-shut, picked-none, take-found, leave-found}
+use Rattle.matching.proofs.SearchLaws.Pairs.{mixed-same}
+use Rattle.matching.proofs.SearchLaws.Nogoods.{words-long, nogoods-added}
+use Rattle.matching.proofs.SearchLaws.Interval.{decided-true, decided-false, at-pair, grown, grown-cases, shrunk, shrunk-cases, low-shuts, high-shuts, decided-shut, low-accepted, picked-none, take-keeps, take-found, leave-keeps, leave-found}
 
--- ---- carrying a failed test on
-module _ (t : Tables) (h : tableFault t ≡ Done) (full choice target : List ℕ) (i : IntervalOf t choice full) (j : IntervalOf t target full) where
-  pub widened-none : (right : Bool) → (Hold t (take (t .variables) choice) right → ⊥) → Widened t choice target right choice
-  widened-none right f = record { mixed = mixed-same choice target (i .low-long); fails = f }
+-- ---- questions of the card
+module _ (t : Tables) (sets card : List ℕ) (c : Card t sets card) where
+  pub is-asked : (m : ℕ) → m < questionCount card → m < pairsOf (t .questions)
+  is-asked m l = subst (λ (z : ℕ). m < z) (c .questions) l
 
-  module _ (right : Bool) (failing next : List ℕ) (w : Widened t choice target right failing) (m : Mixed failing target next) where
-    pub next-fits : t .variables ≤ length next
-    next-fits = omega (arith, m .long, wellFormed t h .few-variables)
+  -- the mark of its right side
+  pub right-held : (m : ℕ) → m < pairsOf (t .questions) → heldAt card (rightAt card m) ≡ hasVariable (tree (t .concepts) (rightOf (t .questions) m))
+  right-held m l = ap (heldAt card) (c .right m l) ∙ c .held _ (wellFormed t (c .passed) .question-right m l)
 
-    pub next-accepted : assignmentFault t (take (t .variables) next) ≡ Done
-    next-accepted =
-        within-accepted t _ _ (i .accepted) (length-take-le _ next next-fits)
-        (front-within (t .variables) next full (mixed-within choice target next full (mixed-again choice target failing next (w .mixed) m) (i .ordered) (j .ordered)))
+-- ---- looking for one that fails
+abbrev pub HoldTo : List ℕ → List ℕ → List ℕ → Bool → ℕ → Type 0
+HoldTo sets card choice right m =
+    (t : Tables) → Card t sets card → assignmentFault t (take (t .variables) choice) ≡ Done → (n : ℕ) → n < m → n < pairsOf (t .questions)
+    → hasVariable (tree (t .concepts) (rightOf (t .questions) n)) ≡ right → HoldsAt t (take (t .variables) choice) n
 
-    pub widened-more : (b : Bool) → Decided (Hold t (take (t .variables) next) right) b → b ≡ false → Widened t choice target right next
-    widened-more b d e =
-        record { mixed = mixed-again choice target failing next (w .mixed) m; fails = subst (Decided (Hold t (take (t .variables) next) right)) e d }
+unlike : (a b : Bool) → not (Bool·beq a b) ≡ true → a ≡ b → ⊥
+unlike true true o e = false≢true o
+unlike true false o e = true≢false e
+unlike false true o e = false≢true e
+unlike false false o e = false≢true o
+
+module _ (sets card choice : List ℕ) (right : Bool) where
+  pub hold-none : HoldTo sets card choice right 0
+  hold-none t c a n l = absurd (omega arith)
+
+  one-more :
+      (m : ℕ) → HoldTo sets card choice right m
+      → ((t : Tables) → Card t sets card → assignmentFault t (take (t .variables) choice) ≡ Done → m < pairsOf (t .questions)
+      → hasVariable (tree (t .concepts) (rightOf (t .questions) m)) ≡ right → HoldsAt t (take (t .variables) choice) m)
+      → HoldTo sets card choice right (m + 1)
+  one-more m h g t c a n l =
+      ⊎-elim
+      (λ (e : n ≡ m).
+      subst (λ (z : ℕ). z < pairsOf (t .questions) → hasVariable (tree (t .concepts) (rightOf (t .questions) z)) ≡ right → HoldsAt t (take (t .variables) choice) z) (sym e)
+      (g t c a))
+      (λ x. h t c a n x) (last-cases n m (omega arith))
+
+  -- of the other kind
+  pub hold-skip : (m : ℕ) → not (Bool·beq (heldAt card (rightAt card m)) right) ≡ true → HoldTo sets card choice right m → HoldTo sets card choice right (m + 1)
+  hold-skip m o h = one-more m h (λ t c a l e. absurd (unlike _ _ o (right-held t sets card c m l ∙ e)))
+
+  module _ (m : ℕ) (b : Bool) (d : Tested sets card m choice b) where
+    pub hold-more : b ≡ true → HoldTo sets card choice right m → HoldTo sets card choice right (m + 1)
+    hold-more e h = one-more m h (λ t c a l x. decided-true _ b (d t c a l) e)
+
+    pub failing-here : b ≡ false → m < questionCount card → FailingOf sets card choice right m
+    failing-here e l t c a =
+        record { fails = λ x. decided-false _ b (d t c a x) e; hold = λ x. absurd (omega (arith, is-asked t sets card c m l)) }
+
+  pub failing-none : (m : ℕ) → HoldTo sets card choice right m → questionCount card ≤ m → FailingOf sets card choice right (questionCount card)
+  failing-none m h l t c a =
+      record {
+        fails = λ x. absurd (omega (arith, c .questions));
+        hold = λ x n y. h t c a n (omega (arith, c .questions)) y;
+      }
+
+module _ (sets card choice : List ℕ) (m : ℕ) where
+  pub failing-first : FailingOf sets card choice true m → m < questionCount card → Failing sets card choice m
+  failing-first f l t c a = record { fails = f t c a .fails; hold = λ x. absurd (omega (arith, c .questions)) }
+
+  -- none with a variable on the right, then the others
+  pub failing-second : (n : ℕ) → FailingOf sets card choice true n → questionCount card ≤ n → FailingOf sets card choice false m → Failing sets card choice m
+  failing-second n f l g t c a = record { fails = g t c a .fails; hold = λ x o y z. go x o y (hasVariable (tree (t .concepts) (rightOf (t .questions) o))) refl }
+    where
+      go :
+          pairsOf (t .questions) ≤ m → (o : ℕ) → o < pairsOf (t .questions) → (b : Bool)
+          → hasVariable (tree (t .concepts) (rightOf (t .questions) o)) ≡ b → HoldsAt t (take (t .variables) choice) o
+      go x o y true e = f t c a .hold (omega (arith, c .questions)) o y e
+      go x o y false e = g t c a .hold x o y e
 
 -- ---- the low side by itself
-module _ (t : Tables) (h : tableFault t ≡ Done) (low full empty : List ℕ) (zeros : (k : ℕ) → getD empty k 0 ≡ 0) (i : IntervalOf t low full) where
-  none-taken : (k q : ℕ) → takes empty k q ≡ true → ⊥
-  none-taken k q e = bit-of-zero q (subst (λ (z : ℕ). bit z q ≡ true) (zeros k) e)
-
-  pub empty-interval : length empty ≡ 8 → IntervalOf t empty full
-  empty-interval e =
-      record { low-long = e; high-long = i .high-long; accepted = i .accepted; ordered = λ k q x. absurd (none-taken k q x) }
-
-  pub low-refuted : (core : List ℕ) → Widened t low empty true core → Refuted t low low core full
-  low-refuted core w =
-      record {
-        low-long = w .mixed .long;
-        high-long = i .high-long;
-        above = λ k q x. ⊎-elim (λ y. y) (λ y. absurd (none-taken k q y)) (w .mixed .upper k q x);
-        below = i .ordered;
-        none = low-shuts t h core full (w .fails);
-      }
-
-  pub high-refuted : (rest : List ℕ) → length empty ≡ 8 → Widened t low full false rest → Refuted t low low empty rest
-  high-refuted rest e w =
-      record {
-        low-long = e;
-        high-long = w .mixed .long;
-        above = λ k q x. absurd (none-taken k q x);
-        below = λ k q x. w .mixed .lower k q x (i .ordered k q x);
-        none = high-shuts t h empty rest (w .fails);
-      }
-
-module _ (t : Tables) (h : tableFault t ≡ Done) (low full : List ℕ) (i : IntervalOf t low full) where
+module _ (t : Tables) (low full : List ℕ) (i : IntervalOf t low full) where
   pub full-interval : IntervalOf t full full
   full-interval = record { low-long = i .high-long; high-long = i .high-long; accepted = i .accepted; ordered = λ k q x. x }
 
-  pub low-solves : Hold t (take (t .variables) low) true → Hold t (take (t .variables) low) false → SolutionIn t low low low
-  low-solves x y =
-      record { long = i .low-long; between = record { above = λ k q e. e; below = λ k q e. e }; solves = holds-solve t h _ x y }
+  module _ (empty : List ℕ) (zeros : (k : ℕ) → getD empty k 0 ≡ 0) (long : length empty ≡ 8) where
+    none-taken : (k q : ℕ) → takes empty k q ≡ true → ⊥
+    none-taken k q e = bit-of-zero q (subst (λ (z : ℕ). bit z q ≡ true) (zeros k) e)
+
+    pub empty-interval : IntervalOf t empty full
+    empty-interval =
+        record { low-long = long; high-long = i .high-long; accepted = i .accepted; ordered = λ k q x. absurd (none-taken k q x) }
+
+    pub low-refuted : (core : List ℕ) → Mixed low empty core → NoSolution t core full → Refuted t low low core full
+    low-refuted core w n =
+        record {
+          low-long = w .long;
+          high-long = i .high-long;
+          above = λ k q x. ⊎-elim (λ y. y) (λ y. absurd (none-taken k q y)) (w .upper k q x);
+          below = i .ordered;
+          none = n;
+        }
+
+    pub high-refuted : (rest : List ℕ) → Mixed low full rest → NoSolution t empty rest → Refuted t low low empty rest
+    high-refuted rest w n =
+        record {
+          low-long = long;
+          high-long = w .long;
+          above = λ k q x. absurd (none-taken k q x);
+          below = λ k q x. w .lower k q x (i .ordered k q x);
+          none = n;
+        }
+
+-- a question fails at the low side: carried on, it shuts an interval around
+module _ (sets card full low empty : List ℕ) (m : ℕ) (zeros : (k : ℕ) → getD empty k 0 ≡ 0) (long : length empty ≡ 8) where
+  pub refuted-right :
+      (core : List ℕ) → heldAt card (rightAt card m) ≡ true → Mixed low empty core → StillFails sets card m low empty core
+      → RefutedBy sets card full low m core full
+  refuted-right core e w f t c l i n =
+      low-refuted t low full i empty zeros long core w
+      (low-shuts t (c .passed) core full m l (sym (right-held t sets card c m l) ∙ e) (f t c l full i (empty-interval t low full i empty zeros long) n))
+
+  pub refuted-left :
+      (rest : List ℕ) → heldAt card (rightAt card m) ≡ false → Mixed low full rest → StillFails sets card m low full rest
+      → RefutedBy sets card full low m empty rest
+  refuted-left rest e w f t c l i n =
+      high-refuted t low full i empty zeros long rest w
+      (high-shuts t (c .passed) empty rest m l (sym (right-held t sets card c m l) ∙ e) (f t c l full i (full-interval t low full i) n))
+
+module _ (sets card full low before : List ℕ) (m : ℕ) (f : Failing sets card low m) where
+  pub tried-refuted :
+      (low₁ high₁ after : List ℕ) → m < questionCount card → RefutedBy sets card full low m low₁ high₁ → Added low₁ high₁ before after
+      → Searched sets card full low low before after (λ t. Answers t low low false low₁ high₁)
+  tried-refuted low₁ high₁ after l r a t c i j n =
+      let x = is-asked t sets card c m l in
+      let y = r t c x j (f t c (i .accepted) .fails x) in
+      (y, nogoods-added t low₁ high₁ before after n (y .none) a)
+
+  pub tried-solves : questionCount card ≤ m → Searched sets card full low low before before (λ t. Answers t low low true low low)
+  tried-solves l t c i j n = (
+    record {
+      long = i .low-long;
+      between = record { above = λ k q e. e; below = λ k q e. e };
+      solves = λ o x. f t c (i .accepted) .hold (omega (arith, c .questions)) o x tt;
+    },
+    n,
+  )
 
 -- ---- one step
 pub answers-found : (t : Tables) (low high : List ℕ) (b : Bool) (low₁ high₁ : List ℕ) → Answers t low high b low₁ high₁ → b ≡ true → SolutionIn t low high low₁
@@ -133,13 +218,21 @@ recalled-known store low high place low₁ high₁ true true l e f x y =
 recalled-known store low high place low₁ high₁ true false l e f x y = tt
 recalled-known store low high place low₁ high₁ false b l e f x y = tt
 
+pub kept-long :
+    (store : List ℕ) (place : ℕ) (low high : List ℕ) → Room store → place < used store → low ≡ lowAt store place → high ≡ highAt store place
+    → (length low ≡ 8) × (length high ≡ 8)
+kept-long store place low high r l e f = (
+  ap length e ∙ words-long store (place * 16 + 1) (omega (arith, r .long, r .few)),
+  ap length f ∙ words-long store (place * 16 + 9) (omega (arith, r .long, r .few)),
+)
+
 pub known-refuted :
     (t : Tables) (store low high : List ℕ) (b : Bool) (low₁ high₁ : List ℕ) → Nogoods t store → Recalled store low high b low₁ high₁ → b ≡ true → Refuted t low high low₁ high₁
 known-refuted t store low high b low₁ high₁ n x e =
     let k : Known store low high low₁ high₁ = subst (λ (z : Bool). Recalled store low high z low₁ high₁) e x in
     record {
-      low-long = ap length (k .low-here) ∙ words-long store (k .place * 16 + 1) (omega (arith, k .kept, n .room .long, n .room .few));
-      high-long = ap length (k .high-here) ∙ words-long store (k .place * 16 + 9) (omega (arith, k .kept, n .room .long, n .room .few));
+      low-long = kept-long store (k .place) low₁ high₁ (n .room) (k .kept) (k .low-here) (k .high-here) .0;
+      high-long = kept-long store (k .place) low₁ high₁ (n .room) (k .kept) (k .low-here) (k .high-here) .1;
       above = k .above;
       below = k .below;
       none = subst (λ (z : List ℕ). NoSolution t z high₁) (sym (k .low-here)) (subst (NoSolution t (lowAt store (k .place))) (sym (k .high-here)) (n .each (k .place) (k .kept)));
@@ -152,11 +245,18 @@ pub split-as : (low high : List ℕ) (p : ℕ) (b : Bool) → p < 512 → b ≡ 
 split-as low high p true l e = (l, sym e)
 split-as low high p false l e = tt
 
-pub stepped-done : (t : Tables) (low high : List ℕ) (d b : Bool) (low₁ high₁ : List ℕ) (p : ℕ) → Stepped t low high d b low₁ high₁ p → d ≡ true → Answers t low high b low₁ high₁
-stepped-done t low high d b low₁ high₁ p x e = subst (λ (z : Bool). Stepped t low high z b low₁ high₁ p) e x
+-- ---- intervals
+-- an interval inside one that is inside all
+pub through : (t : Tables) (low high full : List ℕ) → IntervalOf t low high → IntervalOf t high full → IntervalOf t low full
+through t low high full i j =
+    record { low-long = i .low-long; high-long = j .high-long; accepted = j .accepted; ordered = λ k q x. j .ordered k q (i .ordered k q x) }
 
-pub stepped-split : (t : Tables) (low high : List ℕ) (d b : Bool) (low₁ high₁ : List ℕ) (p : ℕ) → Stepped t low high d b low₁ high₁ p → d ≡ false → (p < 512) × (undecided low high p ≡ true)
-stepped-split t low high d b low₁ high₁ p x e = subst (λ (z : Bool). Stepped t low high z b low₁ high₁ p) e x
+pub same-high : (t : Tables) (high high₂ full : List ℕ) → high₂ ≡ high → IntervalOf t high full → IntervalOf t high₂ full
+same-high t high high₂ full e i = subst (λ (z : List ℕ). IntervalOf t z full) (sym e) i
+
+pub less-high : (t : Tables) (high high₂ full : List ℕ) (k q : ℕ) → Changed high high₂ k q false → IntervalOf t high full → IntervalOf t high₂ full
+less-high t high high₂ full k q c i =
+    record { low-long = c .long; high-long = i .high-long; accepted = i .accepted; ordered = λ l r x. i .ordered l r (shrunk high high₂ k q c l r x) }
 
 -- ---- splitting at a pair
 module _ (t : Tables) (h : tableFault t ≡ Done) (low high : List ℕ) (i : IntervalOf t low high) (p : ℕ) (u : undecided low high p ≡ true) where
@@ -256,14 +356,121 @@ module _ (t : Tables) (h : tableFault t ≡ Done) (low high : List ℕ) (i : Int
           none = none-merged;
         }
 
--- an interval inside one that is inside all
-pub through : (t : Tables) (low high full : List ℕ) → IntervalOf t low high → IntervalOf t high full → IntervalOf t low full
-through t low high full i j =
-    record { low-long = i .low-long; high-long = j .high-long; accepted = j .accepted; ordered = λ k q x. j .ordered k q (i .ordered k q x) }
+-- ---- whatever the tables
+module _ (sets card full low high before after : List ℕ) where
+  -- what a step promises of its answer
+  abbrev pub Stepping : Bool → Bool → List ℕ → List ℕ → ℕ → Type 0
+  Stepping done found l h p =
+      ((length l ≡ 8) × (length h ≡ 8))
+      × (Room after
+      × ((done ≡ false → (p < 512) × (undecided low high p ≡ true)) × Searched sets card full low high before after (λ t. done ≡ true → Answers t low high found l h)))
 
-pub same-high : (t : Tables) (high high₂ full : List ℕ) → high₂ ≡ high → IntervalOf t high full → IntervalOf t high₂ full
-same-high t high high₂ full e i = subst (λ (z : List ℕ). IntervalOf t z full) (sym e) i
+  pub step-answers :
+      (done found : Bool) (l h : List ℕ) → Searched sets card full low high before after (λ t. done ≡ true → Answers t low high found l h) → done ≡ true
+      → Searched sets card full low high before after (λ t. Answers t low high found l h)
+  step-answers done found l h s e t c i j n = let (a, m) = s t c i j n in (a e, m)
 
-pub less-high : (t : Tables) (high high₂ full : List ℕ) (k q : ℕ) → Changed high high₂ k q false → IntervalOf t high full → IntervalOf t high₂ full
-less-high t high high₂ full k q c i =
-    record { low-long = c .long; high-long = i .high-long; accepted = i .accepted; ordered = λ l r x. i .ordered l r (shrunk high high₂ k q c l r x) }
+  pub step-answered :
+      (done found₁ found : Bool) (l₁ h₁ l h : List ℕ) (p : ℕ) → (done ≡ true) × (found₁ ≡ found) × (l₁ ≡ l) × (h₁ ≡ h)
+      → (length l ≡ 8) × (length h ≡ 8) → Room after → Searched sets card full low high before after (λ t. Answers t low high found l h)
+      → Stepping done found₁ l₁ h₁ p
+  step-answered done found₁ found l₁ h₁ l h p (d, f, e, g) (a, b) r s = (
+    (ap length e ∙ a, ap length g ∙ b),
+    (
+      r,
+      (
+        λ x. absurd (true≢false (sym d ∙ x)),
+        λ t c i j n.
+            let (y, m) = s t c i j n in (
+              λ x.
+                  subst (λ (z : Bool). Answers t low high z l₁ h₁) (sym f)
+                  (subst (λ (z : List ℕ). Answers t low high found z h₁) (sym e) (subst (Answers t low high found l) (sym g) y)),
+              m,
+            ),
+      ),
+    ),
+  )
+
+  pub step-split :
+      (done found : Bool) (l₁ h₁ : List ℕ) (p₁ p : ℕ) → (done ≡ false) × (l₁ ≡ low) × (h₁ ≡ high) × (p₁ ≡ p) → (length low ≡ 8) × (length high ≡ 8)
+      → Room after → (p < 512) × (undecided low high p ≡ true) → Searched sets card full low high before after (λ t. Unit {0})
+      → Stepping done found l₁ h₁ p₁
+  step-split done found l₁ h₁ p₁ p (d, e, g, f) (a, b) r u s = (
+    (ap length e ∙ a, ap length g ∙ b),
+    (
+      r,
+      (
+        λ x. subst (λ (z : ℕ). (z < 512) × (undecided low high z ≡ true)) (sym f) u,
+        λ t c i j n. (λ x. absurd (true≢false (sym x ∙ d)), s t c i j n .1),
+      ),
+    ),
+  )
+
+-- by a test of the low side
+module _ (sets card full low high before after : List ℕ) (b : Bool) (l h : List ℕ)
+    (s : Searched sets card full low low before after (λ t. Answers t low low b l h)) where
+  at-low : (t : Tables) → Card t sets card → IntervalOf t low high → IntervalOf t high full → Nogoods t before → Answers t low low b l h × Nogoods t after
+  at-low t c i j n =
+      s t c (record { low-long = i .low-long; high-long = i .low-long; accepted = low-accepted t (c .passed) low high i; ordered = λ k q e. e })
+      (through t low high full i j) n
+
+  pub by-test : (w : Bool) → Contained high h w → (b || w) ≡ true → Searched sets card full low high before after (λ t. Answers t low high b l h)
+  by-test w x e t c i j n = let (y, m) = at-low t c i j n in (tried-done t (c .passed) low high i l h b w y x e, m)
+
+  pub by-decided :
+      (w : Bool) → (b || w) ≡ false → (r : Pick) → Picked low high r → r ≡ Nothing
+      → Searched sets card full low high before after (λ t. Answers t low high false low high)
+  by-decided w e r x f t c i j n = let (y, m) = at-low t c i j n in (tried-all t (c .passed) low high i l h b w y e r x f, m)
+
+  pub by-none : Searched sets card full low high before after (λ t. Unit {0})
+  by-none t c i j n = (tt, at-low t c i j n .1)
+
+pub by-known :
+    (sets card full low high store : List ℕ) (b : Bool) (l h : List ℕ) → Recalled store low high b l h → b ≡ true
+    → Searched sets card full low high store store (λ t. Answers t low high false l h)
+by-known sets card full low high store b l h x e t c i j n = (known-refuted t store low high b l h n x e, n)
+
+pub by-nothing : (sets card full low high store : List ℕ) → Searched sets card full low high store store (λ t. Unit {0})
+by-nothing sets card full low high store t c i j n = (tt, n)
+
+-- at a pair: first with it, then without it
+module _ (sets card full low high : List ℕ) (p : ℕ) (u : undecided low high p ≡ true) (start one two : List ℕ) (done tried : Bool) (l₀ h₀ : List ℕ)
+    (s : Searched sets card full low high start one (λ t. done ≡ true → Answers t low high tried l₀ h₀)) (low₂ high₂ : List ℕ) (e : high₂ ≡ high) (c : Changed low low₂ (p / 64) (p % 64) true)
+    (found : Bool) (la ha : List ℕ) (a : Searched sets card full low₂ high₂ one two (λ t. Answers t low₂ high₂ found la ha)) where
+  with-pair :
+      (t : Tables) → Card t sets card → IntervalOf t low high → IntervalOf t high full → Nogoods t start → Answers t low₂ high₂ found la ha × Nogoods t two
+  with-pair t k i j n =
+      a t k (take-keeps t (k .passed) low high i p u low₂ high₂ e c) (same-high t high high₂ full e j) (s t k i j n .1)
+
+  pub split-with :
+      (x : Bool) → x ≡ takes la (p / 64) (p % 64) → (found || not x) ≡ true
+      → Searched sets card full low high start two (λ t. Answers t low high found la ha)
+  split-with x f g t k i j n =
+      let (y, m) = with-pair t k i j n in (with-answers t (k .passed) low high i p u low₂ high₂ e c found x la ha y f g, m)
+
+  module _ (three low₃ high₃ : List ℕ) (f : low₃ ≡ low) (d : Changed high high₃ (p / 64) (p % 64) false)
+      (found₃ : Bool) (lb hb : List ℕ) (b : Searched sets card full low₃ high₃ two three (λ t. Answers t low₃ high₃ found₃ lb hb)) where
+    without-pair :
+        (t : Tables) → Card t sets card → IntervalOf t low high → IntervalOf t high full → Nogoods t start → Answers t low₃ high₃ found₃ lb hb × Nogoods t three
+    without-pair t k i j n =
+        b t k (leave-keeps t (k .passed) low high i p u low₃ high₃ f d) (less-high t high high₃ full _ _ d j) (with-pair t k i j n .1)
+
+    pub split-without :
+        (x : Bool) → x ≡ takes hb (p / 64) (p % 64) → (found₃ || x) ≡ true
+        → Searched sets card full low high start three (λ t. Answers t low high found₃ lb hb)
+    split-without x g o t k i j n =
+        let (y, m) = without-pair t k i j n in (without-answers t (k .passed) low high i p u low₃ high₃ f d found₃ x lb hb y g o, m)
+
+    module _ (x y : Bool) (o : (found || not x) ≡ false) (q : (found₃ || y) ≡ false) (l r : List ℕ) (m : Merged la ha lb hb (p / 64) (p % 64) l r) where
+      pub split-both : Searched sets card full low high start three (λ t. Answers t low high false l r)
+      split-both t k i j n =
+          let (v, _) = with-pair t k i j n in
+          let (w, z) = without-pair t k i j n in (
+            merged-refutes t (k .passed) low high i p u low₂ high₂ e c low₃ high₃ f d la ha lb hb
+                (answers-none t low₂ high₂ found la ha v (any-false found (not x) o .0))
+                (answers-none t low₃ high₃ found₃ lb hb w (any-false found₃ y q .0)) l r m,
+            z,
+          )
+
+      pub split-kept : (four : List ℕ) → Added l r three four → Searched sets card full low high start four (λ t. Answers t low high false l r)
+      split-kept four g t k i j n = let (v, z) = split-both t k i j n in (v, nogoods-added t l r three four z (v .none) g)

@@ -20,6 +20,7 @@ use crate::search::sets::put_words;
 use crate::search::sets::words_at;
 use square::helpers::has;
 ghost use mathlib.Core.Path.{_≡_};
+ghost use mathlib.Core.Bool.{true, false};
 ghost use Prim.Native.Nat.{_*_, _+_, _<_, _≤_};
 ghost use lib.ListN.{length};
 ghost use Rattle.matching.specs.Inner.Search.Sets.{Same};

@@ -4,8 +4,9 @@ use crate::limits::FITS_RIGHT;
 ghost use mathlib.Core.Path.{_≡_};
 ghost use Prim.Native.Nat.{ℕ, _+_, _<_, _≤_};
 ghost use lib.ListN.{length};
-ghost use Rattle.subsumption.specs.Tables.{or, both};
-ghost use Rattle.matching.specs.Inner.Search.Sets.{inWords, NextBit, NextIn, Same, PutAt};
+ghost use Rattle.subsumption.specs.Tables.{both};
+ghost use Rattle.matching.specs.Inner.Search.Card.{fitAt};
+ghost use Rattle.matching.specs.Inner.Search.Sets.{inWords, NextBit, NextIn, Same, Joined, Compared, PutAt};
 
 pub struct Words {
     pub first: u64,
@@ -71,7 +72,7 @@ pub fn words_at(sets: &[u64], at: usize) -> Words
 }
 
 pub fn join(a: Words, b: Words) -> Words
-    ensures { λ r. ⌜ ((c : ℕ) → c < 192 → inWords r c ≡ or (inWords a c) (inWords b c)) ⌝ }
+    ensures { λ r. ⌜ Joined a b r ⌝ }
 {
     Words {
         first: a.first | b.first,
@@ -104,7 +105,7 @@ pub fn is_in(a: Words, c: usize) -> bool
 }
 
 pub fn is_same(a: Words, b: Words) -> bool
-    ensures { λ r. ⌜ r ≡ true → a ≡ b ⌝ }
+    ensures { λ r. ⌜ Compared a b r ⌝ }
 {
     if a.first != b.first {
         return false;

@@ -142,11 +142,13 @@ fn try_low(
     let m = failing(sets, card, scratch, low);
     if m < card[QUESTION_COUNT] as usize {
         let nogood = refute(sets, card, scratch, full, low, m);
+        let below = nogood.low;
+        let above = nogood.high;
         add(store, scratch, TESTED, full, nogood);
         return Answer {
             found: false,
-            low: nogood.low,
-            high: nogood.high,
+            low: below,
+            high: above,
         };
     }
     Answer {
@@ -194,7 +196,7 @@ fn answered(found: bool, low: [u64; 8], high: [u64; 8]) -> Step
 }
 
 fn splitting(interval: Interval, pair: usize, place: usize, spare: bool) -> Step
-    ensures { λ r. ⌜ (r .done ≡ false) × (r .pair ≡ pair) ⌝ }
+    ensures { λ r. ⌜ (r .done ≡ false) × (r .low ≡ interval .low) × (r .high ≡ interval .high) × (r .pair ≡ pair) ⌝ }
 {
     let low = interval.low;
     let high = interval.high;
@@ -222,7 +224,7 @@ fn step_by_test(
     requires { ⌜ (length full ≡ 8) × (length (interval .low) ≡ 8) × (length (interval .high) ≡ 8) ⌝ }
     ensures { λ r. ⌜ (length (r .low) ≡ 8) × (length (r .high) ≡ 8) ⌝ }
     ensures { λ _. ⌜ Room (now (store .exit)) ⌝ }
-    ensures { λ r. ⌜ r .done ≡ false → (r .pair < 512) × (undecided (interval .low) (interval .high) (r .pair) ≡ true) ⌝ }
+    ensures { λ r. ⌜ (r .done ≡ false → (r .pair < 512) × (undecided (interval .low) (interval .high) (r .pair) ≡ true)) ⌝ }
     ensures { λ r. ⌜ Searched (now (sets .entry)) (now (card .entry)) full (interval .low) (interval .high) (now (store .entry)) (now (store .exit)) (λ t. r .done ≡ true → Answers t (interval .low) (interval .high) (r .found) (r .low) (r .high)) ⌝ }
 {
     let low = interval.low;
@@ -296,7 +298,7 @@ fn step_by_choice(
     requires { ⌜ (length full ≡ 8) × (length (interval .low) ≡ 8) × (length (interval .high) ≡ 8) ⌝ }
     ensures { λ r. ⌜ (length (r .low) ≡ 8) × (length (r .high) ≡ 8) ⌝ }
     ensures { λ _. ⌜ Room (now (store .exit)) ⌝ }
-    ensures { λ r. ⌜ r .done ≡ false → (r .pair < 512) × (undecided (interval .low) (interval .high) (r .pair) ≡ true) ⌝ }
+    ensures { λ r. ⌜ (r .done ≡ false → (r .pair < 512) × (undecided (interval .low) (interval .high) (r .pair) ≡ true)) ⌝ }
     ensures { λ r. ⌜ Searched (now (sets .entry)) (now (card .entry)) full (interval .low) (interval .high) (now (store .entry)) (now (store .exit)) (λ t. r .done ≡ true → Answers t (interval .low) (interval .high) (r .found) (r .low) (r .high)) ⌝ }
 {
     let hint = choose(store, scratch, interval);
@@ -326,14 +328,23 @@ fn next_step(
     requires { ⌜ (length full ≡ 8) × (length (interval .low) ≡ 8) × (length (interval .high) ≡ 8) ⌝ }
     ensures { λ r. ⌜ (length (r .low) ≡ 8) × (length (r .high) ≡ 8) ⌝ }
     ensures { λ _. ⌜ Room (now (store .exit)) ⌝ }
-    ensures { λ r. ⌜ r .done ≡ false → (r .pair < 512) × (undecided (interval .low) (interval .high) (r .pair) ≡ true) ⌝ }
+    ensures { λ r. ⌜ (r .done ≡ false → (r .pair < 512) × (undecided (interval .low) (interval .high) (r .pair) ≡ true)) ⌝ }
     ensures { λ r. ⌜ Searched (now (sets .entry)) (now (card .entry)) full (interval .low) (interval .high) (now (store .entry)) (now (store .exit)) (λ t. r .done ≡ true → Answers t (interval .low) (interval .high) (r .found) (r .low) (r .high)) ⌝ }
 {
     let known = look_up(store, scratch[HINT] as usize, interval);
+    let low = known.low;
+    let high = known.high;
     if known.shut {
-        return answered(false, known.low, known.high);
+        return answered(false, low, high);
     }
     step_by_choice(sets, card, store, scratch, full, interval)
+}
+
+// The next step looks at this nogood first.
+fn note_hint(scratch: &mut [u64], place: usize)
+    requires { ⌜ length (now scratch) ≡ 16977 ⌝ }
+{
+    scratch[HINT] = place as u64;
 }
 
 // Of the nogoods with a pair and without it, one that speaks of either.
@@ -380,15 +391,15 @@ pub fn some_solution(
     }
     let k = step.pair / ATOMS;
     let q = step.pair % ATOMS;
-    let place = step.place as u64;
-    scratch[HINT] = place;
+    let place = step.place;
+    note_hint(scratch, place);
     let taken = interval.take(k, q);
     let with = some_solution(sets, card, store, scratch, full, taken);
     let needs = with.low;
     if with.found | !has_bit(needs[k], q) {
         return with;
     }
-    scratch[HINT] = place;
+    note_hint(scratch, place);
     let left = interval.leave(k, q);
     let without = some_solution(sets, card, store, scratch, full, left);
     let allows = without.high;

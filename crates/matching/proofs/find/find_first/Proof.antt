@@ -1,64 +1,41 @@
-use Rattle.matching.proofs.SearchLaws.Solve.{answers-found, answers-none, refuted-none}
-use Rattle.matching.proofs.SearchLaws.Nogoods.{nogoods-none}
-use Rattle.matching.proofs.FindLaws.{whole, every-atom, all-zeros, full-atoms, first-found, nothing-found}
-use Rattle.subsumption.proofs.Deciding.{few-atoms}
-use Rattle.subsumption.proofs.ListingLaws.{prepared}
-use Rattle.subsumption.proofs.Accepted.{wellFormed}
 use native.Mathlib.Omega.{arith}
-use mathlib.Core.Path.{refl}
-use borrow.Author.Needs.{needs}
+use mathlib.Core.Path.{refl, sym, ap}
+use lib.ListN.{length}
+use Rattle.subsumption.proofs.Accepted.{wellFormed}
 use Rattle.matching.proofs.find.find_first.Statement.{statement}
 use Rattle.matching.proofs.find.find_first.Tie as tie
-use Rattle.matching.proofs.find.all_atoms.Reads as all-atoms-reads
-use Rattle.matching.proofs.search.order.first_solution.Reads as first-solution-reads
-use Rattle.matching.proofs.search.solve.some_solution.Reads as some-solution-reads
-use Rattle.subsumption.proofs.helpers.close_ground.Reads as close-ground-reads
+use Rattle.matching.proofs.find.search.Reads as search-reads
+use Rattle.matching.proofs.search.card.make_card.Reads as make-card-reads
 
-slice-aggregate-close-ground : tie.Need-slice-aggregate-close-ground
-slice-aggregate-close-ground c = omega arith
+slice-aggregate-make-card : tie.Need-slice-aggregate-make-card
+slice-aggregate-make-card c = omega arith
 
-close-ground-requires : tie.Need-close-ground-requires
-close-ground-requires c κs = (prepared _ _ _ _ _ _ (c .before .before .before .before .before .before .pre), refl)
+slice-aggregate-make-card-2 : tie.Need-slice-aggregate-make-card-2
+slice-aggregate-make-card-2 c = omega arith
 
-all-atoms-requires : tie.Need-all-atoms-requires
-all-atoms-requires c κs = (wellFormed _ (c .before .before .before .before .before .before .before .before .pre .passed) .few-variables, few-atoms _ _ _ _ _ (prepared _ _ _ _ _ _ (c .before .before .before .before .before .before .before .before .pre)))
+make-card-requires : tie.Need-make-card-requires
+make-card-requires c κs = (c .before .before .before .before .before .before .before .pre, (refl, refl))
 
-slice-aggregate-some-solution : tie.Need-slice-aggregate-some-solution
-slice-aggregate-some-solution c = omega arith
+slice-aggregate-search : tie.Need-slice-aggregate-search
+slice-aggregate-search c = omega arith
 
-slice-aggregate-some-solution-2 : tie.Need-slice-aggregate-some-solution-2
-slice-aggregate-some-solution-2 c = omega arith
+slice-aggregate-search-2 : tie.Need-slice-aggregate-search-2
+slice-aggregate-search-2 c = omega arith
 
-some-solution-requires : tie.Need-some-solution-requires
-some-solution-requires c κs = ((record { passed = c .before .before .before .before .before .before .before .before .before .before .before .pre .passed; listed = c .before .before .before .before .before .before .before .before .before .before .before .pre .listed; grounded = c .before .before .before .before .close-ground .ensures _ (c .before .before .before .before .before .before .before .before .before .before .before .pre) }), (whole _ (c .before .before .before .before .before .before .before .before .before .before .before .pre .passed) _ _ all-zeros refl (full-atoms _ _ _ (c .before .before .before .before .before .before .before .before .before .before .before .pre) (c .before .before .all-atoms .ensures)), (every-atom _ (c .before .before .before .before .before .before .before .before .before .before .before .pre .passed) _ (full-atoms _ _ _ (c .before .before .before .before .before .before .before .before .before .before .before .pre) (c .before .before .all-atoms .ensures)), (nogoods-none _ _ refl refl))))
-
-slice-aggregate-first-solution : tie.Need-slice-aggregate-first-solution
-slice-aggregate-first-solution c = omega arith
-
-slice-aggregate-first-solution-2 : tie.Need-slice-aggregate-first-solution-2
-slice-aggregate-first-solution-2 c = omega arith
-
-first-solution-requires : tie.Need-first-solution-requires
-first-solution-requires c κs = ((record { passed = c .before .before .before .before .before .before .before .before .before .before .before .before .before .before .before .before .before .pre .passed; listed = c .before .before .before .before .before .before .before .before .before .before .before .before .before .before .before .before .before .pre .listed; grounded = c .before .before .before .before .before .before .before .before .before .before .close-ground .ensures _ (c .before .before .before .before .before .before .before .before .before .before .before .before .before .before .before .before .before .pre) }), (c .before .before .before .before .before .some-solution .ensures .1, (whole _ (c .before .before .before .before .before .before .before .before .before .before .before .before .before .before .before .before .before .pre .passed) _ _ all-zeros refl (full-atoms _ _ _ (c .before .before .before .before .before .before .before .before .before .before .before .before .before .before .before .before .before .pre) (c .before .before .before .before .before .before .before .before .all-atoms .ensures)), answers-found _ _ _ (c .before .before .before .before .before .some-solution .result .found) _ _ (c .before .before .before .before .before .some-solution .ensures .0) (c .before .before .if1 .taken))))
+search-requires : tie.Need-search-requires
+search-requires c κs = (c .before .before .before .before .make-card .ensures .0, (wellFormed _ (c .before .before .before .before .before .before .before .before .before .before .before .before .pre .passed) .few-variables, omega (arith, ap length (c .before .before .before .before .before .before .before .before .before .before .before .before .pre .listed), wellFormed _ (c .before .before .before .before .before .before .before .before .before .before .before .before .pre .passed) .few-atoms)))
 
 returns : tie.Need-returns
-returns c = first-found _ (c .before .before .before .before .before .before .before .before .before .before .before .before .before .before .before .before .before .before .before .pre .passed) _ _ all-zeros refl (full-atoms _ _ _ (c .before .before .before .before .before .before .before .before .before .before .before .before .before .before .before .before .before .before .before .pre) (c .before .before .before .before .before .before .before .before .before .before .all-atoms .ensures)) _ (c .before .first-solution .ensures)
-
-returns-2 : tie.Need-returns-2
-returns-2 c = nothing-found _ (c .before .before .before .before .before .before .before .before .before .before .before .before .before .before .before .pre .passed) _ _ all-zeros refl (full-atoms _ _ _ (c .before .before .before .before .before .before .before .before .before .before .before .before .before .before .before .pre) (c .before .before .before .before .before .before .all-atoms .ensures)) (refuted-none _ _ _ _ _ (answers-none _ _ _ (c .before .before .before .some-solution .result .found) _ _ (c .before .before .before .some-solution .ensures .0) (c .if1 .left)))
+returns c = c .search .ensures _ (c .before .before .before .before .before .make-card .ensures .1) refl (ap length (sym (c .before .before .before .before .before .before .before .before .before .before .before .before .before .pre .listed)))
 
 pub find-first-spec : {M : Type 1} → statement M
 find-first-spec =
     tie.close
     (tie.spec
-    slice-aggregate-close-ground
-    close-ground-requires
-    all-atoms-requires
-    slice-aggregate-some-solution
-    slice-aggregate-some-solution-2
-    some-solution-requires
-    slice-aggregate-first-solution
-    slice-aggregate-first-solution-2
-    first-solution-requires
-    returns
-    returns-2)
+    slice-aggregate-make-card
+    slice-aggregate-make-card-2
+    make-card-requires
+    slice-aggregate-search
+    slice-aggregate-search-2
+    search-requires
+    returns)

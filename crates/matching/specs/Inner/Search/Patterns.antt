@@ -1,19 +1,19 @@
 -- What the values of a pattern and the test of a question promise (src/search/patterns.rt).
-use Prim.Native.Nat.{ℕ, _+_, _*_, _<_, _≤_}
+use Prim.Native.Nat.{ℕ, _*_, _<_}
 use mathlib.Core.Path.{_≡_}
 use mathlib.Core.List.{List}
 use mathlib.Core.Bool.{Bool, true, false}
 use mathlib.Core.Logic.{_↔_}
-use lib.ListN.{take, getD}
+use lib.ListN.{take}
 use Rattle.subsumption.specs.declared.refusal.Outcome.the-variants.{Done}
-use Rattle.subsumption.specs.Tables.{Tables, Node, topAt, nameAt, existsAt, andAt, varAt, node, countOf, pairsOf, leftOf, rightOf, tree, hasVariable}
+use Rattle.subsumption.specs.Tables.{Tables, Node, topAt, nameAt, existsAt, andAt, varAt, node, countOf, pairsOf, tree, hasVariable}
 use Rattle.subsumption.specs.Atoms.{bit}
 use Rattle.subsumption.specs.Subsumption.{Subsumed}
 use Rattle.subsumption.specs.Check.{assignmentFault}
 use Rattle.square.specs.Inner.Square.{onLine}
 use Rattle.matching.specs.declared.search.sets.Words.{Words}
 use Rattle.matching.specs.Inner.Search.{Decided, HoldsAt}
-use Rattle.matching.specs.Inner.Search.Sets.{inWords, Same}
+use Rattle.matching.specs.Inner.Search.Sets.{inWords, Same, Grown}
 use Rattle.matching.specs.Inner.Search.Card.{lineAt, fitAt, coneAt, closersAt, heldAt, atomAt, innerAt, FreeId, Card}
 
 -- ---- the parts, of sets and numbers alone
@@ -60,14 +60,18 @@ MembersOf P (varAt k) = ⊥
 abbrev pub Members : List ℕ → Words → ℕ → Bool → Type 0
 Members card w e answer = Decided (MembersOf (λ c. inWords w c ≡ true) (node card e)) answer
 
--- The set with the rows of tops and conjunctions that follow from it, and no more: whatever holds the set, and with the members of one of
--- them its row, holds all of it.
+-- c follows from the set by the rows of tops and conjunctions
+pub data Follows (sets card : List ℕ) (x : Words) : ℕ → Type 0 where
+  by-set : (c : ℕ) → c < 192 → inWords x c ≡ true → Follows sets card x c
+  by-top : (e c : ℕ) → e < 192 → onLine sets closersAt e ≡ true → node card e ≡ topAt → c < 192 → onLine sets (lineAt false e) c ≡ true → Follows sets card x c
+  by-and :
+      (e i j c : ℕ) → e < 192 → onLine sets closersAt e ≡ true → node card e ≡ andAt i j → Follows sets card x i → Follows sets card x j → c < 192
+      → onLine sets (lineAt false e) c ≡ true → Follows sets card x c
+
+-- the set and what follows from it, and no more
 pub record Followed (sets card : List ℕ) (x w : Words) : Type 0 where
   pub kept : (c : ℕ) → c < 192 → inWords x c ≡ true → inWords w c ≡ true
-  pub least :
-      (Y : ℕ → Type 0) → ((c : ℕ) → c < 192 → inWords x c ≡ true → Y c)
-      → ((e : ℕ) → e < 192 → onLine sets closersAt e ≡ true → MembersOf Y (node card e) → (c : ℕ) → c < 192 → onLine sets (lineAt false e) c ≡ true → Y c)
-      → (c : ℕ) → c < 192 → inWords w c ≡ true → Y c
+  pub least : (c : ℕ) → c < 192 → inWords w c ≡ true → Follows sets card x c
 
 -- it holds the row of each top, and of each conjunction whose members it holds
 abbrev pub ClosedBy : List ℕ → List ℕ → Words → Type 0
@@ -78,6 +82,7 @@ ClosedBy sets card w =
 -- one walk: nothing too much, and closed if nothing changed
 pub record ClosedOnce (sets card : List ℕ) (x w : Words) : Type 0 where
   pub followed : Followed sets card x w
+  pub grown : Grown x w
   pub quiet : w ≡ x → ClosedBy sets card x
 
 pub record ClosedUp (sets card : List ℕ) (x w : Words) : Type 0 where

@@ -1,54 +1,49 @@
 use native.Mathlib.Omega.{arith}
-use Rattle.matching.proofs.SearchLaws.Solve.{known-refuted, can-split}
-use borrow.Author.Needs.{needs}
+use mathlib.Core.Bool.{false}
+use Rattle.matching.proofs.SearchLaws.Solve.{step-answered, by-known}
 use Rattle.matching.proofs.search.solve.next_step.Statement.{statement}
 use Rattle.matching.proofs.search.solve.next_step.Tie as tie
-use Rattle.matching.proofs.search.nogoods.choose.Reads as choose-reads
-use Rattle.matching.proofs.search.solve.can_split.Reads as can-split-reads
+use Rattle.matching.proofs.search.solve.answered.Reads as answered-reads
 use Rattle.matching.proofs.search.solve.look_up.Reads as look-up-reads
-use Rattle.matching.proofs.search.solve.step_by_test.Reads as step-by-test-reads
+use Rattle.matching.proofs.search.solve.step_by_choice.Reads as step-by-choice-reads
 
-choose-requires : tie.Need-choose-requires
-choose-requires c κs = omega arith
+slice-read-look-up : tie.Need-slice-read-look-up
+slice-read-look-up c = omega (arith, c .before .before .before .before .before .before .pre .0 .scratch-long)
 
 look-up-requires : tie.Need-look-up-requires
-look-up-requires c κs = omega arith
+look-up-requires c κs = (c .before .before .before .before .before .before .pre .0 .room, (c .before .before .before .before .before .before .pre .1 .1, c .before .before .before .before .before .before .pre .1 .2))
+
+answered-requires : tie.Need-answered-requires
+answered-requires c κs = tt
 
 same-length : tie.Need-same-length
 same-length c = omega arith
 
 returns : tie.Need-returns
-returns c = (known-refuted _ _ _ _ (c .before .before .before .look-up .result .shut) _ _ (c .before .before .before .before .before .before .before .before .before .before .before .before .before .before .pre .1 .1 .1) (c .before .before .before .look-up .ensures) (c .if1 .taken), c .before .before .before .before .before .before .before .before .before .before .before .before .before .before .pre .1 .1 .1)
+returns c = step-answered _ _ _ _ _ _ _ (c .answered .result .done) (c .answered .result .found) false _ _ _ _ (c .answered .result .pair) (c .answered .ensures) (c .before .before .before .before .look-up .ensures .0) (c .before .before .before .before .before .before .before .before .before .before .before .pre .0 .room) (by-known _ _ _ _ _ _ (c .before .before .before .before .look-up .result .shut) _ _ (c .before .before .before .before .look-up .ensures .1) (c .before .if1 .taken))
 
-can-split-requires : tie.Need-can-split-requires
-can-split-requires c κs = omega arith
+step-by-choice-requires : tie.Need-step-by-choice-requires
+step-by-choice-requires c κs = c .before .before .before .before .before .before .before .before .before .before .before .before .pre
 
 same-length-2 : tie.Need-same-length-2
-same-length-2 c = omega arith
-
-returns-2 : tie.Need-returns-2
-returns-2 c = (can-split _ _ _ (c .before .can-split .result) (c .before .can-split .ensures) (c .if2 .taken), c .before .before .before .before .before .before .before .before .before .before .before .before .before .before .before .before .pre .1 .1 .1)
-
-step-by-test-requires : tie.Need-step-by-test-requires
-step-by-test-requires c κs = search needs
+same-length-2 c = omega (arith, c .before .before .before .before .before .before .before .before .before .before .before .before .before .before .before .before .before .pre .0 .room .long, c .before .before .before .before .step-by-choice .ensures .1 .0 .long)
 
 same-length-3 : tie.Need-same-length-3
-same-length-3 c = omega arith
+same-length-3 c = omega (arith, c .before .before .before .before .before .before .before .before .before .before .before .before .before .before .before .before .before .pre .0 .room .long, c .before .before .before .before .step-by-choice .ensures .1 .0 .long)
 
-returns-3 : tie.Need-returns-3
-returns-3 c = search needs
+returns-2 : tie.Need-returns-2
+returns-2 c = c .before .before .before .before .step-by-choice .ensures
 
 pub next-step-spec : {M : Type 1} → statement M
 next-step-spec =
     tie.close
     (tie.spec
-    choose-requires
+    slice-read-look-up
     look-up-requires
+    answered-requires
     same-length
     returns
-    can-split-requires
+    step-by-choice-requires
     same-length-2
-    returns-2
-    step-by-test-requires
     same-length-3
-    returns-3)
+    returns-2)

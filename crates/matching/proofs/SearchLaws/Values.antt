@@ -1,0 +1,427 @@
+-- The values of a pattern, by the rows of the tables: exact on the right, enough on the left.
+use Prim.Native.Nat.{ℕ, _*_, _<_}
+use mathlib.Core.Path.{_≡_, refl, sym, ap, _∙_, subst}
+use mathlib.Core.List.{List, List·Memᴰ}
+use mathlib.Core.Bool.{Bool, true, false}
+use mathlib.Core.Logic.{_⊎_, _↔_, ⊎-elim}
+use native.Mathlib.Omega.{arith}
+use lib.ListN.{length, getD, take}
+use lib.Seq.{getD-take}
+use Rattle.subsumption.specs.declared.refusal.Outcome.the-variants.{Done}
+use Rattle.subsumption.specs.Tables.{Tables, both, topAt, existsAt, andAt, varAt, node, countOf, tree, hasVariable}
+use Rattle.subsumption.specs.Atoms.{atoms, bit, chosen}
+use Rattle.subsumption.specs.Roles.{wider}
+use Rattle.subsumption.specs.Subsumption.{assigned, Subsumed}
+use Rattle.subsumption.specs.Check.{assignmentFault}
+use Rattle.subsumption.proofs.Bools.{or-cases, or-first, or-second, both-true, both-intro}
+use Rattle.subsumption.proofs.WellFormed.{WellFormed}
+use Rattle.subsumption.proofs.Accepted.{wellFormed}
+use Rattle.subsumption.proofs.Chosen.{pick-member, pick-intro}
+use Rattle.subsumption.proofs.Membership.{subsumed-ground}
+use Rattle.subsumption.proofs.Nodes.{exists-node}
+use Rattle.subsumption.proofs.Soundness.{subsumed-same, subsumed-trans}
+use Rattle.square.specs.Inner.Square.{onLine}
+use Rattle.matching.specs.declared.search.sets.Words.{Words}
+use Rattle.matching.specs.Inner.Search.Sets.{inWords, Joined}
+use Rattle.matching.specs.Inner.Search.Card.{lineAt, fitAt, closersAt, heldAt, atomAt, innerAt, FreeId, nothing, Fitting, closes, Card}
+use Rattle.matching.specs.Inner.Search.Patterns.{ReadBy, ValueRead, BelowAll, ChosenAbove, AboveSome, LinkOf, Linked, MembersOf, Follows, by-set, by-top, by-and, ClosedUp, Upper, Exact, Generates, ValueOf}
+use Rattle.matching.proofs.PatternLaws.Free.{free-inward, free-chosen}
+use Rattle.matching.proofs.PatternLaws.Least.{true-stable}
+use Rattle.matching.proofs.PatternLaws.Down.{right-var, right-and, right-exists, right-linked}
+use Rattle.matching.proofs.PatternLaws.Up.{above-upper, above-var, above-first, above-second, above-exists, left-var, left-and, left-exists}
+use Rattle.matching.proofs.SearchLaws.Fronts.{accepted-bits}
+
+exists-role : {r s x y : ℕ} → existsAt r x ≡ existsAt s y → r ≡ s
+exists-role e = cc
+
+exists-inner : {r s x y : ℕ} → existsAt r x ≡ existsAt s y → x ≡ y
+exists-inner e = cc
+
+module _ (t : Tables) (sets card : List ℕ) (C : Card t sets card) (assignment : List ℕ) where
+  wf : WellFormed t
+  wf = wellFormed t (C .passed)
+
+  abbrev Below : ℕ → ℕ → Type 0
+  Below i j = Subsumed t assignment i j
+
+  pub free-low : (c : ℕ) → FreeId t c → c < 192
+  free-low c f = omega (arith, f .known, wf .few)
+
+  same : (i : ℕ) → Below i i
+  same = subsumed-same t (assigned t assignment)
+
+  trans : (i j k : ℕ) → Below i j → Below j k → Below i k
+  trans = subsumed-trans t (assigned t assignment)
+
+  -- ---- lines of variable-free ids
+  pub row-above : (i j : ℕ) → FreeId t i → FreeId t j → onLine sets (lineAt false i) j ≡ true → Below i j
+  row-above i j f g e = subsumed-ground t (nothing t) assignment i j (f .ground) (g .ground) (C .above i j f g .0 e)
+
+  pub above-row : (i j : ℕ) → FreeId t i → FreeId t j → Below i j → onLine sets (lineAt false i) j ≡ true
+  above-row i j f g s = C .above i j f g .1 (subsumed-ground t assignment (nothing t) i j (f .ground) (g .ground) s)
+
+  column-below : (i j : ℕ) → FreeId t i → FreeId t j → onLine sets (lineAt true j) i ≡ true → Below i j
+  column-below i j f g e = subsumed-ground t (nothing t) assignment i j (f .ground) (g .ground) (C .below i j f g .0 e)
+
+  below-column : (i j : ℕ) → FreeId t i → FreeId t j → Below i j → onLine sets (lineAt true j) i ≡ true
+  below-column i j f g s = C .below i j f g .1 (subsumed-ground t assignment (nothing t) i j (f .ground) (g .ground) s)
+
+  inner-of : (e r x : ℕ) → FreeId t e → node (t .concepts) e ≡ existsAt r x → innerAt card e ≡ x
+  inner-of e r x f n = exists-node card e r x (C .rows e (f .known) ∙ n) .2
+
+  -- ---- values by their bits
+  pub exact-same : (j : ℕ) (f g : ℕ → Bool) → ((c : ℕ) → c < 192 → f c ≡ g c) → Exact t assignment j f → Exact t assignment j g
+  exact-same j f g h E c free =
+      let e = h c (free-low c free) in
+      (λ u. E c free .0 (e ∙ u), λ s. sym e ∙ E c free .1 s)
+
+  pub generates-same : (j : ℕ) (f g : ℕ → Bool) → ((c : ℕ) → c < 192 → f c ≡ g c) → Generates t assignment j f → Generates t assignment j g
+  generates-same j f g h G =
+      record {
+        sound = λ c free u. G .sound c free (h c (free-low c free) ∙ u);
+        upward = λ c d free more s u. sym (h d (free-low d more)) ∙ G .upward c d free more s (h c (free-low c free) ∙ u);
+        enough = λ X upper k. G .enough X upper (λ c free u. k c free (sym (h c (free-low c free)) ∙ u));
+      }
+
+  pub value-same : (right : Bool) (j : ℕ) (f g : ℕ → Bool) → ((c : ℕ) → c < 192 → f c ≡ g c) → ValueOf right t assignment j f → ValueOf right t assignment j g
+  value-same true j f g h E = exact-same j f g h E
+  value-same false j f g h G = generates-same j f g h G
+
+  -- ---- the value of a member, made or a line
+  line-exact : (i : ℕ) → FreeId t i → Exact t assignment i (onLine sets (lineAt true i))
+  line-exact i f c g = (column-below c i g f, below-column c i g f)
+
+  line-generates : (i : ℕ) → FreeId t i → Generates t assignment i (onLine sets (lineAt false i))
+  line-generates i f =
+      record {
+        sound = λ c g u. row-above i c f g u;
+        upward = λ c d g h s u. above-row i d f h (trans i c d (row-above i c f g u) s);
+        enough = λ X upper k c g s. upper .upward i c f g s (k i f (above-row i i f f (same i)));
+      }
+
+  line-value : (right : Bool) (i : ℕ) → FreeId t i → ValueOf right t assignment i (onLine sets (lineAt right i))
+  line-value true i f = line-exact i f
+  line-value false i f = line-generates i f
+
+  pub read-value :
+      (right : Bool) (values : List ℕ) (i : ℕ) (w : Words) → i < countOf (t .concepts)
+      → (hasVariable (tree (t .concepts) i) ≡ true → ValueOf right t assignment i (onLine values (i * 3))) → ValueRead sets card values right i w
+      → ValueOf right t assignment i (inWords w)
+  read-value right values i w l made R = go (heldAt card i) refl R
+    where
+      go : (b : Bool) → heldAt card i ≡ b → ReadBy b sets values right i w → ValueOf right t assignment i (inWords w)
+      go true e S = value-same right i (onLine values (i * 3)) (inWords w) (λ c m. sym (S c m)) (made (sym (C .held i l) ∙ e))
+      go false e S =
+          value-same right i (onLine sets (lineAt right i)) (inWords w) (λ c m. sym (S c m))
+          (line-value right i (record { ground = sym (C .held i l) ∙ e; known = l }))
+
+  -- ---- "and"
+  module _ (j i k : ℕ) (l : j < countOf (t .concepts)) (n : node (t .concepts) j ≡ andAt i k) (a b w : Words) where
+    pub and-exact :
+        Exact t assignment i (inWords a) → Exact t assignment k (inWords b) → ((c : ℕ) → c < 192 → inWords w c ≡ both (inWords a c) (inWords b c))
+        → Exact t assignment j (inWords w)
+    and-exact A B M c f =
+        let m = M c (free-low c f) in
+        let r = right-and t assignment wf c j i k (f .known) l n in (
+          λ u. let (x, y) = both-true _ _ (sym m ∙ u) in r .1 (A c f .0 x, B c f .0 y),
+          λ s. let (x, y) = r .0 s in m ∙ both-intro _ _ (A c f .1 x) (B c f .1 y),
+        )
+
+    pub and-generates :
+        Generates t assignment i (inWords a) → Generates t assignment k (inWords b) → Joined a b w → Generates t assignment j (inWords w)
+    and-generates A B J =
+        record {
+          sound =
+              λ c f u.
+              ⊎-elim (λ x. above-first t assignment wf j i k c l n (A .sound c f x)) (λ y. above-second t assignment wf j i k c l n (B .sound c f y)) (cases c f u);
+          upward =
+              λ c d f g s u.
+              ⊎-elim (λ x. in-first d g (A .upward c d f g s x)) (λ y. in-second d g (B .upward c d f g s y)) (cases c f u);
+          enough =
+              λ X upper h.
+              left-and t assignment wf (λ c. X c ≡ true) upper (λ c. true-stable (X c)) j i k l n
+              (A .enough X upper (λ c f x. h c f (in-first c f x))) (B .enough X upper (λ c f y. h c f (in-second c f y)));
+        }
+      where
+        cases : (c : ℕ) → FreeId t c → inWords w c ≡ true → (inWords a c ≡ true) ⊎ (inWords b c ≡ true)
+        cases c f u = or-cases (inWords a c) (inWords b c) (sym (J .bits c (free-low c f)) ∙ u)
+
+        in-first : (c : ℕ) → FreeId t c → inWords a c ≡ true → inWords w c ≡ true
+        in-first c f x = J .bits c (free-low c f) ∙ or-first _ _ x
+
+        in-second : (c : ℕ) → FreeId t c → inWords b c ≡ true → inWords w c ≡ true
+        in-second c f y = J .bits c (free-low c f) ∙ or-second _ _ y
+
+  -- ---- "some"
+  module _ (j r x : ℕ) (l : j < countOf (t .concepts)) (has : hasVariable (tree (t .concepts) j) ≡ true)
+      (n : node (t .concepts) j ≡ existsAt r x) (own w : Words) where
+    held : heldAt card j ≡ true
+    held = C .held j l ∙ has
+
+    fitting : (right : Bool) (e : ℕ) → e < 192 → onLine sets (fitAt right j) e ≡ true → Fitting t right j e
+    fitting right e h u = C .fits right j e l h held .0 u
+
+    fitted : (right : Bool) (e : ℕ) → Fitting t right j e → onLine sets (fitAt right j) e ≡ true
+    fitted right e F = C .fits right j e l (free-low e (F .free)) held .1 F
+
+    pub exists-exact : Exact t assignment x (inWords own) → Linked sets card own true j w → Exact t assignment j (inWords w)
+    exists-exact E L c f = (λ u. to (L c (free-low c f) .0 u), from)
+      where
+        to : LinkOf sets card own true j c → Below c j
+        to k =
+            let F = fitting true (k .by) (k .low) (k .fits) in
+            let inward = free-inward t wf .inner (k .by) (F .role) (F .inner) (F .row) (F .free) in
+            right-linked t assignment wf c j r x (f .known) l n
+            (record {
+              by = k .by;
+              narrow = F .role;
+              to = F .inner;
+              free = F .free;
+              link = F .row;
+              widened = subst (λ (z : ℕ). wider (t .roles) (F .role) z ≡ true) (exists-role (sym (F .own) ∙ n)) (F .counts);
+              above = column-below c (k .by) f (F .free) (k .here);
+              inward =
+                  E (F .inner) inward .0
+                  (subst (λ (z : ℕ). inWords own z ≡ true) (inner-of (k .by) (F .role) (F .inner) (F .free) (F .row)) (k .inside));
+            })
+
+        from : Below c j → inWords w c ≡ true
+        from s =
+            true-stable (inWords w c)
+            (λ never.
+            right-exists t assignment wf c j r x f l n s
+            (λ k.
+            never
+            (L c (free-low c f) .1
+            (record {
+              by = k .by;
+              low = free-low (k .by) (k .free);
+              fits =
+                  fitted true (k .by)
+                  (record {
+                    free = k .free;
+                    own-role = r;
+                    own-inner = x;
+                    role = k .narrow;
+                    inner = k .to;
+                    own = n;
+                    row = k .link;
+                    counts = k .widened;
+                  });
+              inside =
+                  subst (λ (z : ℕ). inWords own z ≡ true) (sym (inner-of (k .by) (k .narrow) (k .to) (k .free) (k .link)))
+                  (E (k .to) (free-inward t wf .inner (k .by) (k .narrow) (k .to) (k .link) (k .free)) .1 (k .inward));
+              here = below-column c (k .by) f (k .free) (k .above);
+            }))))
+
+    -- the inner set holds all that is above the inner id
+    pub exists-generates :
+        ((c : ℕ) → FreeId t c → (inWords own c ≡ true) ↔ Below x c) → Linked sets card own false j w → Generates t assignment j (inWords w)
+    exists-generates E L =
+        record {
+          sound = λ c f u. sound c f (L c (free-low c f) .0 u);
+          upward = λ c d f g s u. L d (free-low d g) .1 (on c d f g s (L c (free-low c f) .0 u));
+          enough =
+              λ X upper h.
+              left-exists t assignment wf (λ c. X c ≡ true) upper (λ c. true-stable (X c)) j r x l n
+              (λ a s d f m v b. h a f (L a (free-low a f) .1 (link a s d f m v b)));
+        }
+      where
+        sound : (c : ℕ) → FreeId t c → LinkOf sets card own false j c → Below j c
+        sound c f k =
+            let F = fitting false (k .by) (k .low) (k .fits) in
+            let inward = free-inward t wf .inner (k .by) (F .role) (F .inner) (F .row) (F .free) in
+            trans j (k .by) c
+            (above-exists t assignment wf j r x (k .by) (F .role) (F .inner) l (F .free .known) n (F .row)
+            (subst (λ (z : ℕ). wider (t .roles) z (F .role) ≡ true) (exists-role (sym (F .own) ∙ n)) (F .counts))
+            (E (F .inner) inward .0
+            (subst (λ (z : ℕ). inWords own z ≡ true) (inner-of (k .by) (F .role) (F .inner) (F .free) (F .row)) (k .inside))))
+            (row-above (k .by) c (F .free) f (k .here))
+
+        on : (c d : ℕ) → FreeId t c → FreeId t d → Below c d → LinkOf sets card own false j c → LinkOf sets card own false j d
+        on c d f g s k =
+            let F = fitting false (k .by) (k .low) (k .fits) in
+            record {
+              by = k .by;
+              low = k .low;
+              fits = k .fits;
+              inside = k .inside;
+              here = above-row (k .by) d (F .free) g (trans (k .by) c d (row-above (k .by) c (F .free) f (k .here)) s);
+            }
+
+        link :
+            (a s d : ℕ) → FreeId t a → node (t .concepts) a ≡ existsAt s d → wider (t .roles) r s ≡ true → Below x d → LinkOf sets card own false j a
+        link a s d f m v b =
+            record {
+              by = a;
+              low = free-low a f;
+              fits =
+                  fitted false a (record { free = f; own-role = r; own-inner = x; role = s; inner = d; own = n; row = m; counts = v });
+              inside =
+                  subst (λ (z : ℕ). inWords own z ≡ true) (sym (inner-of a s d f m)) (E d (free-inward t wf .inner a s d m f) .1 b);
+              here = above-row a a f f (same a);
+            }
+
+  -- ---- closing up
+  module _ (i : ℕ) (x w : Words) (l : i < countOf (t .concepts)) (G : Generates t assignment i (inWords x)) (U : ClosedUp sets card x w) where
+    closer : (e : ℕ) → e < 192 → onLine sets closersAt e ≡ true → FreeId t e
+    closer e h u = C .closers e h .0 u .0
+
+    is-closer : (e : ℕ) → FreeId t e → closes (node (t .concepts) e) ≡ true → onLine sets closersAt e ≡ true
+    is-closer e f u = C .closers e (free-low e f) .1 (f, u)
+
+    follows-above : {c : ℕ} → FreeId t c → Follows sets card x c → Below i c
+    follows-above f (by-set c h e) = G .sound c f e
+    follows-above f (by-top e c h o n m r) =
+        let g = closer e h o in
+        trans i e c (above-upper t assignment wf i l .tops e g (sym (C .rows e (g .known)) ∙ n)) (row-above e c g f r)
+    follows-above f (by-and e a b c h o n p q m r) =
+        let g = closer e h o in
+        let v = sym (C .rows e (g .known)) ∙ n in
+        trans i e c
+        (above-upper t assignment wf i l .meets e a b g v (follows-above (free-inward t wf .first e a b v g) p)
+        (follows-above (free-inward t wf .second e a b v g) q)) (row-above e c g f r)
+
+    members-top : (e : ℕ) → node card e ≡ topAt → MembersOf (λ c. inWords w c ≡ true) (node card e)
+    members-top e n = subst (MembersOf (λ c. inWords w c ≡ true)) (sym n) tt
+
+    members-and :
+        (e a b : ℕ) → node card e ≡ andAt a b → inWords w a ≡ true → inWords w b ≡ true → MembersOf (λ c. inWords w c ≡ true) (node card e)
+    members-and e a b n p q = subst (MembersOf (λ c. inWords w c ≡ true)) (sym n) (p, q)
+
+    follows-upward : {c : ℕ} → FreeId t c → Follows sets card x c → (d : ℕ) → FreeId t d → Below c d → inWords w d ≡ true
+    follows-upward f (by-set c h e) d g s = U .followed .kept d (free-low d g) (G .upward c d f g s e)
+    follows-upward f (by-top e c h o n m r) d g s =
+        let k = closer e h o in
+        U .closed e h o (members-top e n) d (free-low d g) (above-row e d k g (trans e c d (row-above e c k f r) s))
+    follows-upward f (by-and e a b c h o n p q m r) d g s =
+        let k = closer e h o in
+        let v = sym (C .rows e (k .known)) ∙ n in
+        let fa = free-inward t wf .first e a b v k in
+        let fb = free-inward t wf .second e a b v k in
+        U .closed e h o (members-and e a b n (follows-upward fa p a fa (same a)) (follows-upward fb q b fb (same b))) d (free-low d g)
+        (above-row e d k g (trans e c d (row-above e c k f r) s))
+
+    closed-upper : Upper t assignment (λ c. inWords w c ≡ true)
+    unfolding closes
+    closed-upper =
+        record {
+          tops =
+              λ c f n.
+              U .closed c (free-low c f) (is-closer c f (ap closes n)) (members-top c (C .rows c (f .known) ∙ n)) c (free-low c f)
+              (above-row c c f f (same c));
+          upward = λ c d f g s u. follows-upward f (U .followed .least c (free-low c f) u) d g s;
+          meets =
+              λ c a b f n p q.
+              U .closed c (free-low c f) (is-closer c f (ap closes n)) (members-and c a b (C .rows c (f .known) ∙ n) p q) c (free-low c f)
+              (above-row c c f f (same c));
+        }
+
+    pub closed-exact : (c : ℕ) → FreeId t c → (inWords w c ≡ true) ↔ Below i c
+    closed-exact c f = (
+      λ u. follows-above f (U .followed .least c (free-low c f) u),
+      λ s. G .enough (inWords w) closed-upper (λ d g u. U .followed .kept d (free-low d g) u) c f s,
+    )
+
+-- ---- a variable
+module _ (t : Tables) (sets card : List ℕ) (C : Card t sets card) (choice : List ℕ)
+    (accepted : assignmentFault t (take (t .variables) choice) ≡ Done) where
+  abbrev α : List ℕ
+  α = take (t .variables) choice
+
+  record Place (k p : ℕ) : Type 0 where
+    place : ℕ
+    low : place < 64
+    taken : bit (getD choice k 0) place ≡ true
+    here : atomAt card place ≡ p
+
+  place-of : (k p : ℕ) → k < t .variables → List·Memᴰ p (chosen t α k) → Place k p
+  unfolding chosen
+  place-of k p l m =
+      let P = pick-member (atoms t) (getD α k 0) p m in
+      record {
+        place = P .place;
+        low = omega (arith, P .known, wellFormed t (C .passed) .few-atoms);
+        taken = sym (ap (λ (z : ℕ). bit z (P .place)) (getD-take (t .variables) choice k 0 l)) ∙ P .chosen;
+        here = C .atom (P .place) (P .known) ∙ P .here;
+      }
+
+  chosen-at : (k q : ℕ) → k < t .variables → bit (getD choice k 0) q ≡ true → List·Memᴰ (atomAt card q) (chosen t α k)
+  unfolding chosen
+  chosen-at k q l e =
+      let taken : bit (getD α k 0) q ≡ true = ap (λ (z : ℕ). bit z q) (getD-take (t .variables) choice k 0 l) ∙ e in
+      let known : q < length (atoms t) = accepted-bits t α accepted k q taken .1 in
+      pick-intro (atoms t) (getD α k 0) (atomAt card q) (record { place = q; known = known; chosen = taken; here = sym (C .atom q known) })
+
+  module _ (j k : ℕ) (l : j < countOf (t .concepts)) (n : node (t .concepts) j ≡ varAt k) (w : Words) where
+    number : k < t .variables
+    number = wellFormed t (C .passed) .numbered j k n
+
+    pub var-exact : BelowAll sets card (getD choice k 0) w → Exact t α j (inWords w)
+    var-exact B c f = (λ u. rule .1 (to u), from)
+      where
+        rule : Subsumed t α c j ↔ ((p : ℕ) → List·Memᴰ p (chosen t α k) → Subsumed t α c p)
+        rule = right-var t α (wellFormed t (C .passed)) c j k (f .known) l n
+
+        to : inWords w c ≡ true → (p : ℕ) → List·Memᴰ p (chosen t α k) → Subsumed t α c p
+        to u p m =
+            let P = place-of k p number m in
+            column-below t sets card C α c p f (free-chosen t (wellFormed t (C .passed)) α k p m)
+            (subst (λ (z : ℕ). onLine sets (lineAt true z) c ≡ true) (P .here) (B c (free-low t sets card C α c f) .0 u (P .place) (P .low) (P .taken)))
+
+        from : Subsumed t α c j → inWords w c ≡ true
+        from s =
+            B c (free-low t sets card C α c f) .1
+            (λ q h b.
+            let m = chosen-at k q number b in
+            below-column t sets card C α c (atomAt card q) f (free-chosen t (wellFormed t (C .passed)) α k _ m) (rule .0 s (atomAt card q) m))
+
+    pub var-generates : AboveSome sets card (getD choice k 0) w → Generates t α j (inWords w)
+    var-generates A =
+        record {
+          sound = λ c f u. sound c f (A c (low c f) .0 u);
+          upward = λ c d f g s u. A d (low d g) .1 (on c d f g s (A c (low c f) .0 u));
+          enough =
+              λ X upper h.
+              left-var t α (wellFormed t (C .passed)) (λ c. X c ≡ true) upper (λ c. true-stable (X c)) j k l n
+              (λ p m. let f = free-chosen t (wellFormed t (C .passed)) α k p m in h p f (A p (low p f) .1 (own p f m)));
+        }
+      where
+        low : (c : ℕ) → FreeId t c → c < 192
+        low = free-low t sets card C α
+
+        free : (q : ℕ) → bit (getD choice k 0) q ≡ true → FreeId t (atomAt card q)
+        free q b = free-chosen t (wellFormed t (C .passed)) α k _ (chosen-at k q number b)
+
+        sound : (c : ℕ) → FreeId t c → ChosenAbove sets card (getD choice k 0) c → Subsumed t α j c
+        sound c f a =
+            subsumed-trans t (assigned t α) j (atomAt card (a .place)) c
+            (above-var t α (wellFormed t (C .passed)) j k (atomAt card (a .place)) l n (chosen-at k (a .place) number (a .chosen)))
+            (row-above t sets card C α (atomAt card (a .place)) c (free (a .place) (a .chosen)) f (a .here))
+
+        on :
+            (c d : ℕ) → FreeId t c → FreeId t d → Subsumed t α c d → ChosenAbove sets card (getD choice k 0) c
+            → ChosenAbove sets card (getD choice k 0) d
+        on c d f g s a =
+            let e = free (a .place) (a .chosen) in
+            record {
+              place = a .place;
+              low = a .low;
+              chosen = a .chosen;
+              here =
+                  above-row t sets card C α (atomAt card (a .place)) d e g
+                  (subsumed-trans t (assigned t α) (atomAt card (a .place)) c d
+                  (row-above t sets card C α (atomAt card (a .place)) c e f (a .here)) s);
+            }
+
+        own : (p : ℕ) → FreeId t p → List·Memᴰ p (chosen t α k) → ChosenAbove sets card (getD choice k 0) p
+        own p f m =
+            let P = place-of k p number m in
+            record {
+              place = P .place;
+              low = P .low;
+              chosen = P .taken;
+              here =
+                  subst (λ (z : ℕ). onLine sets (lineAt false z) p ≡ true) (sym (P .here))
+                  (above-row t sets card C α p p f f (subsumed-same t (assigned t α) p));
+            }
