@@ -1,5 +1,5 @@
 -- Why the search is right: what a test of either side tells of a whole interval, and how an interval is split.
-use Prim.Native.Nat.{ℕ, zero, suc, _+_, _*_, _/_, _%_, _<_, _≤_}
+use Prim.Native.Nat.{ℕ, _+_, _*_, _/_, _%_, _<_, _≤_}
 use mathlib.Core.Path.{_≡_, refl, sym, ap, _∙_, subst}
 use mathlib.Core.List.{List}
 use mathlib.Core.Bool.{Bool, true, false, not, false≢true, true≢false}
@@ -8,14 +8,13 @@ use native.Mathlib.Omega.{arith}
 use lib.ListN.{length, take}
 use lib.Seq.{length-take-le}
 use Rattle.subsumption.specs.declared.refusal.Outcome.the-variants.{Done}
-use Rattle.subsumption.specs.Tables.{Tables, pairsOf, leftOf, rightOf, tree, hasVariable}
-use Rattle.subsumption.specs.Subsumption.{Subsumed}
+use Rattle.subsumption.specs.Tables.{Tables, pairsOf, rightOf, tree, hasVariable}
 use Rattle.subsumption.specs.Table.{counted}
 use Rattle.subsumption.specs.Check.{tableFault, assignmentFault}
-use Rattle.subsumption.proofs.Bools.{both-true, both-intro, eq-or-ne, last-cases}
+use Rattle.subsumption.proofs.Bools.{both-true, both-intro, eq-or-ne}
 use Rattle.subsumption.proofs.MarkLaws.{counted-less}
 use Rattle.subsumption.proofs.Accepted.{wellFormed}
-use Rattle.matching.specs.Solving.{takes, Solves}
+use Rattle.matching.specs.Solving.{takes}
 use Rattle.matching.specs.Inner.Search.{Decided, HoldsAt, Within, SolutionIn, NoSolution}
 use Rattle.matching.specs.Inner.Search.Pairs.{Changed}
 use Rattle.matching.specs.Inner.Search.Interval.{IntervalOf, undecided, openPairs, Picked}
@@ -23,7 +22,7 @@ use Rattle.matching.specs.Inner.Search.Solve.{Refuted}
 use Rattle.matching.specs.declared.search.interval.Pick.{Pick}
 use Rattle.matching.specs.declared.search.interval.Pick.the-variants.{At, Nothing}
 use Rattle.matching.proofs.SearchLaws.Fronts.{front-known, front-takes, front-within, accepted-bits, within-accepted}
-use Rattle.matching.proofs.SearchLaws.Monotone.{monotone, antitone}
+use Rattle.matching.proofs.SearchLaws.Monotone.{monotone, antitone, left-free}
 
 -- ---- one pair
 pub open-high : (low high : List ℕ) (p : ℕ) → undecided low high p ≡ true → takes high (p / 64) (p % 64) ≡ true
@@ -103,18 +102,11 @@ module _ (low high : List ℕ) (p : ℕ) (l : p < 512) (u : undecided low high p
 
 -- ---- tests of an interval
 module _ (t : Tables) (h : tableFault t ≡ Done) where
-  left-free : (m : ℕ) → m < pairsOf (t .questions) → hasVariable (tree (t .concepts) (rightOf (t .questions) m)) ≡ true → hasVariable (tree (t .concepts) (leftOf (t .questions) m)) ≡ false
-  left-free m l e = go (hasVariable (tree (t .concepts) (leftOf (t .questions) m))) refl
-    where
-      go : (b : Bool) → hasVariable (tree (t .concepts) (leftOf (t .questions) m)) ≡ b → hasVariable (tree (t .concepts) (leftOf (t .questions) m)) ≡ false
-      go true x = absurd (true≢false (sym (both-intro _ _ x e) ∙ wellFormed t h .one-sided m l))
-      go false x = x
-
   module _ (low high : List ℕ) (m : ℕ) (l : m < pairsOf (t .questions)) where
     -- a question with a variable on the right that fails at the low side
     pub low-shuts :
         hasVariable (tree (t .concepts) (rightOf (t .questions) m)) ≡ true → (HoldsAt t (take (t .variables) low) m → ⊥) → NoSolution t low high
-    low-shuts e n other a b s = n (antitone t (wellFormed t h) _ other (b .above) _ _ (left-free m l e) (s m l))
+    low-shuts e n other a b s = n (antitone t (wellFormed t h) _ other (b .above) _ _ (left-free t h m l e) (s m l))
 
     -- another one that fails at the high side
     pub high-shuts :

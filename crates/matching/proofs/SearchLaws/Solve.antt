@@ -6,7 +6,6 @@ use mathlib.Core.Bool.{Bool, true, false, not, Bool·beq, _||_, _&&_, false≢tr
 use mathlib.Core.Logic.{⊎-elim}
 use native.Mathlib.Omega.{arith}
 use lib.ListN.{length, take, getD}
-use lib.Seq.{length-take-le}
 use Rattle.subsumption.specs.declared.refusal.Outcome.the-variants.{Done}
 use Rattle.subsumption.specs.Tables.{Tables, pairsOf, rightOf, tree, hasVariable}
 use Rattle.subsumption.specs.Atoms.{bit}
@@ -25,9 +24,8 @@ use Rattle.matching.specs.declared.search.interval.Pick.the-variants.{No
 use Rattle.matching.specs.Inner.Search.Nogoods.{used, lowAt, highAt, Room, Nogoods, Added}
 use Rattle.matching.specs.Inner.Search.Patterns.{Tested}
 use Rattle.matching.specs.Inner.Search.Widen.{Mixed, StillFails}
-use Rattle.matching.specs.Inner.Search.Solve.{FailingFor, FailingOf, Failing, Refuted, RefutedBy, Answers, Searched, CanSplit, Known, Recalled, Merged}
-use Rattle.matching.proofs.SearchLaws.Fronts.{front-known, front-takes, front-within, within-accepted}
-use Rattle.matching.proofs.SearchLaws.Pairs.{mixed-same}
+use Rattle.matching.specs.Inner.Search.Solve.{FailingOf, Failing, Refuted, RefutedBy, Answers, Searched, CanSplit, Known, Recalled, Merged}
+use Rattle.matching.proofs.SearchLaws.Fronts.{front-known, front-takes, front-within}
 use Rattle.matching.proofs.SearchLaws.Nogoods.{words-long, nogoods-added}
 use Rattle.matching.proofs.SearchLaws.Interval.{decided-true, decided-false, at-pair, grown, grown-cases, shrunk, shrunk-cases, low-shuts, high-shuts, decided-shut, low-accepted, picked-none, take-keeps, take-found, leave-keeps, leave-found}
 

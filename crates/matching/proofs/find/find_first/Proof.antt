@@ -4,8 +4,6 @@ use lib.ListN.{length}
 use Rattle.subsumption.proofs.Accepted.{wellFormed}
 use Rattle.matching.proofs.find.find_first.Statement.{statement}
 use Rattle.matching.proofs.find.find_first.Tie as tie
-use Rattle.matching.proofs.find.search.Reads as search-reads
-use Rattle.matching.proofs.search.card.make_card.Reads as make-card-reads
 
 slice-aggregate-make-card : tie.Need-slice-aggregate-make-card
 slice-aggregate-make-card c = omega arith

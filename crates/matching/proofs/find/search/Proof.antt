@@ -3,10 +3,6 @@ use mathlib.Core.Path.{refl}
 use Rattle.matching.proofs.FindLaws.{all-zeros, room-none, found-first, found-none}
 use Rattle.matching.proofs.find.search.Statement.{statement}
 use Rattle.matching.proofs.find.search.Tie as tie
-use Rattle.matching.proofs.find.all_atoms.Reads as all-atoms-reads
-use Rattle.matching.proofs.search.narrow.narrow.Reads as narrow-reads
-use Rattle.matching.proofs.search.order.first_solution.Reads as first-solution-reads
-use Rattle.matching.proofs.search.solve.some_solution.Reads as some-solution-reads
 
 all-atoms-requires : tie.Need-all-atoms-requires
 all-atoms-requires c κs = c .before .before .pre .1

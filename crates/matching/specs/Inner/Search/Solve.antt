@@ -8,7 +8,7 @@ use Rattle.subsumption.specs.declared.refusal.Outcome.the-variants.{Done}
 use Rattle.subsumption.specs.Tables.{Tables, pairsOf, rightOf, tree, hasVariable}
 use Rattle.subsumption.specs.Check.{assignmentFault}
 use Rattle.matching.specs.Inner.Search.{HoldsAt, Within, SolutionIn, NoSolution}
-use Rattle.matching.specs.Inner.Search.Card.{Card, questionCount}
+use Rattle.matching.specs.Inner.Search.Card.{Card}
 use Rattle.matching.specs.Inner.Search.Pairs.{Changed, Joined, Met}
 use Rattle.matching.specs.Inner.Search.Interval.{IntervalOf, undecided}
 use Rattle.matching.specs.Inner.Search.Nogoods.{used, lowAt, highAt, Nogoods}

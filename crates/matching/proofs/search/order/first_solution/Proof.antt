@@ -7,11 +7,6 @@ use Rattle.matching.proofs.SearchLaws.Interval.{open-high}
 use Rattle.matching.proofs.SearchLaws.Order.{Walking, walking-start, walking-skip, walking-witness, walking-leave, walking-take, walking-done}
 use Rattle.matching.proofs.search.order.first_solution.Statement.{statement}
 use Rattle.matching.proofs.search.order.first_solution.Tie as tie
-use Rattle.matching.proofs.search.interval.Interval.is_undecided.Reads as is-undecided-reads
-use Rattle.matching.proofs.search.interval.Interval.leave.Reads as leave-reads
-use Rattle.matching.proofs.search.interval.Interval.take.Reads as take-reads
-use Rattle.matching.proofs.search.interval.has_bit.Reads as has-bit-reads
-use Rattle.matching.proofs.search.solve.some_solution.Reads as some-solution-reads
 
 abbrev Inv-loop : tie.InvT-loop
 Inv-loop sets card store₀ scratch₀ full interval₀ witness₀ p₀ store scratch interval witness p = Walking sets card (interval₀ .low) (interval₀ .high) store₀ witness₀ (interval .low) (interval .high) witness store p × (length scratch ≡ 16977)

@@ -2,7 +2,6 @@ use native.Mathlib.Omega.{arith}
 use Rattle.matching.proofs.SearchLaws.Solve.{failing-first, failing-second}
 use Rattle.matching.proofs.search.solve.failing.Statement.{statement}
 use Rattle.matching.proofs.search.solve.failing.Tie as tie
-use Rattle.matching.proofs.search.solve.failing_of.Reads as failing-of-reads
 
 failing-of-requires : tie.Need-failing-of-requires
 failing-of-requires c κs = (c .before .before .before .before .pre .0, c .before .before .before .before .pre .1)

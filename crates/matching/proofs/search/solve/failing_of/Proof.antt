@@ -1,11 +1,10 @@
 use mathlib.Core.Path.{_≡_}
 use lib.ListN.{length}
 use native.Mathlib.Omega.{arith}
-use Prim.Native.Nat.{_-_, _≤_}
+use Prim.Native.Nat.{_-_}
 use Rattle.matching.proofs.SearchLaws.Solve.{HoldTo, hold-none, hold-skip, hold-more, failing-here, failing-none}
 use Rattle.matching.proofs.search.solve.failing_of.Statement.{statement}
 use Rattle.matching.proofs.search.solve.failing_of.Tie as tie
-use Rattle.matching.proofs.search.patterns.question_holds.Reads as question-holds-reads
 
 abbrev Inv-loop : tie.InvT-loop
 Inv-loop sets card scratch₀ choice right count m₀ scratch m = HoldTo sets card choice right m × (length scratch ≡ 16977)

@@ -3,9 +3,6 @@ use mathlib.Core.Bool.{false}
 use Rattle.matching.proofs.SearchLaws.Solve.{step-answered, by-known}
 use Rattle.matching.proofs.search.solve.next_step.Statement.{statement}
 use Rattle.matching.proofs.search.solve.next_step.Tie as tie
-use Rattle.matching.proofs.search.solve.answered.Reads as answered-reads
-use Rattle.matching.proofs.search.solve.look_up.Reads as look-up-reads
-use Rattle.matching.proofs.search.solve.step_by_choice.Reads as step-by-choice-reads
 
 slice-read-look-up : tie.Need-slice-read-look-up
 slice-read-look-up c = omega (arith, c .before .before .before .before .before .before .pre .0 .scratch-long)

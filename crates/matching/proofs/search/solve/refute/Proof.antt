@@ -5,7 +5,6 @@ use Rattle.matching.proofs.SearchLaws.Solve.{refuted-right, refuted-lef
 use Rattle.matching.proofs.FindLaws.{all-zeros}
 use Rattle.matching.proofs.search.solve.refute.Statement.{statement}
 use Rattle.matching.proofs.search.solve.refute.Tie as tie
-use Rattle.matching.proofs.search.widen.widen.Reads as widen-reads
 
 mul-side : tie.Need-mul-side
 mul-side c = omega (arith, c .before .before .before .pre .0 .numbers .few)

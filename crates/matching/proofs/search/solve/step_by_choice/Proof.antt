@@ -3,13 +3,6 @@ use mathlib.Core.Bool.{false}
 use Rattle.matching.proofs.SearchLaws.Solve.{step-answered, step-split, by-known, by-nothing, can-split}
 use Rattle.matching.proofs.search.solve.step_by_choice.Statement.{statement}
 use Rattle.matching.proofs.search.solve.step_by_choice.Tie as tie
-use Rattle.matching.proofs.search.lookup.choose.Reads as choose-reads
-use Rattle.matching.proofs.search.lookup.open_pair.Reads as open-pair-reads
-use Rattle.matching.proofs.search.solve.answered.Reads as answered-reads
-use Rattle.matching.proofs.search.solve.can_split.Reads as can-split-reads
-use Rattle.matching.proofs.search.solve.look_up.Reads as look-up-reads
-use Rattle.matching.proofs.search.solve.splitting.Reads as splitting-reads
-use Rattle.matching.proofs.search.solve.step_by_test.Reads as step-by-test-reads
 
 choose-requires : tie.Need-choose-requires
 choose-requires c κs = (c .before .before .before .before .before .before .pre .0 .room, c .before .before .before .before .before .before .pre .0 .scratch-long)

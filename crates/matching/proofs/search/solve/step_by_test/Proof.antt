@@ -4,12 +4,6 @@ use Rattle.matching.proofs.SearchLaws.Solve.{step-answered, step-split,
 use Rattle.matching.proofs.SearchLaws.Interval.{picked-at}
 use Rattle.matching.proofs.search.solve.step_by_test.Statement.{statement}
 use Rattle.matching.proofs.search.solve.step_by_test.Tie as tie
-use Rattle.matching.proofs.search.interval.pick_undecided.Reads as pick-undecided-reads
-use Rattle.matching.proofs.search.pairs.is_within.Reads as is-within-reads
-use Rattle.matching.proofs.search.solve.answered.Reads as answered-reads
-use Rattle.matching.proofs.search.solve.pair_outside.Reads as pair-outside-reads
-use Rattle.matching.proofs.search.solve.splitting.Reads as splitting-reads
-use Rattle.matching.proofs.search.solve.try_low.Reads as try-low-reads
 
 try-low-requires : tie.Need-try-low-requires
 try-low-requires c κs = (c .before .before .before .before .before .before .before .before .pre .0, (c .before .before .before .before .before .before .before .before .pre .1 .0, c .before .before .before .before .before .before .before .before .pre .1 .1))

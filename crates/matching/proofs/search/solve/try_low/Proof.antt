@@ -2,9 +2,6 @@ use native.Mathlib.Omega.{arith}
 use Rattle.matching.proofs.SearchLaws.Solve.{tried-refuted, tried-solves}
 use Rattle.matching.proofs.search.solve.try_low.Statement.{statement}
 use Rattle.matching.proofs.search.solve.try_low.Tie as tie
-use Rattle.matching.proofs.search.nogoods.add.Reads as add-reads
-use Rattle.matching.proofs.search.solve.failing.Reads as failing-reads
-use Rattle.matching.proofs.search.solve.refute.Reads as refute-reads
 
 failing-requires : tie.Need-failing-requires
 failing-requires c κs = (c .before .before .before .before .before .pre .0 .shaped, c .before .before .before .before .before .pre .0 .scratch-long)
