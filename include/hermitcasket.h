@@ -16,8 +16,8 @@
  *     hc_check              8192
  *     hc_atoms              8192
  *     hc_blanks             8192
- *     hc_subsumption_table  16384
- *     hc_subsumed           16384
+ *     hc_subsumption_table  32768
+ *     hc_subsumed           32768
  *     hc_match              1048576   (the most measured is 217328)
  *     hc_chosen             8192
  *     hc_derive             524288
