@@ -10,7 +10,7 @@ use Rattle.subsumption.specs.Tables.{Node, topAt, nameAt, andAt, varAt, 
 use Rattle.subsumption.specs.Atoms.{bit}
 use Rattle.subsumption.specs.Inner.Columns.{has, slack, Empty}
 use Rattle.subsumption.specs.Inner.Names.{Firsts}
-use Rattle.subsumption.specs.Inner.Settling.{SettledBy, AllSettled}
+use Rattle.subsumption.specs.Inner.Settling.{DescendedBy, AscendedBy, AllDescended, AllAscended}
 use Rattle.subsumption.specs.Inner.Links.{AllLinked}
 use Rattle.subsumption.specs.Inner.Closure.{Steps, flow-given, Sound, LowPairs, LeftKnown, Pass, IncludePass, AllTaken, AllIncluded, Closed}
 use Rattle.subsumption.proofs.Bits.{bit-of-zero}
@@ -55,15 +55,19 @@ module _ (concepts inclusions : List ℕ) (wide : ℕ → ℕ → Bool) (choose 
 
   -- one round
   pub round-pass :
-      {before one after : List ℕ} {a b : Bool}
-      → Pass concepts inclusions wide choose (λ l. AllSettled concepts firsts choose l × AllLinked concepts wide l) before one a
-      → Pass concepts inclusions wide choose (AllIncluded concepts inclusions) one after b
-      → Pass concepts inclusions wide choose (AllTaken concepts inclusions wide choose firsts) before after (a || b)
-  round-pass p q = pass-as (pass-then p q) (λ u. record { settled = u .0 .0; included = u .1; linked = u .0 .1 })
+      {before one two after : List ℕ} {a b c : Bool} → Pass concepts inclusions wide choose (AllDescended concepts choose) before one a
+      → Pass concepts inclusions wide choose (λ l. AllAscended concepts firsts choose l × AllLinked concepts wide l) one two b
+      → Pass concepts inclusions wide choose (AllIncluded concepts inclusions) two after c
+      → Pass concepts inclusions wide choose (AllTaken concepts inclusions wide choose firsts) before after ((a || b) || c)
+  round-pass p q r =
+      pass-as (pass-then (pass-then p q) r) (λ u. record { descended = u .0 .0; ascended = u .0 .1 .0; included = u .1; linked = u .0 .1 .1 })
 
   module _ (columns : List ℕ) (F : Firsts concepts firsts) (A : AllTaken concepts inclusions wide choose firsts columns) where
-    at : (j : ℕ) (m : Node) → j < countOf concepts → node concepts j ≡ m → SettledBy (countOf concepts) choose (getD firsts j 0) j columns m
-    at j m h e = subst (λ (x : Node). SettledBy (countOf concepts) choose (getD firsts j 0) j columns x) e (A .settled j h .by)
+    down : (j : ℕ) (m : Node) → j < countOf concepts → node concepts j ≡ m → DescendedBy (countOf concepts) choose j columns m
+    down j m h e = subst (λ (x : Node). DescendedBy (countOf concepts) choose j columns x) e (A .descended j h .by)
+
+    up : (j : ℕ) (m : Node) → j < countOf concepts → node concepts j ≡ m → AscendedBy (countOf concepts) choose (getD firsts j 0) j columns m
+    up j m h e = subst (λ (x : Node). AscendedBy (countOf concepts) choose (getD firsts j 0) j columns x) e (A .ascended j h)
 
     one-first : (j k n : ℕ) → j < countOf concepts → k < countOf concepts → node concepts j ≡ nameAt n → node concepts k ≡ nameAt n → getD firsts j 0 ≡ getD firsts k 0
     one-first j k n h l p q =
@@ -72,19 +76,19 @@ module _ (concepts inclusions : List ℕ) (wide : ℕ → ℕ → Bool) (choose 
     pub all-steps : Steps concepts inclusions wide choose (λ i j. has columns i j ≡ true)
     all-steps =
         record {
-          same = λ j h. A .settled j h .same;
-          top = λ i j h l e. at j topAt l e i h;
+          same = λ j h. A .descended j h .same;
+          top = λ i j h l e. up j topAt l e i h;
           named =
               λ i j k n h l m p q r.
-              at k (nameAt n) m q .1 i h
-              (subst (λ (x : ℕ). has columns i x ≡ true) (one-first j k n l m p q) (at j (nameAt n) l p .0 i h r));
-          first = λ i j a b h l e r. at j (andAt a b) l e .0 i h r;
-          second = λ i j a b h l e r. at j (andAt a b) l e .1 i h r;
-          meet = λ i j a b h l e r s. at j (andAt a b) l e .2 i h r s;
+              up k (nameAt n) m q .1 i h
+              (subst (λ (x : ℕ). has columns i x ≡ true) (one-first j k n l m p q) (up j (nameAt n) l p .0 i h r));
+          first = λ i j a b h l e r. down j (andAt a b) l e .0 i h r;
+          second = λ i j a b h l e r. down j (andAt a b) l e .1 i h r;
+          meet = λ i j a b h l e r s. up j (andAt a b) l e i h r s;
           included = λ i m h l r. A .included m l i h r;
           linked = λ i e f r s x y h l m p q w u t. A .linked f m e s y l q (record { narrow = r; from = x; row = p; counting = w; below = u }) i h t;
-          chooses = λ i v k p h l e m r. at v (varAt k) l e .0 p m i h r;
-          all-chosen = λ i v k h l e r. at v (varAt k) l e .1 i h r;
+          chooses = λ i v k p h l e m r. down v (varAt k) l e p m i h r;
+          all-chosen = λ i v k h l e r. up v (varAt k) l e i h r;
         }
 
   pub closing-done :

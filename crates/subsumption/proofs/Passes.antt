@@ -5,6 +5,7 @@ use mathlib.Core.List.{List}
 use mathlib.Core.Bool.{Bool, true, false, _||_}
 use mathlib.Core.Logic.{⊎-elim}
 use native.Mathlib.Omega.{arith}
+use native.Mathlib.Nat.{eq-or-lt-of-le}
 use borrow.Author.Count.{below-more}
 use Rattle.subsumption.specs.Tables.{countOf}
 use Rattle.subsumption.specs.Inner.Columns.{has, Into, Takes}
@@ -107,3 +108,23 @@ module _ {concepts inclusions : List ℕ} {wide : ℕ → ℕ → Bool} {choose 
       → Pass concepts inclusions wide choose (λ l. (k : ℕ) → k < i → S k l) before after a
       → Pass concepts inclusions wide choose (λ l. (k : ℕ) → k < n → S k l) before after a
   loop-done S i n h p = pass-as p (λ u k l. u k (omega arith))
+
+  -- the same from the highest number down
+  pub fall-first :
+      (S : ℕ → List ℕ → Type 0) (n : ℕ) (columns : List ℕ)
+      → Pass concepts inclusions wide choose (λ l. (k : ℕ) → n ≤ k → k < n → S k l) columns columns false
+  fall-first S n columns = pass-none (λ k h l. absurd (omega arith))
+
+  pub fall-more :
+      (S : ℕ → List ℕ → Type 0) (i j n : ℕ) {before mid after : List ℕ} {a b : Bool} → i ≡ j + 1
+      → Pass concepts inclusions wide choose (λ l. (k : ℕ) → i ≤ k → k < n → S k l) before mid a → Pass concepts inclusions wide choose (S j) mid after b
+      → Pass concepts inclusions wide choose (λ l. (k : ℕ) → j ≤ k → k < n → S k l) before after (a || b)
+  fall-more S i j n {before} e p q =
+      pass-as (pass-then p q)
+      (λ u k h l. ⊎-elim (λ g. subst (λ (x : ℕ). S x before) g (u .1)) (λ g. u .0 k (omega arith) l) (eq-or-lt-of-le h))
+
+  pub fall-done :
+      (S : ℕ → List ℕ → Type 0) (j n : ℕ) {before after : List ℕ} {a : Bool} → j ≡ 0
+      → Pass concepts inclusions wide choose (λ l. (k : ℕ) → j ≤ k → k < n → S k l) before after a
+      → Pass concepts inclusions wide choose (λ l. (k : ℕ) → k < n → S k l) before after a
+  fall-done S j n e p = pass-as p (λ u k l. u k (omega arith) l)

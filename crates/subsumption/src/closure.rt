@@ -10,7 +10,8 @@ use crate::closure::links::link_to;
 use crate::closure::links::note_existentials;
 use crate::closure::links::note_kinds;
 use crate::closure::names::note_firsts;
-use crate::closure::settling::settle;
+use crate::closure::settling::ascend;
+use crate::closure::settling::descend;
 use crate::limits::CONCEPTS;
 use crate::limits::ROLE_WORDS;
 use crate::limits::WORDS;
@@ -20,9 +21,9 @@ ghost use lib.ListN.{length};
 ghost use Rattle.subsumption.specs.Roles.{wider};
 ghost use Rattle.subsumption.specs.Inner.Roles.{LowRoles};
 ghost use Rattle.subsumption.specs.Inner.Names.{Firsts};
-ghost use Rattle.subsumption.specs.Inner.Settling.{Settleable, chooseFrom, AllSettled};
+ghost use Rattle.subsumption.specs.Inner.Settling.{Settleable, chooseFrom, AllDescended, AllAscended};
 ghost use Rattle.subsumption.specs.Inner.Links.{Inner, Laid, AllLinked};
-ghost use Rattle.subsumption.specs.Inner.Closure.{Ready, LowPairs, IncludePass, RisePass, RoundPass, Closed};
+ghost use Rattle.subsumption.specs.Inner.Closure.{Ready, LowPairs, SettlePass, IncludePass, RisePass, RoundPass, Closed};
 
 // Of the existentials by role, the words: three a role.
 const KIND_WORDS: usize = 300;
@@ -61,8 +62,26 @@ fn include_until_quiet(inclusions: &[u16], columns: &mut [u64]) -> bool
     changed
 }
 
-// The steps at every row, and those of existentials into it. In rising order: inner ids are smaller, so that a tower of existentials
-// is climbed in one pass.
+// The steps that lead from a row to smaller ids, in falling order: what is below nested conjunctions comes to all members in one pass.
+fn fall(concepts: &[u16], atoms: &[u16], assignment: &[u64], columns: &mut [u64]) -> bool
+    requires { ⌜ Settleable (now concepts) (now atoms) (now assignment) ⌝ }
+    requires { ⌜ length (now columns) ≡ 576 ⌝ }
+    ensures { λ r. ⌜ SettlePass (now (concepts .entry)) (chooseFrom (now (atoms .entry)) (now (assignment .entry)))
+        (AllDescended (now (concepts .entry)) (chooseFrom (now (atoms .entry)) (now (assignment .entry))))
+        (now (columns .entry)) (now (columns .exit)) r ⌝ }
+{
+    let mut changed = false;
+    let mut j = concepts.len() / 3;
+    while 0 < j {
+        j -= 1;
+        let new = descend(concepts, atoms, assignment, columns, j);
+        changed = changed | new;
+    }
+    changed
+}
+
+// The steps that lead to a row from smaller ids, and those of existentials into it. In rising order: inner ids are smaller, so that a
+// tower of existentials is climbed in one pass.
 fn rise(
     concepts: &[u16],
     atoms: &[u16],
@@ -79,14 +98,14 @@ fn rise(
     requires { ⌜ Laid (now outer) (now inners) (now kinds) ⌝ }
     requires { ⌜ length (now columns) ≡ 576 ⌝ }
     ensures { λ r. ⌜ RisePass (now (concepts .entry)) (now (outer .entry)) (now (inners .entry)) (now (kinds .entry)) (chooseFrom (now (atoms .entry)) (now (assignment .entry)))
-        (λ wide l. AllSettled (now (concepts .entry)) (now (firsts .entry)) (chooseFrom (now (atoms .entry)) (now (assignment .entry))) l × AllLinked (now (concepts .entry)) wide l)
+        (λ wide l. AllAscended (now (concepts .entry)) (now (firsts .entry)) (chooseFrom (now (atoms .entry)) (now (assignment .entry))) l × AllLinked (now (concepts .entry)) wide l)
         (now (columns .entry)) (now (columns .exit)) r ⌝ }
 {
     let count = concepts.len() / 3;
     let mut changed = false;
     let mut j = 0;
     while j < count {
-        let a = settle(concepts, atoms, assignment, firsts, columns, j);
+        let a = ascend(concepts, atoms, assignment, firsts, columns, j);
         let b = link_to(concepts, outer, inners, kinds, columns, j);
         let new = a | b;
         changed = changed | new;
@@ -113,7 +132,8 @@ fn round(
     ensures { λ r. ⌜ RoundPass (now (concepts .entry)) (now (inclusions .entry)) (now (outer .entry)) (now (inners .entry)) (now (kinds .entry))
         (chooseFrom (now (atoms .entry)) (now (assignment .entry))) (now (firsts .entry)) (now (columns .entry)) (now (columns .exit)) r ⌝ }
 {
-    let a = rise(
+    let a = fall(concepts, atoms, assignment, columns);
+    let b = rise(
         concepts,
         atoms,
         assignment,
@@ -123,8 +143,8 @@ fn round(
         kinds,
         columns,
     );
-    let b = include_until_quiet(inclusions, columns);
-    a | b
+    let c = include_until_quiet(inclusions, columns);
+    a | b | c
 }
 
 // Closes the columns from what they hold.

@@ -8,7 +8,7 @@ use Rattle.subsumption.specs.Tables.{Tables, topAt, nameAt, existsAt, an
 use Rattle.subsumption.specs.Subsumption.{Subsumed}
 use Rattle.subsumption.specs.Inner.Tables.{Rising}
 use Rattle.subsumption.specs.Inner.Columns.{has, slack, Into}
-use Rattle.subsumption.specs.Inner.Settling.{AllSettled}
+use Rattle.subsumption.specs.Inner.Settling.{AllDescended, AllAscended}
 use Rattle.subsumption.specs.Inner.Links.{AllLinked, Sorted}
 
 -- what the closure asks: the checks have passed, and the atoms are at hand
@@ -99,7 +99,8 @@ module _ (concepts inclusions : List ℕ) (wide : ℕ → ℕ → Bool) (choose 
 
   -- everything is taken
   pub record AllTaken (firsts columns : List ℕ) : Type 0 where
-    pub settled : AllSettled concepts firsts choose columns
+    pub descended : AllDescended concepts choose columns
+    pub ascended : AllAscended concepts firsts choose columns
     pub included : AllIncluded concepts inclusions columns
     pub linked : AllLinked concepts wide columns
 

@@ -10,11 +10,44 @@ ghost use Prim.Native.Nat.{_<_};
 ghost use Rattle.subsumption.specs.Tables.{countOf};
 ghost use lib.ListN.{length};
 ghost use Rattle.subsumption.specs.Inner.Names.{Firsts};
-ghost use Rattle.subsumption.specs.Inner.Settling.{Settleable, Settled, chooseFrom};
+ghost use Rattle.subsumption.specs.Inner.Settling.{Settleable, Descended, Ascended, chooseFrom};
 ghost use Rattle.subsumption.specs.Inner.Closure.{SettlePass};
 
-// The steps at the row j.
-pub fn settle(
+// The steps at the row j that lead to itself and to smaller ids.
+pub fn descend(
+    concepts: &[u16],
+    atoms: &[u16],
+    assignment: &[u64],
+    columns: &mut [u64],
+    j: usize,
+) -> bool
+    requires { ⌜ Settleable (now concepts) (now atoms) (now assignment) ⌝ }
+    requires { ⌜ length (now columns) ≡ 576 ⌝ }
+    requires { ⌜ j < countOf (now concepts) ⌝ }
+    ensures { λ r. ⌜ SettlePass (now (concepts .entry)) (chooseFrom (now (atoms .entry)) (now (assignment .entry)))
+        (Descended (now (concepts .entry)) (chooseFrom (now (atoms .entry)) (now (assignment .entry))) j)
+        (now (columns .entry)) (now (columns .exit)) r ⌝ }
+{
+    let at = j * 3;
+    let kind = concepts[at];
+    let x = concepts[at + 1] as usize;
+    let own = mark(columns, j);
+    if kind == 3 {
+        let y = concepts[at + 2] as usize;
+        let a = flow(columns, j, x);
+        let b = flow(columns, j, y);
+        return own | a | b;
+    }
+    if kind == 4 {
+        let choice = assignment[x];
+        let a = spread(atoms, choice, columns, j);
+        return own | a;
+    }
+    own
+}
+
+// The steps at the row j that lead from smaller ids to it, and those between twins of a name.
+pub fn ascend(
     concepts: &[u16],
     atoms: &[u16],
     assignment: &[u64],
@@ -27,35 +60,28 @@ pub fn settle(
     requires { ⌜ length (now columns) ≡ 576 ⌝ }
     requires { ⌜ j < countOf (now concepts) ⌝ }
     ensures { λ r. ⌜ SettlePass (now (concepts .entry)) (chooseFrom (now (atoms .entry)) (now (assignment .entry)))
-        (Settled (now (concepts .entry)) (now (firsts .entry)) (chooseFrom (now (atoms .entry)) (now (assignment .entry))) j)
+        (Ascended (now (concepts .entry)) (now (firsts .entry)) (chooseFrom (now (atoms .entry)) (now (assignment .entry))) j)
         (now (columns .entry)) (now (columns .exit)) r ⌝ }
 {
     let at = j * 3;
     let kind = concepts[at];
     let x = concepts[at + 1] as usize;
-    let own = mark(columns, j);
     if kind == 1 {
         let first = firsts[j] as usize;
         let a = flow(columns, j, first);
         let b = flow(columns, first, j);
-        return own | a | b;
+        return a | b;
     }
     if kind == 2 {
-        return own;
+        return false;
     }
     if kind == 3 {
         let y = concepts[at + 2] as usize;
-        let a = flow(columns, j, x);
-        let b = flow(columns, j, y);
-        let c = meet(columns, x, y, j);
-        return own | a | b | c;
+        return meet(columns, x, y, j);
     }
     if kind == 4 {
         let choice = assignment[x];
-        let a = spread(atoms, choice, columns, j);
-        let b = gather(atoms, choice, columns, j);
-        return own | a | b;
+        return gather(atoms, choice, columns, j);
     }
-    let a = fill(columns, j);
-    own | a
+    fill(columns, j)
 }
