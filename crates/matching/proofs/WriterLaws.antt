@@ -1,8 +1,6 @@
--- Writing a derivation: finding, noting and copying its lines.
+-- Writing a derivation: finding and writing its lines.
 pub mod Explain
 pub mod Lines
-pub mod Notes
-pub mod Copies
+pub mod Steps
+pub mod Written
 pub mod Writing
-pub mod Premises
-pub mod Needed

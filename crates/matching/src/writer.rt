@@ -1,18 +1,15 @@
-// Writing a derivation: lines are noted until the asked pair is found; of them, those that it needs are written.
+// Writing a derivation: lines that the asked pair needs are proposed, and each that the rules give is written.
 pub mod explain;
 pub mod load;
-pub mod needed;
 pub mod propose;
 pub mod sets;
 
 use crate::derivation::marks::has_mark;
 use crate::derivation::marks::mark_pair;
-use crate::limits::NOTES;
 use crate::limits::SQUARE;
 use crate::writer::explain::Next;
 use crate::writer::explain::next_line;
 use crate::writer::explain::test_line;
-use crate::writer::needed::need_lines;
 use crate::writer::propose::line_at;
 use crate::writer::propose::propose;
 use crate::writer::sets::LINES;
@@ -30,15 +27,14 @@ use subsumption::refusal::Outcome;
 use subsumption::refusal::Refusal;
 ghost use mathlib.Core.Path.{_≡_};
 ghost use mathlib.Core.Bool.{false};
-ghost use Prim.Native.Nat.{ℕ, _+_, _*_, _<_, _≤_};
+ghost use Prim.Native.Nat.{_+_, _*_, _<_, _≤_};
 ghost use lib.Dec.{eqb};
 ghost use lib.ListN.{length};
 ghost use Rattle.subsumption.specs.Tables.{tables, both, countOf};
 ghost use Rattle.subsumption.specs.Inner.Listing.{Prepared, ForAccepted};
-ghost use Rattle.matching.specs.Derivation.{leftAt, rightAt};
 ghost use Rattle.matching.specs.Writer.{derivedReply, Derives};
-ghost use Rattle.matching.specs.Inner.Derivation.{Square, seen};
-ghost use Rattle.matching.specs.Inner.Writer.{Grounds, inFront, LineWritten, Blank, Asked, Noted, NotedTo, Begun, Copied, WrittenFor};
+ghost use Rattle.matching.specs.Inner.Derivation.{seen};
+ghost use Rattle.matching.specs.Inner.Writer.{Grounds, inFront, LineWritten, RestKept, Blank, Asked, Written, WrittenTo, Begun, WrittenFor};
 
 pub enum Derived {
     Lines(usize),
@@ -74,8 +70,9 @@ fn is_pair(left: usize, right: usize, i: usize, j: usize) -> bool
     right == j
 }
 
-// Notes more lines, each from earlier ones, until the asked pair is found; answers their number. The proposals leave nothing to it.
-fn note_more(
+// Writes more lines, each from earlier ones, until the asked pair is found; answers their number. The proposals leave nothing to it;
+// if they did, it would write more than the pair needs.
+fn write_more(
     concepts: &[u16],
     inclusions: &[u16],
     into: &[u64],
@@ -84,24 +81,25 @@ fn note_more(
     left: usize,
     right: usize,
     marks: &mut [bool],
-    notes: &mut [u16],
-    noted: usize,
+    out: &mut [u16],
+    written: usize,
 ) -> usize
     requires { ⌜ Grounds (now concepts) (now inclusions) (now atoms) (now assignment) ⌝ }
     requires { ⌜ length (now into) ≡ 200 ⌝ }
     requires { ⌜ Asked (now concepts) (now inclusions) (now into) (now atoms) (now assignment) left right ⌝ }
-    requires { ⌜ Noted (now concepts) (now inclusions) (now into) (now atoms) (now assignment) (now marks) (now notes) noted ⌝ }
+    requires { ⌜ Written (now concepts) (now inclusions) (now into) (now atoms) (now assignment) (now marks) (now out) written ⌝ }
     requires { ⌜ seen (countOf (now concepts)) (now marks) left right ≡ false ⌝ }
-    requires { ⌜ length (now notes) ≡ countOf (now concepts) * countOf (now concepts) * 4 ⌝ }
-    ensures { λ r. ⌜ NotedTo (now (concepts .entry)) (now (inclusions .entry)) (now (into .entry)) (now (atoms .entry)) (now (assignment .entry)) left right (now (marks .exit)) (now (notes .exit)) r ⌝ }
+    requires { ⌜ countOf (now concepts) * countOf (now concepts) * 4 ≤ length (now out) ⌝ }
+    ensures { λ r. ⌜ WrittenTo (now (concepts .entry)) (now (inclusions .entry)) (now (into .entry)) (now (atoms .entry)) (now (assignment .entry)) left right (now (marks .exit)) (now (out .exit)) r ⌝ }
+    ensures { λ r. ⌜ RestKept (now (out .entry)) (now (out .exit)) written r ⌝ }
 {
     let count = concepts.len() / 3;
-    let mut n = noted;
+    let mut n = written;
     let mut from = 0;
     loop {
         let next = next_line(concepts, inclusions, into, atoms, assignment, marks, from);
         if let Next::Line(rule, i, j, extra) = next {
-            write_line(notes, n, rule as u16, i as u16, j as u16, extra as u16);
+            write_line(out, n, rule as u16, i as u16, j as u16, extra as u16);
             mark_pair(marks, count, i, j);
             n += 1;
             from = i * count + j + 1;
@@ -118,8 +116,8 @@ fn note_more(
     }
 }
 
-// Notes the proposals that follow, until the asked pair is found; answers their number.
-fn note_tested(
+// Writes the proposals that follow, until the asked pair is found; answers their number.
+fn write_tested(
     concepts: &[u16],
     inclusions: &[u16],
     into: &[u64],
@@ -130,14 +128,15 @@ fn note_tested(
     work: &[u64],
     first: u16,
     marks: &mut [bool],
-    notes: &mut [u16],
+    out: &mut [u16],
 ) -> usize
     requires { ⌜ Grounds (now concepts) (now inclusions) (now atoms) (now assignment) ⌝ }
     requires { ⌜ length (now into) ≡ 200 ⌝ }
     requires { ⌜ (left < countOf (now concepts)) × (right < countOf (now concepts)) ⌝ }
     requires { ⌜ Blank (countOf (now concepts)) (now marks) ⌝ }
-    requires { ⌜ length (now notes) ≡ countOf (now concepts) * countOf (now concepts) * 4 ⌝ }
-    ensures { λ r. ⌜ Begun (now (concepts .entry)) (now (inclusions .entry)) (now (into .entry)) (now (atoms .entry)) (now (assignment .entry)) left right (now (marks .exit)) (now (notes .exit)) r ⌝ }
+    requires { ⌜ countOf (now concepts) * countOf (now concepts) * 4 ≤ length (now out) ⌝ }
+    ensures { λ r. ⌜ Begun (now (concepts .entry)) (now (inclusions .entry)) (now (into .entry)) (now (atoms .entry)) (now (assignment .entry)) left right (now (marks .exit)) (now (out .exit)) r ⌝ }
+    ensures { λ r. ⌜ RestKept (now (out .entry)) (now (out .exit)) 0 r ⌝ }
 {
     let count = concepts.len() / 3;
     let end = number(work, LINES, 0, 0);
@@ -148,7 +147,7 @@ fn note_tested(
         k += 1;
         let next = test_line(concepts, inclusions, into, atoms, assignment, marks, line);
         if let Next::Line(rule, i, j, extra) = next {
-            write_line(notes, n, rule as u16, i as u16, j as u16, extra as u16);
+            write_line(out, n, rule as u16, i as u16, j as u16, extra as u16);
             mark_pair(marks, count, i, j);
             n += 1;
             if is_pair(left, right, i, j) {
@@ -160,7 +159,7 @@ fn note_tested(
     n
 }
 
-fn note_proposed(
+fn write_proposed(
     concepts: &[u16],
     inclusions: &[u16],
     into: &[u64],
@@ -169,14 +168,15 @@ fn note_proposed(
     left: usize,
     right: usize,
     marks: &mut [bool],
-    notes: &mut [u16],
+    out: &mut [u16],
 ) -> usize
     requires { ⌜ Grounds (now concepts) (now inclusions) (now atoms) (now assignment) ⌝ }
     requires { ⌜ length (now into) ≡ 200 ⌝ }
     requires { ⌜ (left < countOf (now concepts)) × (right < countOf (now concepts)) ⌝ }
     requires { ⌜ Blank (countOf (now concepts)) (now marks) ⌝ }
-    requires { ⌜ length (now notes) ≡ countOf (now concepts) * countOf (now concepts) * 4 ⌝ }
-    ensures { λ r. ⌜ Begun (now (concepts .entry)) (now (inclusions .entry)) (now (into .entry)) (now (atoms .entry)) (now (assignment .entry)) left right (now (marks .exit)) (now (notes .exit)) r ⌝ }
+    requires { ⌜ countOf (now concepts) * countOf (now concepts) * 4 ≤ length (now out) ⌝ }
+    ensures { λ r. ⌜ Begun (now (concepts .entry)) (now (inclusions .entry)) (now (into .entry)) (now (atoms .entry)) (now (assignment .entry)) left right (now (marks .exit)) (now (out .exit)) r ⌝ }
+    ensures { λ r. ⌜ RestKept (now (out .entry)) (now (out .exit)) 0 r ⌝ }
 {
     let mut work = [0u64; WORK];
     let first = propose(
@@ -189,7 +189,7 @@ fn note_proposed(
         right as u16,
         &mut work,
     );
-    note_tested(
+    write_tested(
         concepts,
         inclusions,
         into,
@@ -200,84 +200,11 @@ fn note_proposed(
         &work,
         first,
         marks,
-        notes,
+        out,
     )
 }
 
-// Notes lines, each from earlier ones, until the asked pair is found; answers their number.
-fn note_lines(
-    concepts: &[u16],
-    inclusions: &[u16],
-    into: &[u64],
-    atoms: &[u16],
-    assignment: &[u64],
-    left: usize,
-    right: usize,
-    marks: &mut [bool],
-    notes: &mut [u16],
-) -> usize
-    requires { ⌜ Grounds (now concepts) (now inclusions) (now atoms) (now assignment) ⌝ }
-    requires { ⌜ length (now into) ≡ 200 ⌝ }
-    requires { ⌜ Asked (now concepts) (now inclusions) (now into) (now atoms) (now assignment) left right ⌝ }
-    requires { ⌜ Blank (countOf (now concepts)) (now marks) ⌝ }
-    requires { ⌜ length (now notes) ≡ countOf (now concepts) * countOf (now concepts) * 4 ⌝ }
-    ensures { λ r. ⌜ NotedTo (now (concepts .entry)) (now (inclusions .entry)) (now (into .entry)) (now (atoms .entry)) (now (assignment .entry)) left right (now (marks .exit)) (now (notes .exit)) r ⌝ }
-{
-    let count = concepts.len() / 3;
-    let n = note_proposed(
-        concepts,
-        inclusions,
-        into,
-        atoms,
-        assignment,
-        left,
-        right,
-        marks,
-        notes,
-    );
-    if has_mark(marks, count, left, right) {
-        return n;
-    }
-    note_more(
-        concepts,
-        inclusions,
-        into,
-        atoms,
-        assignment,
-        left,
-        right,
-        marks,
-        notes,
-        n,
-    )
-}
-
-// Writes the noted lines whose pair is needed; answers their number.
-fn write_needed(notes: &[u16], n: usize, needed: &[bool], count: usize, out: &mut [u16]) -> usize
-    requires { ⌜ Square count (now needed) ⌝ }
-    requires { ⌜ (n * 4 ≤ length (now notes)) × (n * 4 ≤ length (now out)) ⌝ }
-    requires { ⌜ ((k : ℕ) → k < n → leftAt (now notes) k < count) ⌝ }
-    requires { ⌜ ((k : ℕ) → k < n → rightAt (now notes) k < count) ⌝ }
-    ensures { λ r. ⌜ Copied count (now (needed .entry)) (now (notes .entry)) (now (out .entry)) (now (out .exit)) n r ⌝ }
-{
-    let mut written = 0;
-    let mut k = 0;
-    while k < n {
-        let rule = notes[k * 4];
-        let left = notes[k * 4 + 1];
-        let right = notes[k * 4 + 2];
-        let extra = notes[k * 4 + 3];
-        k += 1;
-        if has_mark(needed, count, left as usize, right as usize) {
-            write_line(out, written, rule, left, right, extra);
-            written += 1;
-            continue;
-        }
-    }
-    written
-}
-
-// Notes, goes backwards for what is needed, and forwards to write it.
+// Writes lines, each from earlier ones, until the asked pair is found; answers their number.
 fn write_lines(
     concepts: &[u16],
     inclusions: &[u16],
@@ -287,21 +214,18 @@ fn write_lines(
     left: usize,
     right: usize,
     marks: &mut [bool],
-    needed: &mut [bool],
-    notes: &mut [u16],
     out: &mut [u16],
 ) -> usize
     requires { ⌜ Grounds (now concepts) (now inclusions) (now atoms) (now assignment) ⌝ }
     requires { ⌜ length (now into) ≡ 200 ⌝ }
     requires { ⌜ Asked (now concepts) (now inclusions) (now into) (now atoms) (now assignment) left right ⌝ }
     requires { ⌜ Blank (countOf (now concepts)) (now marks) ⌝ }
-    requires { ⌜ Blank (countOf (now concepts)) (now needed) ⌝ }
-    requires { ⌜ length (now notes) ≡ countOf (now concepts) * countOf (now concepts) * 4 ⌝ }
     requires { ⌜ countOf (now concepts) * countOf (now concepts) * 4 ≤ length (now out) ⌝ }
-    ensures { λ r. ⌜ WrittenFor (now (concepts .entry)) (now (inclusions .entry)) (now (into .entry)) (now (atoms .entry)) (now (assignment .entry)) left right (now (out .entry)) (now (out .exit)) r ⌝ }
+    ensures { λ r. ⌜ WrittenTo (now (concepts .entry)) (now (inclusions .entry)) (now (into .entry)) (now (atoms .entry)) (now (assignment .entry)) left right (now (marks .exit)) (now (out .exit)) r ⌝ }
+    ensures { λ r. ⌜ RestKept (now (out .entry)) (now (out .exit)) 0 r ⌝ }
 {
     let count = concepts.len() / 3;
-    let n = note_lines(
+    let n = write_proposed(
         concepts,
         inclusions,
         into,
@@ -310,21 +234,23 @@ fn write_lines(
         left,
         right,
         marks,
-        notes,
+        out,
     );
-    mark_pair(needed, count, left, right);
-    need_lines(
+    if has_mark(marks, count, left, right) {
+        return n;
+    }
+    write_more(
         concepts,
         inclusions,
         into,
         atoms,
         assignment,
-        notes,
-        n,
+        left,
+        right,
         marks,
-        needed,
-    );
-    write_needed(notes, n, needed, count, out)
+        out,
+        n,
+    )
 }
 
 // The derivation of a pair that is subsumed, in a buffer that is long enough.
@@ -345,11 +271,8 @@ fn put_lines(
     ensures { λ r. ⌜ WrittenFor (now (concepts .entry)) (now (inclusions .entry)) (now (into .entry)) (now (atoms .entry)) (now (assignment .entry)) left right (now (out .entry)) (now (out .exit)) r ⌝ }
 {
     let mut marks = [false; SQUARE];
-    let mut needed = [false; SQUARE];
-    let mut notes = [0u16; NOTES];
     let count = concepts.len() / 3;
     let size = count * count;
-    let room = size * 4;
     write_lines(
         concepts,
         inclusions,
@@ -359,8 +282,6 @@ fn put_lines(
         left as usize,
         right as usize,
         &mut marks[..size],
-        &mut needed[..size],
-        &mut notes[..room],
         out,
     )
 }

@@ -2,11 +2,10 @@
 use Prim.Native.Nat.{ℕ, _*_, _<_, _≤_}
 use mathlib.Core.Path.{_≡_, refl, sym, _∙_, subst}
 use mathlib.Core.List.{List}
-use mathlib.Core.Bool.{Bool, true}
+use mathlib.Core.Bool.{Bool}
 use mathlib.Core.Logic.{inl, inr}
 use native.Mathlib.Omega.{arith}
-use lib.ListN.{length, take, replicate, length-replicate}
-use lib.Seq.{length-take-le}
+use lib.ListN.{length}
 use Rattle.subsumption.specs.declared.refusal.Refusal.{Refusal}
 use Rattle.subsumption.specs.declared.refusal.Refusal.the-variants.{BufferTooShort, NotSubsumed}
 use Rattle.subsumption.specs.declared.refusal.Outcome.{Outcome}
@@ -25,27 +24,18 @@ use Rattle.subsumption.proofs.Accepted.{wellFormed}
 use Rattle.subsumption.proofs.Replies.{not-done}
 use Rattle.subsumption.proofs.Deciding.{prepared-ready, known-fault}
 use Rattle.matching.specs.Writer.{roomFor, derivingFault, DerivationOf, DerivesAfter, Derives}
-use Rattle.matching.specs.Inner.Derivation.{seen}
-use Rattle.matching.specs.Inner.Writer.{Grounds, Asked, NotedTo, Copied, WrittenFor}
-use Rattle.matching.specs.Inner.Writer.Needed.{Enough}
-use Rattle.matching.proofs.DerivationLaws.Cells.{square-small}
+use Rattle.matching.specs.Inner.Writer.{Grounds, Asked, RestKept, WrittenTo, WrittenFor}
 use Rattle.matching.proofs.DerivationLaws.Lines.{accepted-of}
-use Rattle.matching.proofs.WriterLaws.Copies.{derivation-written}
-
-pub noted-few : (concepts inclusions into ids assignment : List ℕ) (left right : ℕ) (marks : List Bool) (notes : List ℕ) (n : ℕ) → NotedTo concepts inclusions into ids assignment left right marks notes n → n ≤ countOf concepts * countOf concepts
-noted-few concepts inclusions into ids assignment left right marks notes n d = omega (arith, d .noted .room)
+use Rattle.matching.proofs.WriterLaws.Written.{derivation-written}
 
 pub lines-written :
-    (concepts inclusions into ids assignment : List ℕ) (left right : ℕ) (marks needed : List Bool) (notes before after : List ℕ) (n w : ℕ)
-    → Grounds concepts inclusions ids assignment → NotedTo concepts inclusions into ids assignment left right marks notes n
-    → Enough concepts inclusions into ids assignment needed notes 0 n → seen (countOf concepts) needed left right ≡ true
-    → Copied (countOf concepts) needed notes before after n w → countOf concepts * countOf concepts * 4 ≤ length before
-    → WrittenFor concepts inclusions into ids assignment left right before after w
-lines-written concepts inclusions into ids assignment left right marks needed notes before after n w g d e a c l =
+    (concepts inclusions into ids assignment : List ℕ) (left right : ℕ) (marks : List Bool) (before after : List ℕ) (n : ℕ)
+    → Grounds concepts inclusions ids assignment → countOf concepts * countOf concepts * 4 ≤ length before
+    → WrittenTo concepts inclusions into ids assignment left right marks after n → RestKept before after 0 n
+    → WrittenFor concepts inclusions into ids assignment left right before after n
+lines-written concepts inclusions into ids assignment left right marks before after n g l d w =
     record {
-      each = λ t of.
-          derivation-written t concepts inclusions into ids assignment left right marks needed notes before after n w of (g .ready) d e a c
-          (omega (arith, c .few, d .noted .room));
+      each = λ t of. derivation-written t concepts inclusions into ids assignment left right marks before after n of (g .ready) d w (omega (arith, d .written .room));
     }
 
 -- ---- what is lent to the lines' writer
@@ -65,9 +55,6 @@ module _ (cs is rs : List ℕ) (v : ℕ) (ids assignment : List ℕ) (p : Prepar
         right-known = k;
         subsumed = s;
       }
-
-pub notes-long : (count : ℕ) → count ≤ 192 → length {A = ℕ} (take (count * count * 4) (replicate 147456 0)) ≡ count * count * 4
-notes-long count h = length-take-le _ _ (rw length-replicate (omega (arith, square-small count h)))
 
 -- ---- the answers
 module _ (t : Tables) (assignment : List ℕ) (left right : ℕ) (before : List ℕ) where

@@ -1,13 +1,12 @@
--- What noting and writing the lines of a derivation promise.
+-- What writing the lines of a derivation promises.
 pub mod Explain
-pub mod Needed
 use Prim.Native.Nat.{ℕ, _+_, _-_, _*_, _<_, _≤_}
 use mathlib.Core.Path.{_≡_}
 use mathlib.Core.List.{List, [], _∷_}
 use mathlib.Core.Bool.{Bool, true, false}
 use lib.ListN.{length, getD, drop}
 use Rattle.subsumption.specs.declared.refusal.Outcome.the-variants.{Done}
-use Rattle.subsumption.specs.Tables.{Tables, both, countOf, pairsOf}
+use Rattle.subsumption.specs.Tables.{Tables, countOf, pairsOf}
 use Rattle.subsumption.specs.Subsumption.{Subsumed}
 use Rattle.subsumption.specs.Check.{tableFault}
 use Rattle.subsumption.specs.Inner.Closure.{Ready}
@@ -34,6 +33,12 @@ pub record LineWritten (before after : List ℕ) (n rule left right extra : ℕ)
   pub under : (p : ℕ) → p < n * 4 → getD after p 0 ≡ getD before p 0
   pub over : (p : ℕ) → (n + 1) * 4 ≤ p → getD after p 0 ≡ getD before p 0
 
+-- lines are written after the first ones, and past them the buffer is as it was
+pub record RestKept (before after : List ℕ) (first n : ℕ) : Type 0 where
+  pub more : first ≤ n
+  pub size : length after ≡ length before
+  pub rest : (p : ℕ) → n * 4 ≤ p → getD after p 0 ≡ getD before p 0
+
 -- how many marks are not set
 unfoldable pub unset : List Bool → ℕ
 unset [] = 0
@@ -55,47 +60,25 @@ pub record Asked (concepts inclusions into ids assignment : List ℕ) (left righ
   pub right-known : right < countOf concepts
   pub subsumed : Subsumed t assignment left right
 
--- n lines are noted: each follows from earlier ones, no pair twice, and just their pairs are marked
-pub record Noted (concepts inclusions into ids assignment : List ℕ) (marks : List Bool) (notes : List ℕ) (n : ℕ) : Type 0 where
-  pub marked : MarksOf (countOf concepts) marks notes n
+-- n lines are written: each follows from earlier ones, no pair twice, and just their pairs are marked
+pub record Written (concepts inclusions into ids assignment : List ℕ) (marks : List Bool) (out : List ℕ) (n : ℕ) : Type 0 where
+  pub marked : MarksOf (countOf concepts) marks out n
   pub room : n + unset marks ≡ countOf concepts * countOf concepts
-  pub left-known : (k : ℕ) → k < n → leftAt notes k < countOf concepts
-  pub right-known : (k : ℕ) → k < n → rightAt notes k < countOf concepts
-  pub fresh : (k : ℕ) → k < n → provedBy notes k (leftAt notes k) (rightAt notes k) ≡ false
-  pub follow : (k : ℕ) → k < n → (t : Tables) → Of t concepts inclusions into ids → lineFollows t assignment notes k ≡ true
+  pub left-known : (k : ℕ) → k < n → leftAt out k < countOf concepts
+  pub right-known : (k : ℕ) → k < n → rightAt out k < countOf concepts
+  pub fresh : (k : ℕ) → k < n → provedBy out k (leftAt out k) (rightAt out k) ≡ false
+  pub follow : (k : ℕ) → k < n → (t : Tables) → Of t concepts inclusions into ids → lineFollows t assignment out k ≡ true
 
--- the asked pair is noted last
-pub record NotedTo (concepts inclusions into ids assignment : List ℕ) (left right : ℕ) (marks : List Bool) (notes : List ℕ) (n : ℕ) : Type 0 where
-  pub noted : Noted concepts inclusions into ids assignment marks notes n
+-- the asked pair is written last
+pub record WrittenTo (concepts inclusions into ids assignment : List ℕ) (left right : ℕ) (marks : List Bool) (out : List ℕ) (n : ℕ) : Type 0 where
+  pub written : Written concepts inclusions into ids assignment marks out n
   pub some : 0 < n
-  pub last : pairAt notes left right (n - 1) ≡ true
+  pub last : pairAt out left right (n - 1) ≡ true
 
--- if the asked pair is noted, it is noted last
-pub record Begun (concepts inclusions into ids assignment : List ℕ) (left right : ℕ) (marks : List Bool) (notes : List ℕ) (n : ℕ) : Type 0 where
-  pub noted : Noted concepts inclusions into ids assignment marks notes n
-  pub asked : seen (countOf concepts) marks left right ≡ true → NotedTo concepts inclusions into ids assignment left right marks notes n
-
--- line m is the noted line q, and before it stand the needed lines before q
-pub record Copy (count : ℕ) (needed : List Bool) (notes after : List ℕ) (k m : ℕ) : Type 0 where
-  pub source : ℕ
-  pub early : source < k
-  pub rule-is : ruleAt after m ≡ ruleAt notes source
-  pub left-is : leftAt after m ≡ leftAt notes source
-  pub right-is : rightAt after m ≡ rightAt notes source
-  pub extra-is : extraAt after m ≡ extraAt notes source
-  pub wanted : seen count needed (leftAt notes source) (rightAt notes source) ≡ true
-  pub earlier : (i j : ℕ) → i < count → j < count → provedBy after m i j ≡ both (provedBy notes source i j) (seen count needed i j)
-
--- of the first k noted lines the needed ones are written, w of them
-pub record Copied (count : ℕ) (needed : List Bool) (notes before after : List ℕ) (k w : ℕ) : Type 0 where
-  pub size : length after ≡ length before
-  pub few : w ≤ k
-  pub proved : (i j : ℕ) → i < count → j < count → provedBy after w i j ≡ both (provedBy notes k i j) (seen count needed i j)
-  pub each : (m : ℕ) → m < w → Copy count needed notes after k m
-  pub rest : (p : ℕ) → w * 4 ≤ p → getD after p 0 ≡ getD before p 0
-  pub last-some : 0 < k → seen count needed (leftAt notes (k - 1)) (rightAt notes (k - 1)) ≡ true → 0 < w
-  pub last-left : 0 < k → seen count needed (leftAt notes (k - 1)) (rightAt notes (k - 1)) ≡ true → leftAt after (w - 1) ≡ leftAt notes (k - 1)
-  pub last-right : 0 < k → seen count needed (leftAt notes (k - 1)) (rightAt notes (k - 1)) ≡ true → rightAt after (w - 1) ≡ rightAt notes (k - 1)
+-- if the asked pair is written, it is written last
+pub record Begun (concepts inclusions into ids assignment : List ℕ) (left right : ℕ) (marks : List Bool) (out : List ℕ) (n : ℕ) : Type 0 where
+  pub written : Written concepts inclusions into ids assignment marks out n
+  pub asked : seen (countOf concepts) marks left right ≡ true → WrittenTo concepts inclusions into ids assignment left right marks out n
 
 -- the lines are a derivation of the pair, for all tables with these concepts, inclusions and atoms
 pub record WrittenFor (concepts inclusions into ids assignment : List ℕ) (left right : ℕ) (before after : List ℕ) (n : ℕ) : Type 0 where
