@@ -13,7 +13,7 @@ pub const STORE: usize = 16385;
 pub const TABLE: usize = 4608;
 
 // The sets of ids that tests read, three words each, and where the kinds of them start (src/search/card.rt).
-pub const SETS: usize = 2403;
+pub const SETS: usize = 2496;
 
 pub const COLUMNS: usize = 576;
 

@@ -1,6 +1,7 @@
 -- Why the sets and numbers are those of the tables (src/search/card.rt).
 pub mod Filling
 pub mod Cones
+pub mod Closers
 pub mod Numbers
 pub mod Lines
 pub mod Whole

@@ -20,11 +20,11 @@ use Rattle.square.specs.Inner.Square.{onLine}
 use Rattle.matching.specs.declared.search.sets.Words.{Words}
 use Rattle.matching.specs.Inner.Search.{Decided}
 use Rattle.matching.specs.Inner.Search.Sets.{inWords, NextIn, Same, Joined, PutAt}
-use Rattle.matching.specs.Inner.Search.Card.{coneAt, heldAt, leftAt, rightAt, innerAt, FreeId, Card}
-use Rattle.matching.specs.Inner.Search.Patterns.{ValueRead, BelowAll, AboveSome, Linked, ClosedUp, Exact, Generates, ValueOf, InnerValued, Valued, AllValued, Tested}
+use Rattle.matching.specs.Inner.Search.Card.{coneAt, closersAt, heldAt, leftAt, rightAt, innerAt, FreeId, Card}
+use Rattle.matching.specs.Inner.Search.Patterns.{ValueRead, BelowAll, AboveSome, Linked, ClosedUp, Exact, Generates, ValueOf, InnerValued, Valued, ValuedIn, AllValued, Tested}
 use Rattle.matching.proofs.PatternLaws.Free.{known-inward}
 use Rattle.matching.proofs.SearchLaws.Walks.{passed-cases, passed-none}
-use Rattle.matching.proofs.SearchLaws.Values.{row-above, above-row, exact-same, generates-same, value-same, read-value, and-exact, and-generates, exists-exact, exists-generates, closed-exact, var-exact, var-generates}
+use Rattle.matching.proofs.SearchLaws.Values.{row-above, above-row, exact-same, generates-same, value-same, read-value, and-exact, and-generates, exists-exact, exists-generates, closed-sound, closed-wanted, var-exact, var-generates}
 
 -- ---- one id
 module _ (sets card values choice : List ℕ) (j : ℕ) (w : Words) where
@@ -102,15 +102,23 @@ module _ (sets card values choice : List ℕ) (j : ℕ) (w : Words) where
         (I .inner _ (innerAt card j) n (inner-has t C l has))) K
 
     pub left-by-exists :
-        (x own : Words) → Same x values (innerAt card j * 3) → ClosedUp sets card x own → Linked sets card own false j w
-        → Valued sets card values choice false j w
-    left-by-exists x own S U K t C ok l has I =
+        (m : ℕ) (x own : Words) → j < 192 → Same x values (innerAt card j * 3) → ClosedUp sets card (closersAt m) x own → Linked sets card own false j w
+        → ValuedIn sets card values choice m false j w
+    left-by-exists m x own low S U K t C ok asked here I =
+        let (l, has) = C .cones m asked .known j low here in
         let n = existential t C l has in
+        let k = known-inward t (wellFormed t (C .passed)) .inner j _ (innerAt card j) n l in
+        let G = generates-same t sets card C (take (t .variables) choice) (innerAt card j) (onLine values (innerAt card j * 3)) (inWords x) (λ c m. sym (S c m))
+        (I .inner _ (innerAt card j) n (inner-has t C l has)) in
         exists-generates t sets card C (take (t .variables) choice) j _ (innerAt card j) l has n own w
-        (closed-exact t sets card C (take (t .variables) choice) (innerAt card j) x own
-        (known-inward t (wellFormed t (C .passed)) .inner j _ (innerAt card j) n l)
-        (generates-same t sets card C (take (t .variables) choice) (innerAt card j) (onLine values (innerAt card j * 3)) (inWords x) (λ c m. sym (S c m))
-        (I .inner _ (innerAt card j) n (inner-has t C l has))) U) K
+        (closed-sound t sets card C (take (t .variables) choice) m (innerAt card j) x own asked k G U)
+        (λ e h fits free s.
+        closed-wanted t sets card C (take (t .variables) choice) m (innerAt card j) x own asked k G U (innerAt card e) free
+        (C .closers m asked .inner j e low h here fits) s) K
+
+  -- an id of a cone holds a variable
+  pub valued-in : (m : ℕ) (right : Bool) → j < 192 → Valued sets card values choice right j w → ValuedIn sets card values choice m right j w
+  valued-in m right low made t C ok asked here I = let (l, has) = C .cones m asked .known j low here in made t C ok l has I
 
 -- ---- all ids of a cone
 pub record ValuedTo (sets card values choice : List ℕ) (m : ℕ) (right : Bool) (j : ℕ) : Type 0 where
@@ -132,7 +140,7 @@ module _ (sets card choice : List ℕ) (m : ℕ) (right : Bool) where
       }
 
   module _ (values after : List ℕ) (i next : ℕ) (w : Words) (h : i < 192) (T : ValuedTo sets card values choice m right i)
-      (value : Valued sets card values choice right i w) (put : PutAt values after (i * 3) w) (N : NextIn sets (coneAt m) (i + 1) next) where
+      (value : ValuedIn sets card values choice m right i w) (put : PutAt values after (i * 3) w) (N : NextIn sets (coneAt m) (i + 1) next) where
     -- the smaller ones stay
     stay : (p c : ℕ) → p < i → c < 192 → onLine values (p * 3) c ≡ onLine after (p * 3) c
     unfolding onLine
@@ -155,9 +163,8 @@ module _ (sets card choice : List ℕ) (m : ℕ) (right : Bool) where
 
       own : ValueOf right t (take (t .variables) choice) i (onLine after (i * 3))
       own =
-          let (known, has) = C .cones m l .known i h (T .here h) in
           value-same t sets card C (take (t .variables) choice) right i (inWords w) (onLine after (i * 3)) (put .here)
-          (value t C ok known has inward)
+          (value t C ok l (T .here h) inward)
 
     pub valued-more : ValuedTo sets card after choice m right next
     valued-more =
@@ -180,9 +187,9 @@ module _ (sets card choice : List ℕ) (m : ℕ) (right : Bool) where
 
 -- a value of the side that was asked for
 pub valued-at :
-    (sets card values choice : List ℕ) (right b : Bool) (j : ℕ) (w : Words) → right ≡ b → Valued sets card values choice b j w
-    → Valued sets card values choice right j w
-valued-at sets card values choice right b j w e made = subst (λ (z : Bool). Valued sets card values choice z j w) (sym e) made
+    (sets card values choice : List ℕ) (m : ℕ) (right b : Bool) (j : ℕ) (w : Words) → right ≡ b → ValuedIn sets card values choice m b j w
+    → ValuedIn sets card values choice m right j w
+valued-at sets card values choice m right b j w e made = subst (λ (z : Bool). ValuedIn sets card values choice m z j w) (sym e) made
 
 -- ---- the question
 decide : (P : Type 0) (b s : Bool) → b ≡ s → (s ≡ true) ↔ P → Decided P b
@@ -230,7 +237,7 @@ module _ (sets card choice : List ℕ) (m : ℕ) (answer : Bool) where
 
   pub tested-left :
       (values : List ℕ) (x w : Words) → (getD card (576 + rightAt card m) 0 ≡ 1 → ⊥) → getD card (576 + leftAt card m) 0 ≡ 1
-      → AllValued sets card values choice m false → Same x values (leftAt card m * 3) → ClosedUp sets card x w → answer ≡ inWords w (rightAt card m)
+      → AllValued sets card values choice m false → Same x values (leftAt card m * 3) → ClosedUp sets card (closersAt m) x w → answer ≡ inWords w (rightAt card m)
       → Tested sets card m choice answer
   tested-left values x w n e A S U b t C ok l =
       let wf = wellFormed t (C .passed) in
@@ -239,10 +246,13 @@ module _ (sets card choice : List ℕ) (m : ℕ) (answer : Bool) where
       let G : Generates t (take (t .variables) choice) (leftOf (t .questions) m) (onLine values (leftOf (t .questions) m * 3)) =
       A t C ok l (leftOf (t .questions) m) (omega (arith, wf .question-left m l, wf .few)) (C .cones m l .left has) in
       let R : Same x values (leftOf (t .questions) m * 3) = subst (λ (z : ℕ). Same x values (z * 3)) (C .left m l) S in
-      decide _ answer _ (b ∙ ap (inWords w) (C .right m l))
-      (closed-exact t sets card C (take (t .variables) choice) (leftOf (t .questions) m) x w (wf .question-left m l)
-      (generates-same t sets card C (take (t .variables) choice) (leftOf (t .questions) m) (onLine values (leftOf (t .questions) m * 3)) (inWords x)
-      (λ c k. sym (R c k)) G) U (rightOf (t .questions) m) free)
+      let H = generates-same t sets card C (take (t .variables) choice) (leftOf (t .questions) m) (onLine values (leftOf (t .questions) m * 3)) (inWords x)
+      (λ c k. sym (R c k)) G in
+      decide _ answer _ (b ∙ ap (inWords w) (C .right m l)) (
+        closed-sound t sets card C (take (t .variables) choice) m (leftOf (t .questions) m) x w l (wf .question-left m l) H U (rightOf (t .questions) m) free,
+        closed-wanted t sets card C (take (t .variables) choice) m (leftOf (t .questions) m) x w l (wf .question-left m l) H U (rightOf (t .questions) m) free
+            (subst (λ (z : ℕ). C .closers m l .wanted z ≡ true) (C .right m l) (C .closers m l .right)),
+      )
 
   pub tested-free :
       (getD card (576 + rightAt card m) 0 ≡ 1 → ⊥) → (getD card (576 + leftAt card m) 0 ≡ 1 → ⊥) → answer ≡ onLine sets (leftAt card m * 3) (rightAt card m)

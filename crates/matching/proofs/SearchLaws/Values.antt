@@ -1,19 +1,20 @@
 -- The values of a pattern, by the rows of the tables: exact on the right, enough on the left.
-use Prim.Native.Nat.{ℕ, _*_, _<_}
+use Prim.Native.Nat.{ℕ, zero, suc, _*_, _<_}
 use mathlib.Core.Path.{_≡_, refl, sym, ap, _∙_, subst}
 use mathlib.Core.List.{List, List·Memᴰ}
-use mathlib.Core.Bool.{Bool, true, false}
+use mathlib.Core.Bool.{Bool, true, false, not, false≢true}
 use mathlib.Core.Logic.{_⊎_, _↔_, ⊎-elim}
 use native.Mathlib.Omega.{arith}
 use lib.ListN.{length, getD, take}
 use lib.Seq.{getD-take}
+use borrow.Author.Tests.{not-true}
 use Rattle.subsumption.specs.declared.refusal.Outcome.the-variants.{Done}
-use Rattle.subsumption.specs.Tables.{Tables, both, topAt, existsAt, andAt, varAt, node, countOf, tree, hasVariable}
+use Rattle.subsumption.specs.Tables.{Tables, both, or, Node, topAt, existsAt, andAt, varAt, node, countOf, pairsOf, tree, hasVariable}
 use Rattle.subsumption.specs.Atoms.{atoms, bit, chosen}
 use Rattle.subsumption.specs.Roles.{wider}
 use Rattle.subsumption.specs.Subsumption.{assigned, Subsumed}
 use Rattle.subsumption.specs.Check.{assignmentFault}
-use Rattle.subsumption.proofs.Bools.{or-cases, or-first, or-second, both-true, both-intro}
+use Rattle.subsumption.proofs.Bools.{or-cases, or-first, or-second, both-true, both-intro, last-cases}
 use Rattle.subsumption.proofs.WellFormed.{WellFormed}
 use Rattle.subsumption.proofs.Accepted.{wellFormed}
 use Rattle.subsumption.proofs.Chosen.{pick-member, pick-intro}
@@ -23,7 +24,7 @@ use Rattle.subsumption.proofs.Soundness.{subsumed-same, subsumed-trans}
 use Rattle.square.specs.Inner.Square.{onLine}
 use Rattle.matching.specs.declared.search.sets.Words.{Words}
 use Rattle.matching.specs.Inner.Search.Sets.{inWords, Joined}
-use Rattle.matching.specs.Inner.Search.Card.{lineAt, fitAt, closersAt, heldAt, atomAt, innerAt, FreeId, nothing, Fitting, closes, Card}
+use Rattle.matching.specs.Inner.Search.Card.{lineAt, fitAt, closersAt, heldAt, atomAt, innerAt, FreeId, nothing, Fitting, closes, inMembers, Closers, Card}
 use Rattle.matching.specs.Inner.Search.Patterns.{ReadBy, ValueRead, BelowAll, ChosenAbove, AboveSome, LinkOf, Linked, MembersOf, Follows, by-set, by-top, by-and, ClosedUp, Upper, Exact, Generates, ValueOf}
 use Rattle.matching.proofs.PatternLaws.Free.{free-inward, free-chosen}
 use Rattle.matching.proofs.PatternLaws.Least.{true-stable}
@@ -36,6 +37,33 @@ exists-role e = cc
 
 exists-inner : {r s x y : ℕ} → existsAt r x ≡ existsAt s y → x ≡ y
 exists-inner e = cc
+
+-- ---- a test of each number below another
+allBelow : (ℕ → Bool) → ℕ → Bool
+allBelow f zero = true
+allBelow f (suc n) = both (f n) (allBelow f n)
+
+all-intro : (f : ℕ → Bool) (n : ℕ) → ((d : ℕ) → d < n → f d ≡ true) → allBelow f n ≡ true
+unfolding allBelow
+all-intro f zero h = refl
+all-intro f (suc n) h = both-intro _ _ (h n (omega arith)) (all-intro f n (λ d k. h d (omega arith)))
+
+all-at : (f : ℕ → Bool) (n : ℕ) → allBelow f n ≡ true → (d : ℕ) → d < n → f d ≡ true
+unfolding allBelow
+all-at f zero e d h = absurd (omega arith)
+all-at f (suc n) e d h =
+    let (here, rest) = both-true _ _ e in
+    ⊎-elim (λ (u : d ≡ n). subst (λ (z : ℕ). f z ≡ true) (sym u) here) (λ u. all-at f n rest d u) (last-cases d n (omega arith))
+
+implies-intro : (a b : Bool) → (a ≡ true → b ≡ true) → or (not a) b ≡ true
+unfolding or
+implies-intro true b h = h refl
+implies-intro false b h = refl
+
+implies-at : (a b : Bool) → or (not a) b ≡ true → a ≡ true → b ≡ true
+unfolding or
+implies-at true b e h = e
+implies-at false b e h = absurd (false≢true h)
 
 module _ (t : Tables) (sets card : List ℕ) (C : Card t sets card) (assignment : List ℕ) where
   wf : WellFormed t
@@ -214,10 +242,12 @@ module _ (t : Tables) (sets card : List ℕ) (C : Card t sets card) (assignment 
               here = below-column c (k .by) f (k .free) (k .above);
             }))))
 
-    -- the inner set holds all that is above the inner id
+    -- the inner set holds what is above the inner id and asked for
     pub exists-generates :
-        ((c : ℕ) → FreeId t c → (inWords own c ≡ true) ↔ Below x c) → Linked sets card own false j w → Generates t assignment j (inWords w)
-    exists-generates E L =
+        ((c : ℕ) → FreeId t c → inWords own c ≡ true → Below x c)
+        → ((e : ℕ) → e < 192 → onLine sets (fitAt false j) e ≡ true → FreeId t (innerAt card e) → Below x (innerAt card e) → inWords own (innerAt card e) ≡ true)
+        → Linked sets card own false j w → Generates t assignment j (inWords w)
+    exists-generates E K L =
         record {
           sound = λ c f u. sound c f (L c (free-low c f) .0 u);
           upward = λ c d f g s u. L d (free-low d g) .1 (on c d f g s (L c (free-low c f) .0 u));
@@ -234,7 +264,7 @@ module _ (t : Tables) (sets card : List ℕ) (C : Card t sets card) (assignment 
             trans j (k .by) c
             (above-exists t assignment wf j r x (k .by) (F .role) (F .inner) l (F .free .known) n (F .row)
             (subst (λ (z : ℕ). wider (t .roles) z (F .role) ≡ true) (exists-role (sym (F .own) ∙ n)) (F .counts))
-            (E (F .inner) inward .0
+            (E (F .inner) inward
             (subst (λ (z : ℕ). inWords own z ≡ true) (inner-of (k .by) (F .role) (F .inner) (F .free) (F .row)) (k .inside))))
             (row-above (k .by) c (F .free) f (k .here))
 
@@ -252,35 +282,39 @@ module _ (t : Tables) (sets card : List ℕ) (C : Card t sets card) (assignment 
         link :
             (a s d : ℕ) → FreeId t a → node (t .concepts) a ≡ existsAt s d → wider (t .roles) r s ≡ true → Below x d → LinkOf sets card own false j a
         link a s d f m v b =
+            let u = inner-of a s d f m in
+            let o = fitted false a (record { free = f; own-role = r; own-inner = x; role = s; inner = d; own = n; row = m; counts = v }) in
             record {
               by = a;
               low = free-low a f;
-              fits =
-                  fitted false a (record { free = f; own-role = r; own-inner = x; role = s; inner = d; own = n; row = m; counts = v });
-              inside =
-                  subst (λ (z : ℕ). inWords own z ≡ true) (sym (inner-of a s d f m)) (E d (free-inward t wf .inner a s d m f) .1 b);
+              fits = o;
+              inside = K a (free-low a f) o (subst (FreeId t) (sym u) (free-inward t wf .inner a s d m f)) (subst (Below x) (sym u) b);
               here = above-row a a f f (same a);
             }
 
   -- ---- closing up
-  module _ (i : ℕ) (x w : Words) (l : i < countOf (t .concepts)) (G : Generates t assignment i (inWords x)) (U : ClosedUp sets card x w) where
-    closer : (e : ℕ) → e < 192 → onLine sets closersAt e ≡ true → FreeId t e
-    closer e h u = C .closers e h .0 u .0
+  module _ (m i : ℕ) (x w : Words) (asked : m < pairsOf (t .questions)) (l : i < countOf (t .concepts))
+      (G : Generates t assignment i (inWords x)) (U : ClosedUp sets card (closersAt m) x w) where
+    abbrev K : Closers sets card (countOf (t .concepts)) m
+    K = C .closers m asked
 
-    is-closer : (e : ℕ) → FreeId t e → closes (node (t .concepts) e) ≡ true → onLine sets closersAt e ≡ true
-    is-closer e f u = C .closers e (free-low e f) .1 (f, u)
+    closer : (e : ℕ) → e < 192 → onLine sets (closersAt m) e ≡ true → FreeId t e
+    closer e h u = let (known, free) = K .only e h u in record { ground = sym (C .held e known) ∙ free; known = known }
 
-    follows-above : {c : ℕ} → FreeId t c → Follows sets card x c → Below i c
+    follows-above : {c : ℕ} → FreeId t c → Follows sets card (closersAt m) x c → Below i c
     follows-above f (by-set c h e) = G .sound c f e
-    follows-above f (by-top e c h o n m r) =
+    follows-above f (by-top e c h o n k r) =
         let g = closer e h o in
         trans i e c (above-upper t assignment wf i l .tops e g (sym (C .rows e (g .known)) ∙ n)) (row-above e c g f r)
-    follows-above f (by-and e a b c h o n p q m r) =
+    follows-above f (by-and e a b c h o n p q k r) =
         let g = closer e h o in
         let v = sym (C .rows e (g .known)) ∙ n in
         trans i e c
         (above-upper t assignment wf i l .meets e a b g v (follows-above (free-inward t wf .first e a b v g) p)
         (follows-above (free-inward t wf .second e a b v g) q)) (row-above e c g f r)
+
+    pub closed-sound : (c : ℕ) → FreeId t c → inWords w c ≡ true → Below i c
+    closed-sound c f u = follows-above f (U .followed .least c (free-low c f) u)
 
     members-top : (e : ℕ) → node card e ≡ topAt → MembersOf (λ c. inWords w c ≡ true) (node card e)
     members-top e n = subst (MembersOf (λ c. inWords w c ≡ true)) (sym n) tt
@@ -289,39 +323,87 @@ module _ (t : Tables) (sets card : List ℕ) (C : Card t sets card) (assignment 
         (e a b : ℕ) → node card e ≡ andAt a b → inWords w a ≡ true → inWords w b ≡ true → MembersOf (λ c. inWords w c ≡ true) (node card e)
     members-and e a b n p q = subst (MembersOf (λ c. inWords w c ≡ true)) (sym n) (p, q)
 
-    follows-upward : {c : ℕ} → FreeId t c → Follows sets card x c → (d : ℕ) → FreeId t d → Below c d → inWords w d ≡ true
-    follows-upward f (by-set c h e) d g s = U .followed .kept d (free-low d g) (G .upward c d f g s e)
-    follows-upward f (by-top e c h o n m r) d g s =
-        let k = closer e h o in
-        U .closed e h o (members-top e n) d (free-low d g) (above-row e d k g (trans e c d (row-above e c k f r) s))
-    follows-upward f (by-and e a b c h o n p q m r) d g s =
-        let k = closer e h o in
-        let v = sym (C .rows e (k .known)) ∙ n in
-        let fa = free-inward t wf .first e a b v k in
-        let fb = free-inward t wf .second e a b v k in
-        U .closed e h o (members-and e a b n (follows-upward fa p a fa (same a)) (follows-upward fb q b fb (same b))) d (free-low d g)
-        (above-row e d k g (trans e c d (row-above e c k f r) s))
+    -- each wanted id above c is in the closed set
+    abbrev Reaches : ℕ → Type 0
+    Reaches c = (d : ℕ) → FreeId t d → K .wanted d ≡ true → Below c d → inWords w d ≡ true
 
-    closed-upper : Upper t assignment (λ c. inWords w c ≡ true)
-    unfolding closes
-    closed-upper =
+    reachesAt : ℕ → ℕ → Bool
+    reachesAt c d = or (not (both (not (hasVariable (tree (t .concepts) d))) (both (K .wanted d) (onLine sets (lineAt false c) d)))) (inWords w d)
+
+    reaches : ℕ → Bool
+    reaches c = allBelow (reachesAt c) (countOf (t .concepts))
+
+    reaches-in : (c : ℕ) → FreeId t c → Reaches c → reaches c ≡ true
+    unfolding reaches reachesAt
+    reaches-in c f h =
+        all-intro (reachesAt c) (countOf (t .concepts))
+        (λ d k.
+        implies-intro _ (inWords w d)
+        (λ u.
+        let (free, v) = both-true _ _ u in
+        let (want, row) = both-true _ _ v in
+        let g : FreeId t d = record { ground = not-true _ free; known = k } in h d g want (row-above c d f g row)))
+
+    reaches-out : (c : ℕ) → FreeId t c → reaches c ≡ true → Reaches c
+    unfolding reaches reachesAt
+    reaches-out c f u d g want s =
+        implies-at _ (inWords w d) (all-at (reachesAt c) (countOf (t .concepts)) u d (g .known))
+        (both-intro _ _ (ap not (g .ground)) (both-intro _ _ want (above-row c d f g s)))
+
+    -- what is not kept brings nothing wanted
+    brings :
+        (c d : ℕ) → FreeId t c → FreeId t d → closes (node (t .concepts) c) ≡ true → onLine sets (closersAt m) c ≡ false → K .wanted d ≡ true → Below c d
+        → inMembers sets (node (t .concepts) c) d ≡ true
+    brings c d f g k o want s =
+        subst (λ (n : Node). inMembers sets n d ≡ true) (C .rows c (f .known))
+        (K .quiet c (f .known) (C .held c (f .known) ∙ f .ground) (ap closes (C .rows c (f .known)) ∙ k) o d (free-low d g) (above-row c d f g s) want)
+
+    reaches-top : (c : ℕ) → FreeId t c → node (t .concepts) c ≡ topAt → Reaches c
+    unfolding closes inMembers
+    reaches-top c f n d g want s = go (onLine sets (closersAt m) c) refl
+      where
+        go : (b : Bool) → onLine sets (closersAt m) c ≡ b → inWords w d ≡ true
+        go true o =
+            U .closed c (free-low c f) o (members-top c (C .rows c (f .known) ∙ n)) d (free-low d g) (above-row c d f g s)
+        go false o =
+            absurd
+            (false≢true (subst (λ (n : Node). inMembers sets n d ≡ true) n (brings c d f g (ap closes n) o want s)))
+
+    reaches-and : (c a b : ℕ) → FreeId t c → node (t .concepts) c ≡ andAt a b → Reaches a → Reaches b → Reaches c
+    unfolding closes inMembers
+    reaches-and c a b f n p q d g want s = go (onLine sets (closersAt m) c) refl
+      where
+        fa : FreeId t a
+        fa = free-inward t wf .first c a b n f
+
+        fb : FreeId t b
+        fb = free-inward t wf .second c a b n f
+
+        go : (v : Bool) → onLine sets (closersAt m) c ≡ v → inWords w d ≡ true
+        go true o =
+            let row = C .rows c (f .known) ∙ n in
+            let (wa, wb) = K .members c a b (free-low c f) o row in
+            U .closed c (free-low c f) o (members-and c a b row (p a fa wa (same a)) (q b fb wb (same b))) d (free-low d g) (above-row c d f g s)
+        go false o =
+            ⊎-elim (λ u. p d g want (row-above a d fa g u)) (λ u. q d g want (row-above b d fb g u))
+            (or-cases _ _ (subst (λ (n : Node). inMembers sets n d ≡ true) n (brings c d f g (ap closes n) o want s)))
+
+    reaches-upper : Upper t assignment (λ c. reaches c ≡ true)
+    reaches-upper =
         record {
-          tops =
-              λ c f n.
-              U .closed c (free-low c f) (is-closer c f (ap closes n)) (members-top c (C .rows c (f .known) ∙ n)) c (free-low c f)
-              (above-row c c f f (same c));
-          upward = λ c d f g s u. follows-upward f (U .followed .least c (free-low c f) u) d g s;
+          tops = λ c f n. reaches-in c f (reaches-top c f n);
+          upward = λ c d f g s u. reaches-in d g (λ e h want v. reaches-out c f u e h want (trans c d e s v));
           meets =
               λ c a b f n p q.
-              U .closed c (free-low c f) (is-closer c f (ap closes n)) (members-and c a b (C .rows c (f .known) ∙ n) p q) c (free-low c f)
-              (above-row c c f f (same c));
+              reaches-in c f
+              (reaches-and c a b f n (reaches-out a (free-inward t wf .first c a b n f) p) (reaches-out b (free-inward t wf .second c a b n f) q));
         }
 
-    pub closed-exact : (c : ℕ) → FreeId t c → (inWords w c ≡ true) ↔ Below i c
-    closed-exact c f = (
-      λ u. follows-above f (U .followed .least c (free-low c f) u),
-      λ s. G .enough (inWords w) closed-upper (λ d g u. U .followed .kept d (free-low d g) u) c f s,
-    )
+    pub closed-wanted : (c : ℕ) → FreeId t c → K .wanted c ≡ true → Below i c → inWords w c ≡ true
+    closed-wanted c f want s =
+        reaches-out c f
+        (G .enough reaches reaches-upper
+        (λ d g u. reaches-in d g (λ e h _ v. U .followed .kept e (free-low e h) (G .upward d e g h v u))) c f s) c f want (same c)
 
 -- ---- a variable
 module _ (t : Tables) (sets card : List ℕ) (C : Card t sets card) (choice : List ℕ)

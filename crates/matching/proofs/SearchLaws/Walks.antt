@@ -15,7 +15,7 @@ use Rattle.square.specs.Inner.Square.{onLine}
 use Rattle.matching.specs.declared.search.sets.Words.{Words}
 use Rattle.matching.specs.Inner.Search.{Decided}
 use Rattle.matching.specs.Inner.Search.Sets.{inWords, NextBit, NextIn, Same, Grown, Joined, Compared}
-use Rattle.matching.specs.Inner.Search.Card.{Numbers, lineAt, fitAt, closersAt, atomAt, innerAt}
+use Rattle.matching.specs.Inner.Search.Card.{Numbers, lineAt, fitAt, atomAt, innerAt}
 use Rattle.matching.specs.Inner.Search.Patterns.{ReadBy, ValueRead, BelowAll, ChosenAbove, AboveSome, LinkOf, Linked, MembersOf, Follows, by-set, by-top, by-and, Followed, ClosedOnce, ClosedUp}
 use Rattle.matching.proofs.SearchLaws.Sets.{all-in, none-in}
 
@@ -236,20 +236,20 @@ module _ (card : List ℕ) (numbers : Numbers card) (e : ℕ) (low : e < 192) wh
       go (varAt k) u m = m
 
 -- ---- what follows
-module _ (sets card : List ℕ) where
-  pub followed-first : (x : Words) → Followed sets card x x
+module _ (sets card : List ℕ) (at : ℕ) where
+  pub followed-first : (x : Words) → Followed sets card at x x
   followed-first x = record { kept = λ c l e. e; least = λ c l e. by-set c l e }
 
-  lift : {c : ℕ} (x y : Words) → Followed sets card x y → Follows sets card y c → Follows sets card x c
+  lift : {c : ℕ} (x y : Words) → Followed sets card at x y → Follows sets card at y c → Follows sets card at x c
   lift x y F (by-set c l e) = F .least c l e
   lift x y F (by-top e c l o n m r) = by-top e c l o n m r
   lift x y F (by-and e i j c l o n p q m r) = by-and e i j c l o n (lift x y F p) (lift x y F q) m r
 
-  pub followed-trans : (x y z : Words) → Followed sets card x y → Followed sets card y z → Followed sets card x z
+  pub followed-trans : (x y z : Words) → Followed sets card at x y → Followed sets card at y z → Followed sets card at x z
   followed-trans x y z F G = record { kept = λ c l e. G .kept c l (F .kept c l e); least = λ c l e. lift x y F (G .least c l e) }
 
   pub closed-up :
-      (x y z : Words) → Followed sets card x y → ClosedOnce sets card y z → z ≡ y → ClosedUp sets card x y
+      (x y z : Words) → Followed sets card at x y → ClosedOnce sets card at y z → z ≡ y → ClosedUp sets card at x y
   closed-up x y z F O e = record { followed = F; closed = O .quiet e }
 
   -- nothing new
@@ -258,29 +258,29 @@ module _ (sets card : List ℕ) where
 
   pub record ClosingTo (x : Words) (e : ℕ) (sum : Words) : Type 0 where
     pub within : e ≤ 192
-    pub here : e < 192 → onLine sets closersAt e ≡ true
-    pub followed : Followed sets card x sum
+    pub here : e < 192 → onLine sets at e ≡ true
+    pub followed : Followed sets card at x sum
     pub grown : Grown x sum
     pub quiet :
-        Inside sum x → (f : ℕ) → f < e → onLine sets closersAt f ≡ true → MembersOf (λ c. inWords x c ≡ true) (node card f)
+        Inside sum x → (f : ℕ) → f < e → onLine sets at f ≡ true → MembersOf (λ c. inWords x c ≡ true) (node card f)
         → (c : ℕ) → c < 192 → onLine sets (lineAt false f) c ≡ true → inWords x c ≡ true
 
-  pub closing-first : (x : Words) (e : ℕ) → NextIn sets closersAt 0 e → ClosingTo x e x
+  pub closing-first : (x : Words) (e : ℕ) → NextIn sets at 0 e → ClosingTo x e x
   closing-first x e N =
       record {
         within = N .within;
         here = N .here;
         followed = followed-first x;
         grown = record { first = omega arith; second = omega arith; third = omega arith };
-        quiet = λ _ f l o. absurd (passed-none (onLine sets closersAt) e f (N .between) l o);
+        quiet = λ _ f l o. absurd (passed-none (onLine sets at) e f (N .between) l o);
       }
 
-  module _ (numbers : Numbers card) (x : Words) (f next : ℕ) (before : Words) (h : f < 192) (C : ClosingTo x f before) (N : NextIn sets closersAt (f + 1) next) where
+  module _ (numbers : Numbers card) (x : Words) (f next : ℕ) (before : Words) (h : f < 192) (C : ClosingTo x f before) (N : NextIn sets at (f + 1) next) where
     row-follows :
-        (c : ℕ) → MembersOf (λ d. inWords before d ≡ true) (node card f) → c < 192 → onLine sets (lineAt false f) c ≡ true → Follows sets card x c
+        (c : ℕ) → MembersOf (λ d. inWords before d ≡ true) (node card f) → c < 192 → onLine sets (lineAt false f) c ≡ true → Follows sets card at x c
     row-follows c m l r = go (node card f) refl m
       where
-        go : (n : Node) → node card f ≡ n → MembersOf (λ d. inWords before d ≡ true) n → Follows sets card x c
+        go : (n : Node) → node card f ≡ n → MembersOf (λ d. inWords before d ≡ true) n → Follows sets card at x c
         go topAt u m = by-top f c h (C .here h) u l r
         go (nameAt n) u m = absurd m
         go (existsAt s j) u m = absurd m
@@ -313,7 +313,7 @@ module _ (sets card : List ℕ) where
               λ i e l o k c lc r.
               ⊎-elim
               (λ (u : e ≡ f). i c lc (J .bits c lc ∙ or-second _ _ (S c lc ∙ subst (λ (z : ℕ). onLine sets (z * 3) c ≡ true) u r)))
-              (λ u. C .quiet (λ d ld g. i d ld (kept d ld g)) e u o k c lc r) (passed-cases (onLine sets closersAt) f next e (N .between) l o);
+              (λ u. C .quiet (λ d ld g. i d ld (kept d ld g)) e u o k c lc r) (passed-cases (onLine sets at) f next e (N .between) l o);
         }
       where
         kept : (c : ℕ) → c < 192 → inWords before c ≡ true → inWords sum c ≡ true
@@ -334,10 +334,10 @@ module _ (sets card : List ℕ) where
               (n
               (members-more card numbers f h (λ d. inWords x d ≡ true) (λ d. inWords before d ≡ true) (C .followed .kept)
               (subst (λ (z : ℕ). MembersOf (λ d. inWords x d ≡ true) (node card z)) u k))))
-              (λ u. C .quiet i e u o k c lc r) (passed-cases (onLine sets closersAt) f next e (N .between) l o);
+              (λ u. C .quiet i e u o k c lc r) (passed-cases (onLine sets at) f next e (N .between) l o);
         }
 
-  pub closing-done : (x : Words) (e : ℕ) (w : Words) → 192 ≤ e → ClosingTo x e w → ClosedOnce sets card x w
+  pub closing-done : (x : Words) (e : ℕ) (w : Words) → 192 ≤ e → ClosingTo x e w → ClosedOnce sets card at x w
   closing-done x e w h C =
       record {
         followed = C .followed;

@@ -1,16 +1,23 @@
 // What tests read, made once from the tables: sets of ids, three words each, and numbers. The sets are the rows and columns of one
 // subsumption table, written by the operation for it under the assignment that chooses nothing; for each existential with a variable the
-// variable-free ones that fit it by their roles; the variable-free tops and conjunctions; and the cone of each question, the ids of its
-// sides that hold a variable. The search knows neither inclusions nor pairs of roles.
+// variable-free ones that fit it by their roles; the cone of each question, the ids of its sides that hold a variable; and the variable-free
+// tops and conjunctions that bring what is asked of its left values. The search knows neither inclusions nor pairs of roles.
 use crate::limits::ATOM_IDS;
 use crate::limits::CLOSERS;
 use crate::limits::CONES;
+use crate::limits::FITS_LEFT;
 use crate::limits::HELD;
 use crate::limits::HOLDS;
 use crate::limits::QUESTION_COUNT;
 use crate::limits::SIDES;
 use crate::limits::TABLE;
+use crate::search::sets::Words;
 use crate::search::sets::fit_at;
+use crate::search::sets::is_same;
+use crate::search::sets::join;
+use crate::search::sets::meet;
+use crate::search::sets::next_in;
+use crate::search::sets::words_at;
 use square::helpers::has;
 use square::helpers::insert;
 use square::helpers::load;
@@ -21,7 +28,7 @@ use subsumption::limits::CONCEPTS;
 use subsumption::limits::ROLE_WORDS;
 use subsumption::write_table;
 ghost use mathlib.Core.Path.{_≡_};
-ghost use mathlib.Core.Bool.{false};
+ghost use mathlib.Core.Bool.{true, false};
 ghost use Prim.Native.Nat.{ℕ, _+_, _<_, _≤_};
 ghost use lib.Dec.{ltb};
 ghost use lib.ListN.{length, replicate};
@@ -32,8 +39,8 @@ ghost use Rattle.subsumption.specs.Inner.Atoms.{Layered};
 ghost use Rattle.subsumption.specs.Inner.Listing.{Accepted};
 ghost use Rattle.subsumption.specs.Inner.Tables.{Rising};
 ghost use Rattle.square.specs.Inner.Square.{onLine};
-ghost use Rattle.matching.specs.Inner.Search.Card.{fitAt, coneAt, closersAt, questionCount, Shaped, Card};
-ghost use Rattle.matching.specs.Inner.Search.Making.{CopiedAt, HeldNoted, HintsNoted, NumbersOf, LinesOf, Readable, kindAt, fitsBy, isCloser, closerIn, heldId, heldInside, Filled, FitsNoted, ConeNoted, NoCones, ConesNoted};
+ghost use Rattle.matching.specs.Inner.Search.Card.{fitAt, coneAt, closersAt, questionCount, Numbers, Shaped, Covered, Card};
+ghost use Rattle.matching.specs.Inner.Search.Making.{CopiedAt, HeldNoted, HintsNoted, NumbersOf, LinesOf, Readable, kindAt, fitsBy, isCloser, heldId, heldInside, Filled, FitsNoted, ConeNoted, NoCones, ConesNoted, Grew, WantsInner, AskedFor, NewAt, NextNew, Kept, KeptAll, ClosersNoted, NoClosers, AllClosers};
 
 // ---- the numbers
 fn copy_at(from: &[u16], to: &mut [u16], at: usize)
@@ -191,7 +198,7 @@ fn note_fit(card: &[u16], into: &[u64], count: usize, right: bool, j: usize, set
     requires { ⌜ Readable (now card) count ⌝ }
     requires { ⌜ length (now into) ≡ 200 ⌝ }
     requires { ⌜ (j < count) × (kindAt (now card) j ≡ 2) ⌝ }
-    requires { ⌜ length (now sets) ≡ 2403 ⌝ }
+    requires { ⌜ length (now sets) ≡ 2496 ⌝ }
     ensures { λ _. ⌜ Filled (fitAt right j) (λ q. both (ltb q count) (fitsBy (now (card .entry)) (now (into .entry)) right j q)) (now (sets .entry)) (now (sets .exit)) ⌝ }
 {
     let at = fit_at(right, j);
@@ -208,7 +215,7 @@ fn note_fit(card: &[u16], into: &[u64], count: usize, right: bool, j: usize, set
 fn note_fits(card: &[u16], into: &[u64], count: usize, right: bool, sets: &mut [u64])
     requires { ⌜ Readable (now card) count ⌝ }
     requires { ⌜ length (now into) ≡ 200 ⌝ }
-    requires { ⌜ length (now sets) ≡ 2403 ⌝ }
+    requires { ⌜ length (now sets) ≡ 2496 ⌝ }
     ensures { λ _. ⌜ FitsNoted (now (card .entry)) (now (into .entry)) count right (now (sets .entry)) (now (sets .exit)) ⌝ }
 {
     let mut j: usize = 0;
@@ -236,22 +243,6 @@ fn is_closer(card: &[u16], e: usize) -> bool
         return true;
     }
     card[e * 3] == 3
-}
-
-fn note_closers(card: &[u16], count: usize, sets: &mut [u64])
-    requires { ⌜ length (now card) ≡ 931 ⌝ }
-    requires { ⌜ count ≤ 192 ⌝ }
-    requires { ⌜ length (now sets) ≡ 2403 ⌝ }
-    ensures { λ _. ⌜ Filled closersAt (closerIn (now (card .entry)) count) (now (sets .entry)) (now (sets .exit)) ⌝ }
-{
-    let mut e: usize = 0;
-    while e < count {
-        let f = e;
-        e += 1;
-        if is_closer(card, f) {
-            insert(sets, CLOSERS, f);
-        }
-    }
 }
 
 // The id comes to the cone if it holds a variable.
@@ -288,7 +279,7 @@ fn mark_inside(card: &[u16], sets: &mut [u64], at: usize, i: usize)
 fn note_cone(card: &[u16], count: usize, m: usize, sets: &mut [u64])
     requires { ⌜ Readable (now card) count ⌝ }
     requires { ⌜ m < questionCount (now card) ⌝ }
-    requires { ⌜ length (now sets) ≡ 2403 ⌝ }
+    requires { ⌜ length (now sets) ≡ 2496 ⌝ }
     requires { ⌜ ((q : ℕ) → q < 192 → onLine (now sets) (coneAt m) q ≡ false) ⌝ }
     ensures { λ _. ⌜ ConeNoted (now (card .entry)) count m (now (sets .entry)) (now (sets .exit)) ⌝ }
 {
@@ -306,7 +297,7 @@ fn note_cone(card: &[u16], count: usize, m: usize, sets: &mut [u64])
 
 fn note_cones(card: &[u16], count: usize, sets: &mut [u64])
     requires { ⌜ Readable (now card) count ⌝ }
-    requires { ⌜ length (now sets) ≡ 2403 ⌝ }
+    requires { ⌜ length (now sets) ≡ 2496 ⌝ }
     requires { ⌜ NoCones (now sets) ⌝ }
     ensures { λ _. ⌜ ConesNoted (now (card .entry)) count (now (sets .entry)) (now (sets .exit)) ⌝ }
 {
@@ -314,6 +305,167 @@ fn note_cones(card: &[u16], count: usize, sets: &mut [u64])
     let mut m: usize = 0;
     while m < rows {
         note_cone(card, count, m, sets);
+        m += 1;
+    }
+}
+
+// ---- the tops and conjunctions by which left values are closed
+// The inner ids of the existentials that fit j on the left are wanted.
+fn want_inner(sets: &[u64], card: &[u16], j: usize, wanted: &mut [u64])
+    requires { ⌜ Shaped (now sets) (now card) ⌝ }
+    requires { ⌜ (j < 192) × (length (now wanted) ≡ 3) ⌝ }
+    ensures { λ _. ⌜ Grew (now (wanted .entry)) (now (wanted .exit)) ⌝ }
+    ensures { λ _. ⌜ WantsInner (now (sets .entry)) (now (card .entry)) j (now (wanted .exit)) ⌝ }
+{
+    let at = FITS_LEFT + j * 3;
+    let mut e = next_in(sets, at, 0);
+    while e < CONCEPTS {
+        let f = e;
+        e = next_in(sets, at, f + 1);
+        insert(wanted, 0, card[f * 3 + 2] as usize);
+    }
+}
+
+// What is asked of closed values of question m.
+fn want_asked(sets: &[u64], card: &[u16], m: usize, wanted: &mut [u64])
+    requires { ⌜ Shaped (now sets) (now card) ⌝ }
+    requires { ⌜ (m < 32) × (length (now wanted) ≡ 3) ⌝ }
+    ensures { λ _. ⌜ AskedFor (now (sets .entry)) (now (card .entry)) m (now (wanted .exit)) ⌝ }
+{
+    insert(wanted, 0, card[SIDES + m * 2 + 1] as usize);
+    let cone = CONES + m * 3;
+    let mut j = next_in(sets, cone, 0);
+    while j < CONCEPTS {
+        let i = j;
+        j = next_in(sets, cone, i + 1);
+        want_inner(sets, card, i, wanted);
+    }
+}
+
+// Whether the row of e brings nothing wanted that the rows of its members do not bring.
+fn is_covered(sets: &[u64], card: &[u16], wanted: &[u64], e: usize) -> bool
+    requires { ⌜ Shaped (now sets) (now card) ⌝ }
+    requires { ⌜ (e < 192) × (length (now wanted) ≡ 3) ⌝ }
+    ensures { λ r. ⌜ (r ≡ true → Covered (now (sets .entry)) (now (card .entry)) (onLine (now (wanted .entry)) 0) e) ⌝ }
+{
+    let row = words_at(sets, e * 3);
+    let asked = meet(row, words_at(wanted, 0));
+    if card[e * 3] == 3 {
+        let a = words_at(sets, card[e * 3 + 1] as usize * 3);
+        let b = words_at(sets, card[e * 3 + 2] as usize * 3);
+        let own = join(a, b);
+        return is_same(join(own, asked), own);
+    }
+    let nothing = Words {
+        first: 0,
+        second: 0,
+        third: 0,
+    };
+    is_same(asked, nothing)
+}
+
+// Whether e is to be kept and is not yet.
+fn is_new(sets: &[u64], card: &[u16], at: usize, wanted: &[u64], e: usize) -> bool
+    requires { ⌜ Shaped (now sets) (now card) ⌝ }
+    requires { ⌜ (e < 192) × (length (now wanted) ≡ 3) ⌝ }
+    requires { ⌜ at + 3 ≤ 2496 ⌝ }
+    ensures { λ r. ⌜ NewAt (now (sets .entry)) (now (card .entry)) at (now (wanted .entry)) e r ⌝ }
+{
+    if has(sets, at, e) {
+        return false;
+    }
+    if is_closer(card, e) {
+        if is_covered(sets, card, wanted, e) {
+            return false;
+        }
+        return true;
+    }
+    false
+}
+
+// The lowest id from an id on that is to be kept and is not yet, or the number of ids.
+fn next_new(
+    sets: &[u64],
+    card: &[u16],
+    count: usize,
+    at: usize,
+    wanted: &[u64],
+    from: usize,
+) -> usize
+    requires { ⌜ Shaped (now sets) (now card) ⌝ }
+    requires { ⌜ (count ≤ 192) × (from ≤ count) × (length (now wanted) ≡ 3) ⌝ }
+    requires { ⌜ at + 3 ≤ 2496 ⌝ }
+    ensures { λ r. ⌜ NextNew (now (sets .entry)) (now (card .entry)) count at (now (wanted .entry)) from r ⌝ }
+{
+    let mut e = from;
+    while e < count {
+        if is_new(sets, card, at, wanted, e) {
+            return e;
+        }
+        e += 1;
+    }
+    count
+}
+
+// The members of a conjunction that is kept are wanted.
+fn keep(sets: &mut [u64], card: &[u16], at: usize, wanted: &mut [u64], e: usize)
+    requires { ⌜ Numbers (now card) ⌝ }
+    requires { ⌜ (e < 192) × (length (now wanted) ≡ 3) ⌝ }
+    requires { ⌜ at + 3 ≤ length (now sets) ⌝ }
+    ensures { λ _. ⌜ Kept (now (card .entry)) at e (now (sets .entry)) (now (sets .exit)) (now (wanted .entry)) (now (wanted .exit)) ⌝ }
+{
+    insert(sets, at, e);
+    if card[e * 3] == 3 {
+        insert(wanted, 0, card[e * 3 + 1] as usize);
+        insert(wanted, 0, card[e * 3 + 2] as usize);
+    }
+}
+
+// Keeps until a walk from the first id on finds nothing to keep.
+fn keep_all(sets: &mut [u64], card: &[u16], count: usize, at: usize, wanted: &mut [u64])
+    requires { ⌜ Shaped (now sets) (now card) ⌝ }
+    requires { ⌜ (count ≤ 192) × (length (now wanted) ≡ 3) ⌝ }
+    requires { ⌜ (at + 3 ≤ 2496) × (2400 ≤ at) ⌝ }
+    requires { ⌜ ((q : ℕ) → q < 192 → onLine (now sets) at q ≡ false) ⌝ }
+    ensures { λ _. ⌜ KeptAll (now (card .entry)) count at (now (sets .entry)) (now (sets .exit)) (now (wanted .entry)) (now (wanted .exit)) ⌝ }
+{
+    let mut from: usize = 0;
+    loop {
+        let e = next_new(sets, card, count, at, wanted, from);
+        if e < count {
+            keep(sets, card, at, wanted, e);
+            from = e + 1;
+            continue;
+        }
+        if from == 0 {
+            return;
+        }
+        from = 0;
+    }
+}
+
+// Of one question, whose cone is made.
+fn note_closers_of(sets: &mut [u64], card: &[u16], count: usize, m: usize)
+    requires { ⌜ Shaped (now sets) (now card) ⌝ }
+    requires { ⌜ (count ≤ 192) × (m < 32) ⌝ }
+    requires { ⌜ ((q : ℕ) → q < 192 → onLine (now sets) (closersAt m) q ≡ false) ⌝ }
+    ensures { λ _. ⌜ ClosersNoted (now (card .entry)) count m (now (sets .entry)) (now (sets .exit)) ⌝ }
+{
+    let mut wanted = [0u64; 3];
+    want_asked(sets, card, m, &mut wanted);
+    keep_all(sets, card, count, CLOSERS + m * 3, &mut wanted);
+}
+
+fn note_closers(card: &[u16], count: usize, sets: &mut [u64])
+    requires { ⌜ Shaped (now sets) (now card) ⌝ }
+    requires { ⌜ count ≤ 192 ⌝ }
+    requires { ⌜ NoClosers (now sets) ⌝ }
+    ensures { λ _. ⌜ AllClosers (now (card .entry)) count (now (sets .entry)) (now (sets .exit)) ⌝ }
+{
+    let rows = card[QUESTION_COUNT] as usize;
+    let mut m: usize = 0;
+    while m < rows {
+        note_closers_of(sets, card, count, m);
         m += 1;
     }
 }
@@ -330,7 +482,7 @@ pub fn make_card(
     card: &mut [u16],
 )
     requires { ⌜ Accepted (tables (now concepts) (now inclusions) (now questions) (now roles) variables) (now ids) ⌝ }
-    requires { ⌜ now sets ≡ replicate 2403 0 ⌝ }
+    requires { ⌜ now sets ≡ replicate 2496 0 ⌝ }
     requires { ⌜ now card ≡ replicate 931 0 ⌝ }
     ensures { λ _. ⌜ Shaped (now (sets .exit)) (now (card .exit)) ⌝ }
     ensures { λ _. ⌜ Card (tables (now (concepts .entry)) (now (inclusions .entry)) (now (questions .entry)) (now (roles .entry)) variables) (now (sets .exit)) (now (card .exit)) ⌝ }
@@ -349,6 +501,6 @@ pub fn make_card(
     let count = concepts.len() / 3;
     note_fits(card, &into, count, true, sets);
     note_fits(card, &into, count, false, sets);
-    note_closers(card, count, sets);
     note_cones(card, count, sets);
+    note_closers(card, count, sets);
 }

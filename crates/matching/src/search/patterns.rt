@@ -25,7 +25,7 @@ ghost use Prim.Native.Nat.{_*_, _+_, _<_, _≤_};
 ghost use lib.ListN.{length};
 ghost use Rattle.matching.specs.Inner.Search.Sets.{Same};
 ghost use Rattle.matching.specs.Inner.Search.Card.{Numbers, Shaped, lineAt, fitAt};
-ghost use Rattle.matching.specs.Inner.Search.Patterns.{ValueRead, BelowAll, AboveSome, Linked, Members, ClosedOnce, ClosedUp, Valued, AllValued, Tested};
+ghost use Rattle.matching.specs.Inner.Search.Patterns.{ValueRead, BelowAll, AboveSome, Linked, Members, ClosedOnce, ClosedUp, Valued, ValuedIn, AllValued, Tested};
 
 const ALL: u64 = 18446744073709551615;
 
@@ -132,16 +132,17 @@ fn has_members(card: &[u16], x: Words, e: usize) -> bool
     false
 }
 
-// One walk through the variable-free tops and conjunctions.
-fn close_once(sets: &[u64], card: &[u16], x: Words) -> Words
+// One walk through the tops and conjunctions that stand at a word.
+fn close_once(sets: &[u64], card: &[u16], at: usize, x: Words) -> Words
     requires { ⌜ Shaped (now sets) (now card) ⌝ }
-    ensures { λ r. ⌜ ClosedOnce (now (sets .entry)) (now (card .entry)) x r ⌝ }
+    requires { ⌜ at + 3 ≤ 2496 ⌝ }
+    ensures { λ r. ⌜ ClosedOnce (now (sets .entry)) (now (card .entry)) at x r ⌝ }
 {
     let mut sum = x;
-    let mut e = next_in(sets, CLOSERS, 0);
+    let mut e = next_in(sets, at, 0);
     while e < 192 {
         let f = e;
-        e = next_in(sets, CLOSERS, f + 1);
+        e = next_in(sets, at, f + 1);
         if has_members(card, sum, f) {
             sum = join(sum, words_at(sets, f * 3));
             continue;
@@ -150,14 +151,15 @@ fn close_once(sets: &[u64], card: &[u16], x: Words) -> Words
     sum
 }
 
-// What follows from a set of variable-free ids by top and conjunctions.
-fn close_up(sets: &[u64], card: &[u16], x: Words) -> Words
+// What follows from a set of variable-free ids by the tops and conjunctions that stand at a word.
+fn close_up(sets: &[u64], card: &[u16], at: usize, x: Words) -> Words
     requires { ⌜ Shaped (now sets) (now card) ⌝ }
-    ensures { λ r. ⌜ ClosedUp (now (sets .entry)) (now (card .entry)) x r ⌝ }
+    requires { ⌜ at + 3 ≤ 2496 ⌝ }
+    ensures { λ r. ⌜ ClosedUp (now (sets .entry)) (now (card .entry)) at x r ⌝ }
 {
     let mut sum = x;
     loop {
-        let more = close_once(sets, card, sum);
+        let more = close_once(sets, card, at, sum);
         if is_same(more, sum) {
             return sum;
         }
@@ -187,11 +189,18 @@ fn right_value(sets: &[u64], card: &[u16], values: &[u64], choice: [u64; 8], j: 
 }
 
 // The value of an id with a variable on the left side: variable-free ids above it, from which the others follow. Only under an existential
-// and at the end all that follows is wanted.
-fn left_value(sets: &[u64], card: &[u16], values: &[u64], choice: [u64; 8], j: usize) -> Words
+// and at the end what follows is wanted.
+fn left_value(
+    sets: &[u64],
+    card: &[u16],
+    values: &[u64],
+    choice: [u64; 8],
+    m: usize,
+    j: usize,
+) -> Words
     requires { ⌜ Shaped (now sets) (now card) ⌝ }
-    requires { ⌜ (576 ≤ length (now values)) × (j < 192) ⌝ }
-    ensures { λ r. ⌜ Valued (now (sets .entry)) (now (card .entry)) (now (values .entry)) choice false j r ⌝ }
+    requires { ⌜ (576 ≤ length (now values)) × (j < 192) × (m < 32) ⌝ }
+    ensures { λ r. ⌜ ValuedIn (now (sets .entry)) (now (card .entry)) (now (values .entry)) choice m false j r ⌝ }
 {
     let kind = card[j * 3];
     let inner = card[j * 3 + 2] as usize;
@@ -204,7 +213,7 @@ fn left_value(sets: &[u64], card: &[u16], values: &[u64], choice: [u64; 8], j: u
         let b = value_of(sets, card, values, false, inner);
         return join(a, b);
     }
-    let own = close_up(sets, card, words_at(values, inner * 3));
+    let own = close_up(sets, card, CLOSERS + m * 3, words_at(values, inner * 3));
     linked(sets, card, own, false, j)
 }
 
@@ -231,7 +240,7 @@ fn make_values(
             put_words(values, i * 3, a);
             continue;
         }
-        let b = left_value(sets, card, values, choice, i);
+        let b = left_value(sets, card, values, choice, m, i);
         put_words(values, i * 3, b);
     }
 }
@@ -256,7 +265,7 @@ pub fn question_holds(
     }
     if card[HELD + left] == 1 {
         make_values(sets, card, values, choice, m, false);
-        let all = close_up(sets, card, words_at(values, left * 3));
+        let all = close_up(sets, card, CLOSERS + m * 3, words_at(values, left * 3));
         return is_in(all, right);
     }
     has(sets, left * 3, right)

@@ -213,7 +213,7 @@ module _ (card : List ℕ) (count m : ℕ) (before mid start : List ℕ) (F : Fi
       }
 
 -- ---- all of them
-cone-same :
+pub cone-same :
     (card : List ℕ) (count m : ℕ) (a b : ℕ → Bool) → Readable card count → m < questionCount card → ((q : ℕ) → q < 192 → b q ≡ a q)
     → ConeOf card count m a → ConeOf card count m b
 cone-same card count m a b R asked same C =
@@ -233,7 +233,7 @@ module _ (card : List ℕ) (count : ℕ) (before : List ℕ) where
     pub long : length sets ≡ length before
     pub done : (m : ℕ) → m < k → ConeOf card count m (onLine sets (coneAt m))
     pub rest : (m q : ℕ) → k ≤ m → m < 32 → q < 192 → onLine sets (coneAt m) q ≡ false
-    pub there : Outside (coneAt 0) closersAt before sets
+    pub there : Outside (coneAt 0) (closersAt 0) before sets
 
   pub cones-none : NoCones before → ConesTo 0 before
   cones-none n =

@@ -30,9 +30,9 @@ fitAt false i = 1728 + i * 3
 abbrev pub coneAt : ℕ → ℕ
 coneAt m = 2304 + m * 3
 
--- where the variable-free tops and conjunctions stand
-abbrev pub closersAt : ℕ
-closersAt = 2400
+-- where the tops and conjunctions of a question start that are walked through when its left values are closed
+abbrev pub closersAt : ℕ → ℕ
+closersAt m = 2400 + m * 3
 
 -- ---- the numbers: from 0 on the rows of the ids
 abbrev pub heldAt : List ℕ → ℕ → Bool
@@ -67,7 +67,7 @@ pub record Numbers (card : List ℕ) : Type 0 where
   pub few : questionCount card ≤ 32
 
 pub record Shaped (sets card : List ℕ) : Type 0 where
-  pub sets-long : length sets ≡ 2403
+  pub sets-long : length sets ≡ 2496
   pub numbers : Numbers card
 
 -- ---- what they tell of the tables
@@ -104,6 +104,32 @@ closes (existsAt r j) = false
 closes (andAt i j) = true
 closes (varAt k) = false
 
+-- d is in the row of a member
+unfoldable pub inMembers : List ℕ → Node → ℕ → Bool
+inMembers sets topAt d = false
+inMembers sets (nameAt n) d = false
+inMembers sets (existsAt r j) d = false
+inMembers sets (andAt i j) d = or (onLine sets (lineAt false i) d) (onLine sets (lineAt false j) d)
+inMembers sets (varAt k) d = false
+
+-- the row of e brings nothing wanted that the rows of its members do not bring
+abbrev pub Covered : List ℕ → List ℕ → (ℕ → Bool) → ℕ → Type 0
+Covered sets card wanted e =
+    (d : ℕ) → d < 192 → onLine sets (lineAt false e) d ≡ true → wanted d ≡ true → inMembers sets (node card e) d ≡ true
+
+-- What is asked of closed left values of question m: the right side, and the inner ids of existentials that fit one of the cone. With it are
+-- wanted the members of the conjunctions that are kept. What is not kept brings nothing wanted.
+pub record Closers (sets card : List ℕ) (count m : ℕ) : Type 0 where
+  pub wanted : ℕ → Bool
+  pub right : wanted (rightAt card m) ≡ true
+  pub inner :
+      (j e : ℕ) → j < 192 → e < 192 → onLine sets (coneAt m) j ≡ true → onLine sets (fitAt false j) e ≡ true → wanted (innerAt card e) ≡ true
+  pub only : (e : ℕ) → e < 192 → onLine sets (closersAt m) e ≡ true → (e < count) × (heldAt card e ≡ false)
+  pub members :
+      (e i j : ℕ) → e < 192 → onLine sets (closersAt m) e ≡ true → node card e ≡ andAt i j → (wanted i ≡ true) × (wanted j ≡ true)
+  pub quiet :
+      (e : ℕ) → e < count → heldAt card e ≡ false → closes (node card e) ≡ true → onLine sets (closersAt m) e ≡ false → Covered sets card wanted e
+
 -- a side of question m that holds a variable is in the cone, and with an id its inner ids that hold a variable
 pub record Cone (t : Tables) (sets : List ℕ) (m : ℕ) : Type 0 where
   pub known : (i : ℕ) → i < 192 → onLine sets (coneAt m) i ≡ true → (i < countOf (t .concepts)) × (hasVariable (tree (t .concepts) i) ≡ true)
@@ -131,5 +157,5 @@ pub record Card (t : Tables) (sets card : List ℕ) : Type 0 where
   pub above : (i j : ℕ) → FreeId t i → FreeId t j → (onLine sets (lineAt false i) j ≡ true) ↔ Subsumed t (nothing t) i j
   pub below : (i j : ℕ) → FreeId t i → FreeId t j → (onLine sets (lineAt true j) i ≡ true) ↔ Subsumed t (nothing t) i j
   pub fits : (right : Bool) (j e : ℕ) → j < countOf (t .concepts) → e < 192 → heldAt card j ≡ true → (onLine sets (fitAt right j) e ≡ true) ↔ Fitting t right j e
-  pub closers : (e : ℕ) → e < 192 → (onLine sets closersAt e ≡ true) ↔ (FreeId t e × (closes (node (t .concepts) e) ≡ true))
   pub cones : (m : ℕ) → m < pairsOf (t .questions) → Cone t sets m
+  pub closers : (m : ℕ) → m < pairsOf (t .questions) → Closers sets card (countOf (t .concepts)) m

@@ -6,13 +6,13 @@ use mathlib.Core.Bool.{Bool, true, false, not}
 use mathlib.Core.Logic.{_⊎_, _↔_}
 use lib.Dec.{eqb, ltb}
 use lib.ListN.{length, getD}
-use Rattle.subsumption.specs.Tables.{Tables, or, both, node, countOf, pairsOf, tree, hasVariable}
+use Rattle.subsumption.specs.Tables.{Tables, or, both, andAt, node, countOf, pairsOf, tree, hasVariable}
 use Rattle.subsumption.specs.Atoms.{inside}
 use Rattle.subsumption.specs.Subsumption.{Subsumed}
 use Rattle.subsumption.specs.Inner.Tables.{Rising}
 use Rattle.subsumption.specs.Inner.Roles.{inSet}
 use Rattle.square.specs.Inner.Square.{onLine}
-use Rattle.matching.specs.Inner.Search.Card.{lineAt, fitAt, coneAt, closersAt, heldAt, leftAt, rightAt, questionCount, counting, nothing}
+use Rattle.matching.specs.Inner.Search.Card.{lineAt, fitAt, coneAt, closersAt, heldAt, leftAt, rightAt, innerAt, questionCount, Covered, Closers, counting, nothing}
 
 -- a list stands at a place of another, and the rest is as before
 pub record CopiedAt (from : List ℕ) (at : ℕ) (before after : List ℕ) : Type 0 where
@@ -98,9 +98,6 @@ pub record FitsNoted (card into : List ℕ) (count : ℕ) (right : Bool) (before
 unfoldable pub isCloser : List ℕ → ℕ → Bool
 isCloser card e = both (not (heldAt card e)) (or (eqb (kindAt card e) 0) (eqb (kindAt card e) 3))
 
-abbrev pub closerIn : List ℕ → ℕ → ℕ → Bool
-closerIn card count e = both (ltb e count) (isCloser card e)
-
 -- the id itself, if it holds a variable; the inner ids of i that hold one
 abbrev pub heldId : List ℕ → ℕ → ℕ → Bool
 heldId card id q = both (eqb q id) (heldAt card q)
@@ -126,4 +123,58 @@ NoCones sets = (m q : ℕ) → m < 32 → q < 192 → onLine sets (coneAt m) q �
 pub record ConesNoted (card : List ℕ) (count : ℕ) (before after : List ℕ) : Type 0 where
   pub long : length after ≡ length before
   pub cones : (m : ℕ) → m < questionCount card → ConeOf card count m (onLine after (coneAt m))
-  pub there : Outside (coneAt 0) closersAt before after
+  pub there : Outside (coneAt 0) (closersAt 0) before after
+
+-- ---- the closers
+-- the set at word 0 loses nothing
+pub record Grew (before after : List ℕ) : Type 0 where
+  pub long : length after ≡ length before
+  pub kept : (q : ℕ) → onLine before 0 q ≡ true → onLine after 0 q ≡ true
+
+abbrev pub WantsInner : List ℕ → List ℕ → ℕ → List ℕ → Type 0
+WantsInner sets card j wanted = (e : ℕ) → e < 192 → onLine sets (fitAt false j) e ≡ true → onLine wanted 0 (innerAt card e) ≡ true
+
+pub record AskedFor (sets card : List ℕ) (m : ℕ) (wanted : List ℕ) : Type 0 where
+  pub long : length wanted ≡ 3
+  pub right : onLine wanted 0 (rightAt card m) ≡ true
+  pub inner : (j : ℕ) → j < 192 → onLine sets (coneAt m) j ≡ true → WantsInner sets card j wanted
+
+-- whether e is to be kept and is not yet
+pub record NewAt (sets card : List ℕ) (at : ℕ) (wanted : List ℕ) (e : ℕ) (answer : Bool) : Type 0 where
+  pub closer : answer ≡ true → isCloser card e ≡ true
+  pub fresh : answer ≡ true → onLine sets at e ≡ false
+  pub quiet : answer ≡ false → isCloser card e ≡ true → onLine sets at e ≡ false → Covered sets card (onLine wanted 0) e
+
+pub record NextNew (sets card : List ℕ) (count at : ℕ) (wanted : List ℕ) (from found : ℕ) : Type 0 where
+  pub after : from ≤ found
+  pub within : found ≤ count
+  pub closer : found < count → isCloser card found ≡ true
+  pub fresh : found < count → onLine sets at found ≡ false
+  pub quiet : (e : ℕ) → from ≤ e → e < found → isCloser card e ≡ true → onLine sets at e ≡ false → Covered sets card (onLine wanted 0) e
+
+pub record Kept (card : List ℕ) (at e : ℕ) (before after wanted more : List ℕ) : Type 0 where
+  pub filled : Filled at (λ q. eqb q e) before after
+  pub grew : Grew wanted more
+  pub members : (i j : ℕ) → node card e ≡ andAt i j → (onLine more 0 i ≡ true) × (onLine more 0 j ≡ true)
+
+pub record KeptAll (card : List ℕ) (count at : ℕ) (before after wanted more : List ℕ) : Type 0 where
+  pub long : length after ≡ length before
+  pub there : Outside at (at + 3) before after
+  pub grew : Grew wanted more
+  pub only : (e : ℕ) → e < 192 → onLine after at e ≡ true → (e < count) × (isCloser card e ≡ true)
+  pub members :
+      (e i j : ℕ) → e < 192 → onLine after at e ≡ true → node card e ≡ andAt i j → (onLine more 0 i ≡ true) × (onLine more 0 j ≡ true)
+  pub quiet : (e : ℕ) → e < count → isCloser card e ≡ true → onLine after at e ≡ false → Covered after card (onLine more 0) e
+
+pub record ClosersNoted (card : List ℕ) (count m : ℕ) (before after : List ℕ) : Type 0 where
+  pub long : length after ≡ length before
+  pub closers : Closers after card count m
+  pub there : Outside (closersAt m) (closersAt m + 3) before after
+
+abbrev pub NoClosers : List ℕ → Type 0
+NoClosers sets = (m q : ℕ) → m < 32 → q < 192 → onLine sets (closersAt m) q ≡ false
+
+pub record AllClosers (card : List ℕ) (count : ℕ) (before after : List ℕ) : Type 0 where
+  pub long : length after ≡ length before
+  pub closers : (m : ℕ) → m < questionCount card → Closers after card count m
+  pub there : Outside (closersAt 0) (closersAt 32) before after

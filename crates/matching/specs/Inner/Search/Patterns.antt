@@ -14,7 +14,7 @@ use Rattle.square.specs.Inner.Square.{onLine}
 use Rattle.matching.specs.declared.search.sets.Words.{Words}
 use Rattle.matching.specs.Inner.Search.{Decided, HoldsAt}
 use Rattle.matching.specs.Inner.Search.Sets.{inWords, Same, Grown}
-use Rattle.matching.specs.Inner.Search.Card.{lineAt, fitAt, coneAt, closersAt, heldAt, atomAt, innerAt, FreeId, Card}
+use Rattle.matching.specs.Inner.Search.Card.{lineAt, fitAt, coneAt, heldAt, atomAt, innerAt, FreeId, Card}
 
 -- ---- the parts, of sets and numbers alone
 abbrev pub ReadBy : Bool → List ℕ → List ℕ → Bool → ℕ → Words → Type 0
@@ -60,34 +60,34 @@ MembersOf P (varAt k) = ⊥
 abbrev pub Members : List ℕ → Words → ℕ → Bool → Type 0
 Members card w e answer = Decided (MembersOf (λ c. inWords w c ≡ true) (node card e)) answer
 
--- c follows from the set by the rows of tops and conjunctions
-pub data Follows (sets card : List ℕ) (x : Words) : ℕ → Type 0 where
-  by-set : (c : ℕ) → c < 192 → inWords x c ≡ true → Follows sets card x c
-  by-top : (e c : ℕ) → e < 192 → onLine sets closersAt e ≡ true → node card e ≡ topAt → c < 192 → onLine sets (lineAt false e) c ≡ true → Follows sets card x c
+-- c follows from the set by the rows of the tops and conjunctions that stand at a word
+pub data Follows (sets card : List ℕ) (at : ℕ) (x : Words) : ℕ → Type 0 where
+  by-set : (c : ℕ) → c < 192 → inWords x c ≡ true → Follows sets card at x c
+  by-top : (e c : ℕ) → e < 192 → onLine sets at e ≡ true → node card e ≡ topAt → c < 192 → onLine sets (lineAt false e) c ≡ true → Follows sets card at x c
   by-and :
-      (e i j c : ℕ) → e < 192 → onLine sets closersAt e ≡ true → node card e ≡ andAt i j → Follows sets card x i → Follows sets card x j → c < 192
-      → onLine sets (lineAt false e) c ≡ true → Follows sets card x c
+      (e i j c : ℕ) → e < 192 → onLine sets at e ≡ true → node card e ≡ andAt i j → Follows sets card at x i → Follows sets card at x j → c < 192
+      → onLine sets (lineAt false e) c ≡ true → Follows sets card at x c
 
 -- the set and what follows from it, and no more
-pub record Followed (sets card : List ℕ) (x w : Words) : Type 0 where
+pub record Followed (sets card : List ℕ) (at : ℕ) (x w : Words) : Type 0 where
   pub kept : (c : ℕ) → c < 192 → inWords x c ≡ true → inWords w c ≡ true
-  pub least : (c : ℕ) → c < 192 → inWords w c ≡ true → Follows sets card x c
+  pub least : (c : ℕ) → c < 192 → inWords w c ≡ true → Follows sets card at x c
 
 -- it holds the row of each top, and of each conjunction whose members it holds
-abbrev pub ClosedBy : List ℕ → List ℕ → Words → Type 0
-ClosedBy sets card w =
-    (e : ℕ) → e < 192 → onLine sets closersAt e ≡ true → MembersOf (λ c. inWords w c ≡ true) (node card e) → (c : ℕ) → c < 192
+abbrev pub ClosedBy : List ℕ → List ℕ → ℕ → Words → Type 0
+ClosedBy sets card at w =
+    (e : ℕ) → e < 192 → onLine sets at e ≡ true → MembersOf (λ c. inWords w c ≡ true) (node card e) → (c : ℕ) → c < 192
     → onLine sets (lineAt false e) c ≡ true → inWords w c ≡ true
 
 -- one walk: nothing too much, and closed if nothing changed
-pub record ClosedOnce (sets card : List ℕ) (x w : Words) : Type 0 where
-  pub followed : Followed sets card x w
+pub record ClosedOnce (sets card : List ℕ) (at : ℕ) (x w : Words) : Type 0 where
+  pub followed : Followed sets card at x w
   pub grown : Grown x w
-  pub quiet : w ≡ x → ClosedBy sets card x
+  pub quiet : w ≡ x → ClosedBy sets card at x
 
-pub record ClosedUp (sets card : List ℕ) (x w : Words) : Type 0 where
-  pub followed : Followed sets card x w
-  pub closed : ClosedBy sets card w
+pub record ClosedUp (sets card : List ℕ) (at : ℕ) (x w : Words) : Type 0 where
+  pub followed : Followed sets card at x w
+  pub closed : ClosedBy sets card at w
 
 -- ---- what they tell of the tables
 -- A set of variable-free ids that holds top, is closed upwards and under "and".
@@ -125,6 +125,13 @@ abbrev pub Valued : List ℕ → List ℕ → List ℕ → List ℕ → Bool →
 Valued sets card values choice right j w =
     (t : Tables) → Card t sets card → assignmentFault t (take (t .variables) choice) ≡ Done → j < countOf (t .concepts)
     → hasVariable (tree (t .concepts) j) ≡ true → InnerValued right t (take (t .variables) choice) values j
+    → ValueOf right t (take (t .variables) choice) j (inWords w)
+
+-- the same for an id of the cone of question m
+abbrev pub ValuedIn : List ℕ → List ℕ → List ℕ → List ℕ → ℕ → Bool → ℕ → Words → Type 0
+ValuedIn sets card values choice m right j w =
+    (t : Tables) → Card t sets card → assignmentFault t (take (t .variables) choice) ≡ Done → m < pairsOf (t .questions)
+    → onLine sets (coneAt m) j ≡ true → InnerValued right t (take (t .variables) choice) values j
     → ValueOf right t (take (t .variables) choice) j (inWords w)
 
 abbrev pub AllValued : List ℕ → List ℕ → List ℕ → List ℕ → ℕ → Bool → Type 0

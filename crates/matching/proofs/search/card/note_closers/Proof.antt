@@ -1,47 +1,43 @@
+use Prim.Native.Nat.{_-_}
+use mathlib.Core.Path.{_∙_}
+use Rattle.matching.specs.Inner.Search.Card.{questionCount}
+use Rattle.matching.proofs.SearchLaws.Making.Closers.{ClosersTo, closers-none, closers-more, closers-done}
 use native.Mathlib.Omega.{arith}
-use Prim.Native.Nat.{_-_, _≤_}
-use mathlib.Core.Path.{sym, _∙_}
-use Rattle.matching.specs.Inner.Search.Card.{closersAt}
-use Rattle.matching.specs.Inner.Search.Making.{isCloser, Filled}
-use Rattle.matching.proofs.SearchLaws.Making.Filling.{upTo, walk-none, walk-more, walk-skip, walk-done}
 use Rattle.matching.proofs.search.card.note_closers.Statement.{statement}
 use Rattle.matching.proofs.search.card.note_closers.Tie as tie
 
 abbrev Inv-loop : tie.InvT-loop
-Inv-loop card count sets₀ e₀ sets e = (e ≤ count) × Filled closersAt (upTo (isCloser card) e) sets₀ sets
+Inv-loop card count sets₀ rows m₀ sets m = ClosersTo card count sets₀ m sets
 
 abbrev μ-loop : tie.MeasureT-loop
-μ-loop card count sets₀ e₀ sets e = count - e
+μ-loop card count sets₀ rows m₀ sets m = questionCount card - m
+
+shared-slice-read-rows : tie.Need-shared-slice-read-rows Inv-loop μ-loop
+shared-slice-read-rows c = omega (arith, c .before .before .before .pre .0 .numbers .long)
+
+cast-rows : tie.Need-cast-rows Inv-loop μ-loop
+cast-rows c = omega (arith, c .before .before .before .pre .0 .numbers .few)
 
 loop-holds : tie.Need-loop-holds Inv-loop μ-loop
-loop-holds c = (omega arith, walk-none _ _ _)
+loop-holds c = closers-none _ _ _ (c .before .before .before .pre .1 .1)
 
-add-e : tie.Need-add-e Inv-loop μ-loop
-add-e c = omega arith
+note-closers-of-requires : tie.Need-note-closers-of-requires Inv-loop μ-loop
+note-closers-of-requires c κs = (record { sets-long = c .before .before .loop .inv .long ∙ c .before .before .before .before .before .before .pre .0 .sets-long; numbers = c .before .before .before .before .before .before .pre .0 .numbers }, ((c .before .before .before .before .before .before .pre .1 .0, omega (arith, c .before .before .before .before .before .before .pre .0 .numbers .few)), λ q l. c .before .before .loop .inv .rest _ q (omega arith) (omega (arith, c .before .before .before .before .before .before .pre .0 .numbers .few)) l))
 
-is-closer-requires : tie.Need-is-closer-requires Inv-loop μ-loop
-is-closer-requires c κs = (c .before .before .before .before .pre .0, omega (arith, c .before .before .before .before .pre .1 .0))
-
-insert-requires : tie.Need-insert-requires Inv-loop μ-loop
-insert-requires c κs = (omega (arith, c .before .before .before .before .before .before .before .pre .1 .0), omega (arith, c .before .before .before .before .before .before .before .pre .1 .1, c .before .before .before .before .loop .inv .1 .long))
+add-m : tie.Need-add-m Inv-loop μ-loop
+add-m c = omega arith
 
 loop-less : tie.Need-loop-less Inv-loop μ-loop
 loop-less c = omega arith
 
 loop-again : tie.Need-loop-again Inv-loop μ-loop
-loop-again c = (omega arith, walk-more _ _ _ _ _ _ (sym (c .before .before .before .before .before .is-closer .ensures) ∙ c .before .before .before .before .if1 .taken) (c .before .before .before .before .before .before .before .loop .inv .1) (c .before .before .insert .ensures))
-
-loop-less-2 : tie.Need-loop-less-2 Inv-loop μ-loop
-loop-less-2 c = omega arith
-
-loop-again-2 : tie.Need-loop-again-2 Inv-loop μ-loop
-loop-again-2 c = (omega arith, walk-skip _ _ _ _ _ (sym (c .before .is-closer .ensures) ∙ c .if1 .left) (c .before .before .before .loop .inv .1))
+loop-again c = closers-more _ _ _ _ _ _ (c .before .before .before .before .before .before .before .before .before .pre .0 .numbers) (c .before .before .before .before .before .before .before .before .before .pre .1 .0) (omega arith) (c .before .before .before .before .before .loop .inv) (c .before .before .note-closers-of .ensures)
 
 same-length : tie.Need-same-length Inv-loop μ-loop
-same-length c = c .before .loop .inv .1 .long
+same-length c = c .before .loop .inv .long
 
 returns : tie.Need-returns Inv-loop μ-loop
-returns c = walk-done _ _ _ _ _ _ (c .before .loop .inv .0) (omega arith) (c .before .loop .inv .1)
+returns c = closers-done _ _ _ _ _ (omega arith) (c .before .loop .inv)
 
 pub note-closers-spec : {M : Type 1} → statement M
 note-closers-spec =
@@ -49,13 +45,12 @@ note-closers-spec =
     (tie.spec
     Inv-loop
     μ-loop
+    shared-slice-read-rows
+    cast-rows
     loop-holds
-    add-e
-    is-closer-requires
-    insert-requires
+    note-closers-of-requires
+    add-m
     loop-less
     loop-again
-    loop-less-2
-    loop-again-2
     same-length
     returns)

@@ -1,4 +1,4 @@
-use Rattle.matching.proofs.SearchLaws.Patterns.{left-by-var, left-by-and, left-by-exists}
+use Rattle.matching.proofs.SearchLaws.Patterns.{left-by-var, left-by-and, left-by-exists, valued-in}
 use native.Mathlib.Omega.{arith}
 use borrow.Author.Needs.{needs}
 use Rattle.matching.proofs.search.patterns.left_value.Statement.{statement}
@@ -53,7 +53,7 @@ above-some-requires : tie.Need-above-some-requires
 above-some-requires c κs = search needs
 
 returns : tie.Need-returns
-returns c = left-by-var (c .before .before .before .before .before .before .before .before .args .sets .now) (c .before .before .before .before .before .before .before .before .args .card .now) (c .before .before .before .before .before .before .before .before .args .values .now) (c .before .before .before .before .before .before .before .before .args .t4) (c .before .before .before .before .before .before .before .before .args .j) _ (c .before .before .if1 .taken) (c .above-some .ensures)
+returns c = valued-in _ _ _ _ _ _ _ _ (omega arith) (left-by-var (c .before .before .before .before .before .before .before .before .args .sets .now) (c .before .before .before .before .before .before .before .before .args .card .now) (c .before .before .before .before .before .before .before .before .args .values .now) (c .before .before .before .before .before .before .before .before .args .t4) (c .before .before .before .before .before .before .before .before .args .j) _ (c .before .before .if1 .taken) (c .above-some .ensures))
 
 mul-value-of : tie.Need-mul-value-of
 mul-value-of c = search needs
@@ -80,10 +80,16 @@ join-requires : tie.Need-join-requires
 join-requires c κs = search needs
 
 returns-2 : tie.Need-returns-2
-returns-2 c = left-by-and (c .before .before .before .before .before .before .before .before .before .before .before .args .sets .now) (c .before .before .before .before .before .before .before .before .before .before .before .args .card .now) (c .before .before .before .before .before .before .before .before .before .before .before .args .values .now) (c .before .before .before .before .before .before .before .before .before .before .before .args .t4) (c .before .before .before .before .before .before .before .before .before .before .before .args .j) _ _ _ (c .before .before .before .before .if2 .taken) (c .before .before .value-of .ensures) (c .before .value-of2 .ensures) (c .join .ensures)
+returns-2 c = valued-in _ _ _ _ _ _ _ _ (omega arith) (left-by-and (c .before .before .before .before .before .before .before .before .before .before .before .args .sets .now) (c .before .before .before .before .before .before .before .before .before .before .before .args .card .now) (c .before .before .before .before .before .before .before .before .before .before .before .args .values .now) (c .before .before .before .before .before .before .before .before .before .before .before .args .t4) (c .before .before .before .before .before .before .before .before .before .before .before .args .j) _ _ _ (c .before .before .before .before .if2 .taken) (c .before .before .value-of .ensures) (c .before .value-of2 .ensures) (c .join .ensures))
 
 mul-words-at : tie.Need-mul-words-at
 mul-words-at c = omega (arith, c .before .before .before .before .before .before .before .pre .0 .numbers .inner-low (c .before .before .before .before .before .before .before .args .j) (c .before .before .before .before .before .before .before .pre .1 .1))
+
+mul-close-up : tie.Need-mul-close-up
+mul-close-up c = omega arith
+
+add-close-up : tie.Need-add-close-up
+add-close-up c = omega arith
 
 words-at-requires : tie.Need-words-at-requires
 words-at-requires c κs = omega (arith, c .before .before .before .before .before .before .before .pre .0 .numbers .inner-low (c .before .before .before .before .before .before .before .args .j) (c .before .before .before .before .before .before .before .pre .1 .1))
@@ -95,7 +101,7 @@ linked-requires : tie.Need-linked-requires
 linked-requires c κs = search needs
 
 returns-3 : tie.Need-returns-3
-returns-3 c = left-by-exists (c .before .before .before .before .before .before .before .before .before .before .args .sets .now) (c .before .before .before .before .before .before .before .before .before .before .args .card .now) (c .before .before .before .before .before .before .before .before .before .before .args .values .now) (c .before .before .before .before .before .before .before .before .before .before .args .t4) (c .before .before .before .before .before .before .before .before .before .before .args .j) _ (c .before .before .before .before .if1 .left) (c .before .before .before .if2 .left) _ _ (c .before .before .words-at .ensures) (c .before .close-up .ensures) (c .linked .ensures)
+returns-3 c = left-by-exists (c .before .before .before .before .before .before .before .before .before .before .args .sets .now) (c .before .before .before .before .before .before .before .before .before .before .args .card .now) (c .before .before .before .before .before .before .before .before .before .before .args .values .now) (c .before .before .before .before .before .before .before .before .before .before .args .t4) (c .before .before .before .before .before .before .before .before .before .before .args .j) _ (c .before .before .before .before .if1 .left) (c .before .before .before .if2 .left) _ _ _ (omega arith) (c .before .before .words-at .ensures) (c .before .close-up .ensures) (c .linked .ensures)
 
 pub left-value-spec : {M : Type 1} → statement M
 left-value-spec =
@@ -127,6 +133,8 @@ left-value-spec =
     value-of-requires-2
     join-requires
     returns-2
+    mul-close-up
+    add-close-up
     mul-words-at
     words-at-requires
     close-up-requires

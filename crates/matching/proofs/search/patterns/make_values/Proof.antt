@@ -2,7 +2,7 @@ use Prim.Native.Nat.{_-_}
 use mathlib.Core.Path.{_≡_, refl, _∙_}
 use mathlib.Core.Bool.{true, false}
 use lib.ListN.{length}
-use Rattle.matching.proofs.SearchLaws.Patterns.{ValuedTo, valued-first, valued-more, valued-done, valued-at}
+use Rattle.matching.proofs.SearchLaws.Patterns.{ValuedTo, valued-first, valued-more, valued-done, valued-at, valued-in}
 use native.Mathlib.Omega.{arith}
 use Rattle.matching.proofs.search.patterns.make_values.Statement.{statement}
 use Rattle.matching.proofs.search.patterns.make_values.Tie as tie
@@ -44,10 +44,10 @@ loop-less : tie.Need-loop-less Inv-loop μ-loop
 loop-less c = omega (arith, c .before .before .before .before .before .before .before .next-in2 .ensures .after)
 
 loop-again : tie.Need-loop-again Inv-loop μ-loop
-loop-again c = (c .before .before .put-words .ensures .long ∙ c .before .before .before .before .before .before .before .before .before .loop .inv .0, valued-more (c .before .before .before .before .before .before .before .before .before .before .before .before .before .before .args .sets .now) (c .before .before .before .before .before .before .before .before .before .before .before .before .before .before .args .card .now) (c .before .before .before .before .before .before .before .before .before .before .before .before .before .before .args .choice) (c .before .before .before .before .before .before .before .before .before .before .before .before .before .before .args .m) (c .before .before .before .before .before .before .before .before .before .before .before .before .before .before .args .right) _ _ _ _ _ (omega arith) (c .before .before .before .before .before .before .before .before .before .loop .inv .1) (valued-at _ _ _ _ _ true _ _ (c .before .before .before .before .before .before .if1 .taken) (c .before .before .before .before .right-value .ensures)) (c .before .before .put-words .ensures) (c .before .before .before .before .before .before .before .next-in2 .ensures))
+loop-again c = (c .before .before .put-words .ensures .long ∙ c .before .before .before .before .before .before .before .before .before .loop .inv .0, valued-more (c .before .before .before .before .before .before .before .before .before .before .before .before .before .before .args .sets .now) (c .before .before .before .before .before .before .before .before .before .before .before .before .before .before .args .card .now) (c .before .before .before .before .before .before .before .before .before .before .before .before .before .before .args .choice) (c .before .before .before .before .before .before .before .before .before .before .before .before .before .before .args .m) (c .before .before .before .before .before .before .before .before .before .before .before .before .before .before .args .right) _ _ _ _ _ (omega arith) (c .before .before .before .before .before .before .before .before .before .loop .inv .1) (valued-at _ _ _ _ _ _ true _ _ (c .before .before .before .before .before .before .if1 .taken) (valued-in _ _ _ _ _ _ _ _ (omega arith) (c .before .before .before .before .right-value .ensures))) (c .before .before .put-words .ensures) (c .before .before .before .before .before .before .before .next-in2 .ensures))
 
 left-value-requires : tie.Need-left-value-requires Inv-loop μ-loop
-left-value-requires c κs = (c .before .before .before .before .before .before .before .before .before .pre .0, (c .before .before .before .before .loop .inv .1 .long, omega arith))
+left-value-requires c κs = (c .before .before .before .before .before .before .before .before .before .pre .0, (c .before .before .before .before .loop .inv .1 .long, omega arith, c .before .before .before .before .before .before .before .before .before .pre .1 .1))
 
 mul-put-words-2 : tie.Need-mul-put-words-2 Inv-loop μ-loop
 mul-put-words-2 c = omega arith
@@ -59,7 +59,7 @@ loop-less-2 : tie.Need-loop-less-2 Inv-loop μ-loop
 loop-less-2 c = omega (arith, c .before .before .before .before .before .before .before .next-in2 .ensures .after)
 
 loop-again-2 : tie.Need-loop-again-2 Inv-loop μ-loop
-loop-again-2 c = (c .before .before .put-words2 .ensures .long ∙ c .before .before .before .before .before .before .before .before .before .loop .inv .0, valued-more (c .before .before .before .before .before .before .before .before .before .before .before .before .before .before .args .sets .now) (c .before .before .before .before .before .before .before .before .before .before .before .before .before .before .args .card .now) (c .before .before .before .before .before .before .before .before .before .before .before .before .before .before .args .choice) (c .before .before .before .before .before .before .before .before .before .before .before .before .before .before .args .m) (c .before .before .before .before .before .before .before .before .before .before .before .before .before .before .args .right) _ _ _ _ _ (omega arith) (c .before .before .before .before .before .before .before .before .before .loop .inv .1) (valued-at _ _ _ _ _ false _ _ (c .before .before .before .before .before .before .if1 .left) (c .before .before .before .before .left-value .ensures)) (c .before .before .put-words2 .ensures) (c .before .before .before .before .before .before .before .next-in2 .ensures))
+loop-again-2 c = (c .before .before .put-words2 .ensures .long ∙ c .before .before .before .before .before .before .before .before .before .loop .inv .0, valued-more (c .before .before .before .before .before .before .before .before .before .before .before .before .before .before .args .sets .now) (c .before .before .before .before .before .before .before .before .before .before .before .before .before .before .args .card .now) (c .before .before .before .before .before .before .before .before .before .before .before .before .before .before .args .choice) (c .before .before .before .before .before .before .before .before .before .before .before .before .before .before .args .m) (c .before .before .before .before .before .before .before .before .before .before .before .before .before .before .args .right) _ _ _ _ _ (omega arith) (c .before .before .before .before .before .before .before .before .before .loop .inv .1) (valued-at _ _ _ _ _ _ false _ _ (c .before .before .before .before .before .before .if1 .left) (c .before .before .before .before .left-value .ensures)) (c .before .before .put-words2 .ensures) (c .before .before .before .before .before .before .before .next-in2 .ensures))
 
 same-length : tie.Need-same-length Inv-loop μ-loop
 same-length c = c .before .loop .inv .0

@@ -73,6 +73,12 @@ shared-slice-read-if2 c = omega (arith, c .before .before .before .before .befor
 make-values-requires-2 : tie.Need-make-values-requires-2
 make-values-requires-2 c κs = search needs
 
+mul-close-up : tie.Need-mul-close-up
+mul-close-up c = omega arith
+
+add-close-up : tie.Need-add-close-up
+add-close-up c = omega arith
+
 mul-words-at : tie.Need-mul-words-at
 mul-words-at c = omega (arith, c .before .before .before .before .before .before .before .before .before .before .before .before .before .before .pre .0 .numbers .left-low (c .before .before .before .before .before .before .before .before .before .before .before .before .before .before .args .m) (c .before .before .before .before .before .before .before .before .before .before .before .before .before .before .pre .1 .1))
 
@@ -127,6 +133,8 @@ question-holds-spec =
     mul-if2
     shared-slice-read-if2
     make-values-requires-2
+    mul-close-up
+    add-close-up
     mul-words-at
     words-at-requires
     close-up-requires
