@@ -1,4 +1,5 @@
-//! No operation needs more stack than include/hermitcasket.h says, which is 1 MiB at most.
+//! No operation uses more stack than include/hermitcasket.h says, nor more than 1 MiB. What the header says of the matcher is by its
+//! frame and depth, and a little more.
 
 use hermitcasket_bench::operations::{inputs, stack_bytes, Room, OPERATIONS};
 use hermitcasket_bench::stack::depth;
@@ -39,7 +40,7 @@ fn at_most_what_the_header_says() {
         for (name, operation) in OPERATIONS {
             let bytes = stack_bytes(operation, &input, &mut room);
             let most = said(name);
-            assert!(most <= MOST, "{} is given {} bytes", name, most);
+            assert!(bytes <= MOST, "{} needs {} bytes on {}", name, bytes, input.label);
             assert!(bytes <= most, "{} needs {} bytes on {}", name, bytes, input.label);
         }
     }
