@@ -42,12 +42,12 @@ unfolding one
 one-small true = omega arith
 one-small false = omega arith
 
-counted-most : (f : ℕ → Bool) (n : ℕ) → counted f n ≤ n
+pub counted-most : (f : ℕ → Bool) (n : ℕ) → counted f n ≤ n
 unfolding counted
 counted-most f zero = omega arith
 counted-most f (suc n) = omega (arith, one-small (f n), counted-most f n)
 
-counted-none : (f : ℕ → Bool) (n : ℕ) → ((p : ℕ) → p < n → f p ≡ false) → counted f n ≡ 0
+pub counted-none : (f : ℕ → Bool) (n : ℕ) → ((p : ℕ) → p < n → f p ≡ false) → counted f n ≡ 0
 unfolding counted one
 counted-none f zero h = refl
 counted-none f (suc n) h = omega (arith, ap one (h n (omega arith)), counted-none f n (λ p l. h p (omega arith)))

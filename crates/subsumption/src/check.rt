@@ -350,7 +350,7 @@ pub fn check_tables(
 }
 
 // A choice has a bit past the atoms.
-fn is_past(choice: u64, atoms: usize) -> bool
+pub fn is_past(choice: u64, atoms: usize) -> bool
     requires { ⌜ atoms ≤ 64 ⌝ }
     ensures { λ r. ⌜ r ≡ not (ltb choice (2 ^ atoms)) ⌝ }
 {

@@ -2,6 +2,7 @@
 // checks have shown.
 pub use crate::atoms::mark_variables;
 pub use crate::check::check_assignment;
+pub use crate::check::is_past;
 pub use crate::decide::decide_known;
 pub use crate::listing::list_asked;
 pub use crate::roles::counts;

@@ -21,6 +21,7 @@ pub enum Refusal {
     BadRole(usize),
     BadSyntax(usize),
     TooDeep(usize),
+    BadSettings(usize),
     BadOrder(usize),
     ForwardInOrder(usize),
 }
@@ -107,6 +108,10 @@ pub fn code_of(r: Refusal) -> Code
         },
         Refusal::TooDeep(p) => Code {
             number: 18,
+            place: p,
+        },
+        Refusal::BadSettings(p) => Code {
+            number: 19,
             place: p,
         },
         Refusal::BadOrder(p) => Code {

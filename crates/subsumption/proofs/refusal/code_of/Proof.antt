@@ -63,6 +63,9 @@ enum-known-r-14 c = search needs
 enum-known-r-15 : tie.Need-enum-known-r-15
 enum-known-r-15 c = search needs
 
+enum-known-r-16 : tie.Need-enum-known-r-16
+enum-known-r-16 c = search needs
+
 returns : tie.Need-returns
 returns c = ap codeOf (sym (c .before .r .given .1))
 
@@ -120,6 +123,9 @@ returns-18 c = ap codeOf (sym (c .before .r14 .given .1))
 returns-19 : tie.Need-returns-19
 returns-19 c = ap codeOf (sym (c .before .r15 .given .1))
 
+returns-20 : tie.Need-returns-20
+returns-20 c = ap codeOf (sym (c .before .r16 .given .1))
+
 pub code-of-spec : {M : Type 1} → statement M
 code-of-spec =
     tie.close
@@ -143,6 +149,7 @@ code-of-spec =
     enum-known-r-13
     enum-known-r-14
     enum-known-r-15
+    enum-known-r-16
     returns
     returns-2
     returns-3
@@ -161,4 +168,5 @@ code-of-spec =
     returns-16
     returns-17
     returns-18
-    returns-19)
+    returns-19
+    returns-20)
