@@ -3,6 +3,7 @@ pub mod SubstitutionLaws
 pub mod TwinLaws
 pub mod SearchLaws
 pub mod ChosenLaws
+pub mod WithinLaws
 pub mod FindLaws
 pub mod DerivationLaws
 pub mod WriterLaws

@@ -7,9 +7,12 @@ pub mod Walks
 pub mod Values
 pub mod Patterns
 pub mod Making
+pub mod Card
 pub mod Pairs
 pub mod Interval
 pub mod Nogoods
+pub mod Counts
+pub mod Needs
 pub mod Widen
 pub mod Narrow
 pub mod Solve

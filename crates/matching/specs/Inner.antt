@@ -2,5 +2,6 @@
 pub mod Chosen
 pub mod Search
 pub mod Find
+pub mod Within
 pub mod Derivation
 pub mod Writer

@@ -6,6 +6,7 @@ mod derivation;
 mod find;
 mod limits;
 mod search;
+mod within;
 mod writer;
 
 pub use chosen::Chosen;
@@ -14,5 +15,6 @@ pub use chosen::put_chosen;
 pub use derivation::check_derivation;
 pub use find::Match;
 pub use find::find_assignment;
+pub use within::find_within;
 pub use writer::Derived;
 pub use writer::derive;

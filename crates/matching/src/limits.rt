@@ -26,7 +26,7 @@ pub const CONES: usize = 2304;
 pub const CLOSERS: usize = 2400;
 
 // The numbers that tests read, and where the kinds of them start.
-pub const CARD: usize = 931;
+pub const CARD: usize = 939;
 
 pub const HELD: usize = 576;
 
@@ -34,13 +34,11 @@ pub const ATOM_IDS: usize = 768;
 
 pub const SIDES: usize = 832;
 
-pub const ATOM_COUNT: usize = 896;
-
 pub const QUESTION_COUNT: usize = 897;
 
-pub const VARIABLE_COUNT: usize = 898;
-
 pub const HOLDS: usize = 899;
+
+pub const MOST: usize = 931;
 
 // What a search writes beside the nogoods: the values of ids that hold a variable, three words each, and the masks of the look-up.
 pub const SCRATCH: usize = 16977;

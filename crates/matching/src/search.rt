@@ -3,6 +3,7 @@ pub mod card;
 pub mod interval;
 pub mod lookup;
 pub mod narrow;
+pub mod needs;
 pub mod nogoods;
 pub mod order;
 pub mod pairs;

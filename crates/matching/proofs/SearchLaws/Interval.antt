@@ -102,16 +102,16 @@ module _ (low high : List ℕ) (p : ℕ) (l : p < 512) (u : undecided low high p
 
 -- ---- tests of an interval
 module _ (t : Tables) (h : tableFault t ≡ Done) where
-  module _ (low high : List ℕ) (m : ℕ) (l : m < pairsOf (t .questions)) where
+  module _ (card low high : List ℕ) (m : ℕ) (l : m < pairsOf (t .questions)) where
     -- a question with a variable on the right that fails at the low side
     pub low-shuts :
-        hasVariable (tree (t .concepts) (rightOf (t .questions) m)) ≡ true → (HoldsAt t (take (t .variables) low) m → ⊥) → NoSolution t low high
-    low-shuts e n other a b s = n (antitone t (wellFormed t h) _ other (b .above) _ _ (left-free t h m l e) (s m l))
+        hasVariable (tree (t .concepts) (rightOf (t .questions) m)) ≡ true → (HoldsAt t (take (t .variables) low) m → ⊥) → NoSolution t card low high
+    low-shuts e n other a b s = n (antitone t (wellFormed t h) _ other (b .above) _ _ (left-free t h m l e) (s .solves m l))
 
     -- another one that fails at the high side
     pub high-shuts :
-        hasVariable (tree (t .concepts) (rightOf (t .questions) m)) ≡ false → (HoldsAt t (take (t .variables) high) m → ⊥) → NoSolution t low high
-    high-shuts e n other a b s = n (monotone t (wellFormed t h) other _ (b .below) _ _ e (s m l))
+        hasVariable (tree (t .concepts) (rightOf (t .questions) m)) ≡ false → (HoldsAt t (take (t .variables) high) m → ⊥) → NoSolution t card low high
+    high-shuts e n other a b s = n (monotone t (wellFormed t h) other _ (b .below) _ _ e (s .solves m l))
 
   module _ (low high : List ℕ) where
     module _ (i : IntervalOf t low high) where
@@ -122,8 +122,9 @@ module _ (t : Tables) (h : tableFault t ≡ Done) where
       low-accepted = within-accepted t _ _ (i .accepted) (length-take-le _ low low-fits) (front-within (t .variables) low high (i .ordered))
 
       -- nothing is undecided: what shuts the low side shuts the interval
-      pub decided-shut : (low₁ high₁ : List ℕ) → Refuted t low low low₁ high₁ → ((p : ℕ) → p < 512 → undecided low high p ≡ false) → NoSolution t low high
-      decided-shut low₁ high₁ r d other a b s =
+      pub decided-shut :
+          (card low₁ high₁ : List ℕ) → Refuted t card low low low₁ high₁ → ((p : ℕ) → p < 512 → undecided low high p ≡ false) → NoSolution t card low high
+      decided-shut card low₁ high₁ r d other a b s =
           r .none other a
           (record {
             above = λ k q e. let (l, x) = front-known (t .variables) low₁ k q e in b .above k q (front-takes (t .variables) low k q l (r .above k q x));
@@ -155,10 +156,11 @@ module _ (t : Tables) (h : tableFault t ≡ Done) where
                 accepted = i .accepted;
                 ordered =
                     λ k q x. ⊎-elim (λ y. at-pair high k q _ _ true y (open-high low high p u)) (λ y. i .ordered k q y) (grown-cases low low₂ _ _ c k q x);
+                idle = i .idle;
               })
 
-          pub take-found : (choice : List ℕ) → SolutionIn t low₂ high₂ choice → SolutionIn t low high choice
-          take-found choice s =
+          pub take-found : (card choice : List ℕ) → SolutionIn t card low₂ high₂ choice → SolutionIn t card low high choice
+          take-found card choice s =
               record {
                 long = s .long;
                 between =
@@ -166,7 +168,7 @@ module _ (t : Tables) (h : tableFault t ≡ Done) where
                       above = λ k q x. s .between .above k q (grown low low₂ _ _ c k q x);
                       below = subst (Within choice) e (s .between .below);
                     };
-                solves = s .solves;
+                meets = s .meets;
               }
 
         module _ (low₁ high₁ : List ℕ) (e : low₁ ≡ low) (c : Changed high high₁ (p / 64) (p % 64) false) where
@@ -183,10 +185,11 @@ module _ (t : Tables) (h : tableFault t ≡ Done) where
                     λ k q x.
                     ⊎-elim (λ y. absurd (true≢false (sym x ∙ at-pair low k q _ _ false y (open-low low high p u)))) (λ y. y)
                     (shrunk-cases high high₁ _ _ c k q (i .ordered k q x));
+                idle = λ k q l x. i .idle k q l (shrunk high high₁ _ _ c k q x);
               })
 
-          pub leave-found : (choice : List ℕ) → SolutionIn t low₁ high₁ choice → SolutionIn t low high choice
-          leave-found choice s =
+          pub leave-found : (card choice : List ℕ) → SolutionIn t card low₁ high₁ choice → SolutionIn t card low high choice
+          leave-found card choice s =
               record {
                 long = s .long;
                 between =
@@ -194,7 +197,7 @@ module _ (t : Tables) (h : tableFault t ≡ Done) where
                       above = subst (λ (z : List ℕ). Within z choice) e (s .between .above);
                       below = λ k q x. shrunk high high₁ _ _ c k q (s .between .below k q x);
                     };
-                solves = s .solves;
+                meets = s .meets;
               }
 
 pub decided-true : (P : Type 0) (b : Bool) → Decided P b → b ≡ true → P

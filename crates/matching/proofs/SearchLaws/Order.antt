@@ -12,8 +12,8 @@ use Rattle.subsumption.specs.Tables.{Tables}
 use Rattle.subsumption.specs.Check.{tableFault, assignmentFault}
 use Rattle.subsumption.proofs.Bools.{same-bool, last-cases}
 use Rattle.subsumption.proofs.Accepted.{wellFormed}
-use Rattle.matching.specs.Solving.{takes, Solves, Earlier}
-use Rattle.matching.specs.Inner.Search.{Within, Between, SolutionIn, NoSolution}
+use Rattle.matching.specs.Solving.{takes, Earlier}
+use Rattle.matching.specs.Inner.Search.{Within, Between, Meets, SolutionIn, NoSolution}
 use Rattle.matching.specs.Inner.Search.Pairs.{Changed}
 use Rattle.matching.specs.Inner.Search.Interval.{IntervalOf, undecided}
 use Rattle.matching.specs.Inner.Search.Card.{Card}
@@ -39,19 +39,19 @@ pub record Ahead (high other : List ℕ) (p : ℕ) : Type 0 where
   pub taken : at other place ≡ true
   pub same : (i : ℕ) → i < place → at high i ≡ at other i
 
-pub record Walk (t : Tables) (low₀ high₀ low high witness : List ℕ) (p : ℕ) : Type 0 where
+pub record Walk (t : Tables) (card low₀ high₀ low high witness : List ℕ) (p : ℕ) : Type 0 where
   pub interval : IntervalOf t low high
-  pub solution : SolutionIn t low high witness
+  pub solution : SolutionIn t card low high witness
   pub above : Within low₀ low
   pub below : Within high high₀
   pub within : p ≤ 512
   pub settled : (j : ℕ) → j < p → undecided low high j ≡ false
   pub rest :
-      (other : List ℕ) → assignmentFault t other ≡ Done → Between (take (t .variables) low₀) (take (t .variables) high₀) other → Solves t other
+      (other : List ℕ) → assignmentFault t other ≡ Done → Between (take (t .variables) low₀) (take (t .variables) high₀) other → Meets t card other
       → Between (take (t .variables) low) (take (t .variables) high) other ⊎ Ahead (take (t .variables) high) other p
 
-module _ (t : Tables) (h : tableFault t ≡ Done) (low₀ high₀ : List ℕ) where
-  pub walk-start : (witness : List ℕ) → IntervalOf t low₀ high₀ → SolutionIn t low₀ high₀ witness → Walk t low₀ high₀ low₀ high₀ witness 0
+module _ (t : Tables) (card : List ℕ) (h : tableFault t ≡ Done) (low₀ high₀ : List ℕ) where
+  pub walk-start : (witness : List ℕ) → IntervalOf t low₀ high₀ → SolutionIn t card low₀ high₀ witness → Walk t card low₀ high₀ low₀ high₀ witness 0
   walk-start witness i s =
       record {
         interval = i;
@@ -67,7 +67,7 @@ module _ (t : Tables) (h : tableFault t ≡ Done) (low₀ high₀ : List ℕ) wh
   further high other p a =
       record { place = a .place; before = omega (arith, a .before); left-out = a .left-out; taken = a .taken; same = a .same }
 
-  module _ (low high witness : List ℕ) (p : ℕ) (w : Walk t low₀ high₀ low high witness p) where
+  module _ (low high witness : List ℕ) (p : ℕ) (w : Walk t card low₀ high₀ low high witness p) where
     -- a settled pair: between means the same
     agree : (other : List ℕ) → Between (take (t .variables) low) (take (t .variables) high) other → (i : ℕ) → i < p → at (take (t .variables) high) i ≡ at other i
     agree other b i l = same-bool _ _ there (λ e. b .below _ _ e)
@@ -91,7 +91,7 @@ module _ (t : Tables) (h : tableFault t ≡ Done) (low₀ high₀ : List ℕ) wh
               (sym (open-intro low high j (b _ _ (open-high low₂ high₂ j x)) (not-that _ (λ y. true≢false (sym (a _ _ y) ∙ open-low low₂ high₂ j x))))
               ∙ w .settled j n))
 
-      pub walk-skip : undecided low high p ≡ false → Walk t low₀ high₀ low high witness (p + 1)
+      pub walk-skip : undecided low high p ≡ false → Walk t card low₀ high₀ low high witness (p + 1)
       walk-skip d =
           record {
             interval = w .interval;
@@ -144,7 +144,7 @@ module _ (t : Tables) (h : tableFault t ≡ Done) (low₀ high₀ : List ℕ) wh
                 same = λ i m. unchanged i (omega (arith, a .before)) ∙ a .same i m;
               }
 
-          left-walk : (choice : List ℕ) → SolutionIn t low high₁ choice → Walk t low₀ high₀ low high₁ choice (p + 1)
+          left-walk : (choice : List ℕ) → SolutionIn t card low high₁ choice → Walk t card low₀ high₀ low high₁ choice (p + 1)
           left-walk choice s =
               record {
                 interval = leave-keeps t h low high (w .interval) p u low high₁ refl c;
@@ -156,15 +156,15 @@ module _ (t : Tables) (h : tableFault t ≡ Done) (low₀ high₀ : List ℕ) wh
                 rest = λ other a b x. ⊎-elim (λ y. left-rest other y) (λ y. inr (kept-ahead other y)) (w .rest other a b x);
               }
 
-          pub walk-leave : (low₁ choice : List ℕ) → low₁ ≡ low → SolutionIn t low₁ high₁ choice → Walk t low₀ high₀ low₁ high₁ choice (p + 1)
+          pub walk-leave : (low₁ choice : List ℕ) → low₁ ≡ low → SolutionIn t card low₁ high₁ choice → Walk t card low₀ high₀ low₁ high₁ choice (p + 1)
           walk-leave low₁ choice e =
-              subst (λ (z : List ℕ). SolutionIn t z high₁ choice → Walk t low₀ high₀ z high₁ choice (p + 1)) (sym e) (left-walk choice)
+              subst (λ (z : List ℕ). SolutionIn t card z high₁ choice → Walk t card low₀ high₀ z high₁ choice (p + 1)) (sym e) (left-walk choice)
 
           -- the witness leaves it out itself
-          pub walk-witness : (low₁ : List ℕ) → low₁ ≡ low → at witness p ≡ false → Walk t low₀ high₀ low₁ high₁ witness (p + 1)
+          pub walk-witness : (low₁ : List ℕ) → low₁ ≡ low → at witness p ≡ false → Walk t card low₀ high₀ low₁ high₁ witness (p + 1)
           walk-witness low₁ e x =
               walk-leave low₁ witness e
-              (subst (λ (z : List ℕ). SolutionIn t z high₁ witness) (sym e)
+              (subst (λ (z : List ℕ). SolutionIn t card z high₁ witness) (sym e)
               (record {
                 long = w .solution .long;
                 between =
@@ -175,13 +175,13 @@ module _ (t : Tables) (h : tableFault t ≡ Done) (low₀ high₀ : List ℕ) wh
                           ⊎-elim (λ f. absurd (true≢false (sym y ∙ at-pair witness k q _ _ false f x))) (λ f. f)
                           (shrunk-cases high high₁ _ _ c k q (w .solution .between .below k q y));
                     };
-                solves = w .solution .solves;
+                meets = w .solution .meets;
               }))
 
           -- no solution leaves it out
-          module _ (low₂ : List ℕ) (d : Changed low low₂ (p / 64) (p % 64) true) (x : at witness p ≡ true) (none : NoSolution t low high₁) where
+          module _ (low₂ : List ℕ) (d : Changed low low₂ (p / 64) (p % 64) true) (x : at witness p ≡ true) (none : NoSolution t card low high₁) where
             taken-rest :
-                (other : List ℕ) → assignmentFault t other ≡ Done → Solves t other → Between (take (t .variables) low) (take (t .variables) high) other
+                (other : List ℕ) → assignmentFault t other ≡ Done → Meets t card other → Between (take (t .variables) low) (take (t .variables) high) other
                 → Between (take (t .variables) low₂) (take (t .variables) high) other
             taken-rest other a s b = ⊎-elim (λ y. absurd (none other a y s)) (λ y. with y) (left-rest other b)
               where
@@ -204,7 +204,7 @@ module _ (t : Tables) (h : tableFault t ≡ Done) (low₀ high₀ : List ℕ) wh
                             ⊎-elim (λ (e : y .place ≡ p). true≢false (sym (subst (λ (m : ℕ). at other m ≡ true) e (y .taken)) ∙ z))
                             (λ e. true≢false (sym (y .taken) ∙ sym (agree other b (y .place) e) ∙ sym (unchanged (y .place) e) ∙ y .left-out)) o
 
-            taken-walk : Walk t low₀ high₀ low₂ high witness (p + 1)
+            taken-walk : Walk t card low₀ high₀ low₂ high witness (p + 1)
             taken-walk =
                 record {
                   interval = take-keeps t h low high (w .interval) p u low₂ high refl d;
@@ -216,7 +216,7 @@ module _ (t : Tables) (h : tableFault t ≡ Done) (low₀ high₀ : List ℕ) wh
                               above = λ k q y. ⊎-elim (λ f. at-pair witness k q _ _ true f x) (λ f. w .solution .between .above k q f) (grown-cases low low₂ _ _ d k q y);
                               below = w .solution .between .below;
                             };
-                        solves = w .solution .solves;
+                        meets = w .solution .meets;
                       };
                   above = λ k q e. grown low low₂ _ _ d k q (w .above k q e);
                   below = w .below;
@@ -227,10 +227,10 @@ module _ (t : Tables) (h : tableFault t ≡ Done) (low₀ high₀ : List ℕ) wh
 
         pub walk-take :
             (high₁ : List ℕ) → Changed high high₁ (p / 64) (p % 64) false → (low₁ low₂ high₂ : List ℕ) → low₁ ≡ low → high₂ ≡ high → Changed low low₂ (p / 64) (p % 64) true
-            → at witness p ≡ true → NoSolution t low₁ high₁ → Walk t low₀ high₀ low₂ high₂ witness (p + 1)
+            → at witness p ≡ true → NoSolution t card low₁ high₁ → Walk t card low₀ high₀ low₂ high₂ witness (p + 1)
         walk-take high₁ c low₁ low₂ high₂ e f d x n =
-            subst (λ (z : List ℕ). Walk t low₀ high₀ low₂ z witness (p + 1)) (sym f)
-            (taken-walk high₁ c low₂ d x (subst (λ (z : List ℕ). NoSolution t z high₁) e n))
+            subst (λ (z : List ℕ). Walk t card low₀ high₀ low₂ z witness (p + 1)) (sym f)
+            (taken-walk high₁ c low₂ d x (subst (λ (z : List ℕ). NoSolution t card z high₁) e n))
 
     module _ (l : 512 ≤ p) where
       accepted : assignmentFault t (take (t .variables) witness) ≡ Done
@@ -296,7 +296,7 @@ module _ (t : Tables) (h : tableFault t ≡ Done) (low₀ high₀ : List ℕ) wh
                 pair : (k q : ℕ) → k < 8 → takes (take (t .variables) witness) k q ≡ takes other k q
                 pair k q m = by-place 512 (omega arith) (λ i z. sym (is-high i z) ∙ agree other b i (omega arith)) k q (λ z. omega arith)
 
-      pub walk-done : FirstIn t low₀ high₀ witness
+      pub walk-done : FirstIn t card low₀ high₀ witness
       walk-done =
           record {
             solution =
@@ -307,7 +307,7 @@ module _ (t : Tables) (h : tableFault t ≡ Done) (low₀ high₀ : List ℕ) wh
                         above = λ k q e. w .solution .between .above k q (w .above k q e);
                         below = λ k q e. w .below k q (w .solution .between .below k q e);
                       };
-                  solves = w .solution .solves;
+                  meets = w .solution .meets;
                 };
             first = λ other a b s. ⊎-elim (λ y. inl (equal other a y)) (λ y. inr (earlier other a y)) (w .rest other a b s);
           }
@@ -320,8 +320,8 @@ module _ (sets card low₀ high₀ store₀ known : List ℕ) where
     pub witness-long : length witness ≡ 8
     pub room : Room store
     pub walk :
-        (t : Tables) → Card t sets card → IntervalOf t low₀ high₀ → Nogoods t store₀ → SolutionIn t low₀ high₀ known
-        → Walk t low₀ high₀ low high witness p × Nogoods t store
+        (t : Tables) → Card t sets card → IntervalOf t low₀ high₀ → Nogoods t card store₀ → SolutionIn t card low₀ high₀ known
+        → Walk t card low₀ high₀ low high witness p × Nogoods t card store
 
   pub walking-start : (length low₀ ≡ 8) × (length high₀ ≡ 8) × (length known ≡ 8) → Room store₀ → Walking low₀ high₀ known store₀ 0
   walking-start (a, b, d) r =
@@ -330,12 +330,12 @@ module _ (sets card low₀ high₀ store₀ known : List ℕ) where
         high-long = b;
         witness-long = d;
         room = r;
-        walk = λ t c i n s. (walk-start t (c .passed) low₀ high₀ known i s, n);
+        walk = λ t c i n s. (walk-start t card (c .passed) low₀ high₀ known i s, n);
       }
 
   module _ (low high witness store : List ℕ) (p : ℕ) (w : Walking low high witness store p) where
     pub walking-done : 512 ≤ p → FirstOf sets card low₀ high₀ store₀ known witness
-    walking-done l t c i n s = walk-done t (c .passed) low₀ high₀ low high witness p (w .walk t c i n s .0) l
+    walking-done l t c i n s = walk-done t card (c .passed) low₀ high₀ low high witness p (w .walk t c i n s .0) l
 
     module _ (l : p < 512) where
       pub walking-skip : undecided low high p ≡ false → Walking low high witness store (p + 1)
@@ -346,7 +346,7 @@ module _ (sets card low₀ high₀ store₀ known : List ℕ) where
             witness-long = w .witness-long;
             room = w .room;
             walk =
-                λ t c i n s. let (v, m) = w .walk t c i n s in (walk-skip t (c .passed) low₀ high₀ low high witness p v l d, m);
+                λ t c i n s. let (v, m) = w .walk t c i n s in (walk-skip t card (c .passed) low₀ high₀ low high witness p v l d, m);
           }
 
       module _ (u : undecided low high p ≡ true) (low₁ high₁ : List ℕ) (e : low₁ ≡ low) (d : Changed high high₁ (p / 64) (p % 64) false) where
@@ -359,14 +359,14 @@ module _ (sets card low₀ high₀ store₀ known : List ℕ) where
               room = w .room;
               walk =
                   λ t c i n s.
-                  let (v, m) = w .walk t c i n s in (walk-witness t (c .passed) low₀ high₀ low high witness p v l u high₁ d low₁ e x, m);
+                  let (v, m) = w .walk t c i n s in (walk-witness t card (c .passed) low₀ high₀ low high witness p v l u high₁ d low₁ e x, m);
             }
 
         module _ (after : List ℕ) (room : Room after) (found : Bool) (choice rest : List ℕ)
-            (s : Searched sets card high₀ low₁ high₁ store after (λ t. Answers t low₁ high₁ found choice rest)) where
+            (s : Searched sets card high₀ low₁ high₁ store after (λ t. Answers t card low₁ high₁ found choice rest)) where
           searched :
-              (t : Tables) → Card t sets card → IntervalOf t low₀ high₀ → Walk t low₀ high₀ low high witness p → Nogoods t store
-              → Answers t low₁ high₁ found choice rest × Nogoods t after
+              (t : Tables) → Card t sets card → IntervalOf t low₀ high₀ → Walk t card low₀ high₀ low high witness p → Nogoods t card store
+              → Answers t card low₁ high₁ found choice rest × Nogoods t card after
           searched t c i v m =
               s t c (leave-keeps t (c .passed) low high (v .interval) p u low₁ high₁ e d)
               (record {
@@ -374,6 +374,7 @@ module _ (sets card low₀ high₀ store₀ known : List ℕ) where
                 high-long = i .high-long;
                 accepted = i .accepted;
                 ordered = λ k q x. v .below k q (shrunk high high₁ _ _ d k q x);
+                idle = i .idle;
               })
               m
 
@@ -388,7 +389,7 @@ module _ (sets card low₀ high₀ store₀ known : List ℕ) where
                     λ t c i n x.
                     let (v, m) = w .walk t c i n x in
                     let (a, o) = searched t c i v m in
-                    (walk-leave t (c .passed) low₀ high₀ low high witness p v l u high₁ d low₁ choice e (answers-found t low₁ high₁ found choice rest a f), o);
+                    (walk-leave t card (c .passed) low₀ high₀ low high witness p v l u high₁ d low₁ choice e (answers-found t card low₁ high₁ found choice rest a f), o);
               }
 
           pub walking-take :
@@ -404,8 +405,8 @@ module _ (sets card low₀ high₀ store₀ known : List ℕ) where
                     λ t c i n z.
                     let (v, m) = w .walk t c i n z in
                     let (a, o) = searched t c i v m in (
-                      walk-take t (c .passed) low₀ high₀ low high witness p v l u high₁ d low₁ low₂ high₂ e g y x
-                          (refuted-none t low₁ high₁ choice rest (answers-none t low₁ high₁ found choice rest a f)),
+                      walk-take t card (c .passed) low₀ high₀ low high witness p v l u high₁ d low₁ low₂ high₂ e g y x
+                          (refuted-none t card low₁ high₁ choice rest (answers-none t card low₁ high₁ found choice rest a f)),
                       o,
                     );
               }

@@ -5,6 +5,7 @@ use mathlib.Core.List.{List}
 use mathlib.Core.Bool.{Bool, true, false, not, Bool·beq, _||_, _&&_, false≢true, true≢false}
 use mathlib.Core.Logic.{⊎-elim}
 use native.Mathlib.Omega.{arith}
+use borrow.Author.Tests.{not-true, not-false}
 use lib.ListN.{length, take, getD}
 use Rattle.subsumption.specs.declared.refusal.Outcome.the-variants.{Done}
 use Rattle.subsumption.specs.Tables.{Tables, pairsOf, rightOf, tree, hasVariable}
@@ -14,6 +15,7 @@ use Rattle.subsumption.proofs.Bools.{last-cases, or-cases, or-first, or-second,
 use Rattle.subsumption.proofs.Bits.{bit-of-zero}
 use Rattle.subsumption.proofs.Accepted.{wellFormed}
 use Rattle.subsumption.proofs.Columns.{any-false}
+use Rattle.settings.specs.Inner.Counts.{Counted, Clamped, Unclamped}
 use Rattle.matching.specs.Solving.{takes}
 use Rattle.matching.specs.Inner.Search.{HoldsAt, Within, SolutionIn, NoSolution}
 use Rattle.matching.specs.Inner.Search.Card.{Card, heldAt, rightAt, questionCount}
@@ -21,13 +23,15 @@ use Rattle.matching.specs.Inner.Search.Pairs.{Changed, Contained}
 use Rattle.matching.specs.Inner.Search.Interval.{IntervalOf, undecided, Picked}
 use Rattle.matching.specs.declared.search.interval.Pick.{Pick}
 use Rattle.matching.specs.declared.search.interval.Pick.the-variants.{Nothing}
-use Rattle.matching.specs.Inner.Search.Nogoods.{used, lowAt, highAt, Room, Nogoods, Added}
+use Rattle.matching.specs.Inner.Search.Nogoods.{words, used, lowAt, highAt, Room, Nogoods, Added}
 use Rattle.matching.specs.Inner.Search.Patterns.{Tested}
 use Rattle.matching.specs.Inner.Search.Widen.{Mixed, StillFails}
+use Rattle.matching.specs.Inner.Search.Needs.{WantedOver}
 use Rattle.matching.specs.Inner.Search.Solve.{FailingOf, Failing, Refuted, RefutedBy, Answers, Searched, CanSplit, Known, Recalled, Merged}
 use Rattle.matching.proofs.SearchLaws.Fronts.{front-known, front-takes, front-within}
 use Rattle.matching.proofs.SearchLaws.Nogoods.{words-long, nogoods-added}
 use Rattle.matching.proofs.SearchLaws.Interval.{decided-true, decided-false, at-pair, grown, grown-cases, shrunk, shrunk-cases, low-shuts, high-shuts, decided-shut, low-accepted, picked-none, take-keeps, take-found, leave-keeps, leave-found}
+use Rattle.matching.proofs.SearchLaws.Counts.{counts-same, few-front, over-refutes, clamped-open, clamped-inside, clamped-full, unclamped-refutes, wanted-refutes}
 
 -- ---- questions of the card
 module _ (t : Tables) (sets card : List ℕ) (c : Card t sets card) where
@@ -37,6 +41,13 @@ module _ (t : Tables) (sets card : List ℕ) (c : Card t sets card) where
   -- the mark of its right side
   pub right-held : (m : ℕ) → m < pairsOf (t .questions) → heldAt card (rightAt card m) ≡ hasVariable (tree (t .concepts) (rightOf (t .questions) m))
   right-held m l = ap (heldAt card) (c .right m l) ∙ c .held _ (wellFormed t (c .passed) .question-right m l)
+
+-- ---- largest counts as they are lent
+abbrev pub counts : List ℕ → List ℕ
+counts card = words card 931
+
+pub counts-long : (card : List ℕ) → length card ≡ 939 → length (counts card) ≡ 8
+counts-long card e = words-long card 931 (omega (arith, e))
 
 -- ---- looking for one that fails
 abbrev pub HoldTo : List ℕ → List ℕ → List ℕ → Bool → ℕ → Type 0
@@ -102,7 +113,7 @@ module _ (sets card choice : List ℕ) (m : ℕ) where
 -- ---- the low side by itself
 module _ (t : Tables) (low full : List ℕ) (i : IntervalOf t low full) where
   pub full-interval : IntervalOf t full full
-  full-interval = record { low-long = i .high-long; high-long = i .high-long; accepted = i .accepted; ordered = λ k q x. x }
+  full-interval = record { low-long = i .high-long; high-long = i .high-long; accepted = i .accepted; ordered = λ k q x. x; idle = i .idle }
 
   module _ (empty : List ℕ) (zeros : (k : ℕ) → getD empty k 0 ≡ 0) (long : length empty ≡ 8) where
     none-taken : (k q : ℕ) → takes empty k q ≡ true → ⊥
@@ -110,10 +121,10 @@ module _ (t : Tables) (low full : List ℕ) (i : IntervalOf t low full) where
 
     pub empty-interval : IntervalOf t empty full
     empty-interval =
-        record { low-long = long; high-long = i .high-long; accepted = i .accepted; ordered = λ k q x. absurd (none-taken k q x) }
+        record { low-long = long; high-long = i .high-long; accepted = i .accepted; ordered = λ k q x. absurd (none-taken k q x); idle = i .idle }
 
-    pub low-refuted : (core : List ℕ) → Mixed low empty core → NoSolution t core full → Refuted t low low core full
-    low-refuted core w n =
+    pub low-refuted : (card core : List ℕ) → Mixed low empty core → NoSolution t card core full → Refuted t card low low core full
+    low-refuted card core w n =
         record {
           low-long = w .long;
           high-long = i .high-long;
@@ -122,8 +133,8 @@ module _ (t : Tables) (low full : List ℕ) (i : IntervalOf t low full) where
           none = n;
         }
 
-    pub high-refuted : (rest : List ℕ) → Mixed low full rest → NoSolution t empty rest → Refuted t low low empty rest
-    high-refuted rest w n =
+    pub high-refuted : (card rest : List ℕ) → Mixed low full rest → NoSolution t card empty rest → Refuted t card low low empty rest
+    high-refuted card rest w n =
         record {
           low-long = long;
           high-long = w .long;
@@ -138,44 +149,59 @@ module _ (sets card full low empty : List ℕ) (m : ℕ) (zeros : (k : ℕ) → 
       (core : List ℕ) → heldAt card (rightAt card m) ≡ true → Mixed low empty core → StillFails sets card m low empty core
       → RefutedBy sets card full low m core full
   refuted-right core e w f t c l i n =
-      low-refuted t low full i empty zeros long core w
-      (low-shuts t (c .passed) core full m l (sym (right-held t sets card c m l) ∙ e) (f t c l full i (empty-interval t low full i empty zeros long) n))
+      low-refuted t low full i empty zeros long card core w
+      (low-shuts t (c .passed) card core full m l (sym (right-held t sets card c m l) ∙ e) (f t c l full i (empty-interval t low full i empty zeros long) n))
 
   pub refuted-left :
       (rest : List ℕ) → heldAt card (rightAt card m) ≡ false → Mixed low full rest → StillFails sets card m low full rest
       → RefutedBy sets card full low m empty rest
   refuted-left rest e w f t c l i n =
-      high-refuted t low full i empty zeros long rest w
-      (high-shuts t (c .passed) empty rest m l (sym (right-held t sets card c m l) ∙ e) (f t c l full i (full-interval t low full i) n))
+      high-refuted t low full i empty zeros long card rest w
+      (high-shuts t (c .passed) card empty rest m l (sym (right-held t sets card c m l) ∙ e) (f t c l full i (full-interval t low full i) n))
 
 module _ (sets card full low before : List ℕ) (m : ℕ) (f : Failing sets card low m) where
   pub tried-refuted :
       (low₁ high₁ after : List ℕ) → m < questionCount card → RefutedBy sets card full low m low₁ high₁ → Added low₁ high₁ before after
-      → Searched sets card full low low before after (λ t. Answers t low low false low₁ high₁)
+      → Searched sets card full low low before after (λ t. Answers t card low low false low₁ high₁)
   tried-refuted low₁ high₁ after l r a t c i j n =
       let x = is-asked t sets card c m l in
       let y = r t c x j (f t c (i .accepted) .fails x) in
-      (y, nogoods-added t low₁ high₁ before after n (y .none) a)
+      (y, nogoods-added t card low₁ high₁ before after n (y .none) a)
 
-  pub tried-solves : questionCount card ≤ m → Searched sets card full low low before before (λ t. Answers t low low true low low)
-  tried-solves l t c i j n = (
+  pub tried-solves :
+      (b : Bool) → Counted (counts card) low b → not b ≡ false → questionCount card ≤ m
+      → Searched sets card full low low before before (λ t. Answers t card low low true low low)
+  tried-solves b o e l t c i j n = (
     record {
       long = i .low-long;
       between = record { above = λ k q e. e; below = λ k q e. e };
-      solves = λ o x. f t c (i .accepted) .hold (omega (arith, c .questions)) o x tt;
+      meets =
+          record {
+            solves = λ p x. f t c (i .accepted) .hold (omega (arith, c .questions)) p x tt;
+            few = few-front card (counts card) low (counts-same card _ refl) (t .variables) (wellFormed t (c .passed) .few-variables) (subst (Counted (counts card) low) (not-false b e) o);
+          };
     },
     n,
   )
 
+-- it takes more than a largest count
+pub tried-over :
+    (sets card full low store : List ℕ) (b : Bool) → Counted (counts card) low b → not b ≡ true
+    → Searched sets card full low low store store (λ t. Answers t card low low false low full)
+tried-over sets card full low store b o e t c i j n =
+    (over-refutes card (counts card) low (counts-same card _ refl) t full j (subst (Counted (counts card) low) (not-true b e) o), n)
+
 -- ---- one step
-pub answers-found : (t : Tables) (low high : List ℕ) (b : Bool) (low₁ high₁ : List ℕ) → Answers t low high b low₁ high₁ → b ≡ true → SolutionIn t low high low₁
-answers-found t low high b low₁ high₁ x e = subst (λ (z : Bool). Answers t low high z low₁ high₁) e x
+pub answers-found :
+    (t : Tables) (card low high : List ℕ) (b : Bool) (low₁ high₁ : List ℕ) → Answers t card low high b low₁ high₁ → b ≡ true → SolutionIn t card low high low₁
+answers-found t card low high b low₁ high₁ x e = subst (λ (z : Bool). Answers t card low high z low₁ high₁) e x
 
-pub answers-none : (t : Tables) (low high : List ℕ) (b : Bool) (low₁ high₁ : List ℕ) → Answers t low high b low₁ high₁ → b ≡ false → Refuted t low high low₁ high₁
-answers-none t low high b low₁ high₁ x e = subst (λ (z : Bool). Answers t low high z low₁ high₁) e x
+pub answers-none :
+    (t : Tables) (card low high : List ℕ) (b : Bool) (low₁ high₁ : List ℕ) → Answers t card low high b low₁ high₁ → b ≡ false → Refuted t card low high low₁ high₁
+answers-none t card low high b low₁ high₁ x e = subst (λ (z : Bool). Answers t card low high z low₁ high₁) e x
 
-pub refuted-none : (t : Tables) (low high low₁ high₁ : List ℕ) → Refuted t low high low₁ high₁ → NoSolution t low high
-refuted-none t low high low₁ high₁ r other a b s =
+pub refuted-none : (t : Tables) (card low high low₁ high₁ : List ℕ) → Refuted t card low high low₁ high₁ → NoSolution t card low high
+refuted-none t card low high low₁ high₁ r other a b s =
     r .none other a
     (record {
       above = λ k q e. b .above k q (front-within (t .variables) low₁ low (r .above) k q e);
@@ -186,26 +212,26 @@ refuted-none t low high low₁ high₁ r other a b s =
 pub contained : (a b : List ℕ) (w : Bool) → Contained a b w → w ≡ true → Within a b
 contained a b w c e = subst (Contained a b) e c
 
-module _ (t : Tables) (h : tableFault t ≡ Done) (low high : List ℕ) (i : IntervalOf t low high) (low₁ high₁ : List ℕ) where
+module _ (t : Tables) (card : List ℕ) (h : tableFault t ≡ Done) (low high : List ℕ) (i : IntervalOf t low high) (low₁ high₁ : List ℕ) where
   pub tried-done :
-      (b w : Bool) → Answers t low low b low₁ high₁ → Contained high high₁ w → (b || w) ≡ true → Answers t low high b low₁ high₁
+      (b w : Bool) → Answers t card low low b low₁ high₁ → Contained high high₁ w → (b || w) ≡ true → Answers t card low high b low₁ high₁
   tried-done true w s c e =
       record {
         long = s .long;
         between = record { above = s .between .above; below = λ k q x. i .ordered k q (s .between .below k q x) };
-        solves = s .solves;
+        meets = s .meets;
       }
   tried-done false w r c e =
       record { low-long = r .low-long; high-long = r .high-long; above = r .above; below = contained high high₁ w c e; none = r .none }
 
-  pub tried-all : (b w : Bool) → Answers t low low b low₁ high₁ → (b || w) ≡ false → (r : Pick) → Picked low high r → r ≡ Nothing → Refuted t low high low high
+  pub tried-all : (b w : Bool) → Answers t card low low b low₁ high₁ → (b || w) ≡ false → (r : Pick) → Picked low high r → r ≡ Nothing → Refuted t card low high low high
   tried-all b w s e r p f =
       record {
         low-long = i .low-long;
         high-long = i .high-long;
         above = λ k q x. x;
         below = λ k q x. x;
-        none = decided-shut t h low high i low₁ high₁ (answers-none t low low b low₁ high₁ s (any-false b w e .0)) (picked-none low high r p f);
+        none = decided-shut t h low high i card low₁ high₁ (answers-none t card low low b low₁ high₁ s (any-false b w e .0)) (picked-none low high r p f);
       }
 
 pub recalled-known :
@@ -225,15 +251,15 @@ kept-long store place low high r l e f = (
 )
 
 pub known-refuted :
-    (t : Tables) (store low high : List ℕ) (b : Bool) (low₁ high₁ : List ℕ) → Nogoods t store → Recalled store low high b low₁ high₁ → b ≡ true → Refuted t low high low₁ high₁
-known-refuted t store low high b low₁ high₁ n x e =
+    (t : Tables) (card store low high : List ℕ) (b : Bool) (low₁ high₁ : List ℕ) → Nogoods t card store → Recalled store low high b low₁ high₁ → b ≡ true → Refuted t card low high low₁ high₁
+known-refuted t card store low high b low₁ high₁ n x e =
     let k : Known store low high low₁ high₁ = subst (λ (z : Bool). Recalled store low high z low₁ high₁) e x in
     record {
       low-long = kept-long store (k .place) low₁ high₁ (n .room) (k .kept) (k .low-here) (k .high-here) .0;
       high-long = kept-long store (k .place) low₁ high₁ (n .room) (k .kept) (k .low-here) (k .high-here) .1;
       above = k .above;
       below = k .below;
-      none = subst (λ (z : List ℕ). NoSolution t z high₁) (sym (k .low-here)) (subst (NoSolution t (lowAt store (k .place))) (sym (k .high-here)) (n .each (k .place) (k .kept)));
+      none = subst (λ (z : List ℕ). NoSolution t card z high₁) (sym (k .low-here)) (subst (NoSolution t card (lowAt store (k .place))) (sym (k .high-here)) (n .each (k .place) (k .kept)));
     }
 
 pub can-split : (low high : List ℕ) (p : ℕ) (b : Bool) → CanSplit low high p b → b ≡ true → (p < 512) × (undecided low high p ≡ true)
@@ -247,22 +273,22 @@ split-as low high p false l e = tt
 -- an interval inside one that is inside all
 pub through : (t : Tables) (low high full : List ℕ) → IntervalOf t low high → IntervalOf t high full → IntervalOf t low full
 through t low high full i j =
-    record { low-long = i .low-long; high-long = j .high-long; accepted = j .accepted; ordered = λ k q x. j .ordered k q (i .ordered k q x) }
+    record { low-long = i .low-long; high-long = j .high-long; accepted = j .accepted; ordered = λ k q x. j .ordered k q (i .ordered k q x); idle = j .idle }
 
 pub same-high : (t : Tables) (high high₂ full : List ℕ) → high₂ ≡ high → IntervalOf t high full → IntervalOf t high₂ full
 same-high t high high₂ full e i = subst (λ (z : List ℕ). IntervalOf t z full) (sym e) i
 
 pub less-high : (t : Tables) (high high₂ full : List ℕ) (k q : ℕ) → Changed high high₂ k q false → IntervalOf t high full → IntervalOf t high₂ full
 less-high t high high₂ full k q c i =
-    record { low-long = c .long; high-long = i .high-long; accepted = i .accepted; ordered = λ l r x. i .ordered l r (shrunk high high₂ k q c l r x) }
+    record { low-long = c .long; high-long = i .high-long; accepted = i .accepted; ordered = λ l r x. i .ordered l r (shrunk high high₂ k q c l r x); idle = i .idle }
 
 -- ---- splitting at a pair
-module _ (t : Tables) (h : tableFault t ≡ Done) (low high : List ℕ) (i : IntervalOf t low high) (p : ℕ) (u : undecided low high p ≡ true) where
+module _ (t : Tables) (card : List ℕ) (h : tableFault t ≡ Done) (low high : List ℕ) (i : IntervalOf t low high) (p : ℕ) (u : undecided low high p ≡ true) where
   module _ (low₂ high₂ : List ℕ) (e : high₂ ≡ high) (c : Changed low low₂ (p / 64) (p % 64) true) where
     -- a nogood of the one half that does not need the pair
     pub with-answers :
-        (b n : Bool) (l₁ h₁ : List ℕ) → Answers t low₂ high₂ b l₁ h₁ → n ≡ takes l₁ (p / 64) (p % 64) → (b || not n) ≡ true → Answers t low high b l₁ h₁
-    with-answers true n l₁ h₁ s f g = take-found t h low high i p u low₂ high₂ e c l₁ s
+        (b n : Bool) (l₁ h₁ : List ℕ) → Answers t card low₂ high₂ b l₁ h₁ → n ≡ takes l₁ (p / 64) (p % 64) → (b || not n) ≡ true → Answers t card low high b l₁ h₁
+    with-answers true n l₁ h₁ s f g = take-found t h low high i p u low₂ high₂ e c card l₁ s
     with-answers false true l₁ h₁ r f g = absurd (false≢true g)
     with-answers false false l₁ h₁ r f g =
         record {
@@ -277,8 +303,8 @@ module _ (t : Tables) (h : tableFault t ≡ Done) (low high : List ℕ) (i : Int
 
   module _ (low₃ high₃ : List ℕ) (e : low₃ ≡ low) (c : Changed high high₃ (p / 64) (p % 64) false) where
     pub without-answers :
-        (b n : Bool) (l₁ h₁ : List ℕ) → Answers t low₃ high₃ b l₁ h₁ → n ≡ takes h₁ (p / 64) (p % 64) → (b || n) ≡ true → Answers t low high b l₁ h₁
-    without-answers true n l₁ h₁ s f g = leave-found t h low high i p u low₃ high₃ e c l₁ s
+        (b n : Bool) (l₁ h₁ : List ℕ) → Answers t card low₃ high₃ b l₁ h₁ → n ≡ takes h₁ (p / 64) (p % 64) → (b || n) ≡ true → Answers t card low high b l₁ h₁
+    without-answers true n l₁ h₁ s f g = leave-found t h low high i p u low₃ high₃ e c card l₁ s
     without-answers false false l₁ h₁ r f g = absurd (false≢true g)
     without-answers false true l₁ h₁ r f g =
         record {
@@ -294,9 +320,9 @@ module _ (t : Tables) (h : tableFault t ≡ Done) (low high : List ℕ) (i : Int
   -- the nogoods of both halves give one of the whole
   module _ (low₂ high₂ : List ℕ) (e : high₂ ≡ high) (c : Changed low low₂ (p / 64) (p % 64) true)
       (low₃ high₃ : List ℕ) (f : low₃ ≡ low) (d : Changed high high₃ (p / 64) (p % 64) false)
-      (la ha lb hb : List ℕ) (a : Refuted t low₂ high₂ la ha) (b : Refuted t low₃ high₃ lb hb)
+      (la ha lb hb : List ℕ) (a : Refuted t card low₂ high₂ la ha) (b : Refuted t card low₃ high₃ lb hb)
       (l r : List ℕ) (m : Merged la ha lb hb (p / 64) (p % 64) l r) where
-    none-merged : NoSolution t l r
+    none-merged : NoSolution t card l r
     none-merged other x y s = go (takes other (p / 64) (p % 64)) refl
       where
         go : (z : Bool) → takes other (p / 64) (p % 64) ≡ z → ⊥
@@ -331,7 +357,7 @@ module _ (t : Tables) (h : tableFault t ≡ Done) (low high : List ℕ) (i : Int
             })
             s
 
-    pub merged-refutes : Refuted t low high l r
+    pub merged-refutes : Refuted t card low high l r
     merged-refutes =
         record {
           low-long = m .joined .long;
@@ -361,16 +387,16 @@ module _ (sets card full low high before after : List ℕ) where
   Stepping done found l h p =
       ((length l ≡ 8) × (length h ≡ 8))
       × (Room after
-      × ((done ≡ false → (p < 512) × (undecided low high p ≡ true)) × Searched sets card full low high before after (λ t. done ≡ true → Answers t low high found l h)))
+      × ((done ≡ false → (p < 512) × (undecided low high p ≡ true)) × Searched sets card full low high before after (λ t. done ≡ true → Answers t card low high found l h)))
 
   pub step-answers :
-      (done found : Bool) (l h : List ℕ) → Searched sets card full low high before after (λ t. done ≡ true → Answers t low high found l h) → done ≡ true
-      → Searched sets card full low high before after (λ t. Answers t low high found l h)
+      (done found : Bool) (l h : List ℕ) → Searched sets card full low high before after (λ t. done ≡ true → Answers t card low high found l h) → done ≡ true
+      → Searched sets card full low high before after (λ t. Answers t card low high found l h)
   step-answers done found l h s e t c i j n = let (a, m) = s t c i j n in (a e, m)
 
   pub step-answered :
       (done found₁ found : Bool) (l₁ h₁ l h : List ℕ) (p : ℕ) → (done ≡ true) × (found₁ ≡ found) × (l₁ ≡ l) × (h₁ ≡ h)
-      → (length l ≡ 8) × (length h ≡ 8) → Room after → Searched sets card full low high before after (λ t. Answers t low high found l h)
+      → (length l ≡ 8) × (length h ≡ 8) → Room after → Searched sets card full low high before after (λ t. Answers t card low high found l h)
       → Stepping done found₁ l₁ h₁ p
   step-answered done found₁ found l₁ h₁ l h p (d, f, e, g) (a, b) r s = (
     (ap length e ∙ a, ap length g ∙ b),
@@ -381,8 +407,8 @@ module _ (sets card full low high before after : List ℕ) where
         λ t c i j n.
             let (y, m) = s t c i j n in (
               λ x.
-                  subst (λ (z : Bool). Answers t low high z l₁ h₁) (sym f)
-                  (subst (λ (z : List ℕ). Answers t low high found z h₁) (sym e) (subst (Answers t low high found l) (sym g) y)),
+                  subst (λ (z : Bool). Answers t card low high z l₁ h₁) (sym f)
+                  (subst (λ (z : List ℕ). Answers t card low high found z h₁) (sym e) (subst (Answers t card low high found l) (sym g) y)),
               m,
             ),
       ),
@@ -406,69 +432,119 @@ module _ (sets card full low high before after : List ℕ) where
 
 -- by a test of the low side
 module _ (sets card full low high before after : List ℕ) (b : Bool) (l h : List ℕ)
-    (s : Searched sets card full low low before after (λ t. Answers t low low b l h)) where
-  at-low : (t : Tables) → Card t sets card → IntervalOf t low high → IntervalOf t high full → Nogoods t before → Answers t low low b l h × Nogoods t after
+    (s : Searched sets card full low low before after (λ t. Answers t card low low b l h)) where
+  at-low : (t : Tables) → Card t sets card → IntervalOf t low high → IntervalOf t high full → Nogoods t card before → Answers t card low low b l h × Nogoods t card after
   at-low t c i j n =
-      s t c (record { low-long = i .low-long; high-long = i .low-long; accepted = low-accepted t (c .passed) low high i; ordered = λ k q e. e })
+      s t c (record { low-long = i .low-long; high-long = i .low-long; accepted = low-accepted t (c .passed) low high i; ordered = λ k q e. e; idle = λ k q l x. i .idle k q l (i .ordered k q x) })
       (through t low high full i j) n
 
-  pub by-test : (w : Bool) → Contained high h w → (b || w) ≡ true → Searched sets card full low high before after (λ t. Answers t low high b l h)
-  by-test w x e t c i j n = let (y, m) = at-low t c i j n in (tried-done t (c .passed) low high i l h b w y x e, m)
+  pub by-test : (w : Bool) → Contained high h w → (b || w) ≡ true → Searched sets card full low high before after (λ t. Answers t card low high b l h)
+  by-test w x e t c i j n = let (y, m) = at-low t c i j n in (tried-done t card (c .passed) low high i l h b w y x e, m)
 
   pub by-decided :
       (w : Bool) → (b || w) ≡ false → (r : Pick) → Picked low high r → r ≡ Nothing
-      → Searched sets card full low high before after (λ t. Answers t low high false low high)
-  by-decided w e r x f t c i j n = let (y, m) = at-low t c i j n in (tried-all t (c .passed) low high i l h b w y e r x f, m)
+      → Searched sets card full low high before after (λ t. Answers t card low high false low high)
+  by-decided w e r x f t c i j n = let (y, m) = at-low t c i j n in (tried-all t card (c .passed) low high i l h b w y e r x f, m)
 
   pub by-none : Searched sets card full low high before after (λ t. Unit {0})
   by-none t c i j n = (tt, at-low t c i j n .1)
 
 pub by-known :
     (sets card full low high store : List ℕ) (b : Bool) (l h : List ℕ) → Recalled store low high b l h → b ≡ true
-    → Searched sets card full low high store store (λ t. Answers t low high false l h)
-by-known sets card full low high store b l h x e t c i j n = (known-refuted t store low high b l h n x e, n)
+    → Searched sets card full low high store store (λ t. Answers t card low high false l h)
+by-known sets card full low high store b l h x e t c i j n = (known-refuted t card store low high b l h n x e, n)
 
 pub by-nothing : (sets card full low high store : List ℕ) → Searched sets card full low high store store (λ t. Unit {0})
 by-nothing sets card full low high store t c i j n = (tt, n)
 
+-- by counts of needs
+pub by-wanted :
+    (sets card full low high store : List ℕ) (b : Bool) (about : List ℕ) → length about ≡ 8 → WantedOver card store full low b about → b ≡ true
+    → Searched sets card full low high store store (λ t. Answers t card low high false about full)
+by-wanted sets card full low high store b about l x e t c i j n =
+    (wanted-refutes t card store full low high about i j n (subst (λ (z : Bool). WantedOver card store full low z about) e x) l, n)
+
+-- by a step at the clamped interval
+module _ (sets card full low high before after inner : List ℕ) (z : Clamped (counts card) low high inner)
+    (done found : Bool) (l h : List ℕ) (p : ℕ) (s : Stepping sets card full low inner before after done found l h p) where
+  at-inner :
+      (t : Tables) → Card t sets card → IntervalOf t low high → IntervalOf t high full → Nogoods t card before
+      → (done ≡ true → Answers t card low inner found l h) × Nogoods t card after
+  at-inner t c i j n = s .1 .1 .1 t c (clamped-inside t _ low high inner i z) (clamped-full t _ low high inner i z full j) n
+
+  -- its split or solution is one of the whole
+  pub clamp-keeps : (not done || found) ≡ true → Stepping sets card full low high before after done found l h p
+  clamp-keeps e = (
+    s .0,
+    (
+      s .1 .0,
+      (
+        λ d. let u = s .1 .1 .0 d in (u .0, clamped-open _ low high inner z p (u .1)),
+        λ t c i j n. let (a, m) = at-inner t c i j n in (λ d. wider t i found (subst (λ (b : Bool). (not b || found) ≡ true) d e) (a d), m),
+      ),
+    ),
+  )
+    where
+      wider : (t : Tables) → IntervalOf t low high → (b : Bool) → b ≡ true → Answers t card low inner b l h → Answers t card low high b l h
+      wider t i true f a =
+          record {
+            long = a .long;
+            between =
+                record {
+                  above = a .between .above;
+                  below = λ k q x. clamped-full t _ low high inner i z high (full-interval t low high i) .ordered k q (a .between .below k q x);
+                };
+            meets = a .meets;
+          }
+      wider t i false f a = absurd (false≢true f)
+
+  -- its nogood makes one of the whole
+  pub clamp-refutes :
+      (not done || found) ≡ false → (l₁ h₁ : List ℕ) → Unclamped full low high inner l h l₁ h₁
+      → Searched sets card full low high before after (λ t. Answers t card low high false l₁ h₁)
+  clamp-refutes e l₁ h₁ u t c i j n =
+      let (a, m) = at-inner t c i j n in
+      let (d, f) = any-false (not done) found e in
+      (unclamped-refutes t (c .passed) card _ full low high inner l h (counts-same card _ refl) i j z (answers-none t card low inner found l h (a (not-false done d)) f) l₁ h₁ u, m)
+
 -- at a pair: first with it, then without it
 module _ (sets card full low high : List ℕ) (p : ℕ) (u : undecided low high p ≡ true) (start one two : List ℕ) (done tried : Bool) (l₀ h₀ : List ℕ)
-    (s : Searched sets card full low high start one (λ t. done ≡ true → Answers t low high tried l₀ h₀)) (low₂ high₂ : List ℕ) (e : high₂ ≡ high) (c : Changed low low₂ (p / 64) (p % 64) true)
-    (found : Bool) (la ha : List ℕ) (a : Searched sets card full low₂ high₂ one two (λ t. Answers t low₂ high₂ found la ha)) where
+    (s : Searched sets card full low high start one (λ t. done ≡ true → Answers t card low high tried l₀ h₀)) (low₂ high₂ : List ℕ) (e : high₂ ≡ high) (c : Changed low low₂ (p / 64) (p % 64) true)
+    (found : Bool) (la ha : List ℕ) (a : Searched sets card full low₂ high₂ one two (λ t. Answers t card low₂ high₂ found la ha)) where
   with-pair :
-      (t : Tables) → Card t sets card → IntervalOf t low high → IntervalOf t high full → Nogoods t start → Answers t low₂ high₂ found la ha × Nogoods t two
+      (t : Tables) → Card t sets card → IntervalOf t low high → IntervalOf t high full → Nogoods t card start → Answers t card low₂ high₂ found la ha × Nogoods t card two
   with-pair t k i j n =
       a t k (take-keeps t (k .passed) low high i p u low₂ high₂ e c) (same-high t high high₂ full e j) (s t k i j n .1)
 
   pub split-with :
       (x : Bool) → x ≡ takes la (p / 64) (p % 64) → (found || not x) ≡ true
-      → Searched sets card full low high start two (λ t. Answers t low high found la ha)
+      → Searched sets card full low high start two (λ t. Answers t card low high found la ha)
   split-with x f g t k i j n =
-      let (y, m) = with-pair t k i j n in (with-answers t (k .passed) low high i p u low₂ high₂ e c found x la ha y f g, m)
+      let (y, m) = with-pair t k i j n in (with-answers t card (k .passed) low high i p u low₂ high₂ e c found x la ha y f g, m)
 
   module _ (three low₃ high₃ : List ℕ) (f : low₃ ≡ low) (d : Changed high high₃ (p / 64) (p % 64) false)
-      (found₃ : Bool) (lb hb : List ℕ) (b : Searched sets card full low₃ high₃ two three (λ t. Answers t low₃ high₃ found₃ lb hb)) where
+      (found₃ : Bool) (lb hb : List ℕ) (b : Searched sets card full low₃ high₃ two three (λ t. Answers t card low₃ high₃ found₃ lb hb)) where
     without-pair :
-        (t : Tables) → Card t sets card → IntervalOf t low high → IntervalOf t high full → Nogoods t start → Answers t low₃ high₃ found₃ lb hb × Nogoods t three
+        (t : Tables) → Card t sets card → IntervalOf t low high → IntervalOf t high full → Nogoods t card start → Answers t card low₃ high₃ found₃ lb hb × Nogoods t card three
     without-pair t k i j n =
         b t k (leave-keeps t (k .passed) low high i p u low₃ high₃ f d) (less-high t high high₃ full _ _ d j) (with-pair t k i j n .1)
 
     pub split-without :
         (x : Bool) → x ≡ takes hb (p / 64) (p % 64) → (found₃ || x) ≡ true
-        → Searched sets card full low high start three (λ t. Answers t low high found₃ lb hb)
+        → Searched sets card full low high start three (λ t. Answers t card low high found₃ lb hb)
     split-without x g o t k i j n =
-        let (y, m) = without-pair t k i j n in (without-answers t (k .passed) low high i p u low₃ high₃ f d found₃ x lb hb y g o, m)
+        let (y, m) = without-pair t k i j n in (without-answers t card (k .passed) low high i p u low₃ high₃ f d found₃ x lb hb y g o, m)
 
     module _ (x y : Bool) (o : (found || not x) ≡ false) (q : (found₃ || y) ≡ false) (l r : List ℕ) (m : Merged la ha lb hb (p / 64) (p % 64) l r) where
-      pub split-both : Searched sets card full low high start three (λ t. Answers t low high false l r)
+      pub split-both : Searched sets card full low high start three (λ t. Answers t card low high false l r)
       split-both t k i j n =
           let (v, _) = with-pair t k i j n in
           let (w, z) = without-pair t k i j n in (
-            merged-refutes t (k .passed) low high i p u low₂ high₂ e c low₃ high₃ f d la ha lb hb
-                (answers-none t low₂ high₂ found la ha v (any-false found (not x) o .0))
-                (answers-none t low₃ high₃ found₃ lb hb w (any-false found₃ y q .0)) l r m,
+            merged-refutes t card (k .passed) low high i p u low₂ high₂ e c low₃ high₃ f d la ha lb hb
+                (answers-none t card low₂ high₂ found la ha v (any-false found (not x) o .0))
+                (answers-none t card low₃ high₃ found₃ lb hb w (any-false found₃ y q .0)) l r m,
             z,
           )
 
-      pub split-kept : (four : List ℕ) → Added l r three four → Searched sets card full low high start four (λ t. Answers t low high false l r)
-      split-kept four g t k i j n = let (v, z) = split-both t k i j n in (v, nogoods-added t l r three four z (v .none) g)
+      pub split-kept : (four : List ℕ) → Added l r three four → Searched sets card full low high start four (λ t. Answers t card low high false l r)
+      split-kept four g t k i j n = let (v, z) = split-both t k i j n in (v, nogoods-added t card l r three four z (v .none) g)

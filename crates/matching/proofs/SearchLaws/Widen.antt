@@ -5,7 +5,7 @@ use mathlib.Core.List.{List}
 use mathlib.Core.Bool.{Bool, false}
 use mathlib.Core.Logic.{inl, inr, ⊎-elim}
 use native.Mathlib.Omega.{arith}
-use lib.ListN.{length, getD, set, take, length-set}
+use lib.ListN.{getD, set, take, length-set}
 use lib.Seq.{getD-set-same, getD-set-other, length-take-le}
 use Rattle.subsumption.specs.declared.refusal.Outcome.the-variants.{Done}
 use Rattle.subsumption.specs.Tables.{Tables}
@@ -61,7 +61,7 @@ module _ (t : Tables) (h : tableFault t ≡ Done) (full choice target mix : List
   mix-ordered = mixed-within choice target mix full m (i .ordered) (j .ordered)
 
   pub mix-interval : IntervalOf t mix full
-  mix-interval = record { low-long = m .long; high-long = i .high-long; accepted = i .accepted; ordered = mix-ordered }
+  mix-interval = record { low-long = m .long; high-long = i .high-long; accepted = i .accepted; ordered = mix-ordered; idle = i .idle }
 
   pub mix-accepted : assignmentFault t (take (t .variables) mix) ≡ Done
   mix-accepted =

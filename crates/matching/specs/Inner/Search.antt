@@ -4,6 +4,7 @@ pub mod Interval
 pub mod Lent
 pub mod Making
 pub mod Narrow
+pub mod Needs
 pub mod Nogoods
 pub mod Order
 pub mod Pairs
@@ -11,16 +12,18 @@ pub mod Patterns
 pub mod Sets
 pub mod Solve
 pub mod Widen
-use Prim.Native.Nat.{ℕ, _<_}
+use Prim.Native.Nat.{ℕ, _≤_}
 use mathlib.Core.Path.{_≡_}
 use mathlib.Core.List.{List}
 use mathlib.Core.Bool.{Bool, true, false}
-use lib.ListN.{length, take}
+use lib.ListN.{length, take, getD}
 use Rattle.subsumption.specs.declared.refusal.Outcome.the-variants.{Done}
 use Rattle.subsumption.specs.Tables.{Tables, leftOf, rightOf}
 use Rattle.subsumption.specs.Subsumption.{Subsumed}
 use Rattle.subsumption.specs.Check.{assignmentFault}
+use Rattle.settings.specs.Settings.{size}
 use Rattle.matching.specs.Solving.{takes, Solves}
+use Rattle.matching.specs.Inner.Search.Card.{mostAt}
 
 -- A truth value tells whether a statement holds.
 abbrev pub Decided : Type 0 → Bool → Type 0
@@ -40,13 +43,18 @@ pub record Between (low high assignment : List ℕ) : Type 0 where
   pub above : Within low assignment
   pub below : Within assignment high
 
+-- What is asked of an assignment: it makes every question hold, and takes for no variable more atoms than the card says.
+pub record Meets (t : Tables) (card assignment : List ℕ) : Type 0 where
+  pub solves : Solves t assignment
+  pub few : (k : ℕ) → size (getD assignment k 0) ≤ mostAt card k
+
 -- A solution between the two sides.
-pub record SolutionIn (t : Tables) (low high choice : List ℕ) : Type 0 where
+pub record SolutionIn (t : Tables) (card low high choice : List ℕ) : Type 0 where
   pub long : length choice ≡ 8
   pub between : Between low high choice
-  pub solves : Solves t (take (t .variables) choice)
+  pub meets : Meets t card (take (t .variables) choice)
 
--- No accepted assignment between the two sides solves.
-abbrev pub NoSolution : Tables → List ℕ → List ℕ → Type 0
-NoSolution t low high =
-    (other : List ℕ) → assignmentFault t other ≡ Done → Between (take (t .variables) low) (take (t .variables) high) other → Solves t other → ⊥
+-- No accepted assignment between the two sides is a solution.
+abbrev pub NoSolution : Tables → List ℕ → List ℕ → List ℕ → Type 0
+NoSolution t card low high =
+    (other : List ℕ) → assignmentFault t other ≡ Done → Between (take (t .variables) low) (take (t .variables) high) other → Meets t card other → ⊥

@@ -23,8 +23,7 @@ ghost use mathlib.Core.Path.{_≡_};
 ghost use mathlib.Core.Bool.{true, false};
 ghost use Prim.Native.Nat.{_*_, _+_, _<_, _≤_};
 ghost use lib.ListN.{length};
-ghost use Rattle.matching.specs.Inner.Search.Sets.{Same};
-ghost use Rattle.matching.specs.Inner.Search.Card.{Numbers, Shaped, lineAt, fitAt};
+ghost use Rattle.matching.specs.Inner.Search.Card.{Numbers, Shaped, lineAt};
 ghost use Rattle.matching.specs.Inner.Search.Patterns.{ValueRead, BelowAll, AboveSome, Linked, Members, ClosedOnce, ClosedUp, Valued, ValuedIn, AllValued, Tested};
 
 const ALL: u64 = 18446744073709551615;

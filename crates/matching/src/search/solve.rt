@@ -2,8 +2,10 @@
 // added, the others when atoms are removed: so a failed test makes a nogood, an interval that holds no solution. An
 // interval is split until its low side passes every test or a nogood around it is known; the nogoods of the two halves
 // give one of the whole, and a half whose nogood does not mention the pair speaks for the whole at once.
+use crate::limits::CARD;
 use crate::limits::HELD;
 use crate::limits::HINT;
+use crate::limits::MOST;
 use crate::limits::PAIRS;
 use crate::limits::QUESTION_COUNT;
 use crate::limits::SIDES;
@@ -14,6 +16,7 @@ use crate::search::interval::pick_undecided;
 use crate::search::lookup::choose;
 use crate::search::lookup::open_pair;
 use crate::search::lookup::some_pair;
+use crate::search::needs::count_all;
 use crate::search::nogoods::add;
 use crate::search::nogoods::nogood_at;
 use crate::search::pairs::is_within;
@@ -23,6 +26,10 @@ use crate::search::pairs::with_pair;
 use crate::search::pairs::without_pair;
 use crate::search::patterns::question_holds;
 use crate::search::widen::widen;
+use settings::helpers::Sides;
+use settings::helpers::clamp;
+use settings::helpers::is_few;
+use settings::helpers::unclamp;
 use subsumption::limits::ATOMS;
 ghost use mathlib.Core.Path.{_≡_};
 ghost use mathlib.Core.Bool.{true, false};
@@ -137,8 +144,15 @@ fn try_low(
     requires { ⌜ (length full ≡ 8) × (length low ≡ 8) ⌝ }
     ensures { λ r. ⌜ (length (r .low) ≡ 8) × (length (r .high) ≡ 8) ⌝ }
     ensures { λ _. ⌜ Room (now (store .exit)) ⌝ }
-    ensures { λ r. ⌜ Searched (now (sets .entry)) (now (card .entry)) full low low (now (store .entry)) (now (store .exit)) (λ t. Answers t low low (r .found) (r .low) (r .high)) ⌝ }
+    ensures { λ r. ⌜ Searched (now (sets .entry)) (now (card .entry)) full low low (now (store .entry)) (now (store .exit)) (λ t. Answers t (now (card .entry)) low low (r .found) (r .low) (r .high)) ⌝ }
 {
+    if !is_few(&card[MOST..CARD], low) {
+        return Answer {
+            found: false,
+            low,
+            high: full,
+        };
+    }
     let m = failing(sets, card, scratch, low);
     if m < card[QUESTION_COUNT] as usize {
         let nogood = refute(sets, card, scratch, full, low, m);
@@ -225,7 +239,7 @@ fn step_by_test(
     ensures { λ r. ⌜ (length (r .low) ≡ 8) × (length (r .high) ≡ 8) ⌝ }
     ensures { λ _. ⌜ Room (now (store .exit)) ⌝ }
     ensures { λ r. ⌜ (r .done ≡ false → (r .pair < 512) × (undecided (interval .low) (interval .high) (r .pair) ≡ true)) ⌝ }
-    ensures { λ r. ⌜ Searched (now (sets .entry)) (now (card .entry)) full (interval .low) (interval .high) (now (store .entry)) (now (store .exit)) (λ t. r .done ≡ true → Answers t (interval .low) (interval .high) (r .found) (r .low) (r .high)) ⌝ }
+    ensures { λ r. ⌜ Searched (now (sets .entry)) (now (card .entry)) full (interval .low) (interval .high) (now (store .entry)) (now (store .exit)) (λ t. r .done ≡ true → Answers t (now (card .entry)) (interval .low) (interval .high) (r .found) (r .low) (r .high)) ⌝ }
 {
     let low = interval.low;
     let high = interval.high;
@@ -299,7 +313,7 @@ fn step_by_choice(
     ensures { λ r. ⌜ (length (r .low) ≡ 8) × (length (r .high) ≡ 8) ⌝ }
     ensures { λ _. ⌜ Room (now (store .exit)) ⌝ }
     ensures { λ r. ⌜ (r .done ≡ false → (r .pair < 512) × (undecided (interval .low) (interval .high) (r .pair) ≡ true)) ⌝ }
-    ensures { λ r. ⌜ Searched (now (sets .entry)) (now (card .entry)) full (interval .low) (interval .high) (now (store .entry)) (now (store .exit)) (λ t. r .done ≡ true → Answers t (interval .low) (interval .high) (r .found) (r .low) (r .high)) ⌝ }
+    ensures { λ r. ⌜ Searched (now (sets .entry)) (now (card .entry)) full (interval .low) (interval .high) (now (store .entry)) (now (store .exit)) (λ t. r .done ≡ true → Answers t (now (card .entry)) (interval .low) (interval .high) (r .found) (r .low) (r .high)) ⌝ }
 {
     let hint = choose(store, scratch, interval);
     let known = look_up(store, hint.place, interval);
@@ -316,6 +330,73 @@ fn step_by_choice(
 }
 
 // By the nogood that proposed the last split, if it shuts the interval.
+fn step_by_hint(
+    sets: &[u64],
+    card: &[u16],
+    store: &mut [u64],
+    scratch: &mut [u64],
+    full: [u64; 8],
+    interval: Interval,
+) -> Step
+    requires { ⌜ Lent (now sets) (now card) (now store) (now scratch) ⌝ }
+    requires { ⌜ (length full ≡ 8) × (length (interval .low) ≡ 8) × (length (interval .high) ≡ 8) ⌝ }
+    ensures { λ r. ⌜ (length (r .low) ≡ 8) × (length (r .high) ≡ 8) ⌝ }
+    ensures { λ _. ⌜ Room (now (store .exit)) ⌝ }
+    ensures { λ r. ⌜ (r .done ≡ false → (r .pair < 512) × (undecided (interval .low) (interval .high) (r .pair) ≡ true)) ⌝ }
+    ensures { λ r. ⌜ Searched (now (sets .entry)) (now (card .entry)) full (interval .low) (interval .high) (now (store .entry)) (now (store .exit)) (λ t. r .done ≡ true → Answers t (now (card .entry)) (interval .low) (interval .high) (r .found) (r .low) (r .high)) ⌝ }
+{
+    let known = look_up(store, scratch[HINT] as usize, interval);
+    let low = known.low;
+    let high = known.high;
+    if known.shut {
+        return answered(false, low, high);
+    }
+    step_by_choice(sets, card, store, scratch, full, interval)
+}
+
+// At the clamped interval, its nogood as one of the whole.
+fn step_by_clamp(
+    sets: &[u64],
+    card: &[u16],
+    store: &mut [u64],
+    scratch: &mut [u64],
+    full: [u64; 8],
+    interval: Interval,
+) -> Step
+    requires { ⌜ Lent (now sets) (now card) (now store) (now scratch) ⌝ }
+    requires { ⌜ (length full ≡ 8) × (length (interval .low) ≡ 8) × (length (interval .high) ≡ 8) ⌝ }
+    ensures { λ r. ⌜ (length (r .low) ≡ 8) × (length (r .high) ≡ 8) ⌝ }
+    ensures { λ _. ⌜ Room (now (store .exit)) ⌝ }
+    ensures { λ r. ⌜ (r .done ≡ false → (r .pair < 512) × (undecided (interval .low) (interval .high) (r .pair) ≡ true)) ⌝ }
+    ensures { λ r. ⌜ Searched (now (sets .entry)) (now (card .entry)) full (interval .low) (interval .high) (now (store .entry)) (now (store .exit)) (λ t. r .done ≡ true → Answers t (now (card .entry)) (interval .low) (interval .high) (r .found) (r .low) (r .high)) ⌝ }
+{
+    let low = interval.low;
+    let high = interval.high;
+    let inner = clamp(&card[MOST..CARD], low, high);
+    let step = step_by_hint(
+        sets,
+        card,
+        store,
+        scratch,
+        full,
+        Interval { low, high: inner },
+    );
+    if !step.done | step.found {
+        return step;
+    }
+    let below = step.low;
+    let above = step.high;
+    let inside = Sides {
+        low: below,
+        high: above,
+    };
+    let nogood = unclamp(full, low, high, inner, inside);
+    let fewer = nogood.low;
+    let more = nogood.high;
+    answered(false, fewer, more)
+}
+
+// By counting needs, if more is wanted than a largest count.
 fn next_step(
     sets: &[u64],
     card: &[u16],
@@ -329,15 +410,14 @@ fn next_step(
     ensures { λ r. ⌜ (length (r .low) ≡ 8) × (length (r .high) ≡ 8) ⌝ }
     ensures { λ _. ⌜ Room (now (store .exit)) ⌝ }
     ensures { λ r. ⌜ (r .done ≡ false → (r .pair < 512) × (undecided (interval .low) (interval .high) (r .pair) ≡ true)) ⌝ }
-    ensures { λ r. ⌜ Searched (now (sets .entry)) (now (card .entry)) full (interval .low) (interval .high) (now (store .entry)) (now (store .exit)) (λ t. r .done ≡ true → Answers t (interval .low) (interval .high) (r .found) (r .low) (r .high)) ⌝ }
+    ensures { λ r. ⌜ Searched (now (sets .entry)) (now (card .entry)) full (interval .low) (interval .high) (now (store .entry)) (now (store .exit)) (λ t. r .done ≡ true → Answers t (now (card .entry)) (interval .low) (interval .high) (r .found) (r .low) (r .high)) ⌝ }
 {
-    let known = look_up(store, scratch[HINT] as usize, interval);
-    let low = known.low;
-    let high = known.high;
-    if known.shut {
-        return answered(false, low, high);
+    let wanted = count_all(card, store, full, interval);
+    let about = wanted.about;
+    if wanted.over {
+        return answered(false, about, full);
     }
-    step_by_choice(sets, card, store, scratch, full, interval)
+    step_by_clamp(sets, card, store, scratch, full, interval)
 }
 
 // The next step looks at this nogood first.
@@ -380,7 +460,7 @@ pub fn some_solution(
     requires { ⌜ (length full ≡ 8) × (length (interval .low) ≡ 8) × (length (interval .high) ≡ 8) ⌝ }
     ensures { λ r. ⌜ (length (r .low) ≡ 8) × (length (r .high) ≡ 8) ⌝ }
     ensures { λ _. ⌜ Room (now (store .exit)) ⌝ }
-    ensures { λ r. ⌜ Searched (now (sets .entry)) (now (card .entry)) full (interval .low) (interval .high) (now (store .entry)) (now (store .exit)) (λ t. Answers t (interval .low) (interval .high) (r .found) (r .low) (r .high)) ⌝ }
+    ensures { λ r. ⌜ Searched (now (sets .entry)) (now (card .entry)) full (interval .low) (interval .high) (now (store .entry)) (now (store .exit)) (λ t. Answers t (now (card .entry)) (interval .low) (interval .high) (r .found) (r .low) (r .high)) ⌝ }
 {
     let step = next_step(sets, card, store, scratch, full, interval);
     if step.done {

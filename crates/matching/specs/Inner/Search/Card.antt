@@ -7,10 +7,9 @@ use mathlib.Core.Logic.{_↔_}
 use lib.Dec.{eqb}
 use lib.ListN.{length, getD, take, replicate}
 use Rattle.subsumption.specs.declared.refusal.Outcome.the-variants.{Done}
-use Rattle.subsumption.specs.Tables.{Tables, both, or, Node, topAt, nameAt, existsAt, andAt, varAt, node, countOf, pairsOf, leftOf, rightOf, tree, hasVariable}
+use Rattle.subsumption.specs.Tables.{Tables, or, Node, topAt, nameAt, existsAt, andAt, varAt, node, countOf, pairsOf, leftOf, rightOf, tree, hasVariable}
 use Rattle.subsumption.specs.Atoms.{atoms}
 use Rattle.subsumption.specs.Roles.{wider}
-use Rattle.subsumption.specs.Rules.{isTop}
 use Rattle.subsumption.specs.Subsumption.{Subsumed}
 use Rattle.subsumption.specs.Check.{tableFault}
 use Rattle.square.specs.Inner.Square.{onLine}
@@ -50,13 +49,17 @@ rightAt card m = getD card (832 + m * 2 + 1) 0
 abbrev pub questionCount : List ℕ → ℕ
 questionCount card = getD card 897 0
 
+-- the largest count of a variable
+abbrev pub mostAt : List ℕ → ℕ → ℕ
+mostAt card k = getD card (931 + k) 0
+
 -- the inner id of an existential, the second one of a conjunction
 abbrev pub innerAt : List ℕ → ℕ → ℕ
 innerAt card i = getD card (i * 3 + 2) 0
 
 -- What keeps every reading of the numbers inside the lists.
 pub record Numbers (card : List ℕ) : Type 0 where
-  pub long : length card ≡ 931
+  pub long : length card ≡ 939
   pub kind-low : (i : ℕ) → i < 192 → getD card (i * 3) 0 < 5
   pub inner-low : (i : ℕ) → i < 192 → innerAt card i < 192
   pub first-low : (i : ℕ) → i < 192 → getD card (i * 3) 0 ≡ 3 → getD card (i * 3 + 1) 0 < 192

@@ -28,28 +28,28 @@ Failing sets card choice m =
     (t : Tables) → Card t sets card → assignmentFault t (take (t .variables) choice) ≡ Done → FailingFor t (take (t .variables) choice) (λ n. Unit {0}) m
 
 -- An interval around another that holds no solution.
-pub record Refuted (t : Tables) (low high low₁ high₁ : List ℕ) : Type 0 where
+pub record Refuted (t : Tables) (card low high low₁ high₁ : List ℕ) : Type 0 where
   pub low-long : length low₁ ≡ 8
   pub high-long : length high₁ ≡ 8
   pub above : Within low₁ low
   pub below : Within high high₁
-  pub none : NoSolution t low₁ high₁
+  pub none : NoSolution t card low₁ high₁
 
 -- A question that fails at the low side gives an interval around it.
 abbrev pub RefutedBy : List ℕ → List ℕ → List ℕ → List ℕ → ℕ → List ℕ → List ℕ → Type 0
 RefutedBy sets card full low m low₁ high₁ =
     (t : Tables) → Card t sets card → m < pairsOf (t .questions) → IntervalOf t low full → (HoldsAt t (take (t .variables) low) m → ⊥)
-    → Refuted t low low low₁ high₁
+    → Refuted t card low low low₁ high₁
 
 -- A search's answer names no order: a solution between, or an interval around that holds none.
-abbrev pub Answers : Tables → List ℕ → List ℕ → Bool → List ℕ → List ℕ → Type 0
-Answers t low high true choice rest = SolutionIn t low high choice
-Answers t low high false low₁ high₁ = Refuted t low high low₁ high₁
+abbrev pub Answers : Tables → List ℕ → List ℕ → List ℕ → Bool → List ℕ → List ℕ → Type 0
+Answers t card low high true choice rest = SolutionIn t card low high choice
+Answers t card low high false low₁ high₁ = Refuted t card low high low₁ high₁
 
 -- What a search in an interval gives of whatever tables the sets and numbers are: nogoods stay nogoods.
 abbrev pub Searched : List ℕ → List ℕ → List ℕ → List ℕ → List ℕ → List ℕ → List ℕ → (Tables → Type 0) → Type 0
 Searched sets card full low high before after Given =
-    (t : Tables) → Card t sets card → IntervalOf t low high → IntervalOf t high full → Nogoods t before → Given t × Nogoods t after
+    (t : Tables) → Card t sets card → IntervalOf t low high → IntervalOf t high full → Nogoods t card before → Given t × Nogoods t card after
 
 abbrev pub CanSplit : List ℕ → List ℕ → ℕ → Bool → Type 0
 CanSplit low high pair true = (pair < 512) × (undecided low high pair ≡ true)

@@ -1,9 +1,9 @@
 use Prim.Native.Nat.{_-_, _≤_}
 use native.Mathlib.Omega.{arith}
-use Rattle.matching.specs.Inner.Find.{Copied}
-use Rattle.matching.proofs.FindLaws.{copied-none, copied-more, copied-all}
-use Rattle.matching.proofs.find.write_choice.Statement.{statement}
-use Rattle.matching.proofs.find.write_choice.Tie as tie
+use Rattle.matching.specs.Inner.Within.{Copied}
+use Rattle.matching.proofs.WithinLaws.{copied-none, copied-more, copied-all}
+use Rattle.matching.proofs.within.write_choice.Statement.{statement}
+use Rattle.matching.proofs.within.write_choice.Tie as tie
 
 abbrev Inv-loop : tie.InvT-loop
 Inv-loop count out₀ choice k₀ out k = (k ≤ count) × Copied k choice out₀ out

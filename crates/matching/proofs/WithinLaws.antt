@@ -1,0 +1,298 @@
+-- From the search to the answer within settings: where it starts, what is written, and what settings ask of assignments.
+use Prim.Native.Nat.{ℕ, _+_, _-_, _^_, _<_, _≤_}
+use mathlib.Core.Path.{_≡_, refl, sym, ap, _∙_, subst}
+use mathlib.Core.List.{List}
+use mathlib.Core.Bool.{Bool, true, false}
+use mathlib.Core.Logic.{inl, inr, ⊎-elim}
+use native.Mathlib.Omega.{arith}
+use lib.ListN.{length, getD, take, drop, set, length-set, length-drop, List·getD-eq-default}
+use lib.Seq.{getD-set-same, getD-set-other, getD-take, getD-drop, length-take-le, ext-getD}
+use Rattle.subsumption.specs.declared.refusal.Outcome.{Outcome}
+use Rattle.subsumption.specs.declared.refusal.Outcome.the-variants.{Done, Refused}
+use Rattle.subsumption.specs.declared.refusal.Refusal.{Refusal}
+use Rattle.subsumption.specs.declared.refusal.Refusal.the-variants.{BufferTooShort, NoAssignment}
+use Rattle.subsumption.specs.Tables.{Tables}
+use Rattle.subsumption.specs.Atoms.{atoms, bit}
+use Rattle.subsumption.specs.Check.{tableFault, assignmentFault, bufferFault}
+use Rattle.subsumption.specs.Refusal.{replyRefused}
+use Rattle.subsumption.specs.Inner.Listing.{Accepted}
+use Rattle.subsumption.proofs.Bools.{le-or-lt, last-cases}
+use Rattle.subsumption.proofs.Bits.{bit-of-zero}
+use Rattle.subsumption.proofs.Refusals.{stops, goes-on, done-le, refused-lt}
+use Rattle.subsumption.proofs.Accepted.{wellFormed}
+use Rattle.settings.specs.Settings.{Settings, size, Heeds, Unrestricted, settingsFault, settingsFaultAt}
+use Rattle.settings.specs.Inner.Check.{Loaded}
+use Rattle.settings.proofs.SizeLaws.{size-most, size-zero}
+use Rattle.settings.proofs.SettingsLaws.{settings-long, settings-below}
+use Rattle.matching.specs.Solving.{takes, Solves}
+use Rattle.matching.specs.Within.{withinFault, FirstWithin, FindsWithinAfter, FindsWithin}
+use Rattle.matching.specs.Inner.Search.{Within, Between, Meets, NoSolution}
+use Rattle.matching.specs.Inner.Search.Card.{mostAt, Card}
+use Rattle.matching.specs.Inner.Search.Nogoods.{used, Room, Nogoods}
+use Rattle.matching.specs.Inner.Search.Narrow.{Narrower, Narrowed}
+use Rattle.matching.specs.Inner.Search.Solve.{Answers, Searched}
+use Rattle.matching.specs.Inner.Search.Interval.{IntervalOf}
+use Rattle.matching.specs.Inner.Search.Order.{FirstIn, FirstOf}
+use Rattle.matching.specs.Inner.Within.{Counting, Found, FoundBy, FoundIn, FirstFound, FoundWithin, Copied}
+use Rattle.matching.specs.declared.find.Match.the-variants.{Filled}
+use Rattle.matching.specs.Find.{matchReply}
+use Rattle.matching.proofs.SubstitutionLaws.Locality.{none-by-substitution}
+use Rattle.matching.proofs.SearchLaws.Nogoods.{nogoods-none}
+use Rattle.matching.proofs.SearchLaws.Solve.{full-interval, answers-found, answers-none, refuted-none}
+use Rattle.matching.proofs.SearchLaws.Fronts.{front-known, front-takes, front-within, accepted-long, accepted-bits, accept, within-accepted}
+
+-- ---- copying
+pub copied-none : (choice before : List ℕ) → Copied 0 choice before before
+copied-none choice before = record { size = refl; front = λ k h. absurd (omega arith); rest = λ k h. refl }
+
+pub copied-more : (choice before after : List ℕ) (k : ℕ) → k < length after → Copied k choice before after → Copied (k + 1) choice before (set after k (getD choice k 0))
+copied-more choice before after k h s =
+    record {
+      size = length-set after k _ ∙ s .size;
+      front =
+          λ j l.
+          ⊎-elim (λ (e : j ≡ k). ap (λ (z : ℕ). getD (set after k (getD choice k 0)) z 0) e ∙ getD-set-same after k _ 0 h ∙ ap (λ (z : ℕ). getD choice z 0) (sym e))
+          (λ m. getD-set-other after k j _ 0 (λ e. omega arith) ∙ s .front j m) (last-cases j k (omega arith));
+      rest = λ j l. getD-set-other after k j _ 0 (λ e. omega arith) ∙ s .rest j (omega arith);
+    }
+
+pub copied-all : (count k : ℕ) (choice before after : List ℕ) → k ≤ count → count ≤ k → Copied k choice before after → Copied count choice before after
+copied-all count k choice before after h l s = let e : k ≡ count = omega arith in subst (λ (z : ℕ). Copied z choice before after) e s
+
+-- ---- writing the counts
+pub record CountedTo (largest before after : List ℕ) (n : ℕ) : Type 0 where
+  pub within : n ≤ length largest
+  pub size : length after ≡ length before
+  pub front : (p : ℕ) → p < 931 → getD after p 0 ≡ getD before p 0
+  pub counts : (k : ℕ) → k < n → getD after (931 + k) 0 ≡ getD largest k 0
+
+pub counts-none : (largest before : List ℕ) → CountedTo largest before before 0
+counts-none largest before = record { within = omega arith; size = refl; front = λ p l. refl; counts = λ k l. absurd (omega arith) }
+
+pub counts-more :
+    (largest before after : List ℕ) (n : ℕ) → length before ≡ 939 → length largest ≤ 8 → n < length largest → CountedTo largest before after n
+    → CountedTo largest before (set after (931 + n) (getD largest n 0)) (n + 1)
+counts-more largest before after n e few h s =
+    record {
+      within = omega arith;
+      size = length-set after (931 + n) _ ∙ s .size;
+      front = λ p l. getD-set-other after (931 + n) p _ 0 (λ e. omega arith) ∙ s .front p l;
+      counts =
+          λ k l.
+          ⊎-elim
+          (λ (m : k ≡ n).
+          ap (λ (z : ℕ). getD (set after (931 + n) (getD largest n 0)) (931 + z) 0) m ∙ getD-set-same after (931 + n) _ 0 (omega (arith, s .size))
+          ∙ ap (λ (z : ℕ). getD largest z 0) (sym m))
+          (λ m. getD-set-other after (931 + n) (931 + k) _ 0 (λ e. omega arith) ∙ s .counts k m) (last-cases k n (omega arith));
+    }
+
+pub counts-all : (largest before after : List ℕ) (n : ℕ) → length largest ≤ n → CountedTo largest before after n → Counting largest before after
+counts-all largest before after n h s = record { size = s .size; front = s .front; counts = λ k l. s .counts k (omega arith) }
+
+-- ---- the interval of all permitted assignments: every solution that takes permitted atoms only is between nothing and the narrowed high side
+module _ (t : Tables) (h : tableFault t ≡ Done) (low permitted high : List ℕ) (zeros : (k : ℕ) → getD low k 0 ≡ 0) (long : length low ≡ 8)
+    (accepted : assignmentFault t (take (t .variables) permitted) ≡ Done) (idle : (k q : ℕ) → t .variables ≤ k → takes permitted k q ≡ true → ⊥)
+    (size : length high ≡ 8) (n : Narrower t permitted high) where
+  none-low : (k q : ℕ) → takes low k q ≡ true → ⊥
+  none-low k q e = bit-of-zero q (subst (λ (z : ℕ). bit z q ≡ true) (zeros k) e)
+
+  whole : IntervalOf t low high
+  whole =
+      record {
+        low-long = long;
+        high-long = size;
+        accepted =
+            within-accepted t _ _ accepted (length-take-le _ high (omega (arith, wellFormed t h .few-variables)))
+            (front-within (t .variables) high permitted (n .fewer));
+        ordered = λ k q e. absurd (none-low k q e);
+        idle = λ k q l e. idle k q l (n .fewer k q e);
+      }
+
+  all-between :
+      (other : List ℕ) → assignmentFault t other ≡ Done → Within other (take (t .variables) permitted) → Solves t other
+      → Between (take (t .variables) low) (take (t .variables) high) other
+  all-between other a w s =
+      record { above = λ k q e. absurd (none-low k q (front-known (t .variables) low k q e .1)); below = n .all other a s w }
+
+  nothing-found : (card choice : List ℕ) → NoSolution t card low high → FoundBy t card permitted false choice
+  nothing-found card choice x other a w m = x other a (all-between other a w (m .solves)) m
+
+  first-found : (card choice : List ℕ) → FirstIn t card low high choice → Found t card permitted choice
+  first-found card choice f =
+      record {
+        long = f .solution .long;
+        accepted =
+            within-accepted t _ _ accepted (length-take-le _ choice (omega (arith, f .solution .long, wellFormed t h .few-variables))) inside;
+        inside = inside;
+        meets = f .solution .meets;
+        first = λ other a w m. f .first other a (all-between other a w (m .solves)) m;
+      }
+    where
+      inside : Within (take (t .variables) choice) (take (t .variables) permitted)
+      inside = front-within (t .variables) choice permitted (λ k q e. n .fewer k q (f .solution .between .below k q e))
+
+-- ---- the search, whatever the tables
+pub room-none : (store : List ℕ) → length store ≡ 16385 → used store ≡ 0 → Room store
+room-none store e f = record { long = e; few = omega arith }
+
+module _ (sets card low permitted high : List ℕ) (zeros : (k : ℕ) → getD low k 0 ≡ 0) (long : length low ≡ 8)
+    (size : length high ≡ 8) (n : Narrowed sets card permitted high)
+    (before after : List ℕ) (fits : length before ≡ 16385) (none : used before ≡ 0) (found : Bool) (known rest : List ℕ)
+    (s : Searched sets card high low high before after (λ t. Answers t card low high found known rest)) where
+  module _ (t : Tables) (c : Card t sets card) (a : assignmentFault t (take (t .variables) permitted) ≡ Done)
+      (i : (k q : ℕ) → t .variables ≤ k → takes permitted k q ≡ true → ⊥) where
+    start : IntervalOf t low high
+    start = whole t (c .passed) low permitted high zeros long a i size (n t c a)
+
+    searched : Answers t card low high found known rest × Nogoods t card after
+    searched = s t c start (full-interval t low high start) (nogoods-none t card before fits none)
+
+  pub found-first : (choice : List ℕ) → found ≡ true → FirstOf sets card low high after known choice → FoundIn sets card permitted true choice
+  found-first choice e f t c a i =
+      first-found t (c .passed) low permitted high zeros long a i size (n t c a) card choice
+      (f t c (start t c a i) (searched t c a i .1) (answers-found t card low high found known rest (searched t c a i .0) e))
+
+  pub found-none : found ≡ false → FoundIn sets card permitted false known
+  found-none e t c a i =
+      nothing-found t (c .passed) low permitted high zeros long a i size (n t c a) card known
+      (refuted-none t card low high known rest (answers-none t card low high found known rest (searched t c a i .0) e))
+
+-- ---- what settings ask of an assignment
+-- past the variables an accepted assignment takes nothing
+few-each :
+    (t : Tables) (other : List ℕ) → assignmentFault t other ≡ Done → (most : ℕ → ℕ) → ((k : ℕ) → k < t .variables → size (getD other k 0) ≤ most k)
+    → (k : ℕ) → size (getD other k 0) ≤ most k
+few-each t other a most h k =
+    ⊎-elim
+    (λ (l : t .variables ≤ k). omega (arith, ap size (List·getD-eq-default other 0 {n = k} (omega (arith, accepted-long t other a))), size-zero))
+    (h k) (le-or-lt (t .variables) k)
+
+module _ (t : Tables) (s : Settings) (u : Unrestricted t s) (other : List ℕ) (a : assignmentFault t other ≡ Done) where
+  pub heeds-all : Heeds s other
+  heeds-all =
+      record {
+        permitted = λ k q e. let (l, m) = accepted-bits t other a k q e in u .all k q l m;
+        few = few-each t other a (λ k. getD (s .largest) k 0) (λ k l. omega (arith, size-most (getD other k 0), u .most k l));
+      }
+
+module _ (t : Tables) (s : Settings) (ok : settingsFault t s ≡ Done) (permitted : List ℕ) (loaded : Loaded (s .permitted) permitted) where
+  pub loaded-accepted : tableFault t ≡ Done → assignmentFault t (take (t .variables) permitted) ≡ Done
+  loaded-accepted h =
+      accept t _ (length-take-le _ permitted (omega (arith, loaded .long, wellFormed t h .few-variables)))
+      (λ k l. subst (λ (z : ℕ). z < 2 ^ length (atoms t)) (sym (getD-take _ permitted k 0 l ∙ loaded .same k)) (settings-below t s ok k l))
+
+  pub loaded-idle : (k q : ℕ) → t .variables ≤ k → takes permitted k q ≡ true → ⊥
+  loaded-idle k q l e =
+      bit-of-zero q
+      (subst (λ (z : ℕ). bit z q ≡ true)
+      (loaded .same k ∙ List·getD-eq-default (s .permitted) 0 {n = k} (omega (arith, settings-long t s ok .0))) e)
+
+  module _ (before card : List ℕ) (counting : Counting (s .largest) before card) where
+    most-of : (k : ℕ) → k < t .variables → mostAt card k ≡ getD (s .largest) k 0
+    most-of k l = counting .counts k (omega (arith, settings-long t s ok .1))
+
+    module _ (other : List ℕ) (a : assignmentFault t other ≡ Done) where
+      heeds-inside : Heeds s other → Within other (take (t .variables) permitted)
+      heeds-inside h k q e =
+          front-takes (t .variables) permitted k q (accepted-bits t other a k q e .0)
+          (subst (λ (z : ℕ). bit z q ≡ true) (sym (loaded .same k)) (h .permitted k q e))
+
+      heeds-meets : Heeds s other → Solves t other → Meets t card other
+      heeds-meets h x =
+          record { solves = x; few = few-each t other a (mostAt card) (λ k l. omega (arith, h .few k, most-of k l)) }
+
+      inside-heeds : Within other (take (t .variables) permitted) → Meets t card other → Heeds s other
+      inside-heeds w m =
+          record {
+            permitted =
+                λ k q e. subst (λ (z : ℕ). bit z q ≡ true) (loaded .same k) (front-known (t .variables) permitted k q (w k q e) .1);
+            few = few-each t other a (λ k. getD (s .largest) k 0) (λ k l. omega (arith, m .few k, most-of k l));
+          }
+
+    pub found-within : (b : Bool) (choice : List ℕ) → FoundBy t card permitted b choice → FoundWithin t s b choice
+    found-within true choice f =
+        record {
+          long = f .long;
+          first =
+              record {
+                accepted = f .accepted;
+                heeds = inside-heeds _ (f .accepted) (f .inside) (f .meets);
+                solves = f .meets .solves;
+                first = λ other a h x. f .first other a (heeds-inside other a h) (heeds-meets other a h x);
+              };
+        }
+    found-within false choice f = λ other a h x. f other a (heeds-inside other a h) (heeds-meets other a h x)
+
+-- the check by the number of atoms that are listed
+pub settings-known : (t : Tables) (ids : List ℕ) (s : Settings) (r : Outcome) → Accepted t ids → r ≡ settingsFaultAt (length ids) (t .variables) s → r ≡ settingsFault t s
+unfolding settingsFault
+settings-known t ids s r A e = subst (λ (z : List ℕ). r ≡ settingsFaultAt (length z) (t .variables) s) (A .listed) e
+
+-- ---- the answer
+module _ (t : Tables) (s : Settings) (before : List ℕ) where
+  finds-refused : (r : Refusal) → Refused r ≡ withinFault t s (length before) → FindsWithin t s before before (replyRefused r)
+  finds-refused r e = subst (λ (f : Outcome). FindsWithinAfter f t s before before (replyRefused r)) e (refl, refl)
+
+  pub tables-refuse : (r : Refusal) → Refused r ≡ tableFault t → FindsWithin t s before before (replyRefused r)
+  unfolding withinFault
+  tables-refuse r e = finds-refused r (stops (Refused r) _ _ r e refl)
+
+  pub settings-refuse : tableFault t ≡ Done → (r : Refusal) → Refused r ≡ settingsFault t s → FindsWithin t s before before (replyRefused r)
+  unfolding withinFault
+  settings-refuse h r e = finds-refused r (goes-on Done _ _ _ (sym h) refl (stops (Refused r) _ _ r e refl))
+
+  pub buffer-refuses :
+      tableFault t ≡ Done → settingsFault t s ≡ Done → length before < t .variables
+      → FindsWithin t s before before (replyRefused (BufferTooShort (t .variables)))
+  unfolding withinFault bufferFault
+  buffer-refuses h g l =
+      finds-refused _ (goes-on Done _ _ _ (sym h) refl (goes-on Done _ _ _ (sym g) refl (refused-lt (length before) (t .variables) _ l)))
+
+module _ (t : Tables) (s : Settings) (before after : List ℕ) (ok : tableFault t ≡ Done) (set : settingsFault t s ≡ Done) (room : t .variables ≤ length before) where
+  passed : Done ≡ withinFault t s (length before)
+  unfolding withinFault bufferFault
+  passed = goes-on Done _ _ Done (sym ok) refl (goes-on Done _ _ Done (sym set) refl (done-le (length before) (t .variables) _ room))
+
+  front-copied : (choice : List ℕ) → length choice ≡ 8 → t .variables ≤ 8 → Copied (t .variables) choice before after → take (t .variables) after ≡ take (t .variables) choice
+  front-copied choice l v c =
+      let a : t .variables ≤ length after = omega (arith, c .size) in
+      let d : t .variables ≤ length choice = omega arith in
+      let g : length (take (t .variables) after) ≡ t .variables = length-take-le (t .variables) after a in
+      ext-getD 0 _ _ (g ∙ sym (length-take-le (t .variables) choice d))
+      (λ k m.
+      let n : k < t .variables = omega arith in
+      getD-take _ after k 0 n ∙ c .front k n ∙ sym (getD-take _ choice k 0 n))
+
+  rest-kept : (choice : List ℕ) → Copied (t .variables) choice before after → drop (t .variables) after ≡ drop (t .variables) before
+  rest-kept choice c =
+      ext-getD 0 _ _ (length-drop _ after ∙ ap (λ (z : ℕ). z - t .variables) (c .size) ∙ sym (length-drop _ before))
+      (λ k m. getD-drop _ after k 0 ∙ c .rest (t .variables + k) (omega arith) ∙ sym (getD-drop _ before k 0))
+
+  pub finds-filled :
+      (b : Bool) (choice : List ℕ) → FoundWithin t s b choice → b ≡ true → Copied (t .variables) choice before after
+      → FindsWithin t s before after (matchReply Filled)
+  finds-filled b choice g y c =
+      let found : FirstFound t s choice = subst (λ (z : Bool). FoundWithin t s z choice) y g in
+      subst (λ (z : Outcome). FindsWithinAfter z t s before after (matchReply Filled)) passed
+      (inl (
+        refl,
+        record {
+          size = c .size;
+          first = subst (FirstWithin t s) (sym (front-copied choice (found .long) (wellFormed t ok .few-variables) c)) (found .first);
+          rest = rest-kept choice c;
+        },
+      ))
+
+  pub finds-nothing :
+      (b : Bool) (choice : List ℕ) → FoundWithin t s b choice → b ≡ false → after ≡ before → FindsWithin t s before after (replyRefused NoAssignment)
+  finds-nothing b choice g y k =
+      let none : FoundWithin t s false choice = subst (λ (z : Bool). FoundWithin t s z choice) y g in
+      subst (λ (z : Outcome). FindsWithinAfter z t s before after (replyRefused NoAssignment)) passed
+      (inr (
+        refl,
+        record {
+          none = none;
+          by-substitution = λ u. none-by-substitution t ok (λ other a x. none other a (heeds-all t s u other a) x);
+          kept = k;
+        },
+      ))

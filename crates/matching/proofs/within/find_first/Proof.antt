@@ -1,0 +1,53 @@
+use native.Mathlib.Omega.{arith}
+use mathlib.Core.Path.{refl}
+use Rattle.subsumption.proofs.Accepted.{wellFormed}
+use Rattle.settings.proofs.SettingsLaws.{settings-long}
+use Rattle.matching.proofs.SearchLaws.Card.{shaped-kept, card-kept}
+use Rattle.matching.proofs.WithinLaws.{loaded-accepted, loaded-idle, found-within}
+use Rattle.matching.proofs.within.find_first.Statement.{statement}
+use Rattle.matching.proofs.within.find_first.Tie as tie
+
+slice-aggregate-make-card : tie.Need-slice-aggregate-make-card
+slice-aggregate-make-card c = omega arith
+
+slice-aggregate-make-card-2 : tie.Need-slice-aggregate-make-card-2
+slice-aggregate-make-card-2 c = omega arith
+
+make-card-requires : tie.Need-make-card-requires
+make-card-requires c κs = (c .before .before .before .before .before .before .before .before .before .pre .0, (refl, refl))
+
+slice-aggregate-put-counts : tie.Need-slice-aggregate-put-counts
+slice-aggregate-put-counts c = omega arith
+
+put-counts-requires : tie.Need-put-counts-requires
+put-counts-requires c κs = (c .before .before .before .make-card .ensures .0 .numbers .long, omega (arith, settings-long _ _ (c .before .before .before .before .before .before .before .before .before .before .before .before .before .pre .1) .1, wellFormed _ (c .before .before .before .before .before .before .before .before .before .before .before .before .before .pre .0 .passed) .few-variables))
+
+load-permitted-requires : tie.Need-load-permitted-requires
+load-permitted-requires c κs = omega (arith, settings-long _ _ (c .before .before .before .before .before .before .before .before .before .before .before .before .before .before .before .pre .1) .0, wellFormed _ (c .before .before .before .before .before .before .before .before .before .before .before .before .before .before .before .pre .0 .passed) .few-variables)
+
+slice-aggregate-search : tie.Need-slice-aggregate-search
+slice-aggregate-search c = omega arith
+
+slice-aggregate-search-2 : tie.Need-slice-aggregate-search-2
+slice-aggregate-search-2 c = omega arith
+
+search-requires : tie.Need-search-requires
+search-requires c κs = (shaped-kept _ _ (c .before .before .before .before .put-counts .ensures .front) _ (c .before .before .before .before .put-counts .ensures .size) (c .before .before .before .before .before .before .before .before .make-card .ensures .0), c .before .before .load-permitted .ensures .long)
+
+returns : tie.Need-returns
+returns c = found-within _ _ (c .before .before .before .before .before .before .before .before .before .before .before .before .before .before .before .before .before .before .before .pre .1) _ (c .before .before .before .load-permitted .ensures) _ _ (c .before .before .before .before .before .put-counts .ensures) (c .search .result .found) _ (c .search .ensures _ (card-kept _ _ (c .before .before .before .before .before .put-counts .ensures .front) _ _ (c .before .before .before .before .before .before .before .before .before .make-card .ensures .1)) (loaded-accepted _ _ (c .before .before .before .before .before .before .before .before .before .before .before .before .before .before .before .before .before .before .before .pre .1) _ (c .before .before .before .load-permitted .ensures) (c .before .before .before .before .before .before .before .before .before .before .before .before .before .before .before .before .before .before .before .pre .0 .passed)) (loaded-idle _ _ (c .before .before .before .before .before .before .before .before .before .before .before .before .before .before .before .before .before .before .before .pre .1) _ (c .before .before .before .load-permitted .ensures)))
+
+pub find-first-spec : {M : Type 1} → statement M
+find-first-spec =
+    tie.close
+    (tie.spec
+    slice-aggregate-make-card
+    slice-aggregate-make-card-2
+    make-card-requires
+    slice-aggregate-put-counts
+    put-counts-requires
+    load-permitted-requires
+    slice-aggregate-search
+    slice-aggregate-search-2
+    search-requires
+    returns)

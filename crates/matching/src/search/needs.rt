@@ -1,0 +1,117 @@
+// Needs: a nogood that is around the low side and leaves out pairs of one variable only says that every solution takes one of those pairs. Needs
+// without a pair in common want as many atoms as they are. So where they and what the low side takes are more than the variable's
+// largest count, there is no solution, and that is seen without splitting at any of them.
+use crate::limits::MOST;
+use crate::search::interval::Interval;
+use crate::search::nogoods::nogood_at;
+use crate::search::pairs::is_within;
+use crate::search::pairs::join;
+use settings::helpers::size_of;
+ghost use mathlib.Core.Path.{_≡_};
+ghost use Prim.Native.Nat.{_<_};
+ghost use lib.ListN.{length};
+ghost use Rattle.matching.specs.Inner.Search.Nogoods.{used, Room};
+ghost use Rattle.matching.specs.Inner.Search.Needs.{NeedAt, WantedOver};
+
+// The pairs of variable k that the nogood at place c wants one of, if it is a need and none of them was met before; else no pairs.
+fn need_at(store: &[u64], c: usize, full: [u64; 8], low: [u64; 8], k: usize, met: u64) -> u64
+    requires { ⌜ Room (now store) ⌝ }
+    requires { ⌜ (c < used (now store)) × (k < 8) ⌝ }
+    requires { ⌜ (length full ≡ 8) × (length low ≡ 8) ⌝ }
+    ensures { λ r. ⌜ NeedAt (now (store .entry)) c full low k met r ⌝ }
+{
+    let kept = store[c * 16 + 9 + k];
+    let wanted = (kept | full[k]) ^ kept;
+    if wanted & met != 0 {
+        return 0;
+    }
+    if wanted == 0 {
+        return 0;
+    }
+    let nogood = nogood_at(store, c);
+    let below = nogood.low;
+    let above = nogood.high;
+    let mut rest = full;
+    rest[k] = 0;
+    if is_within(below, low) & is_within(rest, above) {
+        return wanted;
+    }
+    0
+}
+
+// Whether more is wanted than the largest count of a variable, and what of the low side this is about.
+pub struct Wanted {
+    pub over: bool,
+    pub about: [u64; 8],
+}
+
+// Of variable k.
+fn count_needs(card: &[u16], store: &[u64], full: [u64; 8], low: [u64; 8], k: usize) -> Wanted
+    requires { ⌜ length (now card) ≡ 939 ⌝ }
+    requires { ⌜ Room (now store) ⌝ }
+    requires { ⌜ (length full ≡ 8) × (length low ≡ 8) × (k < 8) ⌝ }
+    ensures { λ r. ⌜ length (r .about) ≡ 8 ⌝ }
+    ensures { λ r. ⌜ WantedOver (now (card .entry)) (now (store .entry)) full low (r .over) (r .about) ⌝ }
+{
+    let most = card[MOST + k] as u32;
+    let count = store[0] as usize;
+    let mut about = [0u64; 8];
+    about[k] = low[k];
+    let mut met = low[k];
+    let mut sum = size_of(low[k]);
+    let mut c: usize = 0;
+    while c < count {
+        let at = c;
+        c += 1;
+        let wanted = need_at(store, at, full, low, k, met);
+        if wanted == 0 {
+            continue;
+        }
+        let nogood = nogood_at(store, at);
+        let below = nogood.low;
+        let more = join(about, below);
+        about = more;
+        met = met | wanted;
+        sum += 1;
+        if sum > most {
+            return Wanted { over: true, about };
+        }
+    }
+    Wanted { over: false, about }
+}
+
+// The largest count of the variable may stop an interval with these sides, and has not been reached. A hint only.
+fn is_counted(most: u16, low: u64, high: u64) -> bool {
+    if size_of(low) >= most as u32 {
+        return false;
+    }
+    size_of(high) > most as u32
+}
+
+// Of the first variable of which more is wanted.
+pub fn count_all(card: &[u16], store: &[u64], full: [u64; 8], interval: Interval) -> Wanted
+    requires { ⌜ length (now card) ≡ 939 ⌝ }
+    requires { ⌜ Room (now store) ⌝ }
+    requires { ⌜ (length full ≡ 8) × (length (interval .low) ≡ 8) × (length (interval .high) ≡ 8) ⌝ }
+    ensures { λ r. ⌜ length (r .about) ≡ 8 ⌝ }
+    ensures { λ r. ⌜ WantedOver (now (card .entry)) (now (store .entry)) full (interval .low) (r .over) (r .about) ⌝ }
+{
+    let low = interval.low;
+    let high = interval.high;
+    let mut k: usize = 0;
+    while k < 8 {
+        let v = k;
+        k += 1;
+        if !is_counted(card[MOST + v], low[v], high[v]) {
+            continue;
+        }
+        let wanted = count_needs(card, store, full, low, v);
+        if wanted.over {
+            return wanted;
+        }
+    }
+    Wanted {
+        over: false,
+        about: low,
+    }
+}

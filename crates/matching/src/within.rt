@@ -1,0 +1,219 @@
+// Finding the first assignment within settings that makes every question hold.
+use crate::find::Match;
+use crate::limits::CARD;
+use crate::limits::MOST;
+use crate::limits::SCRATCH;
+use crate::limits::SETS;
+use crate::limits::STORE;
+use crate::search::card::make_card;
+use crate::search::interval::Interval;
+use crate::search::narrow::narrow;
+use crate::search::order::first_solution;
+use crate::search::solve::some_solution;
+use settings::helpers::check_settings;
+use settings::helpers::load_permitted;
+use subsumption::Listed;
+use subsumption::limits::ATOMS;
+use subsumption::list_atoms;
+use subsumption::refusal::Outcome;
+use subsumption::refusal::Refusal;
+ghost use mathlib.Core.Path.{_≡_};
+ghost use Prim.Native.Nat.{_≤_};
+ghost use lib.ListN.{length};
+ghost use Rattle.subsumption.specs.declared.refusal.Outcome.the-variants.{Done};
+ghost use Rattle.subsumption.specs.Tables.{tables};
+ghost use Rattle.subsumption.specs.Inner.Listing.{Accepted};
+ghost use Rattle.settings.specs.Settings.{settings, settingsFault};
+ghost use Rattle.matching.specs.Inner.Within.{Counting, FoundIn, FoundWithin, Copied};
+ghost use Rattle.matching.specs.Inner.Search.Card.{Shaped};
+ghost use Rattle.matching.specs.Find.{matchReply};
+ghost use Rattle.matching.specs.Within.{FindsWithin};
+
+// A solution, if there is one.
+pub struct Solution {
+    pub found: bool,
+    pub choice: [u64; 8],
+}
+
+// The first solution of the card that takes permitted atoms only, if there is one.
+fn search(sets: &[u64], card: &[u16], permitted: [u64; 8]) -> Solution
+    requires { ⌜ Shaped (now sets) (now card) ⌝ }
+    requires { ⌜ length permitted ≡ 8 ⌝ }
+    ensures { λ r. ⌜ FoundIn (now (sets .entry)) (now (card .entry)) permitted (r .found) (r .choice) ⌝ }
+{
+    let mut store = [0u64; STORE];
+    let mut scratch = [0u64; SCRATCH];
+    let low = [0u64; 8];
+    let full = narrow(sets, card, &mut scratch, permitted);
+    let start = Interval { low, high: full };
+    let some = some_solution(sets, card, &mut store, &mut scratch, full, start);
+    let known = some.low;
+    if some.found {
+        let choice = first_solution(sets, card, &mut store, &mut scratch, start, known);
+        return Solution {
+            found: true,
+            choice,
+        };
+    }
+    Solution {
+        found: false,
+        choice: known,
+    }
+}
+
+// Writes the largest counts into the card.
+fn put_counts(card: &mut [u16], largest: &[u16])
+    requires { ⌜ (length (now card) ≡ 939) × (length (now largest) ≤ 8) ⌝ }
+    ensures { λ _. ⌜ Counting (now (largest .entry)) (now (card .entry)) (now (card .exit)) ⌝ }
+{
+    let mut k: usize = 0;
+    while k < largest.len() {
+        card[MOST + k] = largest[k];
+        k += 1;
+    }
+}
+
+// The first solution of accepted tables within accepted settings, if there is one. The ids are the atoms.
+fn find_first(
+    concepts: &[u16],
+    inclusions: &[u16],
+    questions: &[u16],
+    roles: &[u16],
+    variables: u16,
+    ids: &[u16],
+    permitted: &[u64],
+    largest: &[u16],
+) -> Solution
+    requires { ⌜ Accepted (tables (now concepts) (now inclusions) (now questions) (now roles) variables) (now ids) ⌝ }
+    requires { ⌜ settingsFault (tables (now concepts) (now inclusions) (now questions) (now roles) variables) (settings (now permitted) (now largest)) ≡ Done ⌝ }
+    ensures { λ r. ⌜ FoundWithin (tables (now (concepts .entry)) (now (inclusions .entry)) (now (questions .entry)) (now (roles .entry)) variables) (settings (now (permitted .entry)) (now (largest .entry))) (r .found) (r .choice) ⌝ }
+{
+    let mut sets = [0u64; SETS];
+    let mut card = [0u16; CARD];
+    make_card(
+        concepts,
+        inclusions,
+        questions,
+        roles,
+        variables,
+        ids,
+        &mut sets,
+        &mut card,
+    );
+    put_counts(&mut card, largest);
+    let high = load_permitted(permitted);
+    search(&sets, &card, high)
+}
+
+fn write_choice(choice: [u64; 8], count: usize, out: &mut [u64])
+    requires { ⌜ count ≤ 8 ⌝ }
+    requires { ⌜ count ≤ length (now out) ⌝ }
+    ensures { λ _. ⌜ Copied count choice (now (out .entry)) (now (out .exit)) ⌝ }
+{
+    let mut k: usize = 0;
+    while k < count {
+        out[k] = choice[k];
+        k += 1;
+    }
+}
+
+// The buffer's check, given accepted tables and settings, and then the search.
+fn find_set(
+    concepts: &[u16],
+    inclusions: &[u16],
+    questions: &[u16],
+    roles: &[u16],
+    variables: u16,
+    ids: &[u16],
+    permitted: &[u64],
+    largest: &[u16],
+    out: &mut [u64],
+) -> Match
+    requires { ⌜ Accepted (tables (now concepts) (now inclusions) (now questions) (now roles) variables) (now ids) ⌝ }
+    requires { ⌜ settingsFault (tables (now concepts) (now inclusions) (now questions) (now roles) variables) (settings (now permitted) (now largest)) ≡ Done ⌝ }
+    ensures { λ r. ⌜ FindsWithin (tables (now (concepts .entry)) (now (inclusions .entry)) (now (questions .entry)) (now (roles .entry)) variables) (settings (now (permitted .entry)) (now (largest .entry))) (now (out .entry)) (now (out .exit)) (matchReply r) ⌝ }
+{
+    let wanted = variables as usize;
+    if out.len() < wanted {
+        return Match::Rejected(Refusal::BufferTooShort(wanted));
+    }
+    let first = find_first(
+        concepts,
+        inclusions,
+        questions,
+        roles,
+        variables,
+        ids,
+        permitted,
+        largest,
+    );
+    if first.found {
+        let choice = first.choice;
+        write_choice(choice, wanted, out);
+        return Match::Filled;
+    }
+    Match::Rejected(Refusal::NoAssignment)
+}
+
+// The rest of the checks, given the atoms of accepted tables, and then the search.
+pub fn find_known(
+    concepts: &[u16],
+    inclusions: &[u16],
+    questions: &[u16],
+    roles: &[u16],
+    variables: u16,
+    ids: &[u16],
+    permitted: &[u64],
+    largest: &[u16],
+    out: &mut [u64],
+) -> Match
+    requires { ⌜ Accepted (tables (now concepts) (now inclusions) (now questions) (now roles) variables) (now ids) ⌝ }
+    ensures { λ r. ⌜ FindsWithin (tables (now (concepts .entry)) (now (inclusions .entry)) (now (questions .entry)) (now (roles .entry)) variables) (settings (now (permitted .entry)) (now (largest .entry))) (now (out .entry)) (now (out .exit)) (matchReply r) ⌝ }
+{
+    let checked = check_settings(permitted, largest, variables, ids.len());
+    match checked {
+        Outcome::Refused(r) => Match::Rejected(r),
+        Outcome::Done => find_set(
+            concepts,
+            inclusions,
+            questions,
+            roles,
+            variables,
+            ids,
+            permitted,
+            largest,
+            out,
+        ),
+    }
+}
+
+// Finds the first assignment within the settings that makes every question hold, or says that none does. It writes one number a variable.
+pub fn find_within(
+    concepts: &[u16],
+    inclusions: &[u16],
+    questions: &[u16],
+    roles: &[u16],
+    variables: u16,
+    permitted: &[u64],
+    largest: &[u16],
+    out: &mut [u64],
+) -> Match
+    ensures { λ r. ⌜ FindsWithin (tables (now (concepts .entry)) (now (inclusions .entry)) (now (questions .entry)) (now (roles .entry)) variables) (settings (now (permitted .entry)) (now (largest .entry))) (now (out .entry)) (now (out .exit)) (matchReply r) ⌝ }
+{
+    let mut ids = [0u16; ATOMS];
+    let listed = list_atoms(concepts, inclusions, questions, roles, variables, &mut ids);
+    match listed {
+        Listed::Rejected(r) => Match::Rejected(r),
+        Listed::Atoms(count) => find_known(
+            concepts,
+            inclusions,
+            questions,
+            roles,
+            variables,
+            &ids[..count],
+            permitted,
+            largest,
+            out,
+        ),
+    }
+}
