@@ -1,13 +1,9 @@
-// The operations for C and Rust. No logic of its own: each export calls one operation and turns its answer into numbers.
+// The operations for C and Rust. No logic of its own: each export calls one operation and gives its answer in numbers.
+use answers::Answer;
+use answers::answer_of;
+use answers::decided;
 use countermodel::Shown;
-use matching::Chosen;
-use matching::Derived;
-use matching::Match;
 use owl::Catalogue;
-use subsumption::Decision;
-use subsumption::Listed;
-use subsumption::Tabled;
-use subsumption::VariableSet;
 use subsumption::refusal::Outcome;
 use subsumption::refusal::code_of;
 ghost use mathlib.Core.Path.{_≡_};
@@ -18,9 +14,11 @@ ghost use Rattle.subsumption.specs.Refusal.{replyWith, replyOf};
 ghost use Rattle.subsumption.specs.Check.{tableFault, pairFault};
 ghost use Rattle.subsumption.specs.Listing.{listingFault, listedIn};
 ghost use Rattle.subsumption.specs.Table.{Wrote};
-ghost use Rattle.subsumption.specs.Decide.{decisionReply, Decides};
+ghost use Rattle.subsumption.specs.Decide.{Decides};
 ghost use Rattle.matching.specs.Derivation.{checkingFault};
+ghost use Rattle.settings.specs.Settings.{settings};
 ghost use Rattle.matching.specs.Find.{Finds};
+ghost use Rattle.matching.specs.Within.{FindsWithin};
 ghost use Rattle.matching.specs.Chosen.{choosingFault, chosenIn};
 ghost use Rattle.matching.specs.Writer.{Derives};
 ghost use Rattle.countermodel.specs.Show.{Shows};
@@ -28,15 +26,8 @@ ghost use Rattle.countermodel.specs.Membership.{DecidesMember};
 ghost use Rattle.incremental.specs.Update.{Updates};
 ghost use Rattle.renumbering.specs.Renumber.{Renumbers};
 ghost use Rattle.owl.specs.Read.{catalogueReply, ReadsCatalogue};
-ghost use Rattle.capi.specs.Answer.{replied, repliedTables};
-
-// number 0: done; else the refusal's number, with its place and value 0.
-#[repr(C)]
-pub struct Answer {
-    pub number: u16,
-    pub place: u64,
-    pub value: u64,
-}
+ghost use Rattle.answers.specs.Answer.{replied};
+ghost use Rattle.capi.specs.Answer.{repliedTables};
 
 // number 0: so many entries and inclusions were read; else the refusal's number, with its place and zeros.
 #[repr(C)]
@@ -45,40 +36,6 @@ pub struct CatalogueAnswer {
     pub place: u64,
     pub entries: u64,
     pub inclusions: u64,
-}
-
-// What an operation answered, in the header's numbers.
-fn answer_of(outcome: Outcome, value: u64) -> Answer
-    ensures { λ a. ⌜ replied a ≡ replyWith outcome value ⌝ }
-{
-    match outcome {
-        Outcome::Done => Answer {
-            number: 0,
-            place: 0,
-            value,
-        },
-        Outcome::Refused(r) => {
-            let code = code_of(r);
-            let number = code.number;
-            let place = code.place as u64;
-            Answer {
-                number,
-                place,
-                value: 0,
-            }
-        }
-    }
-}
-
-// A decision: 1 for yes, 0 for no.
-fn decided(answer: Decision) -> Answer
-    ensures { λ a. ⌜ replied a ≡ decisionReply answer ⌝ }
-{
-    match answer {
-        Decision::Rejected(r) => answer_of(Outcome::Refused(r), 0),
-        Decision::Yes => answer_of(Outcome::Done, 1),
-        Decision::No => answer_of(Outcome::Done, 0),
-    }
 }
 
 // Checks the tables.
@@ -92,8 +49,7 @@ pub extern "C" fn hc_check(
 ) -> Answer
     ensures { λ a. ⌜ replied a ≡ replyOf (tableFault (tables (now (concepts .entry)) (now (inclusions .entry)) (now (questions .entry)) (now (roles .entry)) variables)) ⌝ }
 {
-    let checked = subsumption::check_tables(concepts, inclusions, questions, roles, variables);
-    answer_of(checked, 0)
+    answers::check(concepts, inclusions, questions, roles, variables)
 }
 
 // Lists the atoms' ids; value: how many.
@@ -109,11 +65,7 @@ pub extern "C" fn hc_atoms(
     ensures { λ a. ⌜ replied a ≡ replyWith (listingFault (tables (now (concepts .entry)) (now (inclusions .entry)) (now (questions .entry)) (now (roles .entry)) variables) (length (now (out .entry)))) (length (atoms (tables (now (concepts .entry)) (now (inclusions .entry)) (now (questions .entry)) (now (roles .entry)) variables))) ⌝ }
     ensures { λ a. ⌜ now (out .exit) ≡ listedIn (listingFault (tables (now (concepts .entry)) (now (inclusions .entry)) (now (questions .entry)) (now (roles .entry)) variables) (length (now (out .entry)))) (tables (now (concepts .entry)) (now (inclusions .entry)) (now (questions .entry)) (now (roles .entry)) variables) (now (out .entry)) ⌝ }
 {
-    let answer = subsumption::list_atoms(concepts, inclusions, questions, roles, variables, out);
-    match answer {
-        Listed::Rejected(r) => answer_of(Outcome::Refused(r), 0),
-        Listed::Atoms(n) => answer_of(Outcome::Done, n as u64),
-    }
+    answers::atoms(concepts, inclusions, questions, roles, variables, out)
 }
 
 // The set of the variables in a concept; value: the set, bit k for variable k.
@@ -128,11 +80,7 @@ pub extern "C" fn hc_blanks(
 ) -> Answer
     ensures { λ a. ⌜ replied a ≡ replyWith (pairFault (tables (now (concepts .entry)) (now (inclusions .entry)) (now (questions .entry)) (now (roles .entry)) variables) id id) (variablesOf (tree (now (concepts .entry)) id)) ⌝ }
 {
-    let answer = subsumption::variables_in(concepts, inclusions, questions, roles, variables, id);
-    match answer {
-        VariableSet::Rejected(r) => answer_of(Outcome::Refused(r), 0),
-        VariableSet::Set(set) => answer_of(Outcome::Done, set as u64),
-    }
+    answers::blanks(concepts, inclusions, questions, roles, variables, id)
 }
 
 // Writes the subsumption table under an assignment; value: how many marks.
@@ -148,7 +96,7 @@ pub extern "C" fn hc_subsumption_table(
 ) -> Answer
     ensures { λ a. ⌜ Wrote (tables (now (concepts .entry)) (now (inclusions .entry)) (now (questions .entry)) (now (roles .entry)) variables) (now (assignment .entry)) (now (out .entry)) (now (out .exit)) (replied a) ⌝ }
 {
-    let answer = subsumption::write_table(
+    answers::subsumption_table(
         concepts,
         inclusions,
         questions,
@@ -156,11 +104,7 @@ pub extern "C" fn hc_subsumption_table(
         variables,
         assignment,
         out,
-    );
-    match answer {
-        Tabled::Rejected(r) => answer_of(Outcome::Refused(r), 0),
-        Tabled::Marks(marks) => answer_of(Outcome::Done, marks as u64),
-    }
+    )
 }
 
 // Decides one pair under an assignment; value: 1 or 0.
@@ -177,7 +121,7 @@ pub extern "C" fn hc_subsumed(
 ) -> Answer
     ensures { λ a. ⌜ Decides (tables (now (concepts .entry)) (now (inclusions .entry)) (now (questions .entry)) (now (roles .entry)) variables) (now (assignment .entry)) left right (replied a) ⌝ }
 {
-    let answer = subsumption::decide_pair(
+    answers::subsumed(
         concepts,
         inclusions,
         questions,
@@ -186,8 +130,7 @@ pub extern "C" fn hc_subsumed(
         assignment,
         left,
         right,
-    );
-    decided(answer)
+    )
 }
 
 // Finds the first assignment that makes every question hold; refusal 10: no substitution does.
@@ -202,11 +145,33 @@ pub extern "C" fn hc_match(
 ) -> Answer
     ensures { λ a. ⌜ Finds (tables (now (concepts .entry)) (now (inclusions .entry)) (now (questions .entry)) (now (roles .entry)) variables) (now (out .entry)) (now (out .exit)) (replied a) ⌝ }
 {
-    let answer = matching::find_assignment(concepts, inclusions, questions, roles, variables, out);
-    match answer {
-        Match::Rejected(r) => answer_of(Outcome::Refused(r), 0),
-        Match::Filled => answer_of(Outcome::Done, 0),
-    }
+    matching_answers::find(concepts, inclusions, questions, roles, variables, out)
+}
+
+// The same within settings; refusal 10: no assignment within them does.
+#[no_mangle]
+pub extern "C" fn hc_match_within(
+    concepts: &[u16],
+    inclusions: &[u16],
+    questions: &[u16],
+    roles: &[u16],
+    variables: u16,
+    permitted: &[u64],
+    largest: &[u16],
+    out: &mut [u64],
+) -> Answer
+    ensures { λ a. ⌜ FindsWithin (tables (now (concepts .entry)) (now (inclusions .entry)) (now (questions .entry)) (now (roles .entry)) variables) (settings (now (permitted .entry)) (now (largest .entry))) (now (out .entry)) (now (out .exit)) (replied a) ⌝ }
+{
+    matching_answers::find_within(
+        concepts,
+        inclusions,
+        questions,
+        roles,
+        variables,
+        permitted,
+        largest,
+        out,
+    )
 }
 
 // Lists one variable's chosen ids; value: how many.
@@ -224,7 +189,7 @@ pub extern "C" fn hc_chosen(
     ensures { λ a. ⌜ replied a ≡ replyWith (choosingFault (tables (now (concepts .entry)) (now (inclusions .entry)) (now (questions .entry)) (now (roles .entry)) variables) (now (assignment .entry)) variable (length (now (out .entry)))) (length (chosen (tables (now (concepts .entry)) (now (inclusions .entry)) (now (questions .entry)) (now (roles .entry)) variables) (now (assignment .entry)) variable)) ⌝ }
     ensures { λ a. ⌜ now (out .exit) ≡ chosenIn (choosingFault (tables (now (concepts .entry)) (now (inclusions .entry)) (now (questions .entry)) (now (roles .entry)) variables) (now (assignment .entry)) variable (length (now (out .entry)))) (chosen (tables (now (concepts .entry)) (now (inclusions .entry)) (now (questions .entry)) (now (roles .entry)) variables) (now (assignment .entry)) variable) (now (out .entry)) ⌝ }
 {
-    let answer = matching::put_chosen(
+    matching_answers::chosen(
         concepts,
         inclusions,
         questions,
@@ -233,11 +198,7 @@ pub extern "C" fn hc_chosen(
         assignment,
         variable,
         out,
-    );
-    match answer {
-        Chosen::Rejected(r) => answer_of(Outcome::Refused(r), 0),
-        Chosen::Ids(n) => answer_of(Outcome::Done, n as u64),
-    }
+    )
 }
 
 // Writes the derivation of one pair under an assignment; value: how many lines.
@@ -255,7 +216,7 @@ pub extern "C" fn hc_derive(
 ) -> Answer
     ensures { λ a. ⌜ Derives (tables (now (concepts .entry)) (now (inclusions .entry)) (now (questions .entry)) (now (roles .entry)) variables) (now (assignment .entry)) left right (now (out .entry)) (now (out .exit)) (replied a) ⌝ }
 {
-    let answer = matching::derive(
+    matching_answers::derive(
         concepts,
         inclusions,
         questions,
@@ -265,11 +226,7 @@ pub extern "C" fn hc_derive(
         left,
         right,
         out,
-    );
-    match answer {
-        Derived::Rejected(r) => answer_of(Outcome::Refused(r), 0),
-        Derived::Lines(n) => answer_of(Outcome::Done, n as u64),
-    }
+    )
 }
 
 // Checks a derivation of one pair under an assignment.
@@ -287,7 +244,7 @@ pub extern "C" fn hc_check_derivation(
 ) -> Answer
     ensures { λ a. ⌜ replied a ≡ replyOf (checkingFault (tables (now (concepts .entry)) (now (inclusions .entry)) (now (questions .entry)) (now (roles .entry)) variables) (now (assignment .entry)) left right (now (lines .entry))) ⌝ }
 {
-    let judged = matching::check_derivation(
+    matching_answers::check_derivation(
         concepts,
         inclusions,
         questions,
@@ -297,8 +254,7 @@ pub extern "C" fn hc_check_derivation(
         left,
         right,
         lines,
-    );
-    answer_of(judged, 0)
+    )
 }
 
 // Shows an interpretation where one pair fails under an assignment; value: how many rows. Its elements are the concepts.

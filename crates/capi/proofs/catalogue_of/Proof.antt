@@ -1,22 +1,20 @@
+use native.Mathlib.Omega.{arith}
 use Rattle.capi.proofs.Answers.{counts-told, refusal-told}
-use borrow.Author.Needs.{needs}
 use Rattle.capi.proofs.catalogue_of.Statement.{statement}
 use Rattle.capi.proofs.catalogue_of.Tie as tie
-use Rattle.capi.proofs.catalogue_of.Reads as reads
 use Rattle.capi.proofs.catalogue_of.Lts as lts
-use Rattle.subsumption.proofs.refusal.code_of.Reads as code-of-reads
 
 -- src/lib.rt:426:27
 enum-known-catalogue : tie.Need-enum-known-catalogue
-enum-known-catalogue c = search needs
+enum-known-catalogue c = omega arith
 
 -- src/lib.rt:432:29
 enum-known-catalogue-2 : tie.Need-enum-known-catalogue-2
-enum-known-catalogue-2 c = search needs
+enum-known-catalogue-2 c = omega arith
 
 -- src/lib.rt:433:17
 code-of-requires : tie.Need-code-of-requires
-code-of-requires c κs = search needs
+code-of-requires c κs = omega arith
 
 -- src/lib.rt:422:1
 returns : tie.Need-returns

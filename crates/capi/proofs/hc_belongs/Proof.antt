@@ -1,17 +1,15 @@
+use native.Mathlib.Omega.{arith}
 use mathlib.Core.List.{[]}
 use Rattle.subsumption.specs.Tables.{tables}
 use Rattle.capi.proofs.Answers.{member-as}
-use borrow.Author.Needs.{needs}
 use Rattle.capi.proofs.hc_belongs.Statement.{statement}
 use Rattle.capi.proofs.hc_belongs.Tie as tie
-use Rattle.capi.proofs.decided.Reads as decided-reads
-use Rattle.countermodel.proofs.decide_member.Reads as decide-member-reads
 
 decide-member-requires : tie.Need-decide-member-requires
-decide-member-requires c κs = search needs
+decide-member-requires c κs = omega arith
 
 decided-requires : tie.Need-decided-requires
-decided-requires c κs = search needs
+decided-requires c κs = omega arith
 
 returns : tie.Need-returns
 returns c = member-as (tables (c .before .before .before .before .before .before .before .before .args .concepts .now) (c .before .before .before .before .before .before .before .before .args .inclusions .now) (c .before .before .before .before .before .before .before .before .args .questions .now) (c .before .before .before .before .before .before .before .before .args .roles .now) (c .before .before .before .before .before .before .before .before .args .variables)) (c .before .before .before .before .before .before .before .before .args .assignment .now) [] [] (c .before .before .before .before .before .before .before .before .args .concept) (c .before .before .before .before .before .before .before .before .args .element) (c .decided .result) (c .before .before .before .before .before .before .before .before .args .size) (c .before .before .before .before .before .before .before .before .args .rows .now) (c .before .decide-member .result) (c .before .decide-member .ensures) (c .decided .ensures)

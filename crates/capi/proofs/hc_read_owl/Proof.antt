@@ -1,27 +1,24 @@
+use native.Mathlib.Omega.{arith}
 use Rattle.capi.proofs.Answers.{reads-as}
-use borrow.Author.Needs.{needs}
 use Rattle.capi.proofs.hc_read_owl.Statement.{statement}
 use Rattle.capi.proofs.hc_read_owl.Tie as tie
-use Rattle.capi.proofs.hc_read_owl.Reads as reads
 use Rattle.capi.proofs.hc_read_owl.Lts as lts
-use Rattle.capi.proofs.catalogue_of.Reads as catalogue-of-reads
-use Rattle.owl.proofs.read_catalogue.Reads as read-catalogue-reads
 
 -- src/lib.rt:455:9
 read-catalogue-requires : tie.Need-read-catalogue-requires
-read-catalogue-requires c κs = search needs
+read-catalogue-requires c κs = omega arith
 
 -- src/lib.rt:456:5
 catalogue-of-requires : tie.Need-catalogue-of-requires
-catalogue-of-requires c κs = search needs
+catalogue-of-requires c κs = omega arith
 
 -- src/lib.rt:447:1
 same-length : tie.Need-same-length
-same-length c = search needs
+same-length c = omega arith
 
 -- src/lib.rt:447:1
 same-length-2 : tie.Need-same-length-2
-same-length-2 c = search needs
+same-length-2 c = omega arith
 
 -- src/lib.rt:447:1
 returns : tie.Need-returns

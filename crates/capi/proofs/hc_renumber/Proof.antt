@@ -1,24 +1,22 @@
+use native.Mathlib.Omega.{arith}
 use Rattle.capi.proofs.Answers.{renumbers-as}
-use borrow.Author.Needs.{needs}
 use Rattle.capi.proofs.hc_renumber.Statement.{statement}
 use Rattle.capi.proofs.hc_renumber.Tie as tie
-use Rattle.capi.proofs.answer_of.Reads as answer-of-reads
-use Rattle.renumbering.proofs.renumber_tables.Reads as renumber-tables-reads
 
 renumber-tables-requires : tie.Need-renumber-tables-requires
-renumber-tables-requires c κs = search needs
+renumber-tables-requires c κs = omega arith
 
 answer-of-requires : tie.Need-answer-of-requires
-answer-of-requires c κs = search needs
+answer-of-requires c κs = omega arith
 
 same-length : tie.Need-same-length
-same-length c = search needs
+same-length c = omega arith
 
 same-length-2 : tie.Need-same-length-2
-same-length-2 c = search needs
+same-length-2 c = omega arith
 
 same-length-3 : tie.Need-same-length-3
-same-length-3 c = search needs
+same-length-3 c = omega arith
 
 returns : tie.Need-returns
 returns c = renumbers-as _ _ _ _ _ _ _ _ (c .answer-of .result) (c .before .before .before .before .before .before .before .renumber-tables .result) (c .before .before .before .before .before .before .before .renumber-tables .ensures) (c .answer-of .ensures)

@@ -1,19 +1,17 @@
+use native.Mathlib.Omega.{arith}
 use Rattle.subsumption.specs.Tables.{tables}
 use Rattle.capi.proofs.Answers.{updates-as}
-use borrow.Author.Needs.{needs}
 use Rattle.capi.proofs.hc_update_table.Statement.{statement}
 use Rattle.capi.proofs.hc_update_table.Tie as tie
-use Rattle.capi.proofs.answer_of.Reads as answer-of-reads
-use Rattle.incremental.proofs.update_table.Reads as update-table-reads
 
 update-table-requires : tie.Need-update-table-requires
-update-table-requires c κs = search needs
+update-table-requires c κs = omega arith
 
 answer-of-requires : tie.Need-answer-of-requires
-answer-of-requires c κs = search needs
+answer-of-requires c κs = omega arith
 
 same-length : tie.Need-same-length
-same-length c = search needs
+same-length c = omega arith
 
 returns : tie.Need-returns
 returns c = updates-as (tables (c .before .before .before .before .before .before .before .before .before .before .before .args .concepts .now) (c .before .before .before .before .before .before .before .before .before .before .before .args .inclusions .now) (c .before .before .before .before .before .before .before .before .before .before .before .args .questions .now) (c .before .before .before .before .before .before .before .before .before .before .before .args .roles .now) (c .before .before .before .before .before .before .before .before .before .before .before .args .variables)) (c .before .before .before .before .before .before .before .before .before .before .before .args .told .now) (c .before .before .before .before .before .before .before .before .before .before .before .args .table .now) _ (c .answer-of .result) (c .before .before .before .update-table .result) (c .before .before .before .update-table .ensures) (c .answer-of .ensures)

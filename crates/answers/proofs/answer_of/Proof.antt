@@ -1,16 +1,16 @@
-use Rattle.capi.proofs.Answers.{by-done, by-code}
-use borrow.Author.Needs.{needs}
-use Rattle.capi.proofs.answer_of.Statement.{statement}
-use Rattle.capi.proofs.answer_of.Tie as tie
+use native.Mathlib.Omega.{arith}
+use Rattle.answers.proofs.AnswerLaws.{by-done, by-code}
+use Rattle.answers.proofs.answer_of.Statement.{statement}
+use Rattle.answers.proofs.answer_of.Tie as tie
 
 enum-told : tie.Need-enum-told
-enum-told c = search needs
+enum-told c = omega arith
 
 enum-known-outcome : tie.Need-enum-known-outcome
-enum-known-outcome c = search needs
+enum-known-outcome c = omega arith
 
 code-of-requires : tie.Need-code-of-requires
-code-of-requires c κs = search needs
+code-of-requires c κs = omega arith
 
 returns : tie.Need-returns
 returns c = by-done (c .before .before .args .outcome) (c .before .before .args .value) (c .enum-told .given .1)

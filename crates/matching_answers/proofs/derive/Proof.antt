@@ -1,40 +1,38 @@
+use native.Mathlib.Omega.{arith}
 use Rattle.subsumption.specs.Tables.{tables}
-use Rattle.capi.proofs.Answers.{derives-as}
-use borrow.Author.Needs.{needs}
-use Rattle.capi.proofs.hc_derive.Statement.{statement}
-use Rattle.capi.proofs.hc_derive.Tie as tie
-use Rattle.capi.proofs.answer_of.Reads as answer-of-reads
-use Rattle.matching.proofs.derive.Reads as derive-reads
+use Rattle.matching_answers.proofs.AnswerLaws.{derives-as}
+use Rattle.matching_answers.proofs.derive.Statement.{statement}
+use Rattle.matching_answers.proofs.derive.Tie as tie
 
 derive-requires : tie.Need-derive-requires
-derive-requires c κs = search needs
+derive-requires c κs = omega arith
 
 enum-known-answer : tie.Need-enum-known-answer
-enum-known-answer c = search needs
+enum-known-answer c = omega arith
 
 answer-of-requires : tie.Need-answer-of-requires
-answer-of-requires c κs = search needs
+answer-of-requires c κs = omega arith
 
 enum-known-answer-2 : tie.Need-enum-known-answer-2
-enum-known-answer-2 c = search needs
+enum-known-answer-2 c = omega arith
 
 answer-of-requires-2 : tie.Need-answer-of-requires-2
-answer-of-requires-2 c κs = search needs
+answer-of-requires-2 c κs = omega arith
 
 same-length : tie.Need-same-length
-same-length c = search needs
+same-length c = omega arith
 
 returns : tie.Need-returns
 returns c = derives-as (tables (c .before .before .before .before .before .before .before .before .before .before .before .before .before .before .args .concepts .now) (c .before .before .before .before .before .before .before .before .before .before .before .before .before .before .args .inclusions .now) (c .before .before .before .before .before .before .before .before .before .before .before .before .before .before .args .questions .now) (c .before .before .before .before .before .before .before .before .before .before .before .before .before .before .args .roles .now) (c .before .before .before .before .before .before .before .before .before .before .before .before .before .before .args .variables)) (c .before .before .before .before .before .before .before .before .before .before .before .before .before .before .args .assignment .now) (c .before .before .before .before .before .before .before .before .before .before .before .before .before .before .args .out .now) _ (c .before .before .before .before .before .before .before .before .before .before .before .before .before .before .args .left) (c .before .before .before .before .before .before .before .before .before .before .before .before .before .before .args .right) (c .answer-of .result) (c .before .before .before .before .before .before .derive .result) _ (c .before .before .before .before .before .before .derive .ensures) (c .before .before .answer .given .1) (c .answer-of .ensures)
 
 same-length-2 : tie.Need-same-length-2
-same-length-2 c = search needs
+same-length-2 c = omega arith
 
 returns-2 : tie.Need-returns-2
 returns-2 c = derives-as (tables (c .before .before .before .before .before .before .before .before .before .before .before .before .before .before .args .concepts .now) (c .before .before .before .before .before .before .before .before .before .before .before .before .before .before .args .inclusions .now) (c .before .before .before .before .before .before .before .before .before .before .before .before .before .before .args .questions .now) (c .before .before .before .before .before .before .before .before .before .before .before .before .before .before .args .roles .now) (c .before .before .before .before .before .before .before .before .before .before .before .before .before .before .args .variables)) (c .before .before .before .before .before .before .before .before .before .before .before .before .before .before .args .assignment .now) (c .before .before .before .before .before .before .before .before .before .before .before .before .before .before .args .out .now) _ (c .before .before .before .before .before .before .before .before .before .before .before .before .before .before .args .left) (c .before .before .before .before .before .before .before .before .before .before .before .before .before .before .args .right) (c .answer-of2 .result) (c .before .before .before .before .before .before .derive .result) _ (c .before .before .before .before .before .before .derive .ensures) (c .before .before .answer2 .given .1) (c .answer-of2 .ensures)
 
-pub hc-derive-spec : {M : Type 1} → statement M
-hc-derive-spec =
+pub derive-spec : {M : Type 1} → statement M
+derive-spec =
     tie.close
     (tie.spec
     derive-requires

@@ -1,27 +1,26 @@
-use borrow.Author.Needs.{needs}
+use native.Mathlib.Omega.{arith}
 use mathlib.Core.Path.{sym, ap, _∙_}
 use Rattle.subsumption.specs.Decide.{decisionReply}
-use Rattle.capi.proofs.decided.Statement.{statement}
-use Rattle.capi.proofs.decided.Tie as tie
-use Rattle.capi.proofs.answer_of.Reads as answer-of-reads
+use Rattle.answers.proofs.decided.Statement.{statement}
+use Rattle.answers.proofs.decided.Tie as tie
 
 enum-known-answer : tie.Need-enum-known-answer
-enum-known-answer c = search needs
+enum-known-answer c = omega arith
 
 answer-of-requires : tie.Need-answer-of-requires
-answer-of-requires c κs = search needs
+answer-of-requires c κs = omega arith
 
 enum-told : tie.Need-enum-told
-enum-told c = search needs
+enum-told c = omega arith
 
 answer-of-requires-2 : tie.Need-answer-of-requires-2
-answer-of-requires-2 c κs = search needs
+answer-of-requires-2 c κs = omega arith
 
 enum-told-2 : tie.Need-enum-told-2
-enum-told-2 c = search needs
+enum-told-2 c = omega arith
 
 answer-of-requires-3 : tie.Need-answer-of-requires-3
-answer-of-requires-3 c κs = search needs
+answer-of-requires-3 c κs = omega arith
 
 returns : tie.Need-returns
 returns c = c .answer-of .ensures ∙ ap decisionReply (sym (c .before .before .answer .given .1))

@@ -1,0 +1,2 @@
+-- What an answer in numbers tells.
+pub mod Answer

@@ -1,0 +1,159 @@
+// Answers in the numbers of the C interface: those of the operations of `matching`.
+use answers::Answer;
+use answers::answer_of;
+use matching::Chosen;
+use matching::Derived;
+use matching::Match;
+use subsumption::refusal::Outcome;
+ghost use mathlib.Core.Path.{_≡_};
+ghost use lib.ListN.{length};
+ghost use Rattle.subsumption.specs.Tables.{tables};
+ghost use Rattle.subsumption.specs.Atoms.{chosen};
+ghost use Rattle.subsumption.specs.Refusal.{replyWith, replyOf};
+ghost use Rattle.settings.specs.Settings.{settings};
+ghost use Rattle.matching.specs.Derivation.{checkingFault};
+ghost use Rattle.matching.specs.Find.{matchReply, Finds};
+ghost use Rattle.matching.specs.Within.{FindsWithin};
+ghost use Rattle.matching.specs.Chosen.{choosingFault, chosenIn};
+ghost use Rattle.matching.specs.Writer.{Derives};
+ghost use Rattle.answers.specs.Answer.{replied};
+
+// What a finder answered.
+fn matched(answer: Match) -> Answer
+    ensures { λ a. ⌜ replied a ≡ matchReply answer ⌝ }
+{
+    match answer {
+        Match::Rejected(r) => answer_of(Outcome::Refused(r), 0),
+        Match::Filled => answer_of(Outcome::Done, 0),
+    }
+}
+
+// Finds the first assignment that makes every question hold; refusal 10: no substitution does.
+pub fn find(
+    concepts: &[u16],
+    inclusions: &[u16],
+    questions: &[u16],
+    roles: &[u16],
+    variables: u16,
+    out: &mut [u64],
+) -> Answer
+    ensures { λ a. ⌜ Finds (tables (now (concepts .entry)) (now (inclusions .entry)) (now (questions .entry)) (now (roles .entry)) variables) (now (out .entry)) (now (out .exit)) (replied a) ⌝ }
+{
+    let answer = matching::find_assignment(concepts, inclusions, questions, roles, variables, out);
+    matched(answer)
+}
+
+// The same within settings; refusal 10: no assignment within them does.
+pub fn find_within(
+    concepts: &[u16],
+    inclusions: &[u16],
+    questions: &[u16],
+    roles: &[u16],
+    variables: u16,
+    permitted: &[u64],
+    largest: &[u16],
+    out: &mut [u64],
+) -> Answer
+    ensures { λ a. ⌜ FindsWithin (tables (now (concepts .entry)) (now (inclusions .entry)) (now (questions .entry)) (now (roles .entry)) variables) (settings (now (permitted .entry)) (now (largest .entry))) (now (out .entry)) (now (out .exit)) (replied a) ⌝ }
+{
+    let answer = matching::find_within(
+        concepts,
+        inclusions,
+        questions,
+        roles,
+        variables,
+        permitted,
+        largest,
+        out,
+    );
+    matched(answer)
+}
+
+// Lists one variable's chosen ids; value: how many.
+pub fn chosen(
+    concepts: &[u16],
+    inclusions: &[u16],
+    questions: &[u16],
+    roles: &[u16],
+    variables: u16,
+    assignment: &[u64],
+    variable: u16,
+    out: &mut [u16],
+) -> Answer
+    ensures { λ a. ⌜ replied a ≡ replyWith (choosingFault (tables (now (concepts .entry)) (now (inclusions .entry)) (now (questions .entry)) (now (roles .entry)) variables) (now (assignment .entry)) variable (length (now (out .entry)))) (length (chosen (tables (now (concepts .entry)) (now (inclusions .entry)) (now (questions .entry)) (now (roles .entry)) variables) (now (assignment .entry)) variable)) ⌝ }
+    ensures { λ a. ⌜ now (out .exit) ≡ chosenIn (choosingFault (tables (now (concepts .entry)) (now (inclusions .entry)) (now (questions .entry)) (now (roles .entry)) variables) (now (assignment .entry)) variable (length (now (out .entry)))) (chosen (tables (now (concepts .entry)) (now (inclusions .entry)) (now (questions .entry)) (now (roles .entry)) variables) (now (assignment .entry)) variable) (now (out .entry)) ⌝ }
+{
+    let answer = matching::put_chosen(
+        concepts,
+        inclusions,
+        questions,
+        roles,
+        variables,
+        assignment,
+        variable,
+        out,
+    );
+    match answer {
+        Chosen::Rejected(r) => answer_of(Outcome::Refused(r), 0),
+        Chosen::Ids(n) => answer_of(Outcome::Done, n as u64),
+    }
+}
+
+// Writes the derivation of one pair under an assignment; value: how many lines.
+pub fn derive(
+    concepts: &[u16],
+    inclusions: &[u16],
+    questions: &[u16],
+    roles: &[u16],
+    variables: u16,
+    assignment: &[u64],
+    left: u16,
+    right: u16,
+    out: &mut [u16],
+) -> Answer
+    ensures { λ a. ⌜ Derives (tables (now (concepts .entry)) (now (inclusions .entry)) (now (questions .entry)) (now (roles .entry)) variables) (now (assignment .entry)) left right (now (out .entry)) (now (out .exit)) (replied a) ⌝ }
+{
+    let answer = matching::derive(
+        concepts,
+        inclusions,
+        questions,
+        roles,
+        variables,
+        assignment,
+        left,
+        right,
+        out,
+    );
+    match answer {
+        Derived::Rejected(r) => answer_of(Outcome::Refused(r), 0),
+        Derived::Lines(n) => answer_of(Outcome::Done, n as u64),
+    }
+}
+
+// Checks a derivation of one pair under an assignment.
+pub fn check_derivation(
+    concepts: &[u16],
+    inclusions: &[u16],
+    questions: &[u16],
+    roles: &[u16],
+    variables: u16,
+    assignment: &[u64],
+    left: u16,
+    right: u16,
+    lines: &[u16],
+) -> Answer
+    ensures { λ a. ⌜ replied a ≡ replyOf (checkingFault (tables (now (concepts .entry)) (now (inclusions .entry)) (now (questions .entry)) (now (roles .entry)) variables) (now (assignment .entry)) left right (now (lines .entry))) ⌝ }
+{
+    let judged = matching::check_derivation(
+        concepts,
+        inclusions,
+        questions,
+        roles,
+        variables,
+        assignment,
+        left,
+        right,
+        lines,
+    );
+    answer_of(judged, 0)
+}
