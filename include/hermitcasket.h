@@ -9,8 +9,8 @@
  *   in an output buffer written too. Where the count is 0 the pointer may be anything, NULL too:
  *   nothing is read or written through it.
  * - An output buffer overlaps nothing else that the call is lent, no other output buffer either; a
- *   held table is one. Tables, filling, told pairs, the list of new ids, lines, the rows of a given
- *   stock and a text may overlap one another.
+ *   held table is one. Tables, filling, settings, told pairs, the list of new ids, lines, the rows of
+ *   a given stock and a text may overlap one another.
  * - While a call runs, nothing else writes what it is lent, nor reads its output buffers.
  * - The thread has as much stack left as the operation needs, in bytes at most:
  *     hc_check              8192
@@ -19,6 +19,7 @@
  *     hc_subsumption_table  32768
  *     hc_subsumed           32768
  *     hc_match              1114112   (512 pairs split one under another; the most measured is 360152)
+ *     hc_match_within       1114112   (as hc_match)
  *     hc_chosen             8192
  *     hc_derive             524288
  *     hc_check_derivation   65536
@@ -56,6 +57,10 @@
  * as top. A filling may also be told as pairs, a blank and the id of a part chosen for it, in any
  * order and with repeats: positions shift when an inclusion brings new parts, ids do not.
  *
+ * Settings say, for each blank, what it may take: a permitted set of parts, in the same bits as a
+ * choice, and a largest count from 0 to 64. A filling is within them when every blank takes
+ * permitted parts only, and no more of them than its largest count.
+ *
  * A derivation is lines of four numbers: rule, left, right, extra; left and right are entry ids.
  * Premises stand on earlier lines:
  *   1  equal ids, or two name entries of one name; extra 0
@@ -90,9 +95,9 @@
  * Order of fillings: look at the pairs (blank, position), blank 0 first and positions rising. At
  * the first pair where two fillings differ, the one that leaves the part out is earlier.
  *
- * Refusals. Checks run in the order 1 to 6, 16, 7, then 9, 21, 22, 15, 8, 11, 10; 12 comes last.
- * Within one check the lowest place wins; 8 takes several buffers in turn. The checks of a given
- * stock, again 1, 2 and 4, come after 9. Of a catalogue's text 8 comes first, then 17 for its
+ * Refusals. Checks run in the order 1 to 6, 16, 7, then 9, 19, 21, 22, 15, 8, 11, 10; 12 comes
+ * last. Within one check the lowest place wins; 8 takes several buffers in turn. The checks of a
+ * given stock, again 1, 2 and 4, come after 9. Of a catalogue's text 8 comes first, then 17 for its
  * length; then the first byte at fault decides between 17, 18 and 1.
  *
  *   number  condition                                          place
@@ -119,7 +124,8 @@
  *           of told pairs: a ragged list (tested first), or    0
  *           a blank not below the count or an id that is no    pair
  *           part
- *   10      no filling exists                                  0
+ *   10      no filling exists; with settings: none that is     0
+ *           within them
  *   11      derivation wanted, pair not below                  0
  *   12      no lines or a ragged list; a line breaks its       0; line, from 0; count of lines
  *           rule; the last line is another pair
@@ -129,6 +135,9 @@
  *           any other token or form than the syntax has, or    first byte of the token; the
  *           the text ends too early                            text's length
  *   18      of a catalogue: a class begun over 32 deep         its first byte
+ *   19      another number of permitted sets or of largest     count of blanks
+ *           counts than blanks (tested first), or a permitted  blank
+ *           bit past the parts or a count over 64
  *   21      of a list of new ids: a number that is no id or    its place, from 0
  *           stood before, or, tested last, too few numbers     length of the list
  *   22      by a list of new ids an inner id would not be      old id
@@ -215,6 +224,20 @@ hc_answer hc_match(const uint16_t *entries, size_t entries_len,
                    const uint16_t *roles, size_t roles_len,
                    uint16_t blanks,
                    uint64_t *out, size_t out_len);
+
+/* Finds the first filling, in the order of fillings, of those within the settings that make every
+ * question hold, and writes one number a blank to the front of out, which wants as many numbers as
+ * there are blanks. permitted and largest have one number a blank each. Refusal 10 says that no
+ * filling within the settings does; others, and other replacements, may. With all parts permitted
+ * and 64 everywhere this is hc_match. value: 0. */
+hc_answer hc_match_within(const uint16_t *entries, size_t entries_len,
+                          const uint16_t *inclusions, size_t inclusions_len,
+                          const uint16_t *questions, size_t questions_len,
+                          const uint16_t *roles, size_t roles_len,
+                          uint16_t blanks,
+                          const uint64_t *permitted, size_t permitted_len,
+                          const uint16_t *largest, size_t largest_len,
+                          uint64_t *out, size_t out_len);
 
 /* Writes the ids chosen for one blank, rising, to the front of out, which wants 64 numbers. A
  * blank number not below the count is refusal 2, place 0. value: how many, the number of ones in

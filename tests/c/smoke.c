@@ -41,6 +41,7 @@ static void nulls(void)
     show("no rows", hc_subsumption_table(NOTHING, NULL, 0, NULL, 0));
     show("no entry", hc_subsumed(NOTHING, NULL, 0, 0, 0));
     show("nothing to fill", hc_match(NOTHING, NULL, 0));
+    show("nothing to permit", hc_match_within(NOTHING, NULL, 0, NULL, 0, NULL, 0));
     show("no blank", hc_chosen(NOTHING, NULL, 0, 0, NULL, 0));
     show("nothing to derive", hc_derive(NOTHING, NULL, 0, 0, 0, NULL, 0));
     show("nothing to check", hc_check_derivation(NOTHING, NULL, 0, 0, 0, NULL, 0));
@@ -67,6 +68,8 @@ static void nulls(void)
     show("no room for parts", hc_atoms(TABLES, NULL, 0));
     show("no room for rows", hc_subsumption_table(TABLES, filling, LEN(filling), NULL, 0));
     show("no room to fill", hc_match(TABLES, NULL, 0));
+    show("no settings", hc_match_within(TABLES, NULL, 0, NULL, 0, NULL, 0));
+    show("no counts", hc_match_within(TABLES, filling, 1, NULL, 0, NULL, 0));
     show("no room for ids", hc_chosen(TABLES, filling, LEN(filling), 0, NULL, 0));
     show("no room for lines", hc_derive(TABLES, filling, LEN(filling), 2, 3, NULL, 0));
     show("no list of lines", hc_check_derivation(TABLES, filling, LEN(filling), 2, 3, NULL, 0));
@@ -131,6 +134,29 @@ static void stocks(void)
     show("a row too far", hc_belongs(TABLES, filling, LEN(filling), 1, given, LEN(given), 6, 2));
     show("193 things", hc_belongs(TABLES, filling, LEN(filling), 193, given, LEN(given), 0, 0));
     show("filling first", hc_belongs(TABLES, filling, 0, 193, given, LEN(given), 0, 0));
+}
+
+/* The sample's blank, whose parts are 0, 2 and 3, with other parts barred and fewer of them. */
+static void settings(void)
+{
+    static const uint64_t all[] = {7, 7}, two[] = {3}, one[] = {1}, past[] = {8};
+    static const uint16_t any[] = {64, 64}, single[] = {1}, nothing[] = {0}, over[] = {65};
+    uint64_t found[] = {77, 77};
+
+#define WITHIN(permitted, largest) hc_match_within(TABLES, permitted, 1, largest, 1, found, 2)
+    show("all permitted", WITHIN(all, any));
+    printf("found %llu %llu\n", (unsigned long long)found[0], (unsigned long long)found[1]);
+    show("the last barred", WITHIN(two, single));
+    printf("found %llu %llu\n", (unsigned long long)found[0], (unsigned long long)found[1]);
+    show("both barred", WITHIN(one, any));
+    show("at most none", WITHIN(all, nothing));
+    show("past the parts", WITHIN(past, any));
+    show("over 64", WITHIN(all, over));
+    show("two sets", hc_match_within(TABLES, all, 2, any, 1, found, 2));
+    show("two counts", hc_match_within(TABLES, past, 1, any, 2, found, 0));
+    show("settings first", hc_match_within(TABLES, past, 1, any, 1, found, 0));
+    show("room then", hc_match_within(TABLES, one, 1, any, 1, found, 0));
+    printf("found %llu %llu\n", (unsigned long long)found[0], (unsigned long long)found[1]);
 }
 
 /* The sample's table without an inclusion, where 3 is the only part, and then with one and two. */
@@ -252,6 +278,7 @@ int main(void)
     show("not below", hc_derive(TABLES, filling, LEN(filling), 3, 2, lines, LEN(lines)));
     show("no lines", hc_check_derivation(TABLES, filling, LEN(filling), 2, 3, lines, 0));
     role_pairs();
+    settings();
     stocks();
     shift();
     filing();

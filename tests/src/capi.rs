@@ -127,6 +127,24 @@ extern "C" {
         out_len: usize,
     ) -> Answer;
 
+    fn hc_match_within(
+        concepts: *const u16,
+        concepts_len: usize,
+        inclusions: *const u16,
+        inclusions_len: usize,
+        questions: *const u16,
+        questions_len: usize,
+        roles: *const u16,
+        roles_len: usize,
+        variables: u16,
+        permitted: *const u64,
+        permitted_len: usize,
+        largest: *const u16,
+        largest_len: usize,
+        out: *mut u64,
+        out_len: usize,
+    ) -> Answer;
+
     fn hc_chosen(
         concepts: *const u16,
         concepts_len: usize,
@@ -370,6 +388,30 @@ pub fn find(t: TablesRef, out: &mut [u64]) -> Answer {
             t.roles.as_ptr(),
             t.roles.len(),
             t.variables,
+            out.as_mut_ptr(),
+            out.len(),
+        )
+    }
+}
+
+/// The first assignment that takes permitted atoms only, and no more of them than the largest count,
+/// for each variable.
+pub fn find_within(t: TablesRef, permitted: &[u64], largest: &[u16], out: &mut [u64]) -> Answer {
+    unsafe {
+        hc_match_within(
+            t.concepts.as_ptr(),
+            t.concepts.len(),
+            t.inclusions.as_ptr(),
+            t.inclusions.len(),
+            t.questions.as_ptr(),
+            t.questions.len(),
+            t.roles.as_ptr(),
+            t.roles.len(),
+            t.variables,
+            permitted.as_ptr(),
+            permitted.len(),
+            largest.as_ptr(),
+            largest.len(),
             out.as_mut_ptr(),
             out.len(),
         )

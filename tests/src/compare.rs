@@ -89,6 +89,32 @@ pub fn find_expecting(case: &Case, expected: Result<Vec<u64>, Refusal>) -> Answe
     answer
 }
 
+/// The matcher within the case's settings, against the reference's search.
+pub fn find_within(case: &Case) -> Answer {
+    let expected = reference::find_within(&case.tables, &case.settings, case.match_room);
+    find_within_expecting(case, expected)
+}
+
+/// The same where the answer is known otherwise.
+pub fn find_within_expecting(case: &Case, expected: Result<Vec<u64>, Refusal>) -> Answer {
+    let name = "hc_match_within";
+    let mut random = noise(case);
+    let inputs = LentInputs::new(&case.tables, &case.assignment, &mut random);
+    let permitted: Lent<u64> = Lent::holding(&case.settings.permitted, &mut random);
+    let largest: Lent<u16> = Lent::holding(&case.settings.largest, &mut random);
+    let mut out: Lent<u64> = Lent::noise(case.match_room, &mut random);
+    let tables = inputs.tables();
+    let answer = capi::find_within(tables, permitted.slice(), largest.slice(), out.slice_mut());
+    let written = expected.clone().unwrap_or_default();
+    judge(case, name, answer, expected.map(|_| 0), &inputs);
+    judge_output(case, name, &permitted, &[]);
+    judge_output(case, name, &largest, &[]);
+    let now = &out.slice()[..written.len()];
+    assert!(now == written, "{} wrote {:?}, not {:?}, for\n{}", name, now, written, case);
+    judge_output(case, name, &out, &written);
+    answer
+}
+
 pub fn chosen(case: &Case) -> Answer {
     let mut random = noise(case);
     let inputs = LentInputs::new(&case.tables, &case.assignment, &mut random);

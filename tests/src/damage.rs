@@ -1,9 +1,10 @@
-//! Faults put at random into tables, assignments, interpretations, told pairs, held marks and lists of
-//! new ids.
+//! Faults put at random into tables, assignments, settings, interpretations, told pairs, held marks and
+//! lists of new ids.
 
 use crate::layout::Relation;
 use crate::limits::*;
 use crate::random::Random;
+use crate::settings::Settings;
 use crate::tables::{Stock, Tables};
 
 /// One to three faults put into the tables; some leave them accepted.
@@ -178,6 +179,25 @@ pub fn assignment(random: &mut Random, choices: &mut Vec<u64>) {
             if !choices.is_empty() {
                 let at = random.below(choices.len());
                 choices[at] |= 1 << random.below(64);
+            }
+        }
+    }
+}
+
+/// Another number of settings, one more permitted bit, or a count at or over the limit; some leave
+/// the settings accepted.
+pub fn settings(random: &mut Random, settings: &mut Settings) {
+    let Settings { permitted, largest } = settings;
+    match random.below(6) {
+        0 => permitted.push(0),
+        1 => largest.push(0),
+        2 => drop(permitted.pop()),
+        3 => drop(largest.pop()),
+        4 => assignment(random, permitted),
+        _ => {
+            if !largest.is_empty() {
+                let at = random.below(largest.len());
+                largest[at] = *random.pick(&[64, 65, 128, 256, 65535]);
             }
         }
     }

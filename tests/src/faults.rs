@@ -2,9 +2,10 @@
 //! Every set of them can be put in at once, to see which check speaks first.
 
 use crate::limits::{line_room, ATOM_ROOM, ROW_BYTES};
+use crate::settings::Settings;
 use crate::tables::{Case, Stock, Tables};
 
-/// In the order of the checks: 1 to 6, 16, 7, then 9, 21, 22, 15, 8; and 1, 2, 4 of a given
+/// In the order of the checks: 1 to 6, 16, 7, then 9, 19, 21, 22, 15, 8; and 1, 2, 4 of a given
 /// interpretation. 9 is that of an assignment, or of one told as pairs; the last three are 8 of the
 /// buffers for renumbered tables.
 #[derive(Clone, Copy, Debug, PartialEq, Eq)]
@@ -24,6 +25,10 @@ pub enum Fault {
     RaggedTold,
     NoAtomTold,
     NoVariableTold,
+    ShortPermitted,
+    LongLargest,
+    PermittedPastAtoms,
+    CountTooHigh,
     NoIdInOrder,
     RepeatedInOrder,
     ShortOrder,
@@ -39,8 +44,8 @@ pub enum Fault {
     ShortQuestions,
 }
 
-/// Those of every operation but one that shows or is given an interpretation, is told pairs, or gives
-/// new ids.
+/// Those of every operation but one that shows or is given an interpretation, is told pairs, has
+/// settings, or gives new ids.
 pub const FAULTS: [Fault; 13] = [
     Fault::Ragged,
     Fault::RaggedRoles,
@@ -94,6 +99,14 @@ pub fn updating_faults() -> Vec<Fault> {
     faults
 }
 
+/// For matching within settings: 19 stands before 8.
+pub fn settings_faults() -> Vec<Fault> {
+    let mut faults = table_faults(false);
+    faults.extend([Fault::ShortPermitted, Fault::LongLargest]);
+    faults.extend([Fault::PermittedPastAtoms, Fault::CountTooHigh, Fault::ShortBuffer]);
+    faults
+}
+
 /// For new ids: 21 and 22, and then 8 for each buffer in turn.
 pub fn renumbering_faults() -> Vec<Fault> {
     let mut faults = table_faults(false);
@@ -117,8 +130,8 @@ const CHANGED_INNER: usize = 74;
 const COUNT: usize = 75;
 
 /// 75 concepts, 31 inclusions, 1 question, 2 role pairs, 2 variables, 60 atoms; an interpretation
-/// of two elements, of which the first is a member of the concept asked for; three told pairs, a
-/// held table with marks everywhere, and a list that turns the names round.
+/// of two elements, of which the first is a member of the concept asked for; settings that permit
+/// all, three told pairs, a held table with marks everywhere, and a list that turns the names round.
 pub fn base() -> Case {
     let mut rows: Vec<[u16; 3]> = vec![[0, 0, 0], [4, 1, 0], [4, 0, 0]];
     rows.extend((3..68).map(|name| [1, name, 0]));
@@ -131,6 +144,7 @@ pub fn base() -> Case {
     let tables = Tables::new(&rows, &inclusions, &[[VARIABLE, 0]], 2);
     let tables = tables.with_roles(&[[7, 99], [99, 0]]);
     let mut case = Case::new(tables, &[0, 0]);
+    case.settings = Settings::open(&case.tables);
     case.row_room = 4 * SHOWN_ROWS;
     case.stock = Stock::new(2, &[[0, 1, 9, 0], [1, 0, 99, 1], [0, 0, 3, 0]]);
     case.asked = (3, 0);
@@ -160,6 +174,10 @@ impl Fault {
             Fault::RaggedTold => (9, 0),
             Fault::NoAtomTold => (9, 1),
             Fault::NoVariableTold => (9, 2),
+            Fault::ShortPermitted => (19, 2),
+            Fault::LongLargest => (19, 2),
+            Fault::PermittedPastAtoms => (19, 0),
+            Fault::CountTooHigh => (19, 1),
             Fault::NoIdInOrder => (21, 40),
             Fault::RepeatedInOrder => (21, 50),
             Fault::ShortOrder => (21, COUNT as u64 - 1),
@@ -196,6 +214,10 @@ impl Fault {
             Fault::RaggedTold => case.told.push(0),
             Fault::NoAtomTold => case.told[3] = 63,
             Fault::NoVariableTold => case.told[4] = 2,
+            Fault::ShortPermitted => drop(case.settings.permitted.pop()),
+            Fault::LongLargest => case.settings.largest.push(64),
+            Fault::PermittedPastAtoms => case.settings.permitted[0] |= 1 << 60,
+            Fault::CountTooHigh => case.settings.largest[1] = 65,
             Fault::NoIdInOrder => case.order[40] = COUNT as u16,
             Fault::RepeatedInOrder => case.order[50] = case.order[3],
             Fault::ShortOrder => drop(case.order.pop()),

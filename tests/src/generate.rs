@@ -9,6 +9,7 @@ use crate::orders;
 use crate::random::{Random, Size};
 use crate::reference::{self, atoms, countermodel};
 use crate::semantics::signature;
+use crate::settings::{all_atoms, Settings};
 use crate::shift::{held_marks, held_table, told};
 use crate::tables::{Case, Stock, Tables};
 
@@ -454,6 +455,27 @@ pub fn assignment(random: &mut Random, tables: &Tables) -> Vec<u64> {
     (0..tables.variables).map(|_| choice(random) & all).collect()
 }
 
+/// Settings that check 19 accepts, for accepted tables.
+pub fn settings(random: &mut Random, tables: &Tables) -> Settings {
+    let all = all_atoms(tables);
+    let permitted = |random: &mut Random| match random.below(6) {
+        0 => 0,
+        1 | 2 => all,
+        3 => random.number() & all,
+        4 => (random.number() | random.number() | random.number()) & all,
+        _ => all & !(1 << random.below(64)),
+    };
+    let largest = |random: &mut Random| match random.below(6) {
+        0 => MAX_ATOMS as u16,
+        1 => random.below(MAX_ATOMS + 1) as u16,
+        2 => all.count_ones() as u16,
+        _ => random.below(4) as u16,
+    };
+    let both = |_| (permitted(random), largest(random));
+    let (permitted, largest) = (0..tables.variables).map(both).unzip();
+    Settings { permitted, largest }
+}
+
 /// A random case, some with copies pasted in: most are accepted, the others are damaged in the
 /// tables, the assignment, the pair or the buffers, or in several of them.
 pub fn case(random: &mut Random, size: Size) -> Case {
@@ -477,6 +499,21 @@ pub fn case(random: &mut Random, size: Size) -> Case {
     if random.percent(15) {
         damage::assignment(random, &mut case.assignment);
     }
+    case
+}
+
+/// A random case for matching within settings, with fewer questions, so that both answers are
+/// frequent. Now and then the settings are damaged.
+pub fn within_case(random: &mut Random, size: Size) -> Case {
+    let mut case = case(random, size);
+    case.tables.questions.truncate(2 * random.between(0, 6));
+    if reference::check(&case.tables).is_ok() {
+        case.settings = settings(random, &case.tables);
+    }
+    if random.percent(15) {
+        damage::settings(random, &mut case.settings);
+    }
+    case.match_room = room(random, usize::from(case.tables.variables).min(20));
     case
 }
 

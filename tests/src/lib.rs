@@ -23,6 +23,8 @@ pub mod process;
 pub mod random;
 pub mod reference;
 pub mod semantics;
+pub mod settings;
+pub mod settings_families;
 pub mod shift;
 pub mod substitution;
 pub mod tables;

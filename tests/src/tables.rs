@@ -4,6 +4,7 @@ use std::fmt;
 
 use crate::limits::{line_room, ATOM_ROOM, ROW_BYTES};
 use crate::orders::identity;
+use crate::settings::Settings;
 
 /// The raw tables, damaged or not. 01: entries, inclusions, questions, number of blanks; 02: roles.
 #[derive(Clone, Debug, Default, PartialEq, Eq)]
@@ -146,6 +147,8 @@ pub struct Case {
     pub table_room: usize,
     /// Length of the buffer for the matcher's assignment, in numbers.
     pub match_room: usize,
+    /// What the matcher may take.
+    pub settings: Settings,
     /// The variable whose chosen ids are listed, and the length of the buffer for them.
     pub variable: u16,
     pub chosen_room: usize,
@@ -170,8 +173,8 @@ pub struct Case {
 
 impl Case {
     /// Buffers as long as wanted, but none for shown rows, whose number is not known yet; the pair
-    /// (0, 0), variable 0, no lines, no elements, nothing told, no held table, each id its own new
-    /// one.
+    /// (0, 0), no settings, variable 0, no lines, no elements, nothing told, no held table, each id
+    /// its own new one.
     pub fn new(tables: Tables, assignment: &[u64]) -> Self {
         let table_room = tables.concept_count() * ROW_BYTES;
         let match_room = usize::from(tables.variables);
@@ -185,6 +188,7 @@ impl Case {
             atom_room: ATOM_ROOM,
             table_room,
             match_room,
+            settings: Settings::default(),
             variable: 0,
             chosen_room: ATOM_ROOM,
             line_room,
@@ -235,6 +239,7 @@ impl fmt::Display for Case {
         writeln!(f, "atom_room: {},", self.atom_room)?;
         writeln!(f, "table_room: {},", self.table_room)?;
         writeln!(f, "match_room: {},", self.match_room)?;
+        writeln!(f, "settings: {},", self.settings)?;
         writeln!(f, "variable: {},", self.variable)?;
         writeln!(f, "chosen_room: {},", self.chosen_room)?;
         writeln!(f, "line_room: {},", self.line_room)?;

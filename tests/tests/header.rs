@@ -42,6 +42,19 @@ role 100 16 1 0
 ragged pairs 1 4 0
 32 pairs 0 0 0
 33 pairs 1 4 0
+all permitted 0 0 0
+found 4 77
+the last barred 0 0 0
+found 2 77
+both barred 10 0 0
+at most none 10 0 0
+past the parts 19 0 0
+over 64 19 0 0
+two sets 19 1 0
+two counts 19 1 0
+settings first 19 0 0
+room then 8 1 0
+found 2 77
 shown 0 0 9
 row 0 0 5 0
 row 0 1 7 0
@@ -123,6 +136,7 @@ no entry to look at 4 0 0
 no rows 0 0 0
 no entry 4 0 0
 nothing to fill 0 0 0
+nothing to permit 0 0 0
 no blank 2 0 0
 nothing to derive 4 0 0
 nothing to check 4 0 0
@@ -142,6 +156,8 @@ derived 0 0 1
 no room for parts 8 64 0
 no room for rows 8 144 0
 no room to fill 8 1 0
+no settings 19 1 0
+no counts 19 1 0
 no room for ids 8 64 0
 no room for lines 8 144 0
 no list of lines 12 0 0
@@ -218,5 +234,5 @@ fn the_archive_has_no_variables() {
             _ => panic!("{}", line),
         }
     }
-    assert_eq!(exported.len(), 14, "{:?}", exported);
+    assert_eq!(exported.len(), 15, "{:?}", exported);
 }

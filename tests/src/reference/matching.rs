@@ -6,12 +6,14 @@
 //! that fails (more atoms only help) is made to fail with as many atoms as possible: one of the
 //! others must be taken. An antitone one is made to fail with as few as possible: one of them must
 //! be left. A model under which no question fails is the first solution; clauses without a model
-//! mean that there is none.
+//! mean that there is none. Settings are there from the start: a clause for each pair that is not
+//! permitted, and a largest number for each variable's pairs.
 
 use super::clauses::Clauses;
 use super::model::Canonical;
 use super::patterns::Patterns;
 use super::{atoms, relation, roles};
+use crate::settings::Settings;
 use crate::tables::Tables;
 
 /// Whether every question holds under the assignment.
@@ -38,9 +40,18 @@ pub fn brute_force(tables: &Tables) -> Option<Vec<u64>> {
 
 /// The same where the variables choose from another list of ids.
 pub fn brute_force_over(tables: &Tables, ids: &[usize]) -> Option<Vec<u64>> {
+    solutions_over(tables, ids).next()
+}
+
+/// Every assignment that solves, in 01's order.
+pub fn solutions(tables: &Tables) -> Vec<Vec<u64>> {
+    solutions_over(tables, &atoms::list(tables)).collect()
+}
+
+fn solutions_over<'a>(tables: &'a Tables, ids: &'a [usize]) -> impl Iterator<Item = Vec<u64>> + 'a {
     let choices = usize::from(tables.variables) * ids.len();
     assert!(choices < 20, "too many assignments to try");
-    let of_number = |number: u32| {
+    let of_number = move |number: u32| {
         let mut assignment = vec![0; usize::from(tables.variables)];
         for digit in (0..choices).filter(|&digit| number >> (choices - 1 - digit) & 1 == 1) {
             assignment[digit / ids.len()] |= 1 << (digit % ids.len());
@@ -49,7 +60,24 @@ pub fn brute_force_over(tables: &Tables, ids: &[usize]) -> Option<Vec<u64>> {
     };
     let solves =
         |assignment: &Vec<u64>| solves_choosing(tables, &atoms::chosen_from(ids, assignment));
-    (0..1u32 << choices).map(of_number).find(solves)
+    (0..1u32 << choices).map(of_number).filter(solves)
+}
+
+/// Whether no variable takes an atom that it may not, nor more of them than its largest count.
+pub fn heeds(settings: &Settings, assignment: &[u64]) -> bool {
+    let heeded = |(k, &choice): (usize, &u64)| {
+        let position = |&position: &usize| choice >> position & 1 == 1;
+        let mut taken = (0..64).filter(position);
+        let count = taken.clone().count();
+        count <= usize::from(settings.largest[k])
+            && taken.all(|position| settings.permitted[k] >> position & 1 == 1)
+    };
+    assignment.iter().enumerate().all(heeded)
+}
+
+/// The first of all assignments within the settings that solves, each tried.
+pub fn brute_force_within(tables: &Tables, settings: &Settings) -> Option<Vec<u64>> {
+    solutions(tables).into_iter().find(|assignment| heeds(settings, assignment))
 }
 
 /// The first solution, by the search. The tables must be accepted.
@@ -60,6 +88,36 @@ pub fn first_solution(tables: &Tables) -> Option<Vec<u64>> {
 /// The same where the variables choose from another list of up to 64 ids.
 pub fn first_solution_over(tables: &Tables, ids: &[usize]) -> Option<Vec<u64>> {
     search_over(tables, ids).0
+}
+
+/// The first solution within settings that check 19 accepts, by the search.
+pub fn first_solution_within(tables: &Tables, settings: &Settings) -> Option<Vec<u64>> {
+    first_solution_within_with_effort(tables, settings).0
+}
+
+/// The same and what it took.
+pub fn first_solution_within_with_effort(
+    tables: &Tables,
+    settings: &Settings,
+) -> (Option<Vec<u64>>, Effort) {
+    let patterns = patterns_over(tables, &atoms::list(tables));
+    let clauses = clauses_of(settings, patterns.atom_count());
+    search_with_effort(&patterns, clauses, usize::from(tables.variables))
+}
+
+/// A largest count that leaves room for all is none.
+fn clauses_of(settings: &Settings, atoms: usize) -> Clauses {
+    let mut clauses = Clauses::new(settings.permitted.len() * atoms);
+    for (k, &permitted) in settings.permitted.iter().enumerate() {
+        let pairs = k * atoms..(k + 1) * atoms;
+        let barred = pairs.clone().filter(|pair| permitted >> (pair - k * atoms) & 1 == 0);
+        barred.for_each(|pair| clauses.add(vec![(pair, false)]));
+        let most = usize::from(settings.largest[k]);
+        if most < atoms {
+            clauses.add_at_most(pairs, most);
+        }
+    }
+    clauses
 }
 
 /// How hard the search was.
@@ -77,15 +135,24 @@ pub fn first_solution_with_effort(tables: &Tables) -> (Option<Vec<u64>>, Effort)
 }
 
 fn search_over(tables: &Tables, ids: &[usize]) -> (Option<Vec<u64>>, Effort) {
-    let below = relation(tables, &vec![0; usize::from(tables.variables)]);
-    let wider = roles::wider_bits(tables);
-    let patterns = Patterns::new(tables, ids, wider, |i, j| below[i][j]);
-    search_with_effort(&patterns, usize::from(tables.variables))
+    let patterns = patterns_over(tables, ids);
+    let variables = usize::from(tables.variables);
+    search_with_effort(&patterns, Clauses::new(variables * ids.len()), variables)
 }
 
-fn search_with_effort(patterns: &Patterns, variables: usize) -> (Option<Vec<u64>>, Effort) {
+fn patterns_over(tables: &Tables, ids: &[usize]) -> Patterns {
+    let below = relation(tables, &vec![0; usize::from(tables.variables)]);
+    let wider = roles::wider_bits(tables);
+    Patterns::new(tables, ids, wider, |i, j| below[i][j])
+}
+
+/// `clauses` are those that are known beforehand.
+fn search_with_effort(
+    patterns: &Patterns,
+    mut clauses: Clauses,
+    variables: usize,
+) -> (Option<Vec<u64>>, Effort) {
     let atoms = patterns.atom_count();
-    let mut clauses = Clauses::new(variables * atoms);
     let mut tried = 0;
     loop {
         let model = clauses.first_model();

@@ -20,6 +20,7 @@ pub mod roles;
 
 use crate::layout;
 use crate::limits::{line_room, ATOM_ROOM, CATALOGUE_ROOMS, MAX_TEXT, ROW_BYTES};
+use crate::settings::Settings;
 use crate::tables::{Case, Stock, Tables};
 
 /// A refusal of 01's table.
@@ -80,6 +81,15 @@ pub fn find(tables: &Tables, room: usize) -> Result<Vec<u64>, Refusal> {
     refusals::of_tables(tables, None)?;
     refusals::of_room(room, usize::from(tables.variables))?;
     matching::first_solution(tables).ok_or(Refusal { number: 10, place: 0 })
+}
+
+/// Operation: find the first assignment within the settings that solves all questions.
+pub fn find_within(tables: &Tables, settings: &Settings, room: usize) -> Result<Vec<u64>, Refusal> {
+    refusals::of_tables(tables, None)?;
+    refusals::of_settings(tables, settings)?;
+    refusals::of_room(room, usize::from(tables.variables))?;
+    let first = matching::first_solution_within(tables, settings);
+    first.ok_or(Refusal { number: 10, place: 0 })
 }
 
 /// Operation: list the ids chosen for one variable.

@@ -1,9 +1,10 @@
-//! Refusals 1 to 9 of 01, 16 of 02, and those of a given interpretation and of told pairs. Each check answers the
+//! Refusals 1 to 9 of 01, 16 and 19 of 02, and those of a given interpretation and of told pairs. Each check answers the
 //! lowest place at fault.
 
 use super::atoms;
 use super::Refusal;
 use crate::limits::*;
+use crate::settings::Settings;
 use crate::tables::{Concept, Stock, Tables};
 
 /// Checks 1 to 6, 16 and 7 in order. A pair given alone is judged within check 4, at place 0.
@@ -45,6 +46,17 @@ pub fn of_told(tables: &Tables, told: &[u16]) -> Result<(), Refusal> {
     let accepted =
         |pair: &[u16]| pair[0] < tables.variables && atoms.contains(&usize::from(pair[1]));
     refuse(9, told.chunks_exact(2).position(|pair| !accepted(pair)))
+}
+
+/// Check 19, for accepted tables.
+pub fn of_settings(tables: &Tables, settings: &Settings) -> Result<(), Refusal> {
+    let variables = usize::from(tables.variables);
+    let Settings { permitted, largest } = settings;
+    let another_number = permitted.len() != variables || largest.len() != variables;
+    refuse(19, another_number.then_some(variables))?;
+    let count = atoms::list(tables).len();
+    let past = |k: usize| (count..64).any(|position| permitted[k] >> position & 1 == 1);
+    refuse(19, (0..variables).find(|&k| past(k) || usize::from(largest[k]) > MAX_ATOMS))
 }
 
 /// Check 8: the place is the length wanted.
