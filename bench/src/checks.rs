@@ -1,4 +1,4 @@
-//! The checks 1 to 6, 16, 7 and 9, in one pass over each table; of a given interpretation, and of
+//! The checks 1 to 6, 16, 7, 9 and 19, in one pass over each table; of a given interpretation, and of
 //! told pairs.
 
 use crate::columns::{count_ones, each, has, insert, Set, EMPTY};
@@ -35,6 +35,16 @@ pub struct Accepted {
     pub atoms: Set,
 }
 
+impl Accepted {
+    /// The choice of every atom.
+    pub fn all_atoms(&self) -> u64 {
+        match count_ones(&self.atoms) {
+            64 => u64::MAX,
+            count => (1 << count) - 1,
+        }
+    }
+}
+
 pub fn accept(input: &Input, pair: Option<(u16, u16)>) -> Result<Accepted, Refusal> {
     check_counts(input)?;
     let count = input.concepts.len() / 3;
@@ -59,10 +69,26 @@ pub fn accept_assignment(
     if assignment.len() != usize::from(input.variables) {
         return Err((9, u64::from(input.variables)));
     }
-    let count = count_ones(&accepted.atoms);
-    let allowed = if count == 64 { u64::MAX } else { (1 << count) - 1 };
+    let allowed = accepted.all_atoms();
     match assignment.iter().position(|choice| choice & !allowed != 0) {
         Some(variable) => Err((9, variable as u64)),
+        None => Ok(()),
+    }
+}
+
+pub fn accept_settings(
+    input: &Input,
+    accepted: &Accepted,
+    permitted: &[u64],
+    largest: &[u16],
+) -> Result<(), Refusal> {
+    let variables = usize::from(input.variables);
+    if permitted.len() != variables || largest.len() != variables {
+        return Err((19, variables as u64));
+    }
+    let allowed = accepted.all_atoms();
+    match (0..variables).find(|&k| permitted[k] & !allowed != 0 || largest[k] > 64) {
+        Some(variable) => Err((19, variable as u64)),
         None => Ok(()),
     }
 }

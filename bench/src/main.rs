@@ -16,16 +16,18 @@ mod show;
 mod table;
 mod timing;
 mod update;
+mod within;
 
 use table::Tools;
 
 type Print = fn(&Tools);
 
 /// Subjects that share one table.
-const LINES: [(&str, Print); 8] = [
+const LINES: [(&str, Print); 9] = [
     ("below", below::print),
     ("matcher", matcher::print),
     ("puzzles", matcher::print_puzzles),
+    ("within", within::print),
     ("derivations", derivations::print),
     ("show", show::print),
     ("belongs", belongs::print),

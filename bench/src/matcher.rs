@@ -14,7 +14,7 @@ const GOAL_MICROS: f64 = 10_000.0;
 const GOAL_RATIO: f64 = 3.0;
 
 /// Refusal number, 0 for a solution, and the solution.
-type Found = (u16, [u64; MAX_VARIABLES]);
+pub type Found = (u16, [u64; MAX_VARIABLES]);
 
 fn proved(tables: &Tables) -> Found {
     let mut out = [0; MAX_VARIABLES];
@@ -35,13 +35,24 @@ fn print_line(problem: &Hard, tools: &Tools) {
         || assert!(proved(tables) == found, "the two answers differ for\n{}", tables),
         || assert!(plain(tables) == found),
     );
+    print_times(&problem.label, tables, found, times, tools.solve(tables), tools);
+}
+
+/// The line of one problem, and whether it meets the goals.
+pub fn print_times(
+    label: &str,
+    tables: &Tables,
+    found: Found,
+    times: Times,
+    clasp: Option<Timed<bool>>,
+    tools: &Tools,
+) {
     let filled = found.0 == 0;
-    let clasp = tools.solve(tables);
     if let Some(answer) = clasp.as_ref().and_then(|timed| timed.answer) {
         assert_eq!(answer, filled, "clasp has another answer for\n{}", tables);
     }
     let line = Line {
-        label: &problem.label,
+        label,
         tables,
         answer: if filled { "filled" } else { "none" }.to_string(),
         proved: times.proved,
@@ -51,7 +62,7 @@ fn print_line(problem: &Hard, tools: &Tools) {
         clasp: told(&clasp),
     };
     line.print();
-    hold_goals(&problem.label, times, &clasp, tools);
+    hold_goals(label, times, &clasp, tools);
 }
 
 fn hold_goals(label: &str, times: Times, clasp: &Option<Timed<bool>>, tools: &Tools) {

@@ -10,6 +10,8 @@ use hermitcasket_tests::orders::rising;
 use hermitcasket_tests::owl::at_the_limits;
 use hermitcasket_tests::random::Random;
 use hermitcasket_tests::reference::atoms::chosen;
+use hermitcasket_tests::settings::Settings;
+use hermitcasket_tests::settings_families;
 use hermitcasket_tests::shift::told;
 use hermitcasket_tests::tables::{Stock, Tables};
 
@@ -19,6 +21,7 @@ use crate::stack::depth;
 pub struct Input {
     pub label: String,
     tables: Tables,
+    settings: Settings,
     assignment: Vec<u64>,
     pair: (u16, u16),
     lines: Vec<u16>,
@@ -35,8 +38,8 @@ pub struct Input {
     texts: Vec<Vec<u8>>,
 }
 
-/// The families of catalogues at full size, without and with role pairs, hard problems, and nested
-/// existentials.
+/// The families of catalogues at full size, without and with role pairs, hard problems, nested
+/// existentials, and the families with settings. The others may take two parts a blank.
 pub fn inputs() -> Vec<Input> {
     let catalogue = |&family: &Family| (family.label().to_string(), family.tables(MAX_CONCEPTS));
     let with_role_pairs = |&family: &Family| {
@@ -56,7 +59,12 @@ pub fn inputs() -> Vec<Input> {
     ];
     let catalogues = FAMILIES.iter().map(catalogue).chain(FAMILIES.iter().map(with_role_pairs));
     let problems = problems.into_iter().map(problem);
-    catalogues.chain(problems).chain(nested).map(input).collect()
+    let mut inputs: Vec<Input> = catalogues.chain(problems).chain(nested).map(input).collect();
+    inputs.extend(settings_families::large(1).into_iter().map(|problem| Input {
+        settings: problem.settings,
+        ..input((problem.label, problem.tables))
+    }));
+    inputs
 }
 
 /// With the first solution, or nothing chosen, and of some pairs the one with the longest
@@ -73,7 +81,21 @@ fn input((label, tables): (String, Tables)) -> Input {
     let told = told(&mut Random::new(1), &chosen(&tables, &assignment));
     let order = rising(&mut Random::new(1), &tables);
     let texts = at_the_limits().into_iter().map(|(_, text)| text).collect();
-    Input { label, tables, assignment, pair, lines, failing, shown, stock, told, order, texts }
+    let settings = Settings::counted(&tables, 2);
+    Input {
+        label,
+        tables,
+        settings,
+        assignment,
+        pair,
+        lines,
+        failing,
+        shown,
+        stock,
+        told,
+        order,
+        texts,
+    }
 }
 
 /// A pair that fails, and the length that its interpretation wants; else a pair that holds.
@@ -120,7 +142,7 @@ impl Default for Room {
 
 pub type Operation = fn(&Input, &mut Room) -> Answer;
 
-pub const OPERATIONS: [(&str, Operation); 14] = [
+pub const OPERATIONS: [(&str, Operation); 15] = [
     ("hc_check", |input, _| capi::check(input.tables.lend())),
     ("hc_atoms", |input, room| capi::atoms(input.tables.lend(), &mut room.ids)),
     ("hc_blanks", |input, _| capi::blanks(input.tables.lend(), 0)),
@@ -129,6 +151,10 @@ pub const OPERATIONS: [(&str, Operation); 14] = [
     }),
     ("hc_subsumed", |input, _| capi::subsumed(input.tables.lend(), &input.assignment, input.pair)),
     ("hc_match", |input, room| capi::find(input.tables.lend(), &mut room.choices)),
+    ("hc_match_within", |input, room| {
+        let Settings { permitted, largest } = &input.settings;
+        capi::find_within(input.tables.lend(), permitted, largest, &mut room.choices)
+    }),
     ("hc_chosen", |input, room| {
         capi::chosen(input.tables.lend(), &input.assignment, 0, &mut room.ids)
     }),

@@ -3,6 +3,7 @@
 use std::cell::RefCell;
 
 use hermitcasket_tests::reference::atoms;
+use hermitcasket_tests::settings::Settings;
 use hermitcasket_tests::tables::Tables;
 
 use crate::external::{clasp, konclude, Scratch, Timed, LIMIT};
@@ -45,6 +46,10 @@ impl Tools {
 
     pub fn solve(&self, tables: &Tables) -> Option<Timed<bool>> {
         self.clasp.then(|| clasp::solve(tables, &self.scratch))
+    }
+
+    pub fn solve_within(&self, tables: &Tables, settings: &Settings) -> Option<Timed<bool>> {
+        self.clasp.then(|| clasp::solve_within(tables, settings, &self.scratch))
     }
 }
 

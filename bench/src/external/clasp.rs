@@ -8,16 +8,24 @@ use std::process::Command;
 
 use hermitcasket_tests::konclude::is_installed;
 use hermitcasket_tests::reference::atoms;
+use hermitcasket_tests::settings::Settings;
 use hermitcasket_tests::tables::{Concept, Tables};
 
 use super::{best, run, Scratch, Timed, LIMIT};
+
+/// Any parts for each blank.
+const ANY: &str = "{ take(V,P) } :- variable(V), part(P).\n";
+
+/// Permitted parts, and no more than a largest count.
+const WITHIN: &str = "\
+#defined permitted/2.
+{ take(V,P) : permitted(V,P) } N :- largest(V,N).
+";
 
 /// `below` is for entries without blanks, so gringo finds it; `over` goes up from an entry with
 /// blanks on a question's left, and `under` says what is below one on a question's right. Both
 /// only for the entries that a question leads to.
 const RULES: &str = "\
-{ take(V,P) } :- variable(V), part(P).
-
 pattern(I) :- blank(I,V).
 pattern(I) :- some(I,R,A), pattern(A).
 pattern(I) :- and(I,A,B), pattern(A).
@@ -72,9 +80,18 @@ pub fn installed() -> bool {
 
 /// Whether there is a filling.
 pub fn solve(tables: &Tables, scratch: &Scratch) -> Timed<bool> {
+    run_both(facts(tables) + ANY + RULES, scratch)
+}
+
+/// Whether there is one within the settings.
+pub fn solve_within(tables: &Tables, settings: &Settings, scratch: &Scratch) -> Timed<bool> {
+    run_both(facts(tables) + &limits(tables, settings) + WITHIN + RULES, scratch)
+}
+
+fn run_both(text: String, scratch: &Scratch) -> Timed<bool> {
     let program = scratch.file("card.lp");
     let (ground, answer) = (scratch.file("ground.aspif"), scratch.file("clasp.log"));
-    fs::write(&program, facts(tables) + RULES).expect("a file for gringo");
+    fs::write(&program, text).expect("a file for gringo");
     best(|| {
         let first = run(Command::new("gringo").arg(&program), &ground, LIMIT)?;
         let rest = LIMIT.saturating_sub(first);
@@ -115,5 +132,17 @@ fn facts(tables: &Tables) -> String {
     }
     let _ = writeln!(text, "variable(0..{}).", i32::from(tables.variables) - 1);
     let _ = writeln!(text, "entry(0..{}).", tables.concept_count() as i32 - 1);
+    text
+}
+
+/// What each blank may take.
+fn limits(tables: &Tables, settings: &Settings) -> String {
+    let mut text = String::new();
+    for (variable, parts) in atoms::chosen(tables, &settings.permitted).iter().enumerate() {
+        for part in parts {
+            let _ = writeln!(text, "permitted({},{}).", variable, part);
+        }
+        let _ = writeln!(text, "largest({},{}).", variable, settings.largest[variable]);
+    }
     text
 }

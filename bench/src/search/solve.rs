@@ -8,6 +8,7 @@
 //! last open one, it shuts one half without a look-up. Spare merging: then the merged nogood is not
 //! kept, since it says what two kept ones say.
 
+use super::counts::{unclamp, Counts};
 use super::look_up::{look_up, Hint};
 use super::nogoods::Nogoods;
 use super::pairs::{bit, Choice, Interval, PAIRS};
@@ -20,6 +21,8 @@ pub struct Search<'a> {
     pub questions: Questions,
     pub nogoods: &'a mut Nogoods,
     pub full: Choice,
+    /// Nothing where there is no largest count that a solution could pass.
+    pub counts: Option<Counts>,
 }
 
 pub enum Answer {
@@ -61,12 +64,38 @@ impl Search<'_> {
         };
         let both = merge(&with, &without, pair);
         if !last {
-            self.nogoods.add(Nogoods::MOST_MERGED, &both);
+            self.keep(Nogoods::MOST_MERGED, &both);
         }
         Answer::Nogood(both)
     }
 
+    /// Largest counts come first, and then the interval that they leave.
     fn next_step(&mut self, interval: &Interval, handed: usize) -> Step {
+        let counts = match &self.counts {
+            None => return self.step_inside(interval, handed),
+            Some(counts) => counts,
+        };
+        if let Some(nogood) = counts.wanted_too_many(self.nogoods, &self.full, interval) {
+            return Step::Done(Answer::Nogood(nogood));
+        }
+        let inner = counts.clamp(interval);
+        match self.step_inside(&inner, handed) {
+            Step::Done(Answer::Nogood(nogood)) => {
+                Step::Done(Answer::Nogood(unclamp(&self.full, interval, &inner, nogood)))
+            }
+            step => step,
+        }
+    }
+
+    fn keep(&mut self, most: usize, nogood: &Interval) {
+        let place = self.nogoods.count;
+        self.nogoods.add(most, nogood);
+        if let (Some(counts), true) = (&mut self.counts, place < self.nogoods.count) {
+            counts.needs.note(&self.full, nogood, place);
+        }
+    }
+
+    fn step_inside(&mut self, interval: &Interval, handed: usize) -> Step {
         if handed < self.nogoods.count && interval.is_within(self.nogoods.at(handed)) {
             return Step::Done(Answer::Nogood(*self.nogoods.at(handed)));
         }
@@ -93,7 +122,7 @@ impl Search<'_> {
             nogood.high = widen(&mut self.patterns, &question, &interval.low, &self.full);
         }
         let place = self.nogoods.count;
-        self.nogoods.add(Nogoods::MOST, &nogood);
+        self.keep(Nogoods::MOST, &nogood);
         match interval.highest_open(&nogood) {
             PAIRS => Step::Done(Answer::Nogood(nogood)),
             pair => Step::Split(Split { pair, place, last: false }),
