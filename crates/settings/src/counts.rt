@@ -20,10 +20,14 @@ pub fn is_few(most: &[u16], choice: [u64; 8]) -> bool
 {
     let mut k: usize = 0;
     while k < 8 {
-        if size_of(choice[k]) > most[k] as u32 {
+        let v = k;
+        k += 1;
+        if most[v] >= 64 {
+            continue;
+        }
+        if size_of(choice[v]) > most[v] as u32 {
             return false;
         }
-        k += 1;
     }
     true
 }

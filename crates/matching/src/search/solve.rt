@@ -396,7 +396,21 @@ fn step_by_clamp(
     answered(false, fewer, more)
 }
 
-// By counting needs, if more is wanted than a largest count.
+// A largest count may stop a variable that has something to take. A hint only.
+fn is_bounded(card: &[u16], full: [u64; 8]) -> bool
+    requires { ⌜ length (now card) ≡ 939 ⌝ }
+{
+    let mut k: usize = 0;
+    while k < 8 {
+        if (full[k] != 0) & (card[MOST + k] < 64) {
+            return true;
+        }
+        k += 1;
+    }
+    false
+}
+
+// By counting needs, if more is wanted than a largest count; without such counts there is nothing to clamp.
 fn next_step(
     sets: &[u64],
     card: &[u16],
@@ -412,6 +426,9 @@ fn next_step(
     ensures { λ r. ⌜ (r .done ≡ false → (r .pair < 512) × (undecided (interval .low) (interval .high) (r .pair) ≡ true)) ⌝ }
     ensures { λ r. ⌜ Searched (now (sets .entry)) (now (card .entry)) full (interval .low) (interval .high) (now (store .entry)) (now (store .exit)) (λ t. r .done ≡ true → Answers t (now (card .entry)) (interval .low) (interval .high) (r .found) (r .low) (r .high)) ⌝ }
 {
+    if !is_bounded(card, full) {
+        return step_by_hint(sets, card, store, scratch, full, interval);
+    }
     let wanted = count_all(card, store, full, interval);
     let about = wanted.about;
     if wanted.over {
