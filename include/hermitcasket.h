@@ -18,7 +18,7 @@
  *     hc_blanks             8192
  *     hc_subsumption_table  32768
  *     hc_subsumed           32768
- *     hc_match              1114112   (512 pairs split one under another; the most measured is 360152)
+ *     hc_match              1114112   (512 pairs split one under another; the most measured is 361896)
  *     hc_match_within       1114112   (as hc_match)
  *     hc_chosen             8192
  *     hc_derive             524288

@@ -60,7 +60,8 @@ pub fn inputs() -> Vec<Input> {
     let catalogues = FAMILIES.iter().map(catalogue).chain(FAMILIES.iter().map(with_role_pairs));
     let problems = problems.into_iter().map(problem);
     let mut inputs: Vec<Input> = catalogues.chain(problems).chain(nested).map(input).collect();
-    inputs.extend(settings_families::large(1).into_iter().map(|problem| Input {
+    let with_settings = [settings_families::large(1), settings_families::hardest()];
+    inputs.extend(with_settings.into_iter().flatten().map(|problem| Input {
         settings: problem.settings,
         ..input((problem.label, problem.tables))
     }));

@@ -4,7 +4,7 @@ use hermitcasket_bench::{lend, search};
 use hermitcasket_tests::capi;
 use hermitcasket_tests::limits::MAX_VARIABLES;
 use hermitcasket_tests::settings::Settings;
-use hermitcasket_tests::settings_families::{large, Within};
+use hermitcasket_tests::settings_families::{hardest, large, Within};
 
 use crate::matcher::{print_times, Found};
 use crate::table::Tools;
@@ -35,5 +35,6 @@ fn print_line(problem: &Within, tools: &Tools) {
 }
 
 pub fn print(tools: &Tools) {
-    large(1).iter().for_each(|problem| print_line(problem, tools));
+    let problems = [large(1), hardest()];
+    problems.iter().flatten().for_each(|problem| print_line(problem, tools));
 }

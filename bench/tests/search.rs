@@ -166,6 +166,9 @@ fn families_with_settings() {
             agree_within(&problem.tables, &problem.settings, &mut tally);
         }
     }
+    for problem in settings_families::hardest() {
+        agree_within(&problem.tables, &problem.settings, &mut tally);
+    }
     tally.finish(&[("none", 30..=80), ("chosen", 20..=70)]);
 }
 

@@ -122,7 +122,7 @@ pub fn covering(nodes: usize, edges: usize, seed: u64) -> [Within; 2] {
 
 /// Goals of random parts, many of which several goals share.
 pub fn overlapping(parts: usize, goals: usize, width: usize, seed: u64) -> [Within; 2] {
-    let label = format!("{} goals of {} of {} parts", goals, width, parts);
+    let label = format!("{} goals of {} of {} parts, seed {}", goals, width, parts, seed);
     let goals = random_goals(parts, goals, width, seed);
     too_few_and_enough(&label, &goals, fewest(&goals))
 }
@@ -137,10 +137,10 @@ fn random_goals(parts: usize, goals: usize, width: usize, seed: u64) -> Vec<Goal
     (0..goals).map(|_| goal()).collect()
 }
 
-/// Goals that any variable may reach for all, one part each: one goal more than variables, or as
-/// many.
-pub fn shared_out(variables: usize) -> [Within; 2] {
-    [variables + 1, variables].map(|count| {
+/// Goals that any variable may reach for all, a part for each: one goal more than all variables
+/// together may take, or as many.
+pub fn shared_out(variables: usize, each: usize) -> [Within; 2] {
+    [variables * each + 1, variables * each].map(|count| {
         let mut b = Builder::default();
         let names = b.names(count);
         let goals = b.names(count);
@@ -157,11 +157,51 @@ pub fn shared_out(variables: usize) -> [Within; 2] {
         goals.iter().for_each(|&goal| b.ask(left, goal));
         let tables = b.tables();
         let permitted = positions(&tables, |id| id < count);
-        let settings = Settings::new(&vec![permitted; variables], &vec![1; variables]);
-        let known = if count > variables { Known::Unsolvable } else { Known::Solvable };
-        let label = format!("{} goals shared out, {} blanks, 1 at most", count, variables);
+        let settings = Settings::new(&vec![permitted; variables], &vec![each as u16; variables]);
+        let known = if count > variables * each { Known::Unsolvable } else { Known::Solvable };
+        let label = format!("{} goals shared out, {} blanks, {} at most", count, variables, each);
         within(label, tables, settings, known)
     })
+}
+
+/// Needs on a condition. The second variable reaches all its goals by one part, or else each by one of
+/// its own. The first is to reach as many goals, each by an early or a late part; a late one goes not
+/// together with that one part. So with too few parts the second takes it, and the first no late ones.
+pub fn on_condition(goals: usize, width: usize) -> [Within; 2] {
+    [goals - 1, goals].map(|most| {
+        let mut b = Builder::default();
+        let [early, late] = [(); 2].map(|()| b.names(goals));
+        let (one, own) = (b.name(), b.names(goals * width));
+        let [first, second] = [(); 2].map(|()| b.names(goals));
+        for k in 0..goals {
+            b.inclusions.extend([[early[k], first[k]], [late[k], first[k]], [one, second[k]]]);
+            b.inclusions.extend(own[k * width..][..width].iter().map(|&id| [id, second[k]]));
+        }
+        let (x, y) = (b.variable(), b.variable());
+        first.iter().for_each(|&goal| b.ask(x, goal));
+        second.iter().for_each(|&goal| b.ask(y, goal));
+        let (any_x, any_y) = ([&early[..], &late].concat(), [&[one], &own[..]].concat());
+        let without_late = both(&mut b, &early, &any_y);
+        let without_one = both(&mut b, &any_x, &own);
+        let left = b.witnesses(2, &[without_late, without_one]);
+        let right = both(&mut b, &[x], &[y]);
+        let right = b.some(2, right);
+        b.ask(left, right);
+        let tables = b.tables();
+        let of = |ids: &[u16]| positions(&tables, |id| ids.contains(&(id as u16)));
+        let settings = Settings::new(&[of(&any_x), of(&any_y)], &[MAX_ATOMS as u16, most as u16]);
+        let last: Vec<u16> = own.chunks(width).map(|ids| ids[width - 1]).collect();
+        let answer = if most < goals { [of(&early), of(&[one])] } else { [of(&late), of(&last)] };
+        let label = format!("{} goals of {} parts or one, {} at most", goals, width, most);
+        within(label, tables.clone(), settings, Known::First(answer.to_vec()))
+    })
+}
+
+/// What has a link to all of the first by role 0, and to all of the second by role 1.
+fn both(b: &mut Builder, first: &[u16], second: &[u16]) -> u16 {
+    let [first, second] = [first, second].map(|ids| b.all(ids));
+    let (first, second) = (b.some(0, first), b.some(1, second));
+    b.and(first, second)
 }
 
 /// Flours only for every second variable, two parts at most for the others: each is to be of a goal
@@ -219,7 +259,8 @@ pub fn small(seed: u64) -> Vec<Within> {
     problems.extend(goals_of_several(3, 3, 3));
     problems.extend(covering(6, 8, seed));
     problems.extend(overlapping(10, 6, 3, seed));
-    problems.extend(shared_out(3));
+    problems.extend(shared_out(3, 1));
+    problems.extend(on_condition(3, 2));
     problems.extend(flours(4, 8));
     problems
 }
@@ -237,11 +278,28 @@ pub fn large(seed: u64) -> Vec<Within> {
     problems.extend(overlapping(32, 16, 6, seed));
     problems.extend(overlapping(40, 24, 4, seed));
     problems.extend(overlapping(52, 8, 12, seed));
-    problems.extend(shared_out(5));
+    problems.extend(shared_out(5, 1));
+    problems.extend(shared_out(2, 5));
+    problems.extend(on_condition(4, 8));
+    problems.extend(on_condition(8, 3));
     problems.extend(flours(8, 62));
     problems.extend((0..3).map(|shape| planted_at_the_limits(shape, 2, seed)));
     problems.extend((0..3).map(|shape| planted_at_the_limits(shape, 4, seed)));
     problems.push(counted(hard::needed_and_forbidden(60), 2));
     problems.push(counted(hard::clauses_over_one(8, 24, seed), 8));
+    problems
+}
+
+/// Those with the most to search: of 200 seeds of their family the one that takes longest, goals shared
+/// out and needs on a condition at the size that the tables have room for.
+pub fn hardest() -> Vec<Within> {
+    let mut problems = Vec::new();
+    problems.extend(overlapping(40, 24, 4, 94));
+    problems.extend(overlapping(32, 32, 3, 103));
+    problems.extend(overlapping(48, 16, 6, 176));
+    problems.extend(shared_out(6, 1));
+    problems.extend(shared_out(4, 2));
+    problems.extend(shared_out(3, 3));
+    problems.extend(on_condition(6, 6));
     problems
 }

@@ -7,7 +7,7 @@ use hermitcasket_tests::faults::{base, every_set, settings_faults, Fault};
 use hermitcasket_tests::generate;
 use hermitcasket_tests::hard::{self, Known};
 use hermitcasket_tests::limits::*;
-use hermitcasket_tests::planted;
+use hermitcasket_tests::planted::{self, Shape};
 use hermitcasket_tests::random::{cases, full_run, seed, Random, Size};
 use hermitcasket_tests::reference::{self, atoms, matching, Refusal};
 use hermitcasket_tests::settings::Settings;
@@ -343,7 +343,23 @@ fn families_at_full_size() {
         let problems = settings_families::large(seed.wrapping_add(k));
         problems.iter().for_each(|problem| agree(problem, &mut tally));
     }
+    settings_families::hardest().iter().for_each(|problem| agree(problem, &mut tally));
     tally.finish(&[("none", 30..=80), ("chosen", 20..=70)]);
+}
+
+/// Four variables, goals of one and of several of them, and two atoms each: here what a variable
+/// still needs often goes by what the others take.
+#[test]
+fn searches_with_small_counts() {
+    let seed = seed("within, small counts");
+    let mut tally = Tally::new("within, small counts");
+    let shape = Shape { names: 9, wides: 8, width: 6, joint_goals: 8, ways: 3, ..planted::MEDIUM };
+    for k in 0..(cases(Size::Medium) / 4).max(1) {
+        let tables = planted::problem(&mut Random::for_case(seed, k), shape.planted());
+        let (label, settings) = (format!("case {}", k), Settings::counted(&tables, 2));
+        agree(&Within { label, tables, settings, known: Known::Open }, &mut tally);
+    }
+    tally.finish(&[("none", 20..=80), ("chosen", 20..=80)]);
 }
 
 /// 64 atoms and 8 variables at once, with random settings: questions that each have a solution of
@@ -352,7 +368,7 @@ fn families_at_full_size() {
 fn at_the_limits() {
     let seed = seed("within, limits");
     let mut tally = Tally::new("within, limits");
-    for k in 0..(cases(Size::Large) / 2).max(1) {
+    for k in 0..(cases(Size::Large) / 3).max(1) {
         let mut random = Random::for_case(seed, k);
         let mut tables = if random.percent(50) {
             let tables = generate::full(&mut random);

@@ -2,12 +2,10 @@
 //! may, the others are left out at once. A nogood that leaves out some of these is about what the low
 //! side takes of that variable instead: so counts bring no nogoods of their own.
 
-use super::needs::Needs;
 use super::pairs::{Choice, Interval};
 
 pub struct Counts {
     pub largest: [u32; 8],
-    pub needs: Needs,
 }
 
 impl Counts {
@@ -18,7 +16,7 @@ impl Counts {
             *most = u32::from(given);
         }
         let bounded = (0..8).any(|k| full[k].count_ones() > most[k]);
-        bounded.then(|| Counts { largest: most, needs: Needs::new() })
+        bounded.then_some(Counts { largest: most })
     }
 
     /// Without the atoms that would be too many.

@@ -1,32 +1,11 @@
-//! Needs. A nogood whose low side is taken and that leaves out atoms of one variable only says that
-//! every solution takes one of those. Needs without an atom in common want as many atoms as they are:
-//! where these, and what is taken already, are more than the variable's largest count, there is no
-//! solution, and none of the needs has to be split. The nogoods that may be needs are listed for
-//! each variable, so that no others are looked at.
+//! Needs. A nogood whose low side is taken and that of an interval's high side leaves out atoms of one
+//! variable only says that every solution in the interval takes one of those. Needs without an atom
+//! in common want as many atoms as they are: where these, and what is taken already, are more than
+//! the variable's largest count, there is no solution, and none of the needs has to be split.
 
 use super::counts::Counts;
 use super::nogoods::Nogoods;
 use super::pairs::{Choice, Interval};
-
-pub struct Needs {
-    count: [usize; 8],
-    places: [[u16; Nogoods::MOST]; 8],
-}
-
-impl Needs {
-    pub fn new() -> Needs {
-        Needs { count: [0; 8], places: [[0; Nogoods::MOST]; 8] }
-    }
-
-    /// Lists the nogood at a place where it leaves out atoms of one variable only.
-    pub fn note(&mut self, full: &Choice, nogood: &Interval, place: usize) {
-        let mut leaving = (0..8).filter(|&k| full[k] & !nogood.high[k] != 0);
-        if let (Some(k), None) = (leaving.next(), leaving.next()) {
-            self.places[k][self.count[k]] = place as u16;
-            self.count[k] += 1;
-        }
-    }
-}
 
 impl Counts {
     /// A nogood around the interval where more is wanted than a largest count that it may reach and
@@ -41,7 +20,7 @@ impl Counts {
             let most = self.largest[k];
             interval.low[k].count_ones() < most && interval.high[k].count_ones() > most
         };
-        (0..8).filter(in_question).find_map(|k| self.wanted_of(k, nogoods, full, &interval.low))
+        (0..8).filter(in_question).find_map(|k| self.wanted_of(k, nogoods, full, interval))
     }
 
     fn wanted_of(
@@ -49,19 +28,33 @@ impl Counts {
         k: usize,
         nogoods: &Nogoods,
         full: &Choice,
-        low: &Choice,
+        interval: &Interval,
     ) -> Option<Interval> {
+        let (low, high) = (&interval.low, &interval.high);
         let mut about = Interval { low: [0; 8], high: *full };
         about.low[k] = low[k];
         let mut met = low[k];
         let mut sum = low[k].count_ones();
-        for &place in &self.needs.places[k][..self.needs.count[k]] {
-            let need = nogoods.at(usize::from(place));
-            let wanted = full[k] & !need.high[k];
-            if wanted & met != 0 || !is_taken(&need.low, low) {
+        for place in 0..nogoods.count {
+            let need = nogoods.at(place);
+            let wanted = high[k] & !need.high[k];
+            if wanted == 0 || wanted & met != 0 {
                 continue;
             }
-            (0..8).for_each(|j| about.low[j] |= need.low[j]);
+            let mut outside = 0;
+            for j in 0..8 {
+                outside |= need.low[j] & !low[j];
+                if j != k {
+                    outside |= high[j] & !need.high[j];
+                }
+            }
+            if outside != 0 {
+                continue;
+            }
+            for j in 0..8 {
+                about.low[j] |= need.low[j];
+                about.high[j] &= need.high[j] | high[j];
+            }
             met |= wanted;
             sum += 1;
             if sum > self.largest[k] {
@@ -70,8 +63,4 @@ impl Counts {
         }
         None
     }
-}
-
-fn is_taken(pairs: &Choice, low: &Choice) -> bool {
-    (0..8).all(|k| pairs[k] & !low[k] == 0)
 }

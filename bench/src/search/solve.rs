@@ -64,7 +64,7 @@ impl Search<'_> {
         };
         let both = merge(&with, &without, pair);
         if !last {
-            self.keep(Nogoods::MOST_MERGED, &both);
+            self.nogoods.add(Nogoods::MOST_MERGED, &both);
         }
         Answer::Nogood(both)
     }
@@ -84,14 +84,6 @@ impl Search<'_> {
                 Step::Done(Answer::Nogood(unclamp(&self.full, interval, &inner, nogood)))
             }
             step => step,
-        }
-    }
-
-    fn keep(&mut self, most: usize, nogood: &Interval) {
-        let place = self.nogoods.count;
-        self.nogoods.add(most, nogood);
-        if let (Some(counts), true) = (&mut self.counts, place < self.nogoods.count) {
-            counts.needs.note(&self.full, nogood, place);
         }
     }
 
@@ -122,7 +114,7 @@ impl Search<'_> {
             nogood.high = widen(&mut self.patterns, &question, &interval.low, &self.full);
         }
         let place = self.nogoods.count;
-        self.keep(Nogoods::MOST, &nogood);
+        self.nogoods.add(Nogoods::MOST, &nogood);
         match interval.highest_open(&nogood) {
             PAIRS => Step::Done(Answer::Nogood(nogood)),
             pair => Step::Split(Split { pair, place, last: false }),

@@ -21,8 +21,6 @@ use Rattle.matching.specs.Solving.{takes}
 use Rattle.matching.specs.Inner.Search.{Within, Meets, NoSolution}
 use Rattle.matching.specs.Inner.Search.Card.{mostAt}
 use Rattle.matching.specs.Inner.Search.Interval.{IntervalOf, undecided}
-use Rattle.matching.specs.Inner.Search.Nogoods.{Nogoods}
-use Rattle.matching.specs.Inner.Search.Needs.{WantedOver}
 use Rattle.matching.specs.Inner.Search.Solve.{Refuted}
 use Rattle.matching.proofs.SearchLaws.Fronts.{front-known, front-takes, front-within, accepted-long, accepted-bits, within-accepted}
 use Rattle.matching.proofs.SearchLaws.Pairs.{past-none}
@@ -158,14 +156,3 @@ module _ (t : Tables) (h : tableFault t ≡ Done) (card most full low high inner
               no-more other k q (omega (arith, wellFormed t h .few-variables)) l' y m
               (λ p z. b .above k p (front-takes (t .variables) low₁ k p l (same-bit _ _ p (sym (y .low-named)) z))) e)
               (u .each k (omega (arith, wellFormed t h .few-variables))))
-
--- ---- more is wanted than a count
-pub wanted-refutes :
-    (t : Tables) (card store full low high about : List ℕ) → IntervalOf t low high → IntervalOf t high full → Nogoods t card store
-    → WantedOver card store full low true about → length about ≡ 8 → Refuted t card low high about full
-wanted-refutes t card store full low high about i j n (w, none) e =
-    record { low-long = e; high-long = j .high-long; above = w; below = j .ordered; none = none t whole n }
-  where
-    whole : IntervalOf t low full
-    whole =
-        record { low-long = i .low-long; high-long = j .high-long; accepted = j .accepted; ordered = λ k q x. j .ordered k q (i .ordered k q x); idle = j .idle }

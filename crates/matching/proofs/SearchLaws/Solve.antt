@@ -31,7 +31,7 @@ use Rattle.matching.specs.Inner.Search.Solve.{FailingOf, Failing, Refute
 use Rattle.matching.proofs.SearchLaws.Fronts.{front-known, front-takes, front-within}
 use Rattle.matching.proofs.SearchLaws.Nogoods.{words-long, nogoods-added}
 use Rattle.matching.proofs.SearchLaws.Interval.{decided-true, decided-false, at-pair, grown, grown-cases, shrunk, shrunk-cases, low-shuts, high-shuts, decided-shut, low-accepted, picked-none, take-keeps, take-found, leave-keeps, leave-found}
-use Rattle.matching.proofs.SearchLaws.Counts.{counts-same, few-front, over-refutes, clamped-open, clamped-inside, clamped-full, unclamped-refutes, wanted-refutes}
+use Rattle.matching.proofs.SearchLaws.Counts.{counts-same, few-front, over-refutes, clamped-open, clamped-inside, clamped-full, unclamped-refutes}
 
 -- ---- questions of the card
 module _ (t : Tables) (sets card : List ℕ) (c : Card t sets card) where
@@ -459,10 +459,9 @@ by-nothing sets card full low high store t c i j n = (tt, n)
 
 -- by counts of needs
 pub by-wanted :
-    (sets card full low high store : List ℕ) (b : Bool) (about : List ℕ) → length about ≡ 8 → WantedOver card store full low b about → b ≡ true
-    → Searched sets card full low high store store (λ t. Answers t card low high false about full)
-by-wanted sets card full low high store b about l x e t c i j n =
-    (wanted-refutes t card store full low high about i j n (subst (λ (z : Bool). WantedOver card store full low z about) e x) l, n)
+    (sets card full low high store : List ℕ) (b : Bool) (l h : List ℕ) → WantedOver card store full low high b l h → b ≡ true
+    → Searched sets card full low high store store (λ t. Answers t card low high false l h)
+by-wanted sets card full low high store b l h x e t c i j n = (subst (λ (z : Bool). WantedOver card store full low high z l h) e x t i j n, n)
 
 -- by a step at the clamped interval
 module _ (sets card full low high before after inner : List ℕ) (z : Clamped (counts card) low high inner)

@@ -430,9 +430,10 @@ fn next_step(
         return step_by_hint(sets, card, store, scratch, full, interval);
     }
     let wanted = count_all(card, store, full, interval);
-    let about = wanted.about;
+    let low = wanted.low;
+    let high = wanted.high;
     if wanted.over {
-        return answered(false, about, full);
+        return answered(false, low, high);
     }
     step_by_clamp(sets, card, store, scratch, full, interval)
 }

@@ -6,10 +6,10 @@ use Rattle.matching.proofs.search.needs.count_needs.Statement.{statemen
 use Rattle.matching.proofs.search.needs.count_needs.Tie as tie
 
 abbrev Inv-loop : tie.InvT-loop
-Inv-loop card store full k low most count about₀ met₀ sum₀ c₀ about met sum c = Wanting card store full low k about met sum c
+Inv-loop card store k low high most count about₀ allowed₀ met₀ sum₀ c₀ about allowed met sum c = Wanting card store allowed₀ low high k about allowed met sum c
 
 abbrev μ-loop : tie.MeasureT-loop
-μ-loop card store full k low most count about₀ met₀ sum₀ c₀ about met sum c = count - c
+μ-loop card store k low high most count about₀ allowed₀ met₀ sum₀ c₀ about allowed met sum c = count - c
 
 add-most : tie.Need-add-most Inv-loop μ-loop
 add-most c = omega arith
@@ -21,7 +21,7 @@ shared-slice-read-most : tie.Need-shared-slice-read-most Inv-loop μ-loop
 shared-slice-read-most c = omega arith
 
 cast-most : tie.Need-cast-most Inv-loop μ-loop
-cast-most c = omega (arith, c .shared-slice-known3 .given (931 + c .before .before .before .args .k))
+cast-most c = omega (arith, c .shared-slice-known3 .given (931 + c .before .before .before .before .before .args .k))
 
 shared-slice-read-count : tie.Need-shared-slice-read-count Inv-loop μ-loop
 shared-slice-read-count c = omega arith
@@ -54,7 +54,7 @@ size-of-requires : tie.Need-size-of-requires Inv-loop μ-loop
 size-of-requires c κs = omega arith
 
 loop-holds : tie.Need-loop-holds Inv-loop μ-loop
-loop-holds c = wanting-none _ _ (c .before .before .before .before .before .args .full) (c .before .before .before .before .before .args .t4) _ _ (omega arith) (c .size-of .ensures)
+loop-holds c = wanting-none _ _ (c .before .before .before .before .before .before .before .args .full) (c .before .before .before .before .before .before .before .args .interval .low) (c .before .before .before .before .before .before .before .args .interval .high) _ _ (omega arith) (c .before .before .before .before .before .before .before .pre .1 .1 .0) (c .size-of .ensures)
 
 add-c : tie.Need-add-c Inv-loop μ-loop
 add-c c = omega arith
@@ -66,28 +66,31 @@ loop-less : tie.Need-loop-less Inv-loop μ-loop
 loop-less c = omega arith
 
 loop-again : tie.Need-loop-again Inv-loop μ-loop
-loop-again c = wanting-skip _ _ (c .before .before .before .before .before .before .before .before .before .args .full) (c .before .before .before .before .before .before .before .before .before .args .t4) _ _ _ _ _ (c .before .before .before .loop .inv)
+loop-again c = wanting-skip _ _ (c .before .before .before .before .before .before .before .before .before .before .before .args .full) (c .before .before .before .before .before .before .before .before .before .before .before .args .interval .low) (c .before .before .before .before .before .before .before .before .before .before .before .args .interval .high) _ _ _ _ _ _ (c .before .before .before .loop .inv)
 
 nogood-at-requires : tie.Need-nogood-at-requires Inv-loop μ-loop
 nogood-at-requires c κs = omega arith
 
-join-requires : tie.Need-join-requires Inv-loop μ-loop
-join-requires c κs = search needs
+with-below-requires : tie.Need-with-below-requires Inv-loop μ-loop
+with-below-requires c κs = search needs
+
+with-above-requires : tie.Need-with-above-requires Inv-loop μ-loop
+with-above-requires c κs = search needs
 
 add-sum : tie.Need-add-sum Inv-loop μ-loop
 add-sum c = omega arith
 
 returns : tie.Need-returns Inv-loop μ-loop
-returns c = let w = wanting-more _ _ (c .before .before .before .before .before .before .before .before .before .before .before .before .before .args .full) (c .before .before .before .before .before .before .before .before .before .before .before .before .before .args .t4) _ _ _ _ _ (c .before .before .before .before .before .before .before .loop .inv) _ _ _ (omega arith) (omega arith) (c .before .before .before .before .if1 .left) (c .before .before .before .before .before .need-at .ensures) (c .before .before .before .nogood-at .ensures .0) (c .before .join .ensures) in (w .long, wanting-over _ _ (c .before .before .before .before .before .before .before .before .before .before .before .before .before .args .full) (c .before .before .before .before .before .before .before .before .before .before .before .before .before .args .t4) _ _ _ _ _ w (omega arith))
+returns c = let w = wanting-more _ _ (c .before .before .before .before .before .before .before .before .before .before .before .before .before .before .before .args .full) (c .before .before .before .before .before .before .before .before .before .before .before .before .before .before .before .args .interval .low) (c .before .before .before .before .before .before .before .before .before .before .before .before .before .before .before .args .interval .high) _ _ _ _ _ _ (c .before .before .before .before .before .before .before .loop .inv) _ _ _ _ _ (omega arith) (omega arith) (c .before .before .before .before .if1 .left) (c .before .before .before .before .before .need-at .ensures) (c .before .before .before .nogood-at .ensures .0) (c .before .before .before .nogood-at .ensures .1) (c .before .before .with-below .ensures) (c .before .with-above .ensures) in ((w .low-long, w .high-long), wanting-over _ _ (c .before .before .before .before .before .before .before .before .before .before .before .before .before .before .before .args .full) (c .before .before .before .before .before .before .before .before .before .before .before .before .before .before .before .args .interval .low) (c .before .before .before .before .before .before .before .before .before .before .before .before .before .before .before .args .interval .high) _ _ _ _ _ _ w (omega arith))
 
 loop-less-2 : tie.Need-loop-less-2 Inv-loop μ-loop
 loop-less-2 c = omega arith
 
 loop-again-2 : tie.Need-loop-again-2 Inv-loop μ-loop
-loop-again-2 c = wanting-more _ _ (c .before .before .before .before .before .before .before .before .before .before .before .before .before .args .full) (c .before .before .before .before .before .before .before .before .before .before .before .before .before .args .t4) _ _ _ _ _ (c .before .before .before .before .before .before .before .loop .inv) _ _ _ (omega arith) (omega arith) (c .before .before .before .before .if1 .left) (c .before .before .before .before .before .need-at .ensures) (c .before .before .before .nogood-at .ensures .0) (c .before .join .ensures)
+loop-again-2 c = wanting-more _ _ (c .before .before .before .before .before .before .before .before .before .before .before .before .before .before .before .args .full) (c .before .before .before .before .before .before .before .before .before .before .before .before .before .before .before .args .interval .low) (c .before .before .before .before .before .before .before .before .before .before .before .before .before .before .before .args .interval .high) _ _ _ _ _ _ (c .before .before .before .before .before .before .before .loop .inv) _ _ _ _ _ (omega arith) (omega arith) (c .before .before .before .before .if1 .left) (c .before .before .before .before .before .need-at .ensures) (c .before .before .before .nogood-at .ensures .0) (c .before .before .before .nogood-at .ensures .1) (c .before .before .with-below .ensures) (c .before .with-above .ensures)
 
 returns-2 : tie.Need-returns-2 Inv-loop μ-loop
-returns-2 c = (c .before .loop .inv .long, tt)
+returns-2 c = ((c .before .loop .inv .low-long, c .before .loop .inv .high-long), tt)
 
 pub count-needs-spec : {M : Type 1} → statement M
 count-needs-spec =
@@ -115,7 +118,8 @@ count-needs-spec =
     loop-less
     loop-again
     nogood-at-requires
-    join-requires
+    with-below-requires
+    with-above-requires
     add-sum
     returns
     loop-less-2
