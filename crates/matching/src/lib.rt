@@ -4,6 +4,7 @@
 mod chosen;
 mod derivation;
 mod find;
+pub mod helpers;
 mod limits;
 mod search;
 mod within;

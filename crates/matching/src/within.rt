@@ -62,7 +62,7 @@ fn search(sets: &[u64], card: &[u16], permitted: [u64; 8]) -> Solution
 }
 
 // Writes the largest counts into the card.
-fn put_counts(card: &mut [u16], largest: &[u16])
+pub fn put_counts(card: &mut [u16], largest: &[u16])
     requires { ⌜ (length (now card) ≡ 939) × (length (now largest) ≤ 8) ⌝ }
     ensures { λ _. ⌜ Counting (now (largest .entry)) (now (card .entry)) (now (card .exit)) ⌝ }
 {
@@ -105,7 +105,7 @@ fn find_first(
     search(&sets, &card, high)
 }
 
-fn write_choice(choice: [u64; 8], count: usize, out: &mut [u64])
+pub fn write_choice(choice: [u64; 8], count: usize, out: &mut [u64])
     requires { ⌜ count ≤ 8 ⌝ }
     requires { ⌜ count ≤ length (now out) ⌝ }
     ensures { λ _. ⌜ Copied count choice (now (out .entry)) (now (out .exit)) ⌝ }

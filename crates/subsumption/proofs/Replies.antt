@@ -3,7 +3,7 @@ use Prim.Native.Nat.{ℕ, zero, suc}
 use mathlib.Core.Path.{_≡_, refl, sym, ap, _∙_}
 use native.Mathlib.Omega.{arith}
 use Rattle.subsumption.specs.declared.refusal.Refusal.{Refusal}
-use Rattle.subsumption.specs.declared.refusal.Refusal.the-variants.{Limit, Malformed, ForwardId, NoConcept, VariableInInclusion, VariablesOnBothSides, TooManyAtoms, BufferTooShort, BadAssignment, NoAssignment, NotSubsumed, BadDerivation, BadText, NoCountermodel, BadRole, BadSyntax, TooDeep, BadSettings, BadOrder, ForwardInOrder}
+use Rattle.subsumption.specs.declared.refusal.Refusal.the-variants.{Limit, Malformed, ForwardId, NoConcept, VariableInInclusion, VariablesOnBothSides, TooManyAtoms, BufferTooShort, BadAssignment, NoAssignment, NotSubsumed, BadDerivation, BadText, AllowanceSpent, NoCountermodel, BadRole, BadSyntax, TooDeep, BadSettings, BadOrder, ForwardInOrder}
 use Rattle.subsumption.specs.declared.refusal.Outcome.{Outcome}
 use Rattle.subsumption.specs.declared.refusal.Outcome.the-variants.{Done, Refused}
 use Rattle.subsumption.specs.Refusal.{codeOf, Reply, replyDone, replyRefused, replyWith, replyOf}
@@ -33,7 +33,7 @@ refusalAt (suc (suc (suc (suc (suc (suc (suc (suc (suc (suc zero)))))))))) place
 refusalAt (suc (suc (suc (suc (suc (suc (suc (suc (suc (suc (suc zero))))))))))) place = NotSubsumed
 refusalAt (suc (suc (suc (suc (suc (suc (suc (suc (suc (suc (suc (suc zero)))))))))))) place = BadDerivation place
 refusalAt (suc (suc (suc (suc (suc (suc (suc (suc (suc (suc (suc (suc (suc zero))))))))))))) place = BadText place
-refusalAt (suc (suc (suc (suc (suc (suc (suc (suc (suc (suc (suc (suc (suc (suc zero)))))))))))))) place = TooManyAtoms
+refusalAt (suc (suc (suc (suc (suc (suc (suc (suc (suc (suc (suc (suc (suc (suc zero)))))))))))))) place = AllowanceSpent
 refusalAt (suc (suc (suc (suc (suc (suc (suc (suc (suc (suc (suc (suc (suc (suc (suc zero))))))))))))))) place = NoCountermodel
 refusalAt (suc (suc (suc (suc (suc (suc (suc (suc (suc (suc (suc (suc (suc (suc (suc (suc zero)))))))))))))))) place = BadRole place
 refusalAt (suc (suc (suc (suc (suc (suc (suc (suc (suc (suc (suc (suc (suc (suc (suc (suc (suc number))))))))))))))))) place = laterAt number place
@@ -53,6 +53,7 @@ refusal-back NoAssignment = refl
 refusal-back NotSubsumed = refl
 refusal-back (BadDerivation place) = refl
 refusal-back (BadText place) = refl
+refusal-back AllowanceSpent = refl
 refusal-back NoCountermodel = refl
 refusal-back (BadRole place) = refl
 refusal-back (BadSyntax place) = refl
@@ -79,6 +80,7 @@ isRefused NoAssignment e = omega arith
 isRefused NotSubsumed e = omega arith
 isRefused (BadDerivation place) e = omega arith
 isRefused (BadText place) e = omega arith
+isRefused AllowanceSpent e = omega arith
 isRefused NoCountermodel e = omega arith
 isRefused (BadRole place) e = omega arith
 isRefused (BadSyntax place) e = omega arith

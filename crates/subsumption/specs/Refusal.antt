@@ -3,7 +3,7 @@ use Prim.Native.Nat.{ℕ, zero, suc}
 use mathlib.Core.Path.{_≡_}
 use mathlib.Core.Bool.{Bool, true, false}
 use Rattle.subsumption.specs.declared.refusal.Refusal.{Refusal}
-use Rattle.subsumption.specs.declared.refusal.Refusal.the-variants.{Limit, Malformed, ForwardId, NoConcept, VariableInInclusion, VariablesOnBothSides, TooManyAtoms, BufferTooShort, BadAssignment, NoAssignment, NotSubsumed, BadDerivation, BadText, NoCountermodel, BadRole, BadSyntax, TooDeep, BadSettings, BadOrder, ForwardInOrder}
+use Rattle.subsumption.specs.declared.refusal.Refusal.the-variants.{Limit, Malformed, ForwardId, NoConcept, VariableInInclusion, VariablesOnBothSides, TooManyAtoms, BufferTooShort, BadAssignment, NoAssignment, NotSubsumed, BadDerivation, BadText, AllowanceSpent, NoCountermodel, BadRole, BadSyntax, TooDeep, BadSettings, BadOrder, ForwardInOrder}
 use Rattle.subsumption.specs.declared.refusal.Outcome.{Outcome}
 use Rattle.subsumption.specs.declared.refusal.Outcome.the-variants.{Done, Refused}
 use Rattle.subsumption.specs.declared.refusal.Code.{Code}
@@ -22,6 +22,7 @@ codeOf NoAssignment = record { number = 10; place = 0 }
 codeOf NotSubsumed = record { number = 11; place = 0 }
 codeOf (BadDerivation place) = record { number = 12; place = place }
 codeOf (BadText place) = record { number = 13; place = place }
+codeOf AllowanceSpent = record { number = 14; place = 0 }
 codeOf NoCountermodel = record { number = 15; place = 0 }
 codeOf (BadRole place) = record { number = 16; place = place }
 codeOf (BadSyntax place) = record { number = 17; place = place }

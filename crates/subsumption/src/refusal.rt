@@ -17,6 +17,7 @@ pub enum Refusal {
     NotSubsumed,
     BadDerivation(usize),
     BadText(usize),
+    AllowanceSpent,
     NoCountermodel,
     BadRole(usize),
     BadSyntax(usize),
@@ -93,6 +94,10 @@ pub fn code_of(r: Refusal) -> Code
         Refusal::BadText(p) => Code {
             number: 13,
             place: p,
+        },
+        Refusal::AllowanceSpent => Code {
+            number: 14,
+            place: 0,
         },
         Refusal::NoCountermodel => Code {
             number: 15,

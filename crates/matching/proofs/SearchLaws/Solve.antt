@@ -61,6 +61,12 @@ unlike true false o e = true≢false e
 unlike false true o e = false≢true e
 unlike false false o e = false≢true o
 
+alike : (a b : Bool) → not (Bool·beq a b) ≡ false → a ≡ b
+alike true true o = refl
+alike true false o = absurd (true≢false o)
+alike false true o = absurd (true≢false o)
+alike false false o = refl
+
 module _ (sets card choice : List ℕ) (right : Bool) where
   pub hold-none : HoldTo sets card choice right 0
   hold-none t c a n l = absurd (omega arith)
@@ -85,24 +91,29 @@ module _ (sets card choice : List ℕ) (right : Bool) where
     pub hold-more : b ≡ true → HoldTo sets card choice right m → HoldTo sets card choice right (m + 1)
     hold-more e h = one-more m h (λ t c a l x. decided-true _ b (d t c a l) e)
 
-    pub failing-here : b ≡ false → m < questionCount card → FailingOf sets card choice right m
-    failing-here e l t c a =
-        record { fails = λ x. decided-false _ b (d t c a x) e; hold = λ x. absurd (omega (arith, is-asked t sets card c m l)) }
+    pub failing-here : b ≡ false → m < questionCount card → not (Bool·beq (heldAt card (rightAt card m)) right) ≡ false → FailingOf sets card choice right m
+    failing-here e l o t c a =
+        record {
+          fails = λ x. decided-false _ b (d t c a x) e;
+          of-kind = λ x. sym (right-held t sets card c m x) ∙ alike _ _ o;
+          hold = λ x. absurd (omega (arith, is-asked t sets card c m l));
+        }
 
   pub failing-none : (m : ℕ) → HoldTo sets card choice right m → questionCount card ≤ m → FailingOf sets card choice right (questionCount card)
   failing-none m h l t c a =
       record {
         fails = λ x. absurd (omega (arith, c .questions));
+        of-kind = λ x. absurd (omega (arith, c .questions));
         hold = λ x n y. h t c a n (omega (arith, c .questions)) y;
       }
 
 module _ (sets card choice : List ℕ) (m : ℕ) where
   pub failing-first : FailingOf sets card choice true m → m < questionCount card → Failing sets card choice m
-  failing-first f l t c a = record { fails = f t c a .fails; hold = λ x. absurd (omega (arith, c .questions)) }
+  failing-first f l t c a = record { fails = f t c a .fails; of-kind = λ x. tt; hold = λ x. absurd (omega (arith, c .questions)) }
 
   -- none with a variable on the right, then the others
   pub failing-second : (n : ℕ) → FailingOf sets card choice true n → questionCount card ≤ n → FailingOf sets card choice false m → Failing sets card choice m
-  failing-second n f l g t c a = record { fails = g t c a .fails; hold = λ x o y z. go x o y (hasVariable (tree (t .concepts) (rightOf (t .questions) o))) refl }
+  failing-second n f l g t c a = record { fails = g t c a .fails; of-kind = λ x. tt; hold = λ x o y z. go x o y (hasVariable (tree (t .concepts) (rightOf (t .questions) o))) refl }
     where
       go :
           pairsOf (t .questions) ≤ m → (o : ℕ) → o < pairsOf (t .questions) → (b : Bool)

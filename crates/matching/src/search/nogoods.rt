@@ -7,7 +7,7 @@ ghost use Prim.Native.Nat.{_+_, _<_, _≤_};
 ghost use lib.ListN.{length};
 ghost use Rattle.matching.specs.Inner.Search.Nogoods.{words, used, lowAt, highAt, Room, Put, Added};
 
-fn fetch(store: &[u64], at: usize) -> [u64; 8]
+pub fn fetch(store: &[u64], at: usize) -> [u64; 8]
     requires { ⌜ at + 8 ≤ length (now store) ⌝ }
     ensures { λ r. ⌜ r ≡ words (now (store .entry)) at ⌝ }
 {
@@ -20,7 +20,7 @@ fn fetch(store: &[u64], at: usize) -> [u64; 8]
     set
 }
 
-fn put(store: &mut [u64], at: usize, set: [u64; 8])
+pub fn put(store: &mut [u64], at: usize, set: [u64; 8])
     requires { ⌜ at + 8 ≤ length (now store) ⌝ }
     ensures { λ _. ⌜ Put at set (now (store .entry)) (now (store .exit)) ⌝ }
 {

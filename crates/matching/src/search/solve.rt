@@ -59,7 +59,7 @@ pub struct Answer {
 }
 
 // The first question that does not hold, of those whose right side holds a variable just where `right` says so; their number if all hold.
-fn failing_of(
+pub fn failing_of(
     sets: &[u64],
     card: &[u16],
     scratch: &mut [u64],

@@ -16,6 +16,7 @@ use Rattle.matching.specs.Inner.Search.Nogoods.{used, lowAt, highAt, Nog
 -- A question that fails under the choice, or the number of questions if all of the kind hold.
 pub record FailingFor (t : Tables) (assignment : List ℕ) (kind : ℕ → Type 0) (m : ℕ) : Type 0 where
   pub fails : m < pairsOf (t .questions) → HoldsAt t assignment m → ⊥
+  pub of-kind : m < pairsOf (t .questions) → kind m
   pub hold : pairsOf (t .questions) ≤ m → (n : ℕ) → n < pairsOf (t .questions) → kind n → HoldsAt t assignment n
 
 abbrev pub FailingOf : List ℕ → List ℕ → List ℕ → Bool → ℕ → Type 0

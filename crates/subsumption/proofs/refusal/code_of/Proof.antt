@@ -48,6 +48,9 @@ enum-known-r-10 c = search needs
 enum-told-4 : tie.Need-enum-told-4
 enum-told-4 c = search needs
 
+enum-told-5 : tie.Need-enum-told-5
+enum-told-5 c = search needs
+
 enum-known-r-11 : tie.Need-enum-known-r-11
 enum-known-r-11 c = search needs
 
@@ -109,22 +112,25 @@ returns-14 : tie.Need-returns-14
 returns-14 c = ap codeOf (sym (c .enum-told4 .given .1))
 
 returns-15 : tie.Need-returns-15
-returns-15 c = ap codeOf (sym (c .before .r11 .given .1))
+returns-15 c = ap codeOf (sym (c .enum-told5 .given .1))
 
 returns-16 : tie.Need-returns-16
-returns-16 c = ap codeOf (sym (c .before .r12 .given .1))
+returns-16 c = ap codeOf (sym (c .before .r11 .given .1))
 
 returns-17 : tie.Need-returns-17
-returns-17 c = ap codeOf (sym (c .before .r13 .given .1))
+returns-17 c = ap codeOf (sym (c .before .r12 .given .1))
 
 returns-18 : tie.Need-returns-18
-returns-18 c = ap codeOf (sym (c .before .r14 .given .1))
+returns-18 c = ap codeOf (sym (c .before .r13 .given .1))
 
 returns-19 : tie.Need-returns-19
-returns-19 c = ap codeOf (sym (c .before .r15 .given .1))
+returns-19 c = ap codeOf (sym (c .before .r14 .given .1))
 
 returns-20 : tie.Need-returns-20
-returns-20 c = ap codeOf (sym (c .before .r16 .given .1))
+returns-20 c = ap codeOf (sym (c .before .r15 .given .1))
+
+returns-21 : tie.Need-returns-21
+returns-21 c = ap codeOf (sym (c .before .r16 .given .1))
 
 pub code-of-spec : {M : Type 1} → statement M
 code-of-spec =
@@ -144,6 +150,7 @@ code-of-spec =
     enum-known-r-9
     enum-known-r-10
     enum-told-4
+    enum-told-5
     enum-known-r-11
     enum-known-r-12
     enum-known-r-13
@@ -169,4 +176,5 @@ code-of-spec =
     returns-17
     returns-18
     returns-19
-    returns-20)
+    returns-20
+    returns-21)
