@@ -1,0 +1,71 @@
+-- There is one count, and it is over every allowance that it exceeds.
+use Prim.Native.Nat.{ℕ, suc, _<_}
+use mathlib.Core.Path.{_≡_, refl, sym, ap, subst}
+use mathlib.Core.List.{List, [], _∷_, _++_}
+use mathlib.Core.Bool.{Bool}
+use native.Mathlib.Omega.{arith}
+use lib.ListN.{length}
+use Rattle.subsumption.specs.Tables.{Tables}
+use Rattle.settings.specs.Settings.{Settings}
+use Rattle.allowance.specs.Partial.{pairs, Open, allPartials}
+use Rattle.allowance.specs.Count.{Stretch, none, opened, shut, CountOf, answered, unanswered, Exceeds}
+
+-- Answered or not: so many open ones of a list up to and including its first answer, or all of them.
+data Met (t : Tables) (settings : Settings) : List (List Bool) → ℕ → Type 0 where
+  met-none : Met t settings [] 0
+  met-answer : (s : List Bool) (rest : List (List Bool)) → length s ≡ pairs t → Open t settings s → Met t settings (s ∷ rest) 1
+  met-open :
+      (s : List Bool) (rest : List (List Bool)) (n : ℕ) → length s < pairs t → Open t settings s → Met t settings rest n
+      → Met t settings (s ∷ rest) (suc n)
+  met-shut : (s : List Bool) (rest : List (List Bool)) (n : ℕ) → (Open t settings s → ⊥) → Met t settings rest n → Met t settings (s ∷ rest) n
+
+module _ (t : Tables) (settings : Settings) where
+  met-all : (xs : List (List Bool)) (n : ℕ) → Stretch t settings xs n → Met t settings xs n
+  met-all xs n none = met-none
+  met-all xs n (opened s rest m l o x) = met-open s rest m l o (met-all rest m x)
+  met-all xs n (shut s rest m o x) = met-shut s rest n o (met-all rest m x)
+
+  met-first :
+      (xs : List (List Bool)) (s : List Bool) (after : List (List Bool)) (n : ℕ) → length s ≡ pairs t → Open t settings s → Stretch t settings xs n
+      → Met t settings (xs ++ (s ∷ after)) (suc n)
+  met-first xs s after n w a none = met-answer s after w a
+  met-first xs s after n w a (opened y rest m l o x) = met-open y _ (suc m) l o (met-first rest s after m w a x)
+  met-first xs s after n w a (shut y rest m o x) = met-shut y _ (suc m) o (met-first rest s after m w a x)
+
+  count-met : (n : ℕ) → CountOf t settings n → Met t settings (allPartials t) n
+  count-met n (answered m s a) =
+      subst (λ (z : List (List Bool)). Met t settings z (suc m)) (sym (a .order)) (met-first _ s _ m (a .whole) (a .is-open) (a .stretch))
+  count-met n (unanswered m x) = met-all _ m x
+
+  met-unique : (xs : List (List Bool)) (m n : ℕ) → Met t settings xs m → Met t settings xs n → m ≡ n
+  met-unique xs m n met-none met-none = refl
+  met-unique xs m n (met-answer s rest w o) (met-answer s₁ rest₁ w₁ o₁) = refl
+  met-unique xs m n (met-answer s rest w o) (met-open s₁ rest₁ k l o₁ x) = absurd (omega arith)
+  met-unique xs m n (met-answer s rest w o) (met-shut s₁ rest₁ k o₁ x) = absurd (o₁ o)
+  met-unique xs m n (met-open s rest k l o x) (met-answer s₁ rest₁ w o₁) = absurd (omega arith)
+  met-unique xs m n (met-open s rest k l o x) (met-open s₁ rest₁ k₁ l₁ o₁ x₁) = ap suc (met-unique rest k k₁ x x₁)
+  met-unique xs m n (met-open s rest k l o x) (met-shut s₁ rest₁ k₁ o₁ x₁) = absurd (o₁ o)
+  met-unique xs m n (met-shut s rest k o x) (met-answer s₁ rest₁ w o₁) = absurd (o o₁)
+  met-unique xs m n (met-shut s rest k o x) (met-open s₁ rest₁ k₁ l₁ o₁ x₁) = absurd (o o₁)
+  met-unique xs m n (met-shut s rest k o x) (met-shut s₁ rest₁ k₁ o₁ x₁) = met-unique rest k k₁ x x₁
+
+  met-more :
+      (before : List (List Bool)) (here : List Bool) (after : List (List Bool)) (m n : ℕ) → Open t settings here → Stretch t settings before m
+      → Met t settings (before ++ (here ∷ after)) n → m < n
+  met-more before here after m n a none (met-answer s rest w o) = omega arith
+  met-more before here after m n a none (met-open s rest k l o x) = omega arith
+  met-more before here after m n a none (met-shut s rest k o x) = absurd (o a)
+  met-more before here after m n a (opened s rest k l o y) (met-answer s₁ rest₁ w o₁) = absurd (omega arith)
+  met-more before here after m n a (opened s rest k l o y) (met-open s₁ rest₁ k₁ l₁ o₁ x) = omega (arith, met-more rest here after k k₁ a y x)
+  met-more before here after m n a (opened s rest k l o y) (met-shut s₁ rest₁ k₁ o₁ x) = absurd (o₁ o)
+  met-more before here after m n a (shut s rest k o y) (met-answer s₁ rest₁ w o₁) = absurd (o o₁)
+  met-more before here after m n a (shut s rest k o y) (met-open s₁ rest₁ k₁ l o₁ x) = absurd (o o₁)
+  met-more before here after m n a (shut s rest k o y) (met-shut s₁ rest₁ k₁ o₁ x) = met-more rest here after k k₁ a y x
+
+  pub count-unique : (m n : ℕ) → CountOf t settings m → CountOf t settings n → m ≡ n
+  count-unique m n a b = met-unique _ m n (count-met m a) (count-met n b)
+
+  pub exceeds-less : (allowance n : ℕ) → Exceeds t settings allowance → CountOf t settings n → allowance < n
+  exceeds-less allowance n e a =
+      met-more (e .before) (e .here) (e .after) allowance n (e .is-open) (e .stretch)
+      (subst (λ (z : List (List Bool)). Met t settings z n) (e .order) (count-met n a))

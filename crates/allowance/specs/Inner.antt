@@ -1,0 +1,5 @@
+-- Definitions of private contracts: no operation's contract reaches them.
+pub mod Place
+pub mod Kept
+pub mod Walk
+pub mod Find

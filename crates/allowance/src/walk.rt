@@ -1,0 +1,126 @@
+// The walk over the partial choices in their order: an open one is counted and then extended, a shut one is skipped with all that extends it.
+use crate::kept::KEPT;
+use crate::kept::holds;
+use crate::place::Place;
+use crate::place::leave;
+use crate::place::next_sibling;
+use matching::helpers::CARD;
+use matching::helpers::MOST;
+use matching::helpers::SCRATCH;
+use settings::helpers::is_few;
+ghost use mathlib.Core.Path.{_≡_};
+ghost use Prim.Native.Nat.{_*_, _≤_};
+ghost use lib.ListN.{length};
+ghost use Rattle.matching.specs.Inner.Search.{Decided, Within};
+ghost use Rattle.matching.specs.Inner.Search.Card.{Shaped};
+ghost use Rattle.allowance.specs.Inner.Walk.{OpenedBy, Walked};
+
+// What was found, or that the allowance was spent, and how many open ones were met.
+pub struct Trail {
+    pub found: bool,
+    pub spent: bool,
+    pub choice: [u64; 8],
+    pub met: u32,
+}
+
+// Whether the one takes only what the other does, or not: matching's `is_within` promises nothing with a no.
+fn is_permitted(low: [u64; 8], permitted: [u64; 8]) -> bool
+    requires { ⌜ (length low ≡ 8) × (length permitted ≡ 8) ⌝ }
+    ensures { λ r. ⌜ Decided (Within low permitted) r ⌝ }
+{
+    let mut k: usize = 0;
+    while k < 8 {
+        if (low[k] | permitted[k]) != permitted[k] {
+            return false;
+        }
+        k += 1;
+    }
+    true
+}
+
+fn is_open(
+    sets: &[u64],
+    card: &[u16],
+    scratch: &mut [u64],
+    kept: &mut [u64],
+    permitted: [u64; 8],
+    place: Place,
+) -> bool
+    requires { ⌜ Shaped (now sets) (now card) ⌝ }
+    requires { ⌜ (length (now scratch) ≡ 16977) × (length (now kept) ≡ 516) ⌝ }
+    requires { ⌜ (length permitted ≡ 8) × (length (place .low) ≡ 8) × (length (place .high) ≡ 8) ⌝ }
+    ensures { λ r. ⌜ length (now (kept .exit)) ≡ 516 ⌝ }
+    ensures { λ r. ⌜ OpenedBy (now (sets .entry)) (now (card .entry)) permitted (place .low) (place .high) (now (kept .entry)) (now (kept .exit)) r ⌝ }
+{
+    let low = place.low;
+    let high = place.high;
+    if !is_permitted(low, permitted) {
+        return false;
+    }
+    if !is_few(&card[MOST..CARD], low) {
+        return false;
+    }
+    if !holds(sets, card, scratch, kept, low, true) {
+        return false;
+    }
+    holds(sets, card, scratch, kept, high, false)
+}
+
+// `count` is the number of the atoms, `pairs` that of the pairs.
+pub fn walk(
+    sets: &[u64],
+    card: &[u16],
+    permitted: [u64; 8],
+    count: usize,
+    pairs: usize,
+    allowance: u32,
+) -> Trail
+    requires { ⌜ Shaped (now sets) (now card) ⌝ }
+    requires { ⌜ (length permitted ≡ 8) × (count ≤ 64) × (pairs ≤ 8 * count) ⌝ }
+    ensures { λ r. ⌜ Walked (now (sets .entry)) (now (card .entry)) permitted count pairs allowance (r .found) (r .spent) (r .choice) (r .met) ⌝ }
+{
+    let mut scratch = [0u64; SCRATCH];
+    let mut kept = [0u64; KEPT];
+    let low = [0u64; 8];
+    let mut place = Place {
+        low,
+        high: permitted,
+        settled: 0,
+    };
+    let mut met: u32 = 0;
+    loop {
+        let choice = place.low;
+        if is_open(sets, card, &mut scratch, &mut kept, permitted, place) {
+            if met == allowance {
+                return Trail {
+                    found: false,
+                    spent: true,
+                    choice,
+                    met,
+                };
+            }
+            met += 1;
+            if place.settled == pairs {
+                return Trail {
+                    found: true,
+                    spent: false,
+                    choice,
+                    met,
+                };
+            }
+            let next = leave(place, count);
+            place = next;
+            continue;
+        }
+        let next = next_sibling(place, permitted, count);
+        if !next.found {
+            return Trail {
+                found: false,
+                spent: false,
+                choice,
+                met,
+            };
+        }
+        place = next.place;
+    }
+}
