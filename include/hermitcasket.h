@@ -20,6 +20,7 @@
  *     hc_subsumed           32768
  *     hc_match              1114112   (512 pairs split one under another; the most measured is 361896)
  *     hc_match_within       1114112   (as hc_match)
+ *     hc_match_counted      262144
  *     hc_chosen             8192
  *     hc_derive             524288
  *     hc_check_derivation   65536
@@ -95,8 +96,16 @@
  * Order of fillings: look at the pairs (blank, position), blank 0 first and positions rising. At
  * the first pair where two fillings differ, the one that leaves the part out is earlier.
  *
- * Refusals. Checks run in the order 1 to 6, 16, 7, then 9, 19, 21, 22, 15, 8, 11, 10; 12 comes
- * last. Within one check the lowest place wins; 8 takes several buffers in turn. The checks of a
+ * Decisions: a partial choice settles the first k pairs of this order, each as left out or taken,
+ * for k from 0 to all; pairs of blanks in no question and parts that are not permitted are pairs
+ * too. It is open when what it takes is within the settings, all questions without blanks on the
+ * right hold with the unsettled permitted parts taken, and all others hold with them left out.
+ * Partial choices come in order, a shorter one before its extensions, left out before taken. The
+ * count of decisions is the number of open ones up to and including the answer, or of all open ones
+ * when no filling within the settings makes every question hold.
+ *
+ * Refusals. Checks run in the order 1 to 6, 16, 7, then 9, 19, 21, 22, 15, 8, 11, 10 or 14; 12
+ * comes last. Within one check the lowest place wins; 8 takes several buffers in turn. The checks of a
  * given stock, again 1, 2 and 4, come after 9. Of a catalogue's text 8 comes first, then 17 for its
  * length; then the first byte at fault decides between 17, 18 and 1.
  *
@@ -129,6 +138,7 @@
  *   11      derivation wanted, pair not below                  0
  *   12      no lines or a ragged list; a line breaks its       0; line, from 0; count of lines
  *           rule; the last line is another pair
+ *   14      the count of decisions exceeds the allowance       0
  *   15      the pair holds, so there is nothing to show        0
  *   16      a role over 99 in the role pairs                   pair
  *   17      of a catalogue: over 8192 bytes                    8192
@@ -153,7 +163,8 @@
 extern "C" {
 #endif
 
-/* number 0: done, and place is 0. Otherwise the refusal, and value is 0. */
+/* number 0: done, and place is 0. Otherwise the refusal, and value is 0, but for the count that
+ * hc_match_counted gives. */
 typedef struct {
     uint16_t number;
     uint64_t place;
@@ -238,6 +249,22 @@ hc_answer hc_match_within(const uint16_t *entries, size_t entries_len,
                           const uint64_t *permitted, size_t permitted_len,
                           const uint16_t *largest, size_t largest_len,
                           uint64_t *out, size_t out_len);
+
+/* hc_match_within on an allowance of decisions, which are counted. Where the count is no more than
+ * the allowance, the answer and what is written are those of hc_match_within, so a larger allowance
+ * never alters a filling or a 10. Where it is more, refusal 14 says so, and nothing is written. A
+ * card with nothing to decide has count 1; where nothing can fill it from the start the count is 0,
+ * and the answer is 10 on an allowance of 0 too. value: the count, with number 0 and with refusal 10;
+ * the allowance with refusal 14; 0 with any other. */
+hc_answer hc_match_counted(const uint16_t *entries, size_t entries_len,
+                           const uint16_t *inclusions, size_t inclusions_len,
+                           const uint16_t *questions, size_t questions_len,
+                           const uint16_t *roles, size_t roles_len,
+                           uint16_t blanks,
+                           const uint64_t *permitted, size_t permitted_len,
+                           const uint16_t *largest, size_t largest_len,
+                           uint32_t allowance,
+                           uint64_t *out, size_t out_len);
 
 /* Writes the ids chosen for one blank, rising, to the front of out, which wants 64 numbers. A
  * blank number not below the count is refusal 2, place 0. value: how many, the number of ones in

@@ -42,6 +42,7 @@ static void nulls(void)
     show("no entry", hc_subsumed(NOTHING, NULL, 0, 0, 0));
     show("nothing to fill", hc_match(NOTHING, NULL, 0));
     show("nothing to permit", hc_match_within(NOTHING, NULL, 0, NULL, 0, NULL, 0));
+    show("nothing to decide", hc_match_counted(NOTHING, NULL, 0, NULL, 0, 1, NULL, 0));
     show("no blank", hc_chosen(NOTHING, NULL, 0, 0, NULL, 0));
     show("nothing to derive", hc_derive(NOTHING, NULL, 0, 0, 0, NULL, 0));
     show("nothing to check", hc_check_derivation(NOTHING, NULL, 0, 0, 0, NULL, 0));
@@ -70,6 +71,7 @@ static void nulls(void)
     show("no room to fill", hc_match(TABLES, NULL, 0));
     show("no settings", hc_match_within(TABLES, NULL, 0, NULL, 0, NULL, 0));
     show("no counts", hc_match_within(TABLES, filling, 1, NULL, 0, NULL, 0));
+    show("no settings to count in", hc_match_counted(TABLES, NULL, 0, NULL, 0, 4, NULL, 0));
     show("no room for ids", hc_chosen(TABLES, filling, LEN(filling), 0, NULL, 0));
     show("no room for lines", hc_derive(TABLES, filling, LEN(filling), 2, 3, NULL, 0));
     show("no list of lines", hc_check_derivation(TABLES, filling, LEN(filling), 2, 3, NULL, 0));
@@ -156,6 +158,30 @@ static void settings(void)
     show("two counts", hc_match_within(TABLES, past, 1, any, 2, found, 0));
     show("settings first", hc_match_within(TABLES, past, 1, any, 1, found, 0));
     show("room then", hc_match_within(TABLES, one, 1, any, 1, found, 0));
+    printf("found %llu %llu\n", (unsigned long long)found[0], (unsigned long long)found[1]);
+}
+
+/* Decisions on the sample: four up to its filling. */
+static void decisions(void)
+{
+    static const uint64_t all[] = {7, 7}, one[] = {1}, past[] = {8};
+    static const uint16_t any[] = {64, 64}, nothing[] = {0};
+    uint64_t found[] = {77, 77};
+
+#define COUNTED(permitted, largest, allowance) \
+    hc_match_counted(TABLES, permitted, 1, largest, 1, allowance, found, 2)
+    show("none allowed", COUNTED(all, any, 0));
+    show("three allowed", COUNTED(all, any, 3));
+    printf("found %llu %llu\n", (unsigned long long)found[0], (unsigned long long)found[1]);
+    show("four allowed", COUNTED(all, any, 4));
+    printf("found %llu %llu\n", (unsigned long long)found[0], (unsigned long long)found[1]);
+    show("the most allowed", COUNTED(all, any, UINT32_MAX));
+    show("three, and none fills", COUNTED(all, nothing, 3));
+    show("two of the three", COUNTED(all, nothing, 2));
+    show("shut at once", COUNTED(one, any, 0));
+    show("settings before", COUNTED(past, any, 0));
+    show("two counts before", hc_match_counted(TABLES, all, 1, any, 2, 0, found, 0));
+    show("room before", hc_match_counted(TABLES, all, 1, any, 1, 0, found, 0));
     printf("found %llu %llu\n", (unsigned long long)found[0], (unsigned long long)found[1]);
 }
 
@@ -279,6 +305,7 @@ int main(void)
     show("no lines", hc_check_derivation(TABLES, filling, LEN(filling), 2, 3, lines, 0));
     role_pairs();
     settings();
+    decisions();
     stocks();
     shift();
     filing();

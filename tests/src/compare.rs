@@ -7,7 +7,7 @@ use crate::capi::{self, Answer, Catalogue};
 use crate::lend::{Lent, LentInputs, Noise};
 use crate::limits::ROW_BYTES;
 use crate::random::{cases, full_run, seed, Random, Size};
-use crate::reference::{self, atoms::chosen as chosen_ids, derivation, Refusal};
+use crate::reference::{self, atoms::chosen as chosen_ids, derivation, Counted, Refusal};
 use crate::tables::Case;
 use crate::tally::Tally;
 
@@ -109,6 +109,42 @@ pub fn find_within_expecting(case: &Case, expected: Result<Vec<u64>, Refusal>) -
     judge(case, name, answer, expected.map(|_| 0), &inputs);
     judge_output(case, name, &permitted, &[]);
     judge_output(case, name, &largest, &[]);
+    let now = &out.slice()[..written.len()];
+    assert!(now == written, "{} wrote {:?}, not {:?}, for\n{}", name, now, written, case);
+    judge_output(case, name, &out, &written);
+    answer
+}
+
+/// The same on the case's allowance, against the walk of the reference.
+pub fn find_counted(case: &Case) -> Answer {
+    let Case { tables, settings, allowance, match_room, .. } = case;
+    find_counted_expecting(case, reference::find_counted(tables, settings, *allowance, *match_room))
+}
+
+/// The same where the answer and the count are known otherwise.
+pub fn find_counted_expecting(case: &Case, expected: Counted) -> Answer {
+    let name = "hc_match_counted";
+    let mut random = noise(case);
+    let inputs = LentInputs::new(&case.tables, &case.assignment, &mut random);
+    let permitted: Lent<u64> = Lent::holding(&case.settings.permitted, &mut random);
+    let largest: Lent<u16> = Lent::holding(&case.settings.largest, &mut random);
+    let mut out: Lent<u64> = Lent::noise(case.match_room, &mut random);
+    let answer = capi::find_counted(
+        inputs.tables(),
+        permitted.slice(),
+        largest.slice(),
+        case.allowance,
+        out.slice_mut(),
+    );
+    let Counted { answer: found, count } = expected;
+    let wanted = match &found {
+        Ok(_) => Answer::done(count),
+        Err(refusal) => Answer { value: count, ..Answer::refused(refusal.number, refusal.place) },
+    };
+    judge_answer(case, name, answer, wanted, &inputs);
+    judge_output(case, name, &permitted, &[]);
+    judge_output(case, name, &largest, &[]);
+    let written = found.unwrap_or_default();
     let now = &out.slice()[..written.len()];
     assert!(now == written, "{} wrote {:?}, not {:?}, for\n{}", name, now, written, case);
     judge_output(case, name, &out, &written);
@@ -373,6 +409,10 @@ fn judge(
         Ok(value) => Answer::done(value),
         Err(refusal) => Answer::refused(refusal.number, refusal.place),
     };
+    judge_answer(case, name, answer, wanted, inputs);
+}
+
+fn judge_answer(case: &Case, name: &str, answer: Answer, wanted: Answer, inputs: &LentInputs) {
     assert!(
         answer == wanted,
         "{} answers {:?}, the reference {:?}, for\n{}",

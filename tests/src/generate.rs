@@ -7,7 +7,7 @@ use crate::damage;
 use crate::limits::*;
 use crate::orders;
 use crate::random::{Random, Size};
-use crate::reference::{self, atoms, countermodel};
+use crate::reference::{self, atoms, countermodel, matching};
 use crate::semantics::signature;
 use crate::settings::{all_atoms, Settings};
 use crate::shift::{held_marks, held_table, told};
@@ -413,6 +413,23 @@ pub fn full(random: &mut Random) -> Tables {
         add_question(&mut tables, if left { (pattern, atom) } else { (atom, pattern) });
     }
     tables
+}
+
+/// Tables with few questions and up to `most` pairs (variable, position), one at least. Most that
+/// the empty assignment solves are left out, since they would be the greater part.
+pub fn tiny(random: &mut Random, most: usize) -> Tables {
+    loop {
+        let mut tables = valid(random, Size::Small);
+        tables.questions.truncate(2 * random.between(1, 4));
+        let choices = matching::choices(&tables);
+        if choices == 0 || choices > most || tables.questions.is_empty() {
+            continue;
+        }
+        let nothing = vec![0; usize::from(tables.variables)];
+        if random.percent(10) || !matching::solves(&tables, &nothing) {
+            return tables;
+        }
+    }
 }
 
 /// Pastes up to `most` copies of rows under new ids behind the others, some over copies of their

@@ -147,8 +147,9 @@ pub struct Case {
     pub table_room: usize,
     /// Length of the buffer for the matcher's assignment, in numbers.
     pub match_room: usize,
-    /// What the matcher may take.
+    /// What the matcher may take, and how many decisions it is allowed.
     pub settings: Settings,
+    pub allowance: u32,
     /// The variable whose chosen ids are listed, and the length of the buffer for them.
     pub variable: u16,
     pub chosen_room: usize,
@@ -173,8 +174,8 @@ pub struct Case {
 
 impl Case {
     /// Buffers as long as wanted, but none for shown rows, whose number is not known yet; the pair
-    /// (0, 0), no settings, variable 0, no lines, no elements, nothing told, no held table, each id
-    /// its own new one.
+    /// (0, 0), no settings, the largest allowance, variable 0, no lines, no elements, nothing told, no
+    /// held table, each id its own new one.
     pub fn new(tables: Tables, assignment: &[u64]) -> Self {
         let table_room = tables.concept_count() * ROW_BYTES;
         let match_room = usize::from(tables.variables);
@@ -189,6 +190,7 @@ impl Case {
             table_room,
             match_room,
             settings: Settings::default(),
+            allowance: u32::MAX,
             variable: 0,
             chosen_room: ATOM_ROOM,
             line_room,
@@ -240,6 +242,7 @@ impl fmt::Display for Case {
         writeln!(f, "table_room: {},", self.table_room)?;
         writeln!(f, "match_room: {},", self.match_room)?;
         writeln!(f, "settings: {},", self.settings)?;
+        writeln!(f, "allowance: {},", self.allowance)?;
         writeln!(f, "variable: {},", self.variable)?;
         writeln!(f, "chosen_room: {},", self.chosen_room)?;
         writeln!(f, "line_room: {},", self.line_room)?;

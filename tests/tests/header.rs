@@ -55,6 +55,19 @@ two counts 19 1 0
 settings first 19 0 0
 room then 8 1 0
 found 2 77
+none allowed 14 0 0
+three allowed 14 0 3
+found 77 77
+four allowed 0 0 4
+found 4 77
+the most allowed 0 0 4
+three, and none fills 10 0 3
+two of the three 14 0 2
+shut at once 10 0 0
+settings before 19 0 0
+two counts before 19 1 0
+room before 8 1 0
+found 4 77
 shown 0 0 9
 row 0 0 5 0
 row 0 1 7 0
@@ -137,6 +150,7 @@ no rows 0 0 0
 no entry 4 0 0
 nothing to fill 0 0 0
 nothing to permit 0 0 0
+nothing to decide 0 0 1
 no blank 2 0 0
 nothing to derive 4 0 0
 nothing to check 4 0 0
@@ -158,6 +172,7 @@ no room for rows 8 144 0
 no room to fill 8 1 0
 no settings 19 1 0
 no counts 19 1 0
+no settings to count in 19 1 0
 no room for ids 8 64 0
 no room for lines 8 144 0
 no list of lines 12 0 0
@@ -234,5 +249,5 @@ fn the_archive_has_no_variables() {
             _ => panic!("{}", line),
         }
     }
-    assert_eq!(exported.len(), 15, "{:?}", exported);
+    assert_eq!(exported.len(), 16, "{:?}", exported);
 }

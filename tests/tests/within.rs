@@ -134,27 +134,10 @@ fn several_blanks() {
     expect(None, &card, &[1, 1], &[2, 2]);
 }
 
-/// Few enough choices for every setting; most cards that nothing chosen solves are left out, since
-/// they would be the greater part.
-fn tiny(random: &mut Random, most: usize) -> Tables {
-    loop {
-        let mut tables = generate::valid(random, Size::Small);
-        tables.questions.truncate(2 * random.between(1, 4));
-        let choices = matching::choices(&tables);
-        if choices == 0 || choices > most || tables.questions.is_empty() {
-            continue;
-        }
-        let nothing = vec![0; usize::from(tables.variables)];
-        if random.percent(10) || !matching::solves(&tables, &nothing) {
-            return tables;
-        }
-    }
-}
-
-/// One of these and all its solutions. Mostly there are two or more, so that settings decide.
+/// A tiny card and all its solutions. Mostly there are two or more, so that settings decide.
 fn tiny_with_solutions(random: &mut Random) -> (Tables, Vec<Vec<u64>>) {
     loop {
-        let tables = tiny(random, 6);
+        let tables = generate::tiny(random, 6);
         let solutions = matching::solutions(&tables);
         if solutions.len() > 1 || random.percent(5) {
             return (tables, solutions);
@@ -213,7 +196,7 @@ fn tiny_cards_against_brute_force() {
     let mut tally = Tally::new("within, brute force");
     for k in 0..cases(Size::Small) / 8 {
         let mut random = Random::for_case(seed, k);
-        let tables = tiny(&mut random, 10);
+        let tables = generate::tiny(&mut random, 10);
         let settings = generate::settings(&mut random, &tables);
         let mut case = case_of(&tables, &settings);
         case.match_room += random.below(3);
@@ -586,7 +569,7 @@ fn answers_do_not_stick() {
     let mut tally = Tally::new("within, in a row");
     for k in 0..cases(Size::Medium) / 4 {
         let mut random = Random::for_case(seed, k);
-        let (one, two) = (tiny(&mut random, 40), tiny(&mut random, 40));
+        let (one, two) = (generate::tiny(&mut random, 40), generate::tiny(&mut random, 40));
         let settings = [&one, &one, &two].map(|tables| generate::settings(&mut random, tables));
         let mut cases: Vec<Case> =
             [&one, &one, &two].iter().zip(&settings).map(|(t, s)| case_of(t, s)).collect();

@@ -8,7 +8,12 @@ use Rattle.subsumption.specs.declared.refusal.Code.{Code}
 use Rattle.subsumption.specs.declared.decide.Decision.{Decision}
 use Rattle.countermodel.specs.declared.show.Shown.{Shown}
 use Rattle.subsumption.specs.Tables.{Tables}
-use Rattle.subsumption.specs.Refusal.{codeOf, replyOf}
+use Rattle.subsumption.specs.Refusal.{codeOf, Reply, replyOf}
+use Rattle.settings.specs.Settings.{Settings}
+use Rattle.matching.specs.declared.find.Match.{Match}
+use Rattle.matching.specs.declared.find.Match.the-variants.{Filled, Rejected as Stopped}
+use Rattle.allowance.specs.declared.find.Counted.{Counted}
+use Rattle.allowance.specs.Find.{replyBy, countedReply, FindsCounted}
 use Rattle.subsumption.specs.Decide.{decisionReply}
 use Rattle.countermodel.specs.Show.{shownReply, Shows}
 use Rattle.countermodel.specs.Membership.{DecidesMember}
@@ -45,6 +50,22 @@ pub renumbers-as :
     → Renumbers t order concepts concepts′ inclusions inclusions′ questions questions′ (replied a)
 renumbers-as t order concepts concepts′ inclusions inclusions′ questions questions′ a x p =
     passed-on (Renumbers t order concepts concepts′ inclusions inclusions′ questions questions′) replyOf x x a p refl
+
+-- ---- counts
+pub count-told :
+    (x : Counted) → x .answer ≡ Filled → _≡_ {A = Reply} (record { number = 0; place = 0; value = x .count }) (countedReply x)
+count-told x h = ap (λ (z : Match). replyBy z (x .count)) (sym h)
+
+pub count-refused :
+    (x : Counted) (r : Refusal) (code : Code) → x .answer ≡ Stopped r → code ≡ codeOf r
+    → _≡_ {A = Reply} (record { number = code .number; place = code .place; value = x .count }) (countedReply x)
+count-refused x r code h e =
+    ap (λ (z : Code). record { number = z .number; place = z .place; value = x .count }) e ∙ ap (λ (z : Match). replyBy z (x .count)) (sym h)
+
+pub counted-as :
+    (t : Tables) (s : Settings) (allowance : ℕ) (before after : List ℕ) (a : Answer) (x : Counted)
+    → FindsCounted t s allowance before after (countedReply x) → replied a ≡ countedReply x → FindsCounted t s allowance before after (replied a)
+counted-as t s allowance before after a x p = passed-on (FindsCounted t s allowance before after) countedReply x x a p refl
 
 -- ---- catalogues
 pub counts-told :

@@ -1,8 +1,10 @@
 // The operations for C and Rust. No logic of its own: each export calls one operation and gives its answer in numbers.
+use allowance::Counted;
 use answers::Answer;
 use answers::answer_of;
 use answers::decided;
 use countermodel::Shown;
+use matching::Match;
 use owl::Catalogue;
 use subsumption::refusal::Outcome;
 use subsumption::refusal::code_of;
@@ -21,6 +23,7 @@ ghost use Rattle.matching.specs.Find.{Finds};
 ghost use Rattle.matching.specs.Within.{FindsWithin};
 ghost use Rattle.matching.specs.Chosen.{choosingFault, chosenIn};
 ghost use Rattle.matching.specs.Writer.{Derives};
+ghost use Rattle.allowance.specs.Find.{countedReply, FindsCounted};
 ghost use Rattle.countermodel.specs.Show.{Shows};
 ghost use Rattle.countermodel.specs.Membership.{DecidesMember};
 ghost use Rattle.incremental.specs.Update.{Updates};
@@ -172,6 +175,60 @@ pub extern "C" fn hc_match_within(
         largest,
         out,
     )
+}
+
+// What the finder with an allowance answered: the count is told with 10 and 14 too.
+fn counted_of(counted: Counted) -> Answer
+    ensures { λ a. ⌜ replied a ≡ countedReply counted ⌝ }
+{
+    let value = counted.count as u64;
+    let answer = counted.answer;
+    match answer {
+        Match::Filled => Answer {
+            number: 0,
+            place: 0,
+            value,
+        },
+        Match::Rejected(r) => {
+            let code = code_of(r);
+            let number = code.number;
+            let place = code.place as u64;
+            Answer {
+                number,
+                place,
+                value,
+            }
+        }
+    }
+}
+
+// The same on an allowance of decisions; value: their count, with 10 and 14 too; refusal 14: the count is over the allowance.
+#[no_mangle]
+pub extern "C" fn hc_match_counted(
+    concepts: &[u16],
+    inclusions: &[u16],
+    questions: &[u16],
+    roles: &[u16],
+    variables: u16,
+    permitted: &[u64],
+    largest: &[u16],
+    allowance: u32,
+    out: &mut [u64],
+) -> Answer
+    ensures { λ a. ⌜ FindsCounted (tables (now (concepts .entry)) (now (inclusions .entry)) (now (questions .entry)) (now (roles .entry)) variables) (settings (now (permitted .entry)) (now (largest .entry))) allowance (now (out .entry)) (now (out .exit)) (replied a) ⌝ }
+{
+    let counted = allowance::find_counted(
+        concepts,
+        inclusions,
+        questions,
+        roles,
+        variables,
+        permitted,
+        largest,
+        allowance,
+        out,
+    );
+    counted_of(counted)
 }
 
 // Lists one variable's chosen ids; value: how many.

@@ -140,7 +140,8 @@ fn search_over(tables: &Tables, ids: &[usize]) -> (Option<Vec<u64>>, Effort) {
     search_with_effort(&patterns, Clauses::new(variables * ids.len()), variables)
 }
 
-fn patterns_over(tables: &Tables, ids: &[usize]) -> Patterns {
+/// The questions of accepted tables, whose variables choose from these ids.
+pub fn patterns_over(tables: &Tables, ids: &[usize]) -> Patterns {
     let below = relation(tables, &vec![0; usize::from(tables.variables)]);
     let wider = roles::wider_bits(tables);
     Patterns::new(tables, ids, wider, |i, j| below[i][j])

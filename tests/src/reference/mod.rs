@@ -1,13 +1,14 @@
 //! The independent implementation, written from 01 and 02 alone: refusals as a list of checks, atoms as
 //! a set of ids, subsumption by building a canonical interpretation and looking at its members,
-//! matching by learning clauses from assignments that fail, a held table closed pair by pair, rows
-//! written to their new ids by the old ones, catalogues read by recursive descent. It aims at being
-//! plainly right; most of it is slow.
+//! matching by learning clauses from assignments that fail, decisions counted one by one, a held table
+//! closed pair by pair, rows written to their new ids by the old ones, catalogues read by recursive
+//! descent. It aims at being plainly right; most of it is slow.
 
 pub mod atoms;
 pub mod blanks;
 pub mod clauses;
 pub mod countermodel;
+pub mod counting;
 pub mod derivation;
 pub mod incremental;
 pub mod matching;
@@ -90,6 +91,42 @@ pub fn find_within(tables: &Tables, settings: &Settings, room: usize) -> Result<
     refusals::of_room(room, usize::from(tables.variables))?;
     let first = matching::first_solution_within(tables, settings);
     first.ok_or(Refusal { number: 10, place: 0 })
+}
+
+/// What the finder with an allowance answers: the first assignment or a refusal, and a count.
+#[derive(Clone, Debug, PartialEq, Eq)]
+pub struct Counted {
+    pub answer: Result<Vec<u64>, Refusal>,
+    pub count: u64,
+}
+
+impl Counted {
+    /// What is due on an allowance where this is found, or where the count is known to exceed it.
+    pub fn within(found: Option<counting::Count>, allowance: u32) -> Self {
+        let most = u64::from(allowance);
+        match found.filter(|found| found.count <= most) {
+            None => Counted { answer: Err(Refusal { number: 14, place: 0 }), count: most },
+            Some(counting::Count { first, count }) => {
+                Counted { answer: first.ok_or(Refusal { number: 10, place: 0 }), count }
+            }
+        }
+    }
+}
+
+/// Operation: the same on an allowance of decisions, which are counted.
+pub fn find_counted(tables: &Tables, settings: &Settings, allowance: u32, room: usize) -> Counted {
+    let faults = || {
+        refusals::of_tables(tables, None)?;
+        refusals::of_settings(tables, settings)?;
+        refusals::of_room(room, usize::from(tables.variables))
+    };
+    match faults() {
+        Err(refusal) => Counted { answer: Err(refusal), count: 0 },
+        Ok(()) => {
+            let found = counting::by_walk(tables, settings, u64::from(allowance));
+            Counted::within(found, allowance)
+        }
+    }
 }
 
 /// Operation: list the ids chosen for one variable.
