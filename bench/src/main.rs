@@ -4,6 +4,7 @@
 
 mod belongs;
 mod below;
+mod counted;
 mod derivations;
 mod external;
 mod markdown;
@@ -38,7 +39,8 @@ const LINES: [(&str, Print); 9] = [
 /// What docs/PERFORMANCE.md shows, by the word `results`.
 const RESULTS: [&str; 4] = ["below", "matcher", "puzzles", "derivations"];
 
-const TABLES: [(&str, fn()); 2] = [("update", update::print), ("stack", memory::print)];
+const TABLES: [(&str, fn()); 3] =
+    [("update", update::print), ("counted", counted::print), ("stack", memory::print)];
 
 fn main() {
     let words: Vec<String> = std::env::args().skip(1).collect();

@@ -141,9 +141,12 @@ impl Default for Room {
     }
 }
 
+/// Decisions that are enough to go as deep as it goes.
+const ALLOWANCE: u32 = 10_000;
+
 pub type Operation = fn(&Input, &mut Room) -> Answer;
 
-pub const OPERATIONS: [(&str, Operation); 15] = [
+pub const OPERATIONS: [(&str, Operation); 16] = [
     ("hc_check", |input, _| capi::check(input.tables.lend())),
     ("hc_atoms", |input, room| capi::atoms(input.tables.lend(), &mut room.ids)),
     ("hc_blanks", |input, _| capi::blanks(input.tables.lend(), 0)),
@@ -155,6 +158,11 @@ pub const OPERATIONS: [(&str, Operation); 15] = [
     ("hc_match_within", |input, room| {
         let Settings { permitted, largest } = &input.settings;
         capi::find_within(input.tables.lend(), permitted, largest, &mut room.choices)
+    }),
+    ("hc_match_counted", |input, room| {
+        let Settings { permitted, largest } = &input.settings;
+        let out = &mut room.choices;
+        capi::find_counted(input.tables.lend(), permitted, largest, ALLOWANCE, out)
     }),
     ("hc_chosen", |input, room| {
         capi::chosen(input.tables.lend(), &input.assignment, 0, &mut room.ids)
