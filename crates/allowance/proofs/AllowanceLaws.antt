@@ -2,51 +2,25 @@
 use Prim.Native.Nat.{ℕ, _<_, _≤_}
 use mathlib.Core.Path.{_≡_, sym, ap, ap₂, _∙_, subst}
 use mathlib.Core.List.{List, _++_}
-use mathlib.Core.Bool.{true≢false}
-use mathlib.Core.Logic.{inl, inr, ⊎-elim, _↔_}
+use mathlib.Core.Logic.{inl, inr, _↔_}
 use native.Mathlib.Omega.{arith}
-use native.Mathlib.Nat.{eq-or-lt-of-le}
 use lib.ListN.{length, take-append-drop}
 use Rattle.subsumption.specs.declared.refusal.Outcome.{Outcome}
 use Rattle.subsumption.specs.declared.refusal.Outcome.the-variants.{Done, Refused}
 use Rattle.subsumption.specs.declared.refusal.Refusal.the-variants.{NoAssignment}
 use Rattle.subsumption.specs.Tables.{Tables}
 use Rattle.subsumption.specs.Refusal.{Reply, replyDone}
-use Rattle.subsumption.proofs.Bools.{le-or-lt}
 use Rattle.settings.specs.Settings.{Settings}
-use Rattle.matching.specs.Solving.{takes, Earlier}
 use Rattle.matching.specs.Within.{withinFault, FirstWithin, FilledWithin}
+use Rattle.matching.proofs.EarlierLaws.{one-first}
 use Rattle.allowance.specs.Count.{CountOf, Exceeds}
 use Rattle.allowance.specs.Find.{replyCounted, Counts, FindsCountedAfter, FindsCounted}
 use Rattle.allowance.proofs.CountLaws.{count-unique, exceeds-less}
 
 -- ---- there is one first assignment within the settings
-differs : (a b : List ℕ) (x : Earlier a b) → takes b (x .variable) (x .position) ≡ takes a (x .variable) (x .position) → ⊥
-differs a b x e = true≢false (sym (x .taken) ∙ e ∙ x .left-out)
-
--- neither of two comes before the other
-module _ (a b : List ℕ) (x : Earlier a b) (y : Earlier b a) where
-  in-turn : x .variable ≡ y .variable → ⊥
-  in-turn e =
-      ⊎-elim
-      (λ l.
-      ⊎-elim (λ f. true≢false (sym (y .taken) ∙ sym (ap₂ (takes a) e f) ∙ x .left-out))
-      (λ m. differs a b x (subst (λ (z : ℕ). takes b z (x .position) ≡ takes a z (x .position)) (sym e) (y .same-positions (x .position) m)))
-      (eq-or-lt-of-le l))
-      (λ l. differs b a y (subst (λ (z : ℕ). takes a z (y .position) ≡ takes b z (y .position)) e (x .same-positions (y .position) l)))
-      (le-or-lt (x .position) (y .position))
-
-  never-both : ⊥
-  never-both =
-      ⊎-elim (λ l. ⊎-elim in-turn (λ m. differs a b x (y .same-variables _ _ m)) (eq-or-lt-of-le l)) (λ l. differs b a y (x .same-variables _ _ l))
-      (le-or-lt (x .variable) (y .variable))
-
 module _ (t : Tables) (s : Settings) where
   first-unique : (a b : List ℕ) → FirstWithin t s a → FirstWithin t s b → a ≡ b
-  first-unique a b f g =
-      ⊎-elim (λ e. sym e)
-      (λ x. ⊎-elim (λ e. e) (λ y. absurd (never-both a b x y)) (g .first a (f .accepted) (f .heeds) (f .solves)))
-      (f .first b (g .accepted) (g .heeds) (g .solves))
+  first-unique a b f g = one-first a b (f .first b (g .accepted) (g .heeds) (g .solves)) (g .first a (f .accepted) (f .heeds) (f .solves))
 
   filled-unique : (before after after₂ : List ℕ) → FilledWithin t s before after → FilledWithin t s before after₂ → after₂ ≡ after
   filled-unique before after after₂ x y =

@@ -3,7 +3,7 @@ use Prim.Native.Nat.{ℕ, _*_, _<_, _≤_}
 use mathlib.Core.Path.{_≡_, refl, sym, ap, _∙_, subst}
 use mathlib.Core.List.{List}
 use mathlib.Core.Bool.{Bool, true, false}
-use mathlib.Core.Logic.{inl, inr, ⊎-elim}
+use mathlib.Core.Logic.{inl, inr}
 use native.Mathlib.Omega.{arith}
 use native.Mathlib.Nat.{mul-le-mul-right}
 use lib.ListN.{length, take}
@@ -22,12 +22,14 @@ use Rattle.subsumption.proofs.Accepted.{wellFormed}
 use Rattle.settings.specs.Settings.{Settings, settingsFault}
 use Rattle.settings.specs.Inner.Check.{Loaded}
 use Rattle.settings.proofs.SettingsLaws.{settings-long}
-use Rattle.matching.specs.Within.{withinFault, FilledWithin, NoneWithin, FindsWithin, FindsWithinAfter}
+use Rattle.matching.specs.Within.{withinFault, FirstWithin}
 use Rattle.matching.specs.Inner.Search.Card.{Card}
-use Rattle.matching.specs.Inner.Within.{Counting, Copied}
+use Rattle.matching.specs.Inner.Within.{Counting, Asking, Copied}
 use Rattle.matching.proofs.SearchLaws.Card.{card-kept}
 use Rattle.matching.proofs.SearchLaws.Fronts.{below-bits, front-known, accept}
-use Rattle.matching.proofs.WithinLaws.{finds-filled, finds-nothing}
+use Rattle.matching.proofs.FindLaws.{all-asked}
+use Rattle.matching.proofs.SubstitutionLaws.Locality.{none-by-substitution}
+use Rattle.matching.proofs.WithinLaws.{written-front, written-most, heeds-all, front-copied, rest-kept}
 use Rattle.allowance.specs.Partial.{Completed}
 use Rattle.allowance.specs.Count.{CountOf, answered, unanswered}
 use Rattle.allowance.specs.Find.{replyCounted, FindsCountedAfter, FindsCounted}
@@ -45,14 +47,19 @@ module _ (t : Tables) (ids : List ℕ) (a : Accepted t ids) where
   pairs-few = mul-le-mul-right {m = t .variables} {n = 8} (length ids) (wellFormed t (a .passed) .few-variables)
 
 pub lent :
-    (t : Tables) (s : Settings) (ids sets before card permitted : List ℕ) → Accepted t ids → settingsFault t s ≡ Done → Card t sets before
-    → Counting (s .largest) before card → Loaded (s .permitted) permitted → Lent t s sets card permitted (length ids)
-lent t s ids sets before card permitted a ok c counting loaded =
+    (t : Tables) (s : Settings) (ids sets before counted card permitted : List ℕ) → Accepted t ids → settingsFault t s ≡ Done → Card t sets before
+    → Counting (s .largest) before counted → Asking 18446744073709551615 counted card → Loaded (s .permitted) permitted
+    → Lent t s sets card permitted (length ids)
+lent t s ids sets before counted card permitted a ok c counting asking loaded =
     record {
-      card-of = card-kept before card (counting .front) t sets c;
+      card-of = card-kept before card (written-front (s .largest) before counted card _ counting asking) t sets c;
+      all-asked = λ m l. asking .asked m (omega (arith, wellFormed t (a .passed) .few-questions)) .1 (all-asked t (a .passed) m l);
       set = ok;
       loaded = loaded;
-      counts = λ k l. counting .counts k (omega (arith, settings-long t s ok .1));
+      counts =
+          λ k l.
+          written-most (s .largest) before counted card _ counting asking k (omega (arith, settings-long t s ok .1))
+          (omega (arith, wellFormed t (a .passed) .few-variables));
       many = sym (ap length (a .listed));
     }
 
@@ -113,17 +120,6 @@ module _ (t : Tables) (s : Settings) (allowance : ℕ) (before : List ℕ) (ok :
   unfolding withinFault bufferFault
   passed = goes-on Done _ _ Done (sym ok) refl (goes-on Done _ _ Done (sym set) refl (done-le (length before) (t .variables) _ room))
 
-  -- what the finder without an allowance promises of its answers
-  is-filled : (after : List ℕ) → FindsWithin t s before after (replyDone 0) → FilledWithin t s before after
-  is-filled after x =
-      ⊎-elim (λ p. p .1) (λ p. absurd (omega (arith, ap (λ (z : Reply). z .number) (p .0))))
-      (subst (λ (z : Outcome). FindsWithinAfter z t s before after (replyDone 0)) (sym passed) x)
-
-  is-none : FindsWithin t s before before (replyRefused NoAssignment) → NoneWithin t s before before
-  is-none x =
-      ⊎-elim (λ p. absurd (omega (arith, ap (λ (z : Reply). z .number) (p .0)))) (λ p. p .1)
-      (subst (λ (z : Outcome). FindsWithinAfter z t s before before (replyRefused NoAssignment)) (sym passed) x)
-
   pub counted-filled : (after : List ℕ) → found ≡ true → Copied (t .variables) choice before after → FindsCounted t s allowance before after (replyDone met)
   counted-filled after e c =
       let f : FirstCounted t s allowance choice met = subst (λ (z : Bool). WalkedBy t s allowance z spent choice met) e walked in
@@ -131,7 +127,11 @@ module _ (t : Tables) (s : Settings) (allowance : ℕ) (before : List ℕ) (ok :
       (inl (
         refl,
         (
-          is-filled after (finds-filled t s before after ok set room true choice (record { long = f .long; first = f .first }) refl c),
+          record {
+            size = c .size;
+            first = subst (FirstWithin t s) (sym (front-copied t choice before after c (f .long) (wellFormed t ok .few-variables) room)) (f .first);
+            rest = rest-kept t choice before after c;
+          },
           record { counted = f .counted; enough = f .enough },
         ),
       ))
@@ -151,7 +151,11 @@ module _ (t : Tables) (s : Settings) (allowance : ℕ) (before : List ℕ) (ok :
       (inr (inl (
         refl,
         (
-          is-none (finds-nothing t s before before ok set room false choice (x .none) refl refl),
+          record {
+            none = x .none;
+            by-substitution = λ u. none-by-substitution t ok (λ other a y. x .none other a (heeds-all t s u other a) y);
+            kept = refl;
+          },
           record { counted = x .counted; enough = x .enough },
         ),
       )))

@@ -19,7 +19,7 @@ use Rattle.matching.specs.Inner.Search.Solve.{FailingOf}
 use Rattle.matching.proofs.SearchLaws.Monotone.{monotone, antitone, left-free}
 use Rattle.matching.proofs.SearchLaws.Fronts.{front-within}
 use Rattle.matching.proofs.SearchLaws.Nogoods.{words-are, words-same}
-use Rattle.matching.proofs.SearchLaws.Solve.{is-asked}
+use Rattle.matching.proofs.SearchLaws.Solve.{is-question}
 use Rattle.allowance.specs.Partial.{Asked}
 use Rattle.allowance.specs.Inner.Kept.{ringAt, noted, inRing, Told, Kept, Easier, Follows, FollowsIf, Among, Recalled, Noted, Tried}
 
@@ -173,8 +173,8 @@ recalled-at kept choice other false right passed ring i e l m o f x = absurd (fa
 
 module _ (sets card choice : List ℕ) (right : Bool) (kept : List ℕ) where
   pub tried-known : (passed b : Bool) → Recalled kept choice right passed b → b ≡ true → Tried sets card choice right kept kept passed
-  tried-known passed true a e t c i k = (told-follows t (c .passed) right passed choice _ (a .follows) (k .each right passed (a .place) (a .low) (a .read)), k)
-  tried-known passed false a e t c i k = absurd (false≢true e)
+  tried-known passed true a e t c all i k = (told-follows t (c .passed) right passed choice _ (a .follows) (k .each right passed (a .place) (a .low) (a .read)), k)
+  tried-known passed false a e t c all i k = absurd (false≢true e)
 
 -- ---- what is kept stays true
 pub kept-none : (t : Tables) → Kept t (replicate 516 0)
@@ -199,12 +199,12 @@ kept-noted t before after choice right passed k x n =
 -- ---- a test
 module _ (sets card choice : List ℕ) (right : Bool) (m : ℕ) (f : FailingOf sets card choice right m) (before after : List ℕ) where
   pub tried-passes : questionCount card ≤ m → Noted before after choice right true → Tried sets card choice right before after true
-  tried-passes l n t c a k =
-      let holds = f t c a .hold (omega (arith, c .questions)) in
+  tried-passes l n t c all a k =
+      let holds : Asked t right (take (t .variables) choice) = λ o x e. f t c a .hold (omega (arith, c .questions)) o x (all o x, e) in
       (holds, kept-noted t before after choice right true k holds n)
 
   pub tried-fails : m < questionCount card → Noted before after choice right false → Tried sets card choice right before after false
-  tried-fails l n t c a k =
-      let at = is-asked t sets card c m l in
-      let fails : Asked t right (take (t .variables) choice) → ⊥ = λ s. f t c a .fails at (s m at (f t c a .of-kind at)) in
+  tried-fails l n t c all a k =
+      let at = is-question t sets card c m l in
+      let fails : Asked t right (take (t .variables) choice) → ⊥ = λ s. f t c a .fails at (s m at (f t c a .of-kind at .1)) in
       (fails, kept-noted t before after choice right false k fails n)

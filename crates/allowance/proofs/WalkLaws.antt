@@ -219,7 +219,7 @@ module _ (sets card permitted low high before : List ℕ) where
     pub fewer-shut :
         (x : Bool) → Tried sets card low true before after x → x ≡ false → OpenedBy sets card permitted low high before after false
     fewer-shut x h f count t settings s lent a k =
-        let (y, k₁) = h t (lent .card-of) (low-passes t settings sets card permitted count lent low high s a (decided-true _ w d e)) k in
+        let (y, k₁) = h t (lent .card-of) (lent .all-asked) (low-passes t settings sets card permitted count lent low high s a (decided-true _ w d e)) k in
         (λ o. decided-false _ x y f (open-fewer t settings sets card permitted count lent low high s a o), k₁)
 
     pub more-decides :
@@ -228,8 +228,8 @@ module _ (sets card permitted low high before : List ℕ) where
         → OpenedBy sets card permitted low high before after y
     more-decides most m f c g middle x h i y j count t settings s lent a k =
         let within : Within low permitted = decided-true _ w d e in
-        let (p, k₁) = h t (lent .card-of) (low-passes t settings sets card permitted count lent low high s a within) k in
-        let (q, k₂) = j t (lent .card-of) (high-passes t settings sets card permitted count lent low high s a within) k₁ in
+        let (p, k₁) = h t (lent .card-of) (lent .all-asked) (low-passes t settings sets card permitted count lent low high s a within) k in
+        let (q, k₂) = j t (lent .card-of) (lent .all-asked) (high-passes t settings sets card permitted count lent low high s a within) k₁ in
         (go y q (decided-true _ x p i) (subst (Counted most low) g c) within, k₂)
       where
         go :

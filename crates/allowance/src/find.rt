@@ -2,9 +2,11 @@
 use crate::walk::Trail;
 use crate::walk::walk;
 use matching::Match;
+use matching::helpers::ALL;
 use matching::helpers::CARD;
 use matching::helpers::SETS;
 use matching::helpers::make_card;
+use matching::helpers::put_asked;
 use matching::helpers::put_counts;
 use matching::helpers::write_choice;
 use settings::helpers::check_settings;
@@ -67,6 +69,7 @@ fn walk_known(
         &mut card,
     );
     put_counts(&mut card, largest);
+    put_asked(&mut card, ALL);
     let high = load_permitted(permitted);
     let pairs = variables as usize * ids.len();
     walk(&sets, &card, high, ids.len(), pairs, allowance)

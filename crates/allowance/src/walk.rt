@@ -4,7 +4,7 @@ use crate::kept::holds;
 use crate::place::Place;
 use crate::place::leave;
 use crate::place::next_sibling;
-use matching::helpers::CARD;
+use matching::helpers::ASKED;
 use matching::helpers::MOST;
 use matching::helpers::SCRATCH;
 use settings::helpers::is_few;
@@ -57,7 +57,7 @@ fn is_open(
     if !is_permitted(low, permitted) {
         return false;
     }
-    if !is_few(&card[MOST..CARD], low) {
+    if !is_few(&card[MOST..ASKED], low) {
         return false;
     }
     if !holds(sets, card, scratch, kept, low, true) {

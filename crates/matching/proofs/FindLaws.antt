@@ -13,7 +13,7 @@ use lib.Seq.{getD-take, length-take-le}
 use Rattle.subsumption.specs.declared.refusal.Outcome.{Outcome}
 use Rattle.subsumption.specs.declared.refusal.Outcome.the-variants.{Done, Refused}
 use Rattle.subsumption.specs.declared.refusal.Refusal.{Refusal}
-use Rattle.subsumption.specs.Tables.{Tables}
+use Rattle.subsumption.specs.Tables.{Tables, pairsOf}
 use Rattle.subsumption.specs.Atoms.{atoms, bit}
 use Rattle.subsumption.specs.Check.{tableFault, bufferFault}
 use Rattle.subsumption.specs.Refusal.{Reply, replyRefused, orElse}
@@ -27,9 +27,10 @@ use Rattle.settings.proofs.SettingsLaws.{settings-accept}
 use Rattle.matching.specs.Find.{findingFault, FindsAfter, Finds}
 use Rattle.matching.specs.Within.{withinFault, FindsWithinAfter, FindsWithin}
 use Rattle.matching.specs.Inner.Find.{Full}
+use Rattle.matching.specs.Inner.Within.{FindsAmong}
 use Rattle.matching.proofs.SearchLaws.Choices.{one-bit}
 use Rattle.matching.proofs.SubstitutionLaws.Conjoined.{some-solves}
-use Rattle.matching.proofs.WithinLaws.{heeds-all}
+use Rattle.matching.proofs.WithinLaws.{heeds-all, finds-within}
 
 -- ---- all zeros, all ones
 pub all-zeros : (k : ℕ) → _≡_ {A = ℕ} (getD (0 ∷ 0 ∷ 0 ∷ 0 ∷ 0 ∷ 0 ∷ 0 ∷ 0 ∷ []) k 0) 0
@@ -59,6 +60,10 @@ bit-of-ones n q h =
 
 pub full-atoms : (count full : ℕ) → full ≡ 2 ^ count - 1 → Full count (replicate 8 full)
 full-atoms count full e = record { long = refl; all = λ k l. getD-replicate 8 k full 0 l ∙ e }
+
+-- ---- all questions are asked
+pub all-asked : (t : Tables) → tableFault t ≡ Done → (m : ℕ) → m < pairsOf (t .questions) → bit 18446744073709551615 m ≡ true
+all-asked t h m l = bit-of-ones 64 m (omega (arith, wellFormed t h .few-questions))
 
 -- ---- settings that permit all
 module _ (t : Tables) (h : tableFault t ≡ Done) (all : List ℕ) (full : Full (length (atoms t)) all) where
@@ -119,9 +124,11 @@ module _ (t : Tables) (s : Settings) (before after : List ℕ) (reply : Reply) (
 
 pub finds-all :
     (t : Tables) (ids : List ℕ) → Accepted t ids → (count : ℕ) → count ≡ length ids → (all : List ℕ) → Full count all → (before after : List ℕ) (reply : Reply)
-    → FindsWithin t (settings (take (t .variables) all) (take (t .variables) (replicate 8 64))) before after reply → Finds t before after reply
-finds-all t ids A count e all full before after reply =
+    → FindsAmong (λ m. bit 18446744073709551615 m ≡ true) t (settings (take (t .variables) all) (take (t .variables) (replicate 8 64))) before after reply
+    → Finds t before after reply
+finds-all t ids A count e all full before after reply x =
     finds-unrestricted t _ before after reply (A .passed) (all-accepted t (A .passed) all whole) (all-permitted t (A .passed) all whole)
+    (finds-within _ t _ before after reply (all-asked t (A .passed)) x)
   where
     whole : Full (length (atoms t)) all
     whole = subst (λ (z : ℕ). Full z all) (e ∙ ap length (A .listed)) full

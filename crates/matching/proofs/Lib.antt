@@ -4,6 +4,7 @@ pub mod TwinLaws
 pub mod SearchLaws
 pub mod ChosenLaws
 pub mod WithinLaws
+pub mod EarlierLaws
 pub mod FindLaws
 pub mod DerivationLaws
 pub mod WriterLaws

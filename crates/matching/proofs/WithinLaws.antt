@@ -1,20 +1,21 @@
 -- From the search to the answer within settings: where it starts, what is written, and what settings ask of assignments.
-use Prim.Native.Nat.{ℕ, _+_, _-_, _^_, _<_, _≤_}
+use Prim.Native.Nat.{ℕ, _+_, _-_, _/_, _%_, _^_, _<_, _≤_}
 use mathlib.Core.Path.{_≡_, refl, sym, ap, _∙_, subst}
 use mathlib.Core.List.{List}
 use mathlib.Core.Bool.{Bool, true, false}
-use mathlib.Core.Logic.{inl, inr, ⊎-elim}
+use mathlib.Core.Logic.{_↔_, inl, inr, ⊎-elim}
 use native.Mathlib.Omega.{arith}
+use lib.Dec.{eqb}
 use lib.ListN.{length, getD, take, drop, set, length-set, length-drop, List·getD-eq-default}
 use lib.Seq.{getD-set-same, getD-set-other, getD-take, getD-drop, length-take-le, ext-getD}
 use Rattle.subsumption.specs.declared.refusal.Outcome.{Outcome}
 use Rattle.subsumption.specs.declared.refusal.Outcome.the-variants.{Done, Refused}
 use Rattle.subsumption.specs.declared.refusal.Refusal.{Refusal}
 use Rattle.subsumption.specs.declared.refusal.Refusal.the-variants.{BufferTooShort, NoAssignment}
-use Rattle.subsumption.specs.Tables.{Tables}
+use Rattle.subsumption.specs.Tables.{Tables, pairsOf}
 use Rattle.subsumption.specs.Atoms.{atoms, bit}
 use Rattle.subsumption.specs.Check.{tableFault, assignmentFault, bufferFault}
-use Rattle.subsumption.specs.Refusal.{replyRefused}
+use Rattle.subsumption.specs.Refusal.{Reply, replyRefused}
 use Rattle.subsumption.specs.Inner.Listing.{Accepted}
 use Rattle.subsumption.proofs.Bools.{le-or-lt, last-cases}
 use Rattle.subsumption.proofs.Bits.{bit-of-zero}
@@ -24,19 +25,20 @@ use Rattle.settings.specs.Settings.{Settings, size, Heeds, Unrestricted, settin
 use Rattle.settings.specs.Inner.Check.{Loaded}
 use Rattle.settings.proofs.SizeLaws.{size-most, size-zero}
 use Rattle.settings.proofs.SettingsLaws.{settings-long, settings-below}
-use Rattle.matching.specs.Solving.{takes, Solves}
-use Rattle.matching.specs.Within.{withinFault, FirstWithin, FindsWithinAfter, FindsWithin}
+use Rattle.matching.specs.Solving.{takes}
+use Rattle.matching.specs.Within.{withinFault, FindsWithinAfter, FindsWithin}
+use Rattle.matching.specs.Among.{SolvesAmong, FirstAmong, NoneAmong}
 use Rattle.matching.specs.Inner.Search.{Within, Between, Meets, NoSolution}
-use Rattle.matching.specs.Inner.Search.Card.{mostAt, Card}
+use Rattle.matching.specs.Inner.Search.Card.{mostAt, AskedAt, Card}
 use Rattle.matching.specs.Inner.Search.Nogoods.{used, Room, Nogoods}
 use Rattle.matching.specs.Inner.Search.Narrow.{Narrower, Narrowed}
 use Rattle.matching.specs.Inner.Search.Solve.{Answers, Searched}
 use Rattle.matching.specs.Inner.Search.Interval.{IntervalOf}
 use Rattle.matching.specs.Inner.Search.Order.{FirstIn, FirstOf}
-use Rattle.matching.specs.Inner.Within.{Counting, Found, FoundBy, FoundIn, FirstFound, FoundWithin, Copied}
+use Rattle.matching.specs.Inner.Within.{Counting, Asking, Found, FoundBy, FoundIn, FirstFound, FoundAmong, FindsAmongAfter, FindsAmong, Copied}
 use Rattle.matching.specs.declared.find.Match.the-variants.{Filled}
 use Rattle.matching.specs.Find.{matchReply}
-use Rattle.matching.proofs.SubstitutionLaws.Locality.{none-by-substitution}
+use Rattle.matching.proofs.SubstitutionLaws.Locality.{none-among}
 use Rattle.matching.proofs.SearchLaws.Nogoods.{nogoods-none}
 use Rattle.matching.proofs.SearchLaws.Solve.{full-interval, answers-found, answers-none, refuted-none}
 use Rattle.matching.proofs.SearchLaws.Fronts.{front-known, front-takes, front-within, accepted-long, accepted-bits, accept, within-accepted}
@@ -59,40 +61,63 @@ copied-more choice before after k h s =
 pub copied-all : (count k : ℕ) (choice before after : List ℕ) → k ≤ count → count ≤ k → Copied k choice before after → Copied count choice before after
 copied-all count k choice before after h l s = let e : k ≡ count = omega arith in subst (λ (z : ℕ). Copied z choice before after) e s
 
--- ---- writing the counts
-pub record CountedTo (largest before after : List ℕ) (n : ℕ) : Type 0 where
-  pub within : n ≤ length largest
+-- ---- writing into a card: the counts, and which questions are asked
+pub record WrittenTo (start : ℕ) (number : ℕ → ℕ) (before after : List ℕ) (n : ℕ) : Type 0 where
   pub size : length after ≡ length before
-  pub front : (p : ℕ) → p < 931 → getD after p 0 ≡ getD before p 0
-  pub counts : (k : ℕ) → k < n → getD after (931 + k) 0 ≡ getD largest k 0
+  pub front : (p : ℕ) → p < start → getD after p 0 ≡ getD before p 0
+  pub numbers : (k : ℕ) → k < n → getD after (start + k) 0 ≡ number k
 
-pub counts-none : (largest before : List ℕ) → CountedTo largest before before 0
-counts-none largest before = record { within = omega arith; size = refl; front = λ p l. refl; counts = λ k l. absurd (omega arith) }
+module _ (start : ℕ) (number : ℕ → ℕ) (before : List ℕ) where
+  pub written-none : WrittenTo start number before before 0
+  written-none = record { size = refl; front = λ p l. refl; numbers = λ k l. absurd (omega arith) }
 
-pub counts-more :
-    (largest before after : List ℕ) (n : ℕ) → length before ≡ 939 → length largest ≤ 8 → n < length largest → CountedTo largest before after n
-    → CountedTo largest before (set after (931 + n) (getD largest n 0)) (n + 1)
-counts-more largest before after n e few h s =
+  pub written-more :
+      (after : List ℕ) (n : ℕ) → start + n < length before → WrittenTo start number before after n
+      → WrittenTo start number before (set after (start + n) (number n)) (n + 1)
+  written-more after n h s =
+      record {
+        size = length-set after (start + n) _ ∙ s .size;
+        front = λ p l. getD-set-other after (start + n) p _ 0 (λ e. omega arith) ∙ s .front p l;
+        numbers =
+            λ k l.
+            ⊎-elim
+            (λ (m : k ≡ n).
+            ap (λ (z : ℕ). getD (set after (start + n) (number n)) (start + z) 0) m ∙ getD-set-same after (start + n) _ 0 (omega (arith, s .size))
+            ∙ ap number (sym m))
+            (λ m. getD-set-other after (start + n) (start + k) _ 0 (λ e. omega arith) ∙ s .numbers k m) (last-cases k n (omega arith));
+      }
+
+pub counts-all :
+    (largest before after : List ℕ) (n : ℕ) → length largest ≤ n → WrittenTo 931 (λ k. getD largest k 0) before after n → Counting largest before after
+counts-all largest before after n h s = record { size = s .size; front = s .front; counts = λ k l. s .numbers k (omega arith) }
+
+pub asked-all : (wanted : ℕ) (before after : List ℕ) (n : ℕ) → 32 ≤ n → WrittenTo 939 (λ m. wanted / 2 ^ m % 2) before after n → Asking wanted before after
+unfolding bit
+asked-all wanted before after n h s =
     record {
-      within = omega arith;
-      size = length-set after (931 + n) _ ∙ s .size;
-      front = λ p l. getD-set-other after (931 + n) p _ 0 (λ e. omega arith) ∙ s .front p l;
-      counts =
-          λ k l.
-          ⊎-elim
-          (λ (m : k ≡ n).
-          ap (λ (z : ℕ). getD (set after (931 + n) (getD largest n 0)) (931 + z) 0) m ∙ getD-set-same after (931 + n) _ 0 (omega (arith, s .size))
-          ∙ ap (λ (z : ℕ). getD largest z 0) (sym m))
-          (λ m. getD-set-other after (931 + n) (931 + k) _ 0 (λ e. omega arith) ∙ s .counts k m) (last-cases k n (omega arith));
+      size = s .size;
+      front = s .front;
+      asked =
+          λ m l.
+          let e : eqb (getD after (939 + m) 0) 1 ≡ bit wanted m = ap (λ (z : ℕ). eqb z 1) (s .numbers m (omega arith)) in
+          (λ x. sym e ∙ x, λ x. e ∙ x);
     }
 
-pub counts-all : (largest before after : List ℕ) (n : ℕ) → length largest ≤ n → CountedTo largest before after n → Counting largest before after
-counts-all largest before after n h s = record { size = s .size; front = s .front; counts = λ k l. s .counts k (omega arith) }
+-- one after the other
+module _ (largest before counted card : List ℕ) (wanted : ℕ) (counting : Counting largest before counted) (asking : Asking wanted counted card) where
+  pub written-size : length card ≡ length before
+  written-size = asking .size ∙ counting .size
+
+  pub written-front : (p : ℕ) → p < 931 → getD card p 0 ≡ getD before p 0
+  written-front p l = asking .front p (omega arith) ∙ counting .front p l
+
+  pub written-most : (k : ℕ) → k < length largest → k < 8 → mostAt card k ≡ getD largest k 0
+  written-most k l m = asking .front (931 + k) (omega arith) ∙ counting .counts k l
 
 -- ---- the interval of all permitted assignments: every solution that takes permitted atoms only is between nothing and the narrowed high side
-module _ (t : Tables) (h : tableFault t ≡ Done) (low permitted high : List ℕ) (zeros : (k : ℕ) → getD low k 0 ≡ 0) (long : length low ≡ 8)
+module _ (t : Tables) (h : tableFault t ≡ Done) (card low permitted high : List ℕ) (zeros : (k : ℕ) → getD low k 0 ≡ 0) (long : length low ≡ 8)
     (accepted : assignmentFault t (take (t .variables) permitted) ≡ Done) (idle : (k q : ℕ) → t .variables ≤ k → takes permitted k q ≡ true → ⊥)
-    (size : length high ≡ 8) (n : Narrower t permitted high) where
+    (size : length high ≡ 8) (n : Narrower t card permitted high) where
   none-low : (k q : ℕ) → takes low k q ≡ true → ⊥
   none-low k q e = bit-of-zero q (subst (λ (z : ℕ). bit z q ≡ true) (zeros k) e)
 
@@ -109,16 +134,16 @@ module _ (t : Tables) (h : tableFault t ≡ Done) (low permitted high : List ℕ
       }
 
   all-between :
-      (other : List ℕ) → assignmentFault t other ≡ Done → Within other (take (t .variables) permitted) → Solves t other
+      (other : List ℕ) → assignmentFault t other ≡ Done → Within other (take (t .variables) permitted) → SolvesAmong (AskedAt card) t other
       → Between (take (t .variables) low) (take (t .variables) high) other
   all-between other a w s =
       record { above = λ k q e. absurd (none-low k q (front-known (t .variables) low k q e .1)); below = n .all other a s w }
 
-  nothing-found : (card choice : List ℕ) → NoSolution t card low high → FoundBy t card permitted false choice
-  nothing-found card choice x other a w m = x other a (all-between other a w (m .solves)) m
+  nothing-found : (choice : List ℕ) → NoSolution t card low high → FoundBy t card permitted false choice
+  nothing-found choice x other a w m = x other a (all-between other a w (m .solves)) m
 
-  first-found : (card choice : List ℕ) → FirstIn t card low high choice → Found t card permitted choice
-  first-found card choice f =
+  first-found : (choice : List ℕ) → FirstIn t card low high choice → Found t card permitted choice
+  first-found choice f =
       record {
         long = f .solution .long;
         accepted =
@@ -142,19 +167,19 @@ module _ (sets card low permitted high : List ℕ) (zeros : (k : ℕ) → getD l
   module _ (t : Tables) (c : Card t sets card) (a : assignmentFault t (take (t .variables) permitted) ≡ Done)
       (i : (k q : ℕ) → t .variables ≤ k → takes permitted k q ≡ true → ⊥) where
     start : IntervalOf t low high
-    start = whole t (c .passed) low permitted high zeros long a i size (n t c a)
+    start = whole t (c .passed) card low permitted high zeros long a i size (n t c a)
 
     searched : Answers t card low high found known rest × Nogoods t card after
     searched = s t c start (full-interval t low high start) (nogoods-none t card before fits none)
 
   pub found-first : (choice : List ℕ) → found ≡ true → FirstOf sets card low high after known choice → FoundIn sets card permitted true choice
   found-first choice e f t c a i =
-      first-found t (c .passed) low permitted high zeros long a i size (n t c a) card choice
+      first-found t (c .passed) card low permitted high zeros long a i size (n t c a) choice
       (f t c (start t c a i) (searched t c a i .1) (answers-found t card low high found known rest (searched t c a i .0) e))
 
   pub found-none : found ≡ false → FoundIn sets card permitted false known
   found-none e t c a i =
-      nothing-found t (c .passed) low permitted high zeros long a i size (n t c a) card known
+      nothing-found t (c .passed) card low permitted high zeros long a i size (n t c a) known
       (refuted-none t card low high known rest (answers-none t card low high found known rest (searched t c a i .0) e))
 
 -- ---- what settings ask of an assignment
@@ -187,9 +212,15 @@ module _ (t : Tables) (s : Settings) (ok : settingsFault t s ≡ Done) (permitte
       (subst (λ (z : ℕ). bit z q ≡ true)
       (loaded .same k ∙ List·getD-eq-default (s .permitted) 0 {n = k} (omega (arith, settings-long t s ok .0))) e)
 
-  module _ (before card : List ℕ) (counting : Counting (s .largest) before card) where
+  module _ (h : tableFault t ≡ Done) (before counted card : List ℕ) (wanted : ℕ)
+      (counting : Counting (s .largest) before counted) (asking : Asking wanted counted card) where
     most-of : (k : ℕ) → k < t .variables → mostAt card k ≡ getD (s .largest) k 0
-    most-of k l = counting .counts k (omega (arith, settings-long t s ok .1))
+    most-of k l =
+        written-most (s .largest) before counted card wanted counting asking k (omega (arith, settings-long t s ok .1))
+        (omega (arith, wellFormed t h .few-variables))
+
+    asked-of : (m : ℕ) → m < pairsOf (t .questions) → AskedAt card m ↔ (bit wanted m ≡ true)
+    asked-of m l = asking .asked m (omega (arith, wellFormed t h .few-questions))
 
     module _ (other : List ℕ) (a : assignmentFault t other ≡ Done) where
       heeds-inside : Heeds s other → Within other (take (t .variables) permitted)
@@ -197,9 +228,12 @@ module _ (t : Tables) (s : Settings) (ok : settingsFault t s ≡ Done) (permitte
           front-takes (t .variables) permitted k q (accepted-bits t other a k q e .0)
           (subst (λ (z : ℕ). bit z q ≡ true) (sym (loaded .same k)) (h .permitted k q e))
 
-      heeds-meets : Heeds s other → Solves t other → Meets t card other
+      heeds-meets : Heeds s other → SolvesAmong (λ m. bit wanted m ≡ true) t other → Meets t card other
       heeds-meets h x =
-          record { solves = x; few = few-each t other a (mostAt card) (λ k l. omega (arith, h .few k, most-of k l)) }
+          record {
+            solves = λ m l y. x m l (asked-of m l .0 y);
+            few = few-each t other a (mostAt card) (λ k l. omega (arith, h .few k, most-of k l));
+          }
 
       inside-heeds : Within other (take (t .variables) permitted) → Meets t card other → Heeds s other
       inside-heeds w m =
@@ -209,19 +243,19 @@ module _ (t : Tables) (s : Settings) (ok : settingsFault t s ≡ Done) (permitte
             few = few-each t other a (λ k. getD (s .largest) k 0) (λ k l. omega (arith, m .few k, most-of k l));
           }
 
-    pub found-within : (b : Bool) (choice : List ℕ) → FoundBy t card permitted b choice → FoundWithin t s b choice
-    found-within true choice f =
+    pub found-among : (b : Bool) (choice : List ℕ) → FoundBy t card permitted b choice → FoundAmong (λ m. bit wanted m ≡ true) t s b choice
+    found-among true choice f =
         record {
           long = f .long;
           first =
               record {
                 accepted = f .accepted;
                 heeds = inside-heeds _ (f .accepted) (f .inside) (f .meets);
-                solves = f .meets .solves;
+                solves = λ m l y. f .meets .solves m l (asked-of m l .1 y);
                 first = λ other a h x. f .first other a (heeds-inside other a h) (heeds-meets other a h x);
               };
         }
-    found-within false choice f = λ other a h x. f other a (heeds-inside other a h) (heeds-meets other a h x)
+    found-among false choice f = λ other a h x. f other a (heeds-inside other a h) (heeds-meets other a h x)
 
 -- the check by the number of atoms that are listed
 pub settings-known : (t : Tables) (ids : List ℕ) (s : Settings) (r : Outcome) → Accepted t ids → r ≡ settingsFaultAt (length ids) (t .variables) s → r ≡ settingsFault t s
@@ -229,32 +263,30 @@ unfolding settingsFault
 settings-known t ids s r A e = subst (λ (z : List ℕ). r ≡ settingsFaultAt (length z) (t .variables) s) (A .listed) e
 
 -- ---- the answer
-module _ (t : Tables) (s : Settings) (before : List ℕ) where
-  finds-refused : (r : Refusal) → Refused r ≡ withinFault t s (length before) → FindsWithin t s before before (replyRefused r)
-  finds-refused r e = subst (λ (f : Outcome). FindsWithinAfter f t s before before (replyRefused r)) e (refl, refl)
+pub tables-refuse : (t : Tables) (s : Settings) (before : List ℕ) (r : Refusal) → Refused r ≡ tableFault t → FindsWithin t s before before (replyRefused r)
+unfolding withinFault
+tables-refuse t s before r e =
+    subst (λ (f : Outcome). FindsWithinAfter f t s before before (replyRefused r)) (stops (Refused r) _ _ r e refl) (refl, refl)
 
-  pub tables-refuse : (r : Refusal) → Refused r ≡ tableFault t → FindsWithin t s before before (replyRefused r)
-  unfolding withinFault
-  tables-refuse r e = finds-refused r (stops (Refused r) _ _ r e refl)
+module _ (asked : ℕ → Type 0) (t : Tables) (s : Settings) (before : List ℕ) where
+  finds-refused : (r : Refusal) → Refused r ≡ withinFault t s (length before) → FindsAmong asked t s before before (replyRefused r)
+  finds-refused r e = subst (λ (f : Outcome). FindsAmongAfter f asked t s before before (replyRefused r)) e (refl, refl)
 
-  pub settings-refuse : tableFault t ≡ Done → (r : Refusal) → Refused r ≡ settingsFault t s → FindsWithin t s before before (replyRefused r)
+  pub settings-refuse : tableFault t ≡ Done → (r : Refusal) → Refused r ≡ settingsFault t s → FindsAmong asked t s before before (replyRefused r)
   unfolding withinFault
   settings-refuse h r e = finds-refused r (goes-on Done _ _ _ (sym h) refl (stops (Refused r) _ _ r e refl))
 
   pub buffer-refuses :
       tableFault t ≡ Done → settingsFault t s ≡ Done → length before < t .variables
-      → FindsWithin t s before before (replyRefused (BufferTooShort (t .variables)))
+      → FindsAmong asked t s before before (replyRefused (BufferTooShort (t .variables)))
   unfolding withinFault bufferFault
   buffer-refuses h g l =
       finds-refused _ (goes-on Done _ _ _ (sym h) refl (goes-on Done _ _ _ (sym g) refl (refused-lt (length before) (t .variables) _ l)))
 
-module _ (t : Tables) (s : Settings) (before after : List ℕ) (ok : tableFault t ≡ Done) (set : settingsFault t s ≡ Done) (room : t .variables ≤ length before) where
-  passed : Done ≡ withinFault t s (length before)
-  unfolding withinFault bufferFault
-  passed = goes-on Done _ _ Done (sym ok) refl (goes-on Done _ _ Done (sym set) refl (done-le (length before) (t .variables) _ room))
-
-  front-copied : (choice : List ℕ) → length choice ≡ 8 → t .variables ≤ 8 → Copied (t .variables) choice before after → take (t .variables) after ≡ take (t .variables) choice
-  front-copied choice l v c =
+-- what is copied, and what is not
+module _ (t : Tables) (choice before after : List ℕ) (c : Copied (t .variables) choice before after) where
+  pub front-copied : length choice ≡ 8 → t .variables ≤ 8 → t .variables ≤ length before → take (t .variables) after ≡ take (t .variables) choice
+  front-copied l v room =
       let a : t .variables ≤ length after = omega (arith, c .size) in
       let d : t .variables ≤ length choice = omega arith in
       let g : length (take (t .variables) after) ≡ t .variables = length-take-le (t .variables) after a in
@@ -263,36 +295,74 @@ module _ (t : Tables) (s : Settings) (before after : List ℕ) (ok : tableFault 
       let n : k < t .variables = omega arith in
       getD-take _ after k 0 n ∙ c .front k n ∙ sym (getD-take _ choice k 0 n))
 
-  rest-kept : (choice : List ℕ) → Copied (t .variables) choice before after → drop (t .variables) after ≡ drop (t .variables) before
-  rest-kept choice c =
+  pub rest-kept : drop (t .variables) after ≡ drop (t .variables) before
+  rest-kept =
       ext-getD 0 _ _ (length-drop _ after ∙ ap (λ (z : ℕ). z - t .variables) (c .size) ∙ sym (length-drop _ before))
       (λ k m. getD-drop _ after k 0 ∙ c .rest (t .variables + k) (omega arith) ∙ sym (getD-drop _ before k 0))
 
+module _ (asked : ℕ → Type 0) (t : Tables) (s : Settings) (before after : List ℕ) (ok : tableFault t ≡ Done) (set : settingsFault t s ≡ Done)
+    (room : t .variables ≤ length before) where
+  passed : Done ≡ withinFault t s (length before)
+  unfolding withinFault bufferFault
+  passed = goes-on Done _ _ Done (sym ok) refl (goes-on Done _ _ Done (sym set) refl (done-le (length before) (t .variables) _ room))
+
   pub finds-filled :
-      (b : Bool) (choice : List ℕ) → FoundWithin t s b choice → b ≡ true → Copied (t .variables) choice before after
-      → FindsWithin t s before after (matchReply Filled)
+      (b : Bool) (choice : List ℕ) → FoundAmong asked t s b choice → b ≡ true → Copied (t .variables) choice before after
+      → FindsAmong asked t s before after (matchReply Filled)
   finds-filled b choice g y c =
-      let found : FirstFound t s choice = subst (λ (z : Bool). FoundWithin t s z choice) y g in
-      subst (λ (z : Outcome). FindsWithinAfter z t s before after (matchReply Filled)) passed
+      let found : FirstFound asked t s choice = subst (λ (z : Bool). FoundAmong asked t s z choice) y g in
+      subst (λ (z : Outcome). FindsAmongAfter z asked t s before after (matchReply Filled)) passed
       (inl (
         refl,
         record {
           size = c .size;
-          first = subst (FirstWithin t s) (sym (front-copied choice (found .long) (wellFormed t ok .few-variables) c)) (found .first);
-          rest = rest-kept choice c;
+          first = subst (FirstAmong asked t s) (sym (front-copied t choice before after c (found .long) (wellFormed t ok .few-variables) room)) (found .first);
+          rest = rest-kept t choice before after c;
         },
       ))
 
   pub finds-nothing :
-      (b : Bool) (choice : List ℕ) → FoundWithin t s b choice → b ≡ false → after ≡ before → FindsWithin t s before after (replyRefused NoAssignment)
+      (b : Bool) (choice : List ℕ) → FoundAmong asked t s b choice → b ≡ false → after ≡ before → FindsAmong asked t s before after (replyRefused NoAssignment)
   finds-nothing b choice g y k =
-      let none : FoundWithin t s false choice = subst (λ (z : Bool). FoundWithin t s z choice) y g in
-      subst (λ (z : Outcome). FindsWithinAfter z t s before after (replyRefused NoAssignment)) passed
+      let none : NoneAmong asked t s = subst (λ (z : Bool). FoundAmong asked t s z choice) y g in
+      subst (λ (z : Outcome). FindsAmongAfter z asked t s before after (replyRefused NoAssignment)) passed
       (inr (
         refl,
         record {
           none = none;
-          by-substitution = λ u. none-by-substitution t ok (λ other a x. none other a (heeds-all t s u other a) x);
+          by-substitution = λ u. none-among asked t ok (λ other a x. none other a (heeds-all t s u other a) x);
           kept = k;
         },
       ))
+
+-- where all questions are asked
+module _ (asked : ℕ → Type 0) (t : Tables) (s : Settings) (before after : List ℕ) (reply : Reply) (all : (m : ℕ) → m < pairsOf (t .questions) → asked m) where
+  after-all : (f : Outcome) → FindsAmongAfter f asked t s before after reply → FindsWithinAfter f t s before after reply
+  after-all Done (inl (e, f)) =
+      inl (
+        e,
+        record {
+          size = f .size;
+          first =
+              record {
+                accepted = f .first .accepted;
+                heeds = f .first .heeds;
+                solves = λ m l. f .first .solves m l (all m l);
+                first = λ other a h x. f .first .first other a h (λ m l y. x m l);
+              };
+          rest = f .rest;
+        },
+      )
+  after-all Done (inr (e, f)) =
+      inr (
+        e,
+        record {
+          none = λ other a h x. f .none other a h (λ m l y. x m l);
+          by-substitution = λ u σ x. f .by-substitution u σ (λ m l y. x m l);
+          kept = f .kept;
+        },
+      )
+  after-all (Refused r) x = x
+
+  pub finds-within : FindsAmong asked t s before after reply → FindsWithin t s before after reply
+  finds-within = after-all (withinFault t s (length before))

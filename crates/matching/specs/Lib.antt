@@ -3,6 +3,7 @@ pub mod Solving
 pub mod Twins
 pub mod Find
 pub mod Within
+pub mod Among
 pub mod Chosen
 pub mod Derivation
 pub mod Writer

@@ -1,5 +1,6 @@
 // Finding the first assignment that makes every question hold: within settings that permit every atom, and 64 of them.
 use crate::search::interval::ones;
+use crate::within::ALL;
 use crate::within::find_known;
 use subsumption::Listed;
 use subsumption::limits::ATOMS;
@@ -52,6 +53,7 @@ pub fn find_assignment(
                 &ids[..count],
                 &all[..wanted],
                 &most[..wanted],
+                ALL,
                 out,
             )
         }

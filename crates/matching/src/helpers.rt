@@ -1,4 +1,5 @@
 // What the crates above share with this one. These are no operations: nearly all have a `requires`.
+pub use crate::limits::ASKED;
 pub use crate::limits::CARD;
 pub use crate::limits::MOST;
 pub use crate::limits::QUESTION_COUNT;
@@ -12,5 +13,8 @@ pub use crate::search::pairs::is_within;
 pub use crate::search::pairs::with_pair;
 pub use crate::search::pairs::without_pair;
 pub use crate::search::solve::failing_of;
+pub use crate::within::ALL;
+pub use crate::within::find_known;
+pub use crate::within::put_asked;
 pub use crate::within::put_counts;
 pub use crate::within::write_choice;

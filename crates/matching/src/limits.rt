@@ -26,7 +26,7 @@ pub const CONES: usize = 2304;
 pub const CLOSERS: usize = 2400;
 
 // The numbers that tests read, and where the kinds of them start.
-pub const CARD: usize = 939;
+pub const CARD: usize = 971;
 
 pub const HELD: usize = 576;
 
@@ -39,6 +39,8 @@ pub const QUESTION_COUNT: usize = 897;
 pub const HOLDS: usize = 899;
 
 pub const MOST: usize = 931;
+
+pub const ASKED: usize = 939;
 
 // What a search writes beside the nogoods: the values of ids that hold a variable, three words each, and the masks of the look-up.
 pub const SCRATCH: usize = 16977;

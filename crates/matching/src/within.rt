@@ -1,5 +1,6 @@
-// Finding the first assignment within settings that makes every question hold.
+// Finding the first assignment within settings that makes every question hold, or those that are asked.
 use crate::find::Match;
+use crate::limits::ASKED;
 use crate::limits::CARD;
 use crate::limits::MOST;
 use crate::limits::SCRATCH;
@@ -21,13 +22,18 @@ ghost use mathlib.Core.Path.{_≡_};
 ghost use Prim.Native.Nat.{_≤_};
 ghost use lib.ListN.{length};
 ghost use Rattle.subsumption.specs.declared.refusal.Outcome.the-variants.{Done};
+ghost use mathlib.Core.Bool.{true};
 ghost use Rattle.subsumption.specs.Tables.{tables};
+ghost use Rattle.subsumption.specs.Atoms.{bit};
 ghost use Rattle.subsumption.specs.Inner.Listing.{Accepted};
 ghost use Rattle.settings.specs.Settings.{settings, settingsFault};
-ghost use Rattle.matching.specs.Inner.Within.{Counting, FoundIn, FoundWithin, Copied};
+ghost use Rattle.matching.specs.Inner.Within.{Counting, Asking, FoundIn, FoundAmong, FindsAmong, Copied};
 ghost use Rattle.matching.specs.Inner.Search.Card.{Shaped};
 ghost use Rattle.matching.specs.Find.{matchReply};
 ghost use Rattle.matching.specs.Within.{FindsWithin};
+
+// Every question is asked.
+pub const ALL: u64 = 18446744073709551615;
 
 // A solution, if there is one.
 pub struct Solution {
@@ -63,13 +69,25 @@ fn search(sets: &[u64], card: &[u16], permitted: [u64; 8]) -> Solution
 
 // Writes the largest counts into the card.
 pub fn put_counts(card: &mut [u16], largest: &[u16])
-    requires { ⌜ (length (now card) ≡ 939) × (length (now largest) ≤ 8) ⌝ }
+    requires { ⌜ (length (now card) ≡ 971) × (length (now largest) ≤ 8) ⌝ }
     ensures { λ _. ⌜ Counting (now (largest .entry)) (now (card .entry)) (now (card .exit)) ⌝ }
 {
     let mut k: usize = 0;
     while k < largest.len() {
         card[MOST + k] = largest[k];
         k += 1;
+    }
+}
+
+// Writes into the card which questions are asked: those whose bit is set.
+pub fn put_asked(card: &mut [u16], wanted: u64)
+    requires { ⌜ length (now card) ≡ 971 ⌝ }
+    ensures { λ _. ⌜ Asking wanted (now (card .entry)) (now (card .exit)) ⌝ }
+{
+    let mut m: usize = 0;
+    while m < 32 {
+        card[ASKED + m] = ((wanted >> m) % 2) as u16;
+        m += 1;
     }
 }
 
@@ -83,10 +101,11 @@ fn find_first(
     ids: &[u16],
     permitted: &[u64],
     largest: &[u16],
+    wanted: u64,
 ) -> Solution
     requires { ⌜ Accepted (tables (now concepts) (now inclusions) (now questions) (now roles) variables) (now ids) ⌝ }
     requires { ⌜ settingsFault (tables (now concepts) (now inclusions) (now questions) (now roles) variables) (settings (now permitted) (now largest)) ≡ Done ⌝ }
-    ensures { λ r. ⌜ FoundWithin (tables (now (concepts .entry)) (now (inclusions .entry)) (now (questions .entry)) (now (roles .entry)) variables) (settings (now (permitted .entry)) (now (largest .entry))) (r .found) (r .choice) ⌝ }
+    ensures { λ r. ⌜ FoundAmong (λ m. bit wanted m ≡ true) (tables (now (concepts .entry)) (now (inclusions .entry)) (now (questions .entry)) (now (roles .entry)) variables) (settings (now (permitted .entry)) (now (largest .entry))) (r .found) (r .choice) ⌝ }
 {
     let mut sets = [0u64; SETS];
     let mut card = [0u16; CARD];
@@ -101,6 +120,7 @@ fn find_first(
         &mut card,
     );
     put_counts(&mut card, largest);
+    put_asked(&mut card, wanted);
     let high = load_permitted(permitted);
     search(&sets, &card, high)
 }
@@ -127,15 +147,16 @@ fn find_set(
     ids: &[u16],
     permitted: &[u64],
     largest: &[u16],
+    wanted: u64,
     out: &mut [u64],
 ) -> Match
     requires { ⌜ Accepted (tables (now concepts) (now inclusions) (now questions) (now roles) variables) (now ids) ⌝ }
     requires { ⌜ settingsFault (tables (now concepts) (now inclusions) (now questions) (now roles) variables) (settings (now permitted) (now largest)) ≡ Done ⌝ }
-    ensures { λ r. ⌜ FindsWithin (tables (now (concepts .entry)) (now (inclusions .entry)) (now (questions .entry)) (now (roles .entry)) variables) (settings (now (permitted .entry)) (now (largest .entry))) (now (out .entry)) (now (out .exit)) (matchReply r) ⌝ }
+    ensures { λ r. ⌜ FindsAmong (λ m. bit wanted m ≡ true) (tables (now (concepts .entry)) (now (inclusions .entry)) (now (questions .entry)) (now (roles .entry)) variables) (settings (now (permitted .entry)) (now (largest .entry))) (now (out .entry)) (now (out .exit)) (matchReply r) ⌝ }
 {
-    let wanted = variables as usize;
-    if out.len() < wanted {
-        return Match::Rejected(Refusal::BufferTooShort(wanted));
+    let count = variables as usize;
+    if out.len() < count {
+        return Match::Rejected(Refusal::BufferTooShort(count));
     }
     let first = find_first(
         concepts,
@@ -146,10 +167,11 @@ fn find_set(
         ids,
         permitted,
         largest,
+        wanted,
     );
     if first.found {
         let choice = first.choice;
-        write_choice(choice, wanted, out);
+        write_choice(choice, count, out);
         return Match::Filled;
     }
     Match::Rejected(Refusal::NoAssignment)
@@ -165,10 +187,11 @@ pub fn find_known(
     ids: &[u16],
     permitted: &[u64],
     largest: &[u16],
+    wanted: u64,
     out: &mut [u64],
 ) -> Match
     requires { ⌜ Accepted (tables (now concepts) (now inclusions) (now questions) (now roles) variables) (now ids) ⌝ }
-    ensures { λ r. ⌜ FindsWithin (tables (now (concepts .entry)) (now (inclusions .entry)) (now (questions .entry)) (now (roles .entry)) variables) (settings (now (permitted .entry)) (now (largest .entry))) (now (out .entry)) (now (out .exit)) (matchReply r) ⌝ }
+    ensures { λ r. ⌜ FindsAmong (λ m. bit wanted m ≡ true) (tables (now (concepts .entry)) (now (inclusions .entry)) (now (questions .entry)) (now (roles .entry)) variables) (settings (now (permitted .entry)) (now (largest .entry))) (now (out .entry)) (now (out .exit)) (matchReply r) ⌝ }
 {
     let checked = check_settings(permitted, largest, variables, ids.len());
     match checked {
@@ -182,6 +205,7 @@ pub fn find_known(
             ids,
             permitted,
             largest,
+            wanted,
             out,
         ),
     }
@@ -213,6 +237,7 @@ pub fn find_within(
             &ids[..count],
             permitted,
             largest,
+            ALL,
             out,
         ),
     }

@@ -14,11 +14,12 @@ use Rattle.matching.specs.Inner.Search.Card.{Card, mostAt}
 use Rattle.allowance.specs.Partial.{Open, allPartials}
 use Rattle.allowance.specs.Count.{Stretch, Answered, Exceeds}
 use Rattle.allowance.specs.Inner.Place.{At}
-use Rattle.allowance.specs.Inner.Kept.{Kept}
+use Rattle.allowance.specs.Inner.Kept.{Kept, AllAsked}
 
 -- The tables and settings that the walk is lent as sets, numbers and a permitted high side.
 pub record Lent (t : Tables) (settings : Settings) (sets card permitted : List ℕ) (count : ℕ) : Type 0 where
   pub card-of : Card t sets card
+  pub all-asked : AllAsked t card
   pub set : settingsFault t settings ≡ Done
   pub loaded : Loaded (settings .permitted) permitted
   pub counts : (k : ℕ) → k < t .variables → mostAt card k ≡ getD (settings .largest) k 0

@@ -1,4 +1,4 @@
--- Tests read no number from 931 on: a card stays one when only the counts change.
+-- Tests read no number from 931 on: a card stays one when only the counts and the asked questions change.
 use Prim.Native.Nat.{ℕ, _+_, _*_, _<_, _≤_}
 use mathlib.Core.Path.{_≡_, sym, ap, _∙_}
 use mathlib.Core.List.{List}

@@ -16,6 +16,7 @@ use Rattle.subsumption.proofs.MarkLaws.{counted-less}
 use Rattle.subsumption.proofs.Accepted.{wellFormed}
 use Rattle.matching.specs.Solving.{takes}
 use Rattle.matching.specs.Inner.Search.{Decided, HoldsAt, Within, SolutionIn, NoSolution}
+use Rattle.matching.specs.Inner.Search.Card.{AskedAt}
 use Rattle.matching.specs.Inner.Search.Pairs.{Changed}
 use Rattle.matching.specs.Inner.Search.Interval.{IntervalOf, undecided, openPairs, Picked}
 use Rattle.matching.specs.Inner.Search.Solve.{Refuted}
@@ -102,16 +103,16 @@ module _ (low high : List ℕ) (p : ℕ) (l : p < 512) (u : undecided low high p
 
 -- ---- tests of an interval
 module _ (t : Tables) (h : tableFault t ≡ Done) where
-  module _ (card low high : List ℕ) (m : ℕ) (l : m < pairsOf (t .questions)) where
-    -- a question with a variable on the right that fails at the low side
+  module _ (card low high : List ℕ) (m : ℕ) (l : m < pairsOf (t .questions)) (x : AskedAt card m) where
+    -- an asked question with a variable on the right that fails at the low side
     pub low-shuts :
         hasVariable (tree (t .concepts) (rightOf (t .questions) m)) ≡ true → (HoldsAt t (take (t .variables) low) m → ⊥) → NoSolution t card low high
-    low-shuts e n other a b s = n (antitone t (wellFormed t h) _ other (b .above) _ _ (left-free t h m l e) (s .solves m l))
+    low-shuts e n other a b s = n (antitone t (wellFormed t h) _ other (b .above) _ _ (left-free t h m l e) (s .solves m l x))
 
     -- another one that fails at the high side
     pub high-shuts :
         hasVariable (tree (t .concepts) (rightOf (t .questions) m)) ≡ false → (HoldsAt t (take (t .variables) high) m → ⊥) → NoSolution t card low high
-    high-shuts e n other a b s = n (monotone t (wellFormed t h) other _ (b .below) _ _ e (s .solves m l))
+    high-shuts e n other a b s = n (monotone t (wellFormed t h) other _ (b .below) _ _ e (s .solves m l x))
 
   module _ (low high : List ℕ) where
     module _ (i : IntervalOf t low high) where

@@ -1,4 +1,4 @@
--- Narrowing: a question with variables on the right that fails with one pair alone fails with every assignment that takes the pair.
+-- Narrowing: an asked question with variables on the right that fails with one pair alone fails with every assignment that takes the pair.
 use Prim.Native.Nat.{ℕ, _+_, _<_, _≤_}
 use mathlib.Core.Path.{_≡_, refl, sym, ap, _∙_, subst}
 use mathlib.Core.List.{List}
@@ -13,9 +13,10 @@ use Rattle.subsumption.specs.Atoms.{bit}
 use Rattle.subsumption.specs.Check.{tableFault, assignmentFault}
 use Rattle.subsumption.proofs.Bits.{bit-of-zero}
 use Rattle.subsumption.proofs.Accepted.{wellFormed}
-use Rattle.matching.specs.Solving.{takes, Solves}
+use Rattle.matching.specs.Solving.{takes}
+use Rattle.matching.specs.Among.{SolvesAmong}
 use Rattle.matching.specs.Inner.Search.{Decided, HoldsAt, Within}
-use Rattle.matching.specs.Inner.Search.Card.{Card, heldAt, rightAt, questionCount}
+use Rattle.matching.specs.Inner.Search.Card.{Card, heldAt, rightAt, questionCount, AskedAt}
 use Rattle.matching.specs.Inner.Search.Pairs.{Changed}
 use Rattle.matching.specs.Inner.Search.Patterns.{Tested}
 use Rattle.matching.specs.Inner.Search.Sets.{NextBit}
@@ -35,14 +36,14 @@ pub narrowed-more :
     (sets card a b c : List ℕ) → length b ≡ 8 → Narrowed sets card a b → Narrowed sets card b c → Narrowed sets card a c
 narrowed-more sets card a b c long x y t k h = record { fewer = λ l r e. p .fewer l r (q .fewer l r e); all = λ other u s w. q .all other u s (p .all other u s w) }
   where
-    p : Narrower t a b
+    p : Narrower t card a b
     p = x t k h
 
-    q : Narrower t b c
+    q : Narrower t card b c
     q = y t k (within-accepted t _ _ h (front-long t (k .passed) b long) (front-within (t .variables) b a (p .fewer)))
 
 -- ---- a pair that fails alone
-module _ (sets card : List ℕ) (m k q : ℕ) (low : m < questionCount card) (right : heldAt card (rightAt card m) ≡ true)
+module _ (sets card : List ℕ) (m k q : ℕ) (low : m < questionCount card) (asked : AskedAt card m) (right : heldAt card (rightAt card m) ≡ true)
     (none alone : List ℕ) (zeros : (l : ℕ) → getD none l 0 ≡ 0) (one : Changed none alone k q true)
     (b : Bool) (d : Tested sets card m alone b) (e : b ≡ false) where
   module _ (t : Tables) (c : Card t sets card) where
@@ -58,11 +59,11 @@ module _ (sets card : List ℕ) (m k q : ℕ) (low : m < questionCount card) (ri
         ⊎-elim (λ y. at-pair other l r k q true y x) (λ y. absurd (bit-of-zero r (subst (λ (z : ℕ). bit z r ≡ true) (zeros l) y)))
         (grown-cases none alone k q one l r (front-known (t .variables) alone l r w .1))
 
-    pub not-taken : (other : List ℕ) → assignmentFault t other ≡ Done → Solves t other → takes other k q ≡ true → ⊥
+    pub not-taken : (other : List ℕ) → assignmentFault t other ≡ Done → SolvesAmong (AskedAt card) t other → takes other k q ≡ true → ⊥
     not-taken other a s x =
         subst (Decided (HoldsAt t (take (t .variables) alone) m)) e
         (d t c (within-accepted t _ other a (front-long t (c .passed) alone (one .long)) (alone-within other x)) known)
-        (antitone t (wellFormed t (c .passed)) _ other (alone-within other x) _ _ (left-free t (c .passed) m known right-held) (s m known))
+        (antitone t (wellFormed t (c .passed)) _ other (alone-within other x) _ _ (left-free t (c .passed) m known right-held) (s m known asked))
 
   pub narrowed-pair : (high fewer : List ℕ) → Changed high fewer k q false → Narrowed sets card high fewer
   narrowed-pair high fewer x t c h =

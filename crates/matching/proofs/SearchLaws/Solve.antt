@@ -5,7 +5,7 @@ use mathlib.Core.List.{List}
 use mathlib.Core.Bool.{Bool, true, false, not, Bool·beq, _||_, _&&_, false≢true, true≢false}
 use mathlib.Core.Logic.{⊎-elim}
 use native.Mathlib.Omega.{arith}
-use borrow.Author.Tests.{not-true, not-false}
+use borrow.Author.Tests.{eqb-true, eq-eqb, not-true, not-false}
 use lib.ListN.{length, take, getD}
 use Rattle.subsumption.specs.declared.refusal.Outcome.the-variants.{Done}
 use Rattle.subsumption.specs.Tables.{Tables, pairsOf, rightOf, tree, hasVariable}
@@ -18,7 +18,7 @@ use Rattle.subsumption.proofs.Columns.{any-false}
 use Rattle.settings.specs.Inner.Counts.{Counted, Clamped, Unclamped}
 use Rattle.matching.specs.Solving.{takes}
 use Rattle.matching.specs.Inner.Search.{HoldsAt, Within, SolutionIn, NoSolution}
-use Rattle.matching.specs.Inner.Search.Card.{Card, heldAt, rightAt, questionCount}
+use Rattle.matching.specs.Inner.Search.Card.{Card, heldAt, rightAt, questionCount, AskedAt}
 use Rattle.matching.specs.Inner.Search.Pairs.{Changed, Contained}
 use Rattle.matching.specs.Inner.Search.Interval.{IntervalOf, undecided, Picked}
 use Rattle.matching.specs.declared.search.interval.Pick.{Pick}
@@ -27,7 +27,7 @@ use Rattle.matching.specs.Inner.Search.Nogoods.{words, used, lowAt, high
 use Rattle.matching.specs.Inner.Search.Patterns.{Tested}
 use Rattle.matching.specs.Inner.Search.Widen.{Mixed, StillFails}
 use Rattle.matching.specs.Inner.Search.Needs.{WantedOver}
-use Rattle.matching.specs.Inner.Search.Solve.{FailingOf, Failing, Refuted, RefutedBy, Answers, Searched, CanSplit, Known, Recalled, Merged}
+use Rattle.matching.specs.Inner.Search.Solve.{AskedOf, FailingOf, Failing, Refuted, RefutedBy, Answers, Searched, CanSplit, Known, Recalled, Merged}
 use Rattle.matching.proofs.SearchLaws.Fronts.{front-known, front-takes, front-within}
 use Rattle.matching.proofs.SearchLaws.Nogoods.{words-long, nogoods-added}
 use Rattle.matching.proofs.SearchLaws.Interval.{decided-true, decided-false, at-pair, grown, grown-cases, shrunk, shrunk-cases, low-shuts, high-shuts, decided-shut, low-accepted, picked-none, take-keeps, take-found, leave-keeps, leave-found}
@@ -35,8 +35,8 @@ use Rattle.matching.proofs.SearchLaws.Counts.{counts-same, few-front, o
 
 -- ---- questions of the card
 module _ (t : Tables) (sets card : List ℕ) (c : Card t sets card) where
-  pub is-asked : (m : ℕ) → m < questionCount card → m < pairsOf (t .questions)
-  is-asked m l = subst (λ (z : ℕ). m < z) (c .questions) l
+  pub is-question : (m : ℕ) → m < questionCount card → m < pairsOf (t .questions)
+  is-question m l = subst (λ (z : ℕ). m < z) (c .questions) l
 
   -- the mark of its right side
   pub right-held : (m : ℕ) → m < pairsOf (t .questions) → heldAt card (rightAt card m) ≡ hasVariable (tree (t .concepts) (rightOf (t .questions) m))
@@ -46,14 +46,14 @@ module _ (t : Tables) (sets card : List ℕ) (c : Card t sets card) where
 abbrev pub counts : List ℕ → List ℕ
 counts card = words card 931
 
-pub counts-long : (card : List ℕ) → length card ≡ 939 → length (counts card) ≡ 8
+pub counts-long : (card : List ℕ) → length card ≡ 971 → length (counts card) ≡ 8
 counts-long card e = words-long card 931 (omega (arith, e))
 
 -- ---- looking for one that fails
 abbrev pub HoldTo : List ℕ → List ℕ → List ℕ → Bool → ℕ → Type 0
 HoldTo sets card choice right m =
     (t : Tables) → Card t sets card → assignmentFault t (take (t .variables) choice) ≡ Done → (n : ℕ) → n < m → n < pairsOf (t .questions)
-    → hasVariable (tree (t .concepts) (rightOf (t .questions) n)) ≡ right → HoldsAt t (take (t .variables) choice) n
+    → AskedOf t card right n → HoldsAt t (take (t .variables) choice) n
 
 unlike : (a b : Bool) → not (Bool·beq a b) ≡ true → a ≡ b → ⊥
 unlike true true o e = false≢true o
@@ -74,29 +74,34 @@ module _ (sets card choice : List ℕ) (right : Bool) where
   one-more :
       (m : ℕ) → HoldTo sets card choice right m
       → ((t : Tables) → Card t sets card → assignmentFault t (take (t .variables) choice) ≡ Done → m < pairsOf (t .questions)
-      → hasVariable (tree (t .concepts) (rightOf (t .questions) m)) ≡ right → HoldsAt t (take (t .variables) choice) m)
+      → AskedOf t card right m → HoldsAt t (take (t .variables) choice) m)
       → HoldTo sets card choice right (m + 1)
   one-more m h g t c a n l =
       ⊎-elim
       (λ (e : n ≡ m).
-      subst (λ (z : ℕ). z < pairsOf (t .questions) → hasVariable (tree (t .concepts) (rightOf (t .questions) z)) ≡ right → HoldsAt t (take (t .variables) choice) z) (sym e)
+      subst (λ (z : ℕ). z < pairsOf (t .questions) → AskedOf t card right z → HoldsAt t (take (t .variables) choice) z) (sym e)
       (g t c a))
       (λ x. h t c a n x) (last-cases n m (omega arith))
 
+  pub hold-unasked : (m : ℕ) → (getD card (939 + m) 0 ≡ 1 → ⊥) → HoldTo sets card choice right m → HoldTo sets card choice right (m + 1)
+  hold-unasked m o h = one-more m h (λ t c a l x. absurd (o (eqb-true _ 1 (x .0))))
+
   -- of the other kind
   pub hold-skip : (m : ℕ) → not (Bool·beq (heldAt card (rightAt card m)) right) ≡ true → HoldTo sets card choice right m → HoldTo sets card choice right (m + 1)
-  hold-skip m o h = one-more m h (λ t c a l e. absurd (unlike _ _ o (right-held t sets card c m l ∙ e)))
+  hold-skip m o h = one-more m h (λ t c a l x. absurd (unlike _ _ o (right-held t sets card c m l ∙ x .1)))
 
   module _ (m : ℕ) (b : Bool) (d : Tested sets card m choice b) where
     pub hold-more : b ≡ true → HoldTo sets card choice right m → HoldTo sets card choice right (m + 1)
     hold-more e h = one-more m h (λ t c a l x. decided-true _ b (d t c a l) e)
 
-    pub failing-here : b ≡ false → m < questionCount card → not (Bool·beq (heldAt card (rightAt card m)) right) ≡ false → FailingOf sets card choice right m
-    failing-here e l o t c a =
+    pub failing-here :
+        b ≡ false → m < questionCount card → getD card (939 + m) 0 ≡ 1 → not (Bool·beq (heldAt card (rightAt card m)) right) ≡ false
+        → FailingOf sets card choice right m
+    failing-here e l w o t c a =
         record {
           fails = λ x. decided-false _ b (d t c a x) e;
-          of-kind = λ x. sym (right-held t sets card c m x) ∙ alike _ _ o;
-          hold = λ x. absurd (omega (arith, is-asked t sets card c m l));
+          of-kind = λ x. (eq-eqb _ 1 w, sym (right-held t sets card c m x) ∙ alike _ _ o);
+          hold = λ x. absurd (omega (arith, is-question t sets card c m l));
         }
 
   pub failing-none : (m : ℕ) → HoldTo sets card choice right m → questionCount card ≤ m → FailingOf sets card choice right (questionCount card)
@@ -109,17 +114,22 @@ module _ (sets card choice : List ℕ) (right : Bool) where
 
 module _ (sets card choice : List ℕ) (m : ℕ) where
   pub failing-first : FailingOf sets card choice true m → m < questionCount card → Failing sets card choice m
-  failing-first f l t c a = record { fails = f t c a .fails; of-kind = λ x. tt; hold = λ x. absurd (omega (arith, c .questions)) }
+  failing-first f l t c a = record { fails = f t c a .fails; of-kind = λ x. f t c a .of-kind x .0; hold = λ x. absurd (omega (arith, c .questions)) }
 
   -- none with a variable on the right, then the others
   pub failing-second : (n : ℕ) → FailingOf sets card choice true n → questionCount card ≤ n → FailingOf sets card choice false m → Failing sets card choice m
-  failing-second n f l g t c a = record { fails = g t c a .fails; of-kind = λ x. tt; hold = λ x o y z. go x o y (hasVariable (tree (t .concepts) (rightOf (t .questions) o))) refl }
+  failing-second n f l g t c a =
+      record {
+        fails = g t c a .fails;
+        of-kind = λ x. g t c a .of-kind x .0;
+        hold = λ x o y z. go x o y z (hasVariable (tree (t .concepts) (rightOf (t .questions) o))) refl;
+      }
     where
       go :
-          pairsOf (t .questions) ≤ m → (o : ℕ) → o < pairsOf (t .questions) → (b : Bool)
+          pairsOf (t .questions) ≤ m → (o : ℕ) → o < pairsOf (t .questions) → AskedAt card o → (b : Bool)
           → hasVariable (tree (t .concepts) (rightOf (t .questions) o)) ≡ b → HoldsAt t (take (t .variables) choice) o
-      go x o y true e = f t c a .hold (omega (arith, c .questions)) o y e
-      go x o y false e = g t c a .hold x o y e
+      go x o y z true e = f t c a .hold (omega (arith, c .questions)) o y (z, e)
+      go x o y z false e = g t c a .hold x o y (z, e)
 
 -- ---- the low side by itself
 module _ (t : Tables) (low full : List ℕ) (i : IntervalOf t low full) where
@@ -159,24 +169,24 @@ module _ (sets card full low empty : List ℕ) (m : ℕ) (zeros : (k : ℕ) → 
   pub refuted-right :
       (core : List ℕ) → heldAt card (rightAt card m) ≡ true → Mixed low empty core → StillFails sets card m low empty core
       → RefutedBy sets card full low m core full
-  refuted-right core e w f t c l i n =
+  refuted-right core e w f t c l x i n =
       low-refuted t low full i empty zeros long card core w
-      (low-shuts t (c .passed) card core full m l (sym (right-held t sets card c m l) ∙ e) (f t c l full i (empty-interval t low full i empty zeros long) n))
+      (low-shuts t (c .passed) card core full m l x (sym (right-held t sets card c m l) ∙ e) (f t c l full i (empty-interval t low full i empty zeros long) n))
 
   pub refuted-left :
       (rest : List ℕ) → heldAt card (rightAt card m) ≡ false → Mixed low full rest → StillFails sets card m low full rest
       → RefutedBy sets card full low m empty rest
-  refuted-left rest e w f t c l i n =
+  refuted-left rest e w f t c l x i n =
       high-refuted t low full i empty zeros long card rest w
-      (high-shuts t (c .passed) card empty rest m l (sym (right-held t sets card c m l) ∙ e) (f t c l full i (full-interval t low full i) n))
+      (high-shuts t (c .passed) card empty rest m l x (sym (right-held t sets card c m l) ∙ e) (f t c l full i (full-interval t low full i) n))
 
 module _ (sets card full low before : List ℕ) (m : ℕ) (f : Failing sets card low m) where
   pub tried-refuted :
       (low₁ high₁ after : List ℕ) → m < questionCount card → RefutedBy sets card full low m low₁ high₁ → Added low₁ high₁ before after
       → Searched sets card full low low before after (λ t. Answers t card low low false low₁ high₁)
   tried-refuted low₁ high₁ after l r a t c i j n =
-      let x = is-asked t sets card c m l in
-      let y = r t c x j (f t c (i .accepted) .fails x) in
+      let x = is-question t sets card c m l in
+      let y = r t c x (f t c (i .accepted) .of-kind x) j (f t c (i .accepted) .fails x) in
       (y, nogoods-added t card low₁ high₁ before after n (y .none) a)
 
   pub tried-solves :
@@ -188,7 +198,7 @@ module _ (sets card full low before : List ℕ) (m : ℕ) (f : Failing sets card
       between = record { above = λ k q e. e; below = λ k q e. e };
       meets =
           record {
-            solves = λ p x. f t c (i .accepted) .hold (omega (arith, c .questions)) p x tt;
+            solves = f t c (i .accepted) .hold (omega (arith, c .questions));
             few = few-front card (counts card) low (counts-same card _ refl) (t .variables) (wellFormed t (c .passed) .few-variables) (subst (Counted (counts card) low) (not-false b e) o);
           };
     },

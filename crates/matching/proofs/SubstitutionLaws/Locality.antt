@@ -29,6 +29,7 @@ use Rattle.subsumption.proofs.Membership.{member-ground}
 use Rattle.subsumption.proofs.ModelRows.{gather, gather-in}
 use Rattle.subsumption.proofs.RuleTests.{every-elim, every-intro}
 use Rattle.matching.specs.Solving.{Solves, Substitution, substituted, SolvesBy}
+use Rattle.matching.specs.Among.{SolvedAmong, SolvesAmong}
 use Rattle.matching.proofs.SubstitutionLaws.Readings.{member-reads}
 use Rattle.matching.proofs.SubstitutionLaws.Decided.{Decides, branch, decided-pairs}
 use Rattle.matching.proofs.SubstitutionLaws.Members.{isMember, member-test, test-member}
@@ -238,23 +239,29 @@ module _ (t : Tables) (wf : WellFormed t) (σ : ℕ → Concept) (bits below inn
         member-reads I (substituted σ I) (assigned t α I) (λ v z l a p m. taken-below v p (taken-known v p m) m I obeys z l a) (tree (t .concepts) j) x k
         (s I obeys x k (member-ground I (assigned t α I) (substituted σ I) (tree (t .concepts) i) g x h))
 
-    solves : ((m : ℕ) → m < pairsOf (t .questions) → SubsumedBy t (substituted σ) (leftOf (t .questions) m) (rightOf (t .questions) m)) → Solves t α
+    solves : (asked : ℕ → Type 0) → SolvedAmong asked t (substituted σ) → SolvesAmong asked t α
     unfolding both
-    solves s m l = go (hasVariable (tree (t .concepts) (leftOf (t .questions) m))) refl
+    solves asked s m l x = go (hasVariable (tree (t .concepts) (leftOf (t .questions) m))) refl
       where
         go : (b : Bool) → hasVariable (tree (t .concepts) (leftOf (t .questions) m)) ≡ b → Subsumed t α (leftOf (t .questions) m) (rightOf (t .questions) m)
-        go true e = ground-right m l (rw (e, both) at (wf .one-sided m l)) (s m l)
-        go false e = ground-left _ _ e (s m l)
+        go true e = ground-right m l (rw (e, both) at (wf .one-sided m l)) (s m l x)
+        go false e = ground-left _ _ e (s m l x)
 
--- Where no assignment solves, no substitution does, of whatever size.
-pub none-by-substitution :
-    (t : Tables) → tableFault t ≡ Done → ((α : List ℕ) → assignmentFault t α ≡ Done → Solves t α → ⊥) → (σ : Substitution t) → SolvesBy t σ → ⊥
-none-by-substitution t ok none σ s =
+-- Where no assignment makes the asked questions hold, no substitution does, of whatever size.
+pub none-among :
+    (asked : ℕ → Type 0) (t : Tables) → tableFault t ≡ Done → ((α : List ℕ) → assignmentFault t α ≡ Done → SolvesAmong asked t α → ⊥)
+    → (σ : Substitution t) → SolvedAmong asked t (substituted (σ .concept)) → ⊥
+none-among asked t ok none σ s =
     decided-pairs (λ k q. Below t (σ .concept k) (tree (t .concepts) (getD (atoms t) q 0))) (t .variables) (length (atoms t)) λ (bits, p).
     decided-pairs (λ y j. Below t (conceptAt (concepts t (σ .concept)) y) (conceptAt (concepts t (σ .concept)) j)) (length (concepts t (σ .concept))) (length (concepts t (σ .concept))) λ (below, q).
     decided-pairs (λ j y. Below t (innerOf (conceptAt (concepts t (σ .concept)) j)) (conceptAt (concepts t (σ .concept)) y)) (length (concepts t (σ .concept))) (length (concepts t (σ .concept))) λ (inner, u).
     decided-pairs (λ k j. Below t (σ .concept k) (conceptAt (concepts t (σ .concept)) j)) (t .variables) (length (concepts t (σ .concept))) λ (forces, v).
-    none (assignmentOf t bits) (assignmentOf-accepted t bits) (solves t (wellFormed t ok) (σ .concept) bits below inner forces p q u v s)
+    none (assignmentOf t bits) (assignmentOf-accepted t bits) (solves t (wellFormed t ok) (σ .concept) bits below inner forces p q u v asked s)
+
+-- The same of all questions.
+pub none-by-substitution :
+    (t : Tables) → tableFault t ≡ Done → ((α : List ℕ) → assignmentFault t α ≡ Done → Solves t α → ⊥) → (σ : Substitution t) → SolvesBy t σ → ⊥
+none-by-substitution t ok none σ s = none-among (λ m. Unit {0}) t ok (λ α a x. none α a (λ m l. x m l tt)) σ (λ m l x. s m l)
 
 -- No assignment solves exactly when no substitution does.
 pub none-exactly :

@@ -22,8 +22,9 @@ use Rattle.subsumption.specs.Tables.{Tables, leftOf, rightOf}
 use Rattle.subsumption.specs.Subsumption.{Subsumed}
 use Rattle.subsumption.specs.Check.{assignmentFault}
 use Rattle.settings.specs.Settings.{size}
-use Rattle.matching.specs.Solving.{takes, Solves}
-use Rattle.matching.specs.Inner.Search.Card.{mostAt}
+use Rattle.matching.specs.Solving.{takes}
+use Rattle.matching.specs.Among.{SolvesAmong}
+use Rattle.matching.specs.Inner.Search.Card.{mostAt, AskedAt}
 
 -- A truth value tells whether a statement holds.
 abbrev pub Decided : Type 0 → Bool → Type 0
@@ -43,9 +44,9 @@ pub record Between (low high assignment : List ℕ) : Type 0 where
   pub above : Within low assignment
   pub below : Within assignment high
 
--- What is asked of an assignment: it makes every question hold, and takes for no variable more atoms than the card says.
+-- What is asked of an assignment: it makes the questions hold that the card asks, and takes for no variable more atoms than the card says.
 pub record Meets (t : Tables) (card assignment : List ℕ) : Type 0 where
-  pub solves : Solves t assignment
+  pub solves : SolvesAmong (AskedAt card) t assignment
   pub few : (k : ℕ) → size (getD assignment k 0) ≤ mostAt card k
 
 -- A solution between the two sides.

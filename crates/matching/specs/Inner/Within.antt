@@ -3,16 +3,21 @@ use Prim.Native.Nat.{ℕ, _+_, _<_, _≤_}
 use mathlib.Core.Path.{_≡_}
 use mathlib.Core.List.{List}
 use mathlib.Core.Bool.{Bool, true, false}
-use mathlib.Core.Logic.{_⊎_}
+use mathlib.Core.Logic.{_⊎_, _↔_}
 use lib.ListN.{length, take, getD}
-use Rattle.subsumption.specs.declared.refusal.Outcome.the-variants.{Done}
+use Rattle.subsumption.specs.declared.refusal.Refusal.the-variants.{NoAssignment}
+use Rattle.subsumption.specs.declared.refusal.Outcome.{Outcome}
+use Rattle.subsumption.specs.declared.refusal.Outcome.the-variants.{Done, Refused}
 use Rattle.subsumption.specs.Tables.{Tables}
+use Rattle.subsumption.specs.Atoms.{bit}
+use Rattle.subsumption.specs.Refusal.{Reply, replyDone, replyRefused}
 use Rattle.subsumption.specs.Check.{assignmentFault}
-use Rattle.settings.specs.Settings.{Settings, Heeds}
-use Rattle.matching.specs.Solving.{takes, Solves, Earlier}
-use Rattle.matching.specs.Within.{FirstWithin}
+use Rattle.settings.specs.Settings.{Settings}
+use Rattle.matching.specs.Solving.{takes, Earlier}
+use Rattle.matching.specs.Within.{withinFault}
+use Rattle.matching.specs.Among.{FirstAmong, NoneAmong, FilledAmong, UnfilledAmong}
 use Rattle.matching.specs.Inner.Search.{Within, Meets}
-use Rattle.matching.specs.Inner.Search.Card.{Card}
+use Rattle.matching.specs.Inner.Search.Card.{Card, AskedAt}
 
 -- The counts are written into a card.
 pub record Counting (largest before after : List ℕ) : Type 0 where
@@ -41,14 +46,29 @@ FoundIn sets card permitted found choice =
     (t : Tables) → Card t sets card → assignmentFault t (take (t .variables) permitted) ≡ Done
     → ((k q : ℕ) → t .variables ≤ k → takes permitted k q ≡ true → ⊥) → FoundBy t card permitted found choice
 
--- The first assignment within the settings that solves, or there is none.
-pub record FirstFound (t : Tables) (s : Settings) (choice : List ℕ) : Type 0 where
-  pub long : length choice ≡ 8
-  pub first : FirstWithin t s (take (t .variables) choice)
+-- The asked questions are written into a card.
+pub record Asking (wanted : ℕ) (before after : List ℕ) : Type 0 where
+  pub size : length after ≡ length before
+  pub front : (p : ℕ) → p < 939 → getD after p 0 ≡ getD before p 0
+  pub asked : (m : ℕ) → m < 32 → AskedAt after m ↔ (bit wanted m ≡ true)
 
-abbrev pub FoundWithin : Tables → Settings → Bool → List ℕ → Type 0
-FoundWithin t s true choice = FirstFound t s choice
-FoundWithin t s false choice = (other : List ℕ) → assignmentFault t other ≡ Done → Heeds s other → Solves t other → ⊥
+-- The first assignment within the settings that makes the asked questions hold, or there is none.
+pub record FirstFound (asked : ℕ → Type 0) (t : Tables) (s : Settings) (choice : List ℕ) : Type 0 where
+  pub long : length choice ≡ 8
+  pub first : FirstAmong asked t s (take (t .variables) choice)
+
+abbrev pub FoundAmong : (ℕ → Type 0) → Tables → Settings → Bool → List ℕ → Type 0
+FoundAmong asked t s true choice = FirstFound asked t s choice
+FoundAmong asked t s false choice = NoneAmong asked t s
+
+-- What a finder of the asked questions answers, where nothing is refused and where something is.
+abbrev pub FindsAmongAfter : Outcome → (ℕ → Type 0) → Tables → Settings → List ℕ → List ℕ → Reply → Type 0
+FindsAmongAfter Done asked t s before after reply =
+    ((reply ≡ replyDone 0) × FilledAmong asked t s before after) ⊎ ((reply ≡ replyRefused NoAssignment) × UnfilledAmong asked t s before after)
+FindsAmongAfter (Refused r) asked t s before after reply = (reply ≡ replyRefused r) × (after ≡ before)
+
+abbrev pub FindsAmong : (ℕ → Type 0) → Tables → Settings → List ℕ → List ℕ → Reply → Type 0
+FindsAmong asked t s before after reply = FindsAmongAfter (withinFault t s (length before)) asked t s before after reply
 
 -- The front of a choice is copied to the front of a buffer.
 pub record Copied (count : ℕ) (choice before after : List ℕ) : Type 0 where

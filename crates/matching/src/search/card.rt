@@ -57,7 +57,7 @@ fn copy_at(from: &[u16], to: &mut [u16], at: usize)
 // A 1 for each id that holds a variable.
 fn note_held(concepts: &[u16], card: &mut [u16])
     requires { ⌜ Layered (now concepts) ⌝ }
-    requires { ⌜ length (now card) ≡ 939 ⌝ }
+    requires { ⌜ length (now card) ≡ 971 ⌝ }
     ensures { λ _. ⌜ HeldNoted (now (concepts .entry)) (now (card .entry)) (now (card .exit)) ⌝ }
 {
     let mut marks = [false; CONCEPTS];
@@ -71,7 +71,7 @@ fn note_held(concepts: &[u16], card: &mut [u16])
 
 // The variables of an id, a bit each, given those of smaller ids.
 fn variables_of(card: &[u16], sets: &[u16], i: usize) -> u16
-    requires { ⌜ (length (now card) ≡ 939) × (length (now sets) ≡ 192) × (i < 192) ⌝ }
+    requires { ⌜ (length (now card) ≡ 971) × (length (now sets) ≡ 192) × (i < 192) ⌝ }
 {
     let kind = card[i * 3];
     let a = card[i * 3 + 1] as usize;
@@ -98,7 +98,7 @@ fn variables_of(card: &[u16], sets: &[u16], i: usize) -> u16
 }
 
 fn note_variables(card: &[u16], sets: &mut [u16])
-    requires { ⌜ (length (now card) ≡ 939) × (length (now sets) ≡ 192) ⌝ }
+    requires { ⌜ (length (now card) ≡ 971) × (length (now sets) ≡ 192) ⌝ }
 {
     let mut i: usize = 0;
     while i < CONCEPTS {
@@ -109,7 +109,7 @@ fn note_variables(card: &[u16], sets: &mut [u16])
 
 // The variables of each question, a hint for narrowing and widening.
 fn note_holds(card: &mut [u16])
-    requires { ⌜ length (now card) ≡ 939 ⌝ }
+    requires { ⌜ length (now card) ≡ 971 ⌝ }
     ensures { λ _. ⌜ HintsNoted (now (card .entry)) (now (card .exit)) ⌝ }
 {
     let mut sets = [0u16; CONCEPTS];
@@ -133,7 +133,7 @@ fn note_holds(card: &mut [u16])
 fn note_numbers(concepts: &[u16], questions: &[u16], ids: &[u16], card: &mut [u16])
     requires { ⌜ Layered (now concepts) ⌝ }
     requires { ⌜ (length (now questions) ≤ 64) × (length (now ids) ≤ 64) ⌝ }
-    requires { ⌜ now card ≡ replicate 939 0 ⌝ }
+    requires { ⌜ now card ≡ replicate 971 0 ⌝ }
     ensures { λ _. ⌜ NumbersOf (now (concepts .entry)) (now (questions .entry)) (now (ids .entry)) (now (card .exit)) ⌝ }
 {
     copy_at(concepts, card, 0);
@@ -232,7 +232,7 @@ fn note_fits(card: &[u16], into: &[u64], count: usize, right: bool, sets: &mut [
 }
 
 fn is_closer(card: &[u16], e: usize) -> bool
-    requires { ⌜ length (now card) ≡ 939 ⌝ }
+    requires { ⌜ length (now card) ≡ 971 ⌝ }
     requires { ⌜ e < 192 ⌝ }
     ensures { λ r. ⌜ r ≡ isCloser (now (card .entry)) e ⌝ }
 {
@@ -247,7 +247,7 @@ fn is_closer(card: &[u16], e: usize) -> bool
 
 // The id comes to the cone if it holds a variable.
 fn mark_held(card: &[u16], sets: &mut [u64], at: usize, id: usize)
-    requires { ⌜ length (now card) ≡ 939 ⌝ }
+    requires { ⌜ length (now card) ≡ 971 ⌝ }
     requires { ⌜ at + 3 ≤ length (now sets) ⌝ }
     requires { ⌜ id < 192 ⌝ }
     ensures { λ _. ⌜ Filled at (heldId (now (card .entry)) id) (now (sets .entry)) (now (sets .exit)) ⌝ }
@@ -259,7 +259,7 @@ fn mark_held(card: &[u16], sets: &mut [u64], at: usize, id: usize)
 
 // The inner ids of an id of the cone.
 fn mark_inside(card: &[u16], sets: &mut [u64], at: usize, i: usize)
-    requires { ⌜ length (now card) ≡ 939 ⌝ }
+    requires { ⌜ length (now card) ≡ 971 ⌝ }
     requires { ⌜ at + 3 ≤ length (now sets) ⌝ }
     requires { ⌜ (i < 192) × Rising i (node (now card) i) ⌝ }
     ensures { λ _. ⌜ Filled at (heldInside (now (card .entry)) i) (now (sets .entry)) (now (sets .exit)) ⌝ }
@@ -483,7 +483,7 @@ pub fn make_card(
 )
     requires { ⌜ Accepted (tables (now concepts) (now inclusions) (now questions) (now roles) variables) (now ids) ⌝ }
     requires { ⌜ now sets ≡ replicate 2496 0 ⌝ }
-    requires { ⌜ now card ≡ replicate 939 0 ⌝ }
+    requires { ⌜ now card ≡ replicate 971 0 ⌝ }
     ensures { λ _. ⌜ Shaped (now (sets .exit)) (now (card .exit)) ⌝ }
     ensures { λ _. ⌜ Card (tables (now (concepts .entry)) (now (inclusions .entry)) (now (questions .entry)) (now (roles .entry)) variables) (now (sets .exit)) (now (card .exit)) ⌝ }
 {

@@ -1,5 +1,6 @@
 // Narrowing, once before the search: a question with variables on the right only gets harder with more atoms. So if it fails with one
 // pair alone, no solution takes that pair, and the pair leaves the high side.
+use crate::limits::ASKED;
 use crate::limits::HELD;
 use crate::limits::HOLDS;
 use crate::limits::QUESTION_COUNT;
@@ -12,7 +13,7 @@ ghost use mathlib.Core.Path.{_≡_};
 ghost use mathlib.Core.Bool.{true};
 ghost use Prim.Native.Nat.{_<_};
 ghost use lib.ListN.{length};
-ghost use Rattle.matching.specs.Inner.Search.Card.{Shaped, heldAt, rightAt, questionCount};
+ghost use Rattle.matching.specs.Inner.Search.Card.{Shaped, heldAt, rightAt, questionCount, AskedAt};
 ghost use Rattle.matching.specs.Inner.Search.Narrow.{Narrowed};
 
 // By one question and variable.
@@ -27,7 +28,7 @@ fn narrow_variable(
     requires { ⌜ Shaped (now sets) (now card) ⌝ }
     requires { ⌜ (length (now scratch) ≡ 16977) × (length full ≡ 8) ⌝ }
     requires { ⌜ (m < questionCount (now card)) × (k < 8) ⌝ }
-    requires { ⌜ heldAt (now card) (rightAt (now card) m) ≡ true ⌝ }
+    requires { ⌜ AskedAt (now card) m × (heldAt (now card) (rightAt (now card) m) ≡ true) ⌝ }
     ensures { λ r. ⌜ length r ≡ 8 ⌝ }
     ensures { λ r. ⌜ Narrowed (now (sets .entry)) (now (card .entry)) full r ⌝ }
 {
@@ -61,6 +62,9 @@ fn narrow_question(
     ensures { λ r. ⌜ length r ≡ 8 ⌝ }
     ensures { λ r. ⌜ Narrowed (now (sets .entry)) (now (card .entry)) full r ⌝ }
 {
+    if card[ASKED + m] != 1 {
+        return full;
+    }
     let right = card[SIDES + m * 2 + 1] as usize;
     if card[HELD + right] != 1 {
         return full;

@@ -68,7 +68,7 @@ pub struct Wanted {
 
 // Of variable k.
 fn count_needs(card: &[u16], store: &[u64], full: [u64; 8], interval: Interval, k: usize) -> Wanted
-    requires { ⌜ length (now card) ≡ 939 ⌝ }
+    requires { ⌜ length (now card) ≡ 971 ⌝ }
     requires { ⌜ Room (now store) ⌝ }
     requires { ⌜ (length full ≡ 8) × (length (interval .low) ≡ 8) × (length (interval .high) ≡ 8) × (k < 8) ⌝ }
     ensures { λ r. ⌜ (length (r .low) ≡ 8) × (length (r .high) ≡ 8) ⌝ }
@@ -123,7 +123,7 @@ fn is_counted(most: u16, low: u64, high: u64) -> bool {
 
 // Of the first variable of which more is wanted.
 pub fn count_all(card: &[u16], store: &[u64], full: [u64; 8], interval: Interval) -> Wanted
-    requires { ⌜ length (now card) ≡ 939 ⌝ }
+    requires { ⌜ length (now card) ≡ 971 ⌝ }
     requires { ⌜ Room (now store) ⌝ }
     requires { ⌜ (length full ≡ 8) × (length (interval .low) ≡ 8) × (length (interval .high) ≡ 8) ⌝ }
     ensures { λ r. ⌜ (length (r .low) ≡ 8) × (length (r .high) ≡ 8) ⌝ }

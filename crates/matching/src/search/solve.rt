@@ -2,7 +2,7 @@
 // added, the others when atoms are removed: so a failed test makes a nogood, an interval that holds no solution. An
 // interval is split until its low side passes every test or a nogood around it is known; the nogoods of the two halves
 // give one of the whole, and a half whose nogood does not mention the pair speaks for the whole at once.
-use crate::limits::CARD;
+use crate::limits::ASKED;
 use crate::limits::HELD;
 use crate::limits::HINT;
 use crate::limits::MOST;
@@ -58,7 +58,7 @@ pub struct Answer {
     pub high: [u64; 8],
 }
 
-// The first question that does not hold, of those whose right side holds a variable just where `right` says so; their number if all hold.
+// The first asked question that does not hold, of those whose right side holds a variable just where `right` says so; the number of all if they hold.
 pub fn failing_of(
     sets: &[u64],
     card: &[u16],
@@ -75,6 +75,9 @@ pub fn failing_of(
     while m < count {
         let at = m;
         m += 1;
+        if card[ASKED + at] != 1 {
+            continue;
+        }
         let side = card[SIDES + at * 2 + 1] as usize;
         if (card[HELD + side] == 1) != right {
             continue;
@@ -87,7 +90,7 @@ pub fn failing_of(
     count
 }
 
-// A question that does not hold, or their number.
+// An asked question that does not hold, or the number of all.
 fn failing(sets: &[u64], card: &[u16], scratch: &mut [u64], choice: [u64; 8]) -> usize
     requires { ⌜ Shaped (now sets) (now card) ⌝ }
     requires { ⌜ length (now scratch) ≡ 16977 ⌝ }
@@ -146,7 +149,7 @@ fn try_low(
     ensures { λ _. ⌜ Room (now (store .exit)) ⌝ }
     ensures { λ r. ⌜ Searched (now (sets .entry)) (now (card .entry)) full low low (now (store .entry)) (now (store .exit)) (λ t. Answers t (now (card .entry)) low low (r .found) (r .low) (r .high)) ⌝ }
 {
-    if !is_few(&card[MOST..CARD], low) {
+    if !is_few(&card[MOST..ASKED], low) {
         return Answer {
             found: false,
             low,
@@ -372,7 +375,7 @@ fn step_by_clamp(
 {
     let low = interval.low;
     let high = interval.high;
-    let inner = clamp(&card[MOST..CARD], low, high);
+    let inner = clamp(&card[MOST..ASKED], low, high);
     let step = step_by_hint(
         sets,
         card,
@@ -398,7 +401,7 @@ fn step_by_clamp(
 
 // A largest count may stop a variable that has something to take. A hint only.
 fn is_bounded(card: &[u16], full: [u64; 8]) -> bool
-    requires { ⌜ length (now card) ≡ 939 ⌝ }
+    requires { ⌜ length (now card) ≡ 971 ⌝ }
 {
     let mut k: usize = 0;
     while k < 8 {

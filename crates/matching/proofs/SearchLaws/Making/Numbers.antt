@@ -81,7 +81,7 @@ module _ (marks : List Bool) (before : List ℕ) where
   held-none = record { within = omega arith; long = refl; here = λ i l. absurd (omega arith); there = λ p o. refl }
 
   pub held-more :
-      (n : ℕ) (after : List ℕ) → length before ≡ 939 → n < 192 → HeldTo n after → HeldTo (n + 1) (set after (576 + n) (boolByte (getD marks n false)))
+      (n : ℕ) (after : List ℕ) → length before ≡ 971 → n < 192 → HeldTo n after → HeldTo (n + 1) (set after (576 + n) (boolByte (getD marks n false)))
   held-more n after h l C =
       record {
         within = omega arith;
@@ -126,12 +126,12 @@ hints-more before after at value H =
 
 -- ---- all numbers
 module _ (concepts questions ids c0 c1 c2 c3 c4 c6 : List ℕ) (few : countOf concepts ≤ 192) (short : length concepts ≤ 576) (few-questions : length questions ≤ 64)
-    (few-ids : length ids ≤ 64) (zeros : c0 ≡ replicate 939 0) (copied : CopiedAt concepts 0 c0 c1) (noted : HeldNoted concepts c1 c2)
+    (few-ids : length ids ≤ 64) (zeros : c0 ≡ replicate 971 0) (copied : CopiedAt concepts 0 c0 c1) (noted : HeldNoted concepts c1 c2)
     (listed : CopiedAt ids 768 c2 c3) (asked : CopiedAt questions 832 c3 c4) (hinted : HintsNoted (set c4 897 (length questions / 2)) c6) where
-  empty : (p : ℕ) → p < 939 → getD c0 p 0 ≡ 0
-  empty p l = ap (λ (z : List ℕ). getD z p 0) zeros ∙ getD-replicate 939 p 0 0 l
+  empty : (p : ℕ) → p < 971 → getD c0 p 0 ≡ 0
+  empty p l = ap (λ (z : List ℕ). getD z p 0) zeros ∙ getD-replicate 971 p 0 0 l
 
-  asked-long : length c4 ≡ 939
+  asked-long : length c4 ≡ 971
   asked-long =
       asked .long ∙ listed .long ∙ noted .long ∙ copied .long ∙ ap length zeros
 
@@ -147,7 +147,7 @@ module _ (concepts questions ids c0 c1 c2 c3 c4 c6 : List ℕ) (few : countOf co
   to-copied : (p : ℕ) → p < 576 → getD c6 p 0 ≡ getD c1 p 0
   to-copied p l = to-noted p (omega arith) ∙ noted .there p (inl l)
 
-  past : (p : ℕ) → 768 ≤ p → p < 939 → getD c2 p 0 ≡ 0
+  past : (p : ℕ) → 768 ≤ p → p < 971 → getD c2 p 0 ≡ 0
   past p h l = noted .there p (inr h) ∙ copied .there p (inr (omega arith)) ∙ empty p l
 
   pub numbers-of : NumbersOf concepts questions ids c6
@@ -177,7 +177,7 @@ few-asked t ids A = omega (arith, wellFormed t (A .passed) .even-questions, well
 pub few-listed : (t : Tables) (ids : List ℕ) → Accepted t ids → length ids ≤ 64
 few-listed t ids A = subst (λ (z : List ℕ). length z ≤ 64) (sym (A .listed)) (wellFormed t (A .passed) .few-atoms)
 
-pub card-long : (card : List ℕ) → card ≡ replicate 939 0 → length card ≡ 939
+pub card-long : (card : List ℕ) → card ≡ replicate 971 0 → length card ≡ 971
 card-long card e = ap length e
 
 -- ---- rows of accepted tables

@@ -52,7 +52,7 @@ same-length : tie.Need-same-length
 same-length c = omega arith
 
 returns-2 : tie.Need-returns-2
-returns-2 c = finds-all _ _ (tables-listed _ (replicate 64 0) _ (c .before .before .before .before .before .before .before .before .before .before .before .before .list-atoms .result) refl (c .before .before .before .before .before .before .before .before .before .before .before .before .list-atoms .ensures .0) (c .before .before .before .before .before .before .before .before .before .before .before .before .list-atoms .ensures .1) _ (c .before .before .before .before .before .before .before .before .before .listed2 .given .1)) _ (sym (length-take-le _ _ (omega (arith, tables-few _ (replicate 64 0) _ (c .before .before .before .before .before .before .before .before .before .before .before .before .list-atoms .result) refl (c .before .before .before .before .before .before .before .before .before .before .before .before .list-atoms .ensures .0) (c .before .before .before .before .before .before .before .before .before .before .before .before .list-atoms .ensures .1) _ (c .before .before .before .before .before .before .before .before .before .listed2 .given .1), c .before .before .before .before .before .before .before .before .before .before .before .before .list-atoms .kept .1 .1 .1 .1 .1 .0)))) _ (c .before .before .before .before .before .before .before .all-atoms .ensures) (c .before .before .before .before .before .before .before .before .before .before .before .before .before .before .before .before .before .before .before .args .out .now) (c .before .before .find-known .last .1 .1 .1 .1 .1 .1 .1 .1 .0) (matchReply (c .before .before .find-known .result)) (c .before .before .find-known .ensures)
+returns-2 c = finds-all _ _ (tables-listed _ (replicate 64 0) _ (c .before .before .before .before .before .before .before .before .before .before .before .before .list-atoms .result) refl (c .before .before .before .before .before .before .before .before .before .before .before .before .list-atoms .ensures .0) (c .before .before .before .before .before .before .before .before .before .before .before .before .list-atoms .ensures .1) _ (c .before .before .before .before .before .before .before .before .before .listed2 .given .1)) _ (sym (length-take-le _ _ (omega (arith, tables-few _ (replicate 64 0) _ (c .before .before .before .before .before .before .before .before .before .before .before .before .list-atoms .result) refl (c .before .before .before .before .before .before .before .before .before .before .before .before .list-atoms .ensures .0) (c .before .before .before .before .before .before .before .before .before .before .before .before .list-atoms .ensures .1) _ (c .before .before .before .before .before .before .before .before .before .listed2 .given .1), c .before .before .before .before .before .before .before .before .before .before .before .before .list-atoms .kept .1 .1 .1 .1 .1 .0)))) _ (c .before .before .before .before .before .before .before .all-atoms .ensures) (c .before .before .before .before .before .before .before .before .before .before .before .before .before .before .before .before .before .before .before .args .out .now) (c .before .before .find-known .last .1 .1 .1 .1 .1 .1 .1 .1 .1 .0) (matchReply (c .before .before .find-known .result)) (c .before .before .find-known .ensures)
 
 pub find-assignment-spec : {M : Type 1} → statement M
 find-assignment-spec =

@@ -1,9 +1,9 @@
 use native.Mathlib.Omega.{arith}
-use mathlib.Core.Path.{refl}
+use mathlib.Core.Path.{refl, _∙_}
 use Rattle.subsumption.proofs.Accepted.{wellFormed}
 use Rattle.settings.proofs.SettingsLaws.{settings-long}
 use Rattle.matching.proofs.SearchLaws.Card.{shaped-kept, card-kept}
-use Rattle.matching.proofs.WithinLaws.{loaded-accepted, loaded-idle, found-within}
+use Rattle.matching.proofs.WithinLaws.{written-size, written-front, loaded-accepted, loaded-idle, found-among}
 use Rattle.matching.proofs.within.find_first.Statement.{statement}
 use Rattle.matching.proofs.within.find_first.Tie as tie
 
@@ -22,8 +22,14 @@ slice-aggregate-put-counts c = omega arith
 put-counts-requires : tie.Need-put-counts-requires
 put-counts-requires c κs = (c .before .before .before .make-card .ensures .0 .numbers .long, omega (arith, settings-long _ _ (c .before .before .before .before .before .before .before .before .before .before .before .before .before .pre .1) .1, wellFormed _ (c .before .before .before .before .before .before .before .before .before .before .before .before .before .pre .0 .passed) .few-variables))
 
+slice-aggregate-put-asked : tie.Need-slice-aggregate-put-asked
+slice-aggregate-put-asked c = omega arith
+
+put-asked-requires : tie.Need-put-asked-requires
+put-asked-requires c κs = c .before .before .put-counts .ensures .size ∙ c .before .before .before .before .before .before .make-card .ensures .0 .numbers .long
+
 load-permitted-requires : tie.Need-load-permitted-requires
-load-permitted-requires c κs = omega (arith, settings-long _ _ (c .before .before .before .before .before .before .before .before .before .before .before .before .before .before .before .pre .1) .0, wellFormed _ (c .before .before .before .before .before .before .before .before .before .before .before .before .before .before .before .pre .0 .passed) .few-variables)
+load-permitted-requires c κs = omega (arith, settings-long _ _ (c .before .before .before .before .before .before .before .before .before .before .before .before .before .before .before .before .before .before .pre .1) .0, wellFormed _ (c .before .before .before .before .before .before .before .before .before .before .before .before .before .before .before .before .before .before .pre .0 .passed) .few-variables)
 
 slice-aggregate-search : tie.Need-slice-aggregate-search
 slice-aggregate-search c = omega arith
@@ -32,10 +38,10 @@ slice-aggregate-search-2 : tie.Need-slice-aggregate-search-2
 slice-aggregate-search-2 c = omega arith
 
 search-requires : tie.Need-search-requires
-search-requires c κs = (shaped-kept _ _ (c .before .before .before .before .put-counts .ensures .front) _ (c .before .before .before .before .put-counts .ensures .size) (c .before .before .before .before .before .before .before .before .make-card .ensures .0), c .before .before .load-permitted .ensures .long)
+search-requires c κs = (shaped-kept _ _ (written-front _ _ _ _ _ (c .before .before .before .before .before .before .before .put-counts .ensures) (c .before .before .before .before .put-asked .ensures)) _ (written-size _ _ _ _ _ (c .before .before .before .before .before .before .before .put-counts .ensures) (c .before .before .before .before .put-asked .ensures)) (c .before .before .before .before .before .before .before .before .before .before .before .make-card .ensures .0), c .before .before .load-permitted .ensures .long)
 
 returns : tie.Need-returns
-returns c = found-within _ _ (c .before .before .before .before .before .before .before .before .before .before .before .before .before .before .before .before .before .before .before .pre .1) _ (c .before .before .before .load-permitted .ensures) _ _ (c .before .before .before .before .before .put-counts .ensures) (c .search .result .found) _ (c .search .ensures _ (card-kept _ _ (c .before .before .before .before .before .put-counts .ensures .front) _ _ (c .before .before .before .before .before .before .before .before .before .make-card .ensures .1)) (loaded-accepted _ _ (c .before .before .before .before .before .before .before .before .before .before .before .before .before .before .before .before .before .before .before .pre .1) _ (c .before .before .before .load-permitted .ensures) (c .before .before .before .before .before .before .before .before .before .before .before .before .before .before .before .before .before .before .before .pre .0 .passed)) (loaded-idle _ _ (c .before .before .before .before .before .before .before .before .before .before .before .before .before .before .before .before .before .before .before .pre .1) _ (c .before .before .before .load-permitted .ensures)))
+returns c = found-among _ _ (c .before .before .before .before .before .before .before .before .before .before .before .before .before .before .before .before .before .before .before .before .before .before .pre .1) _ (c .before .before .before .load-permitted .ensures) (c .before .before .before .before .before .before .before .before .before .before .before .before .before .before .before .before .before .before .before .before .before .before .pre .0 .passed) _ _ _ _ (c .before .before .before .before .before .before .before .before .put-counts .ensures) (c .before .before .before .before .before .put-asked .ensures) (c .search .result .found) _ (c .search .ensures _ (card-kept _ _ (written-front _ _ _ _ _ (c .before .before .before .before .before .before .before .before .put-counts .ensures) (c .before .before .before .before .before .put-asked .ensures)) _ _ (c .before .before .before .before .before .before .before .before .before .before .before .before .make-card .ensures .1)) (loaded-accepted _ _ (c .before .before .before .before .before .before .before .before .before .before .before .before .before .before .before .before .before .before .before .before .before .before .pre .1) _ (c .before .before .before .load-permitted .ensures) (c .before .before .before .before .before .before .before .before .before .before .before .before .before .before .before .before .before .before .before .before .before .before .pre .0 .passed)) (loaded-idle _ _ (c .before .before .before .before .before .before .before .before .before .before .before .before .before .before .before .before .before .before .before .before .before .before .pre .1) _ (c .before .before .before .load-permitted .ensures)))
 
 pub find-first-spec : {M : Type 1} → statement M
 find-first-spec =
@@ -46,6 +52,8 @@ find-first-spec =
     make-card-requires
     slice-aggregate-put-counts
     put-counts-requires
+    slice-aggregate-put-asked
+    put-asked-requires
     load-permitted-requires
     slice-aggregate-search
     slice-aggregate-search-2

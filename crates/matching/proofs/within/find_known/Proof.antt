@@ -19,7 +19,7 @@ find-set-requires : tie.Need-find-set-requires
 find-set-requires c κs = (c .before .before .before .before .before .before .before .before .before .before .before .before .pre, sym (settings-known _ _ _ (c .before .before .before .check-settings .result) (c .before .before .before .before .before .before .before .before .before .before .before .before .pre) (c .before .before .before .check-settings .ensures)) ∙ c .before .enum-told .given .1)
 
 returns : tie.Need-returns
-returns c = settings-refuse _ _ (c .before .before .before .before .before .before .before .before .before .before .before .before .args .out .now) (c .before .before .before .before .before .before .before .before .before .before .before .before .pre .passed) _ (sym (c .before .checked .given .1) ∙ settings-known _ _ _ (c .before .before .before .check-settings .result) (c .before .before .before .before .before .before .before .before .before .before .before .before .pre) (c .before .before .before .check-settings .ensures))
+returns c = settings-refuse _ _ _ (c .before .before .before .before .before .before .before .before .before .before .before .before .args .out .now) (c .before .before .before .before .before .before .before .before .before .before .before .before .pre .passed) _ (sym (c .before .checked .given .1) ∙ settings-known _ _ _ (c .before .before .before .check-settings .result) (c .before .before .before .before .before .before .before .before .before .before .before .before .pre) (c .before .before .before .check-settings .ensures))
 
 same-length : tie.Need-same-length
 same-length c = omega arith

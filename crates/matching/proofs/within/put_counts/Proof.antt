@@ -1,18 +1,18 @@
 use Prim.Native.Nat.{_-_}
 use native.Mathlib.Omega.{arith}
-use lib.ListN.{length}
-use Rattle.matching.proofs.WithinLaws.{CountedTo, counts-none, counts-more, counts-all}
+use lib.ListN.{length, getD}
+use Rattle.matching.proofs.WithinLaws.{WrittenTo, written-none, written-more, counts-all}
 use Rattle.matching.proofs.within.put_counts.Statement.{statement}
 use Rattle.matching.proofs.within.put_counts.Tie as tie
 
 abbrev Inv-loop : tie.InvT-loop
-Inv-loop card₀ largest k₀ card k = CountedTo largest card₀ card k
+Inv-loop card₀ largest k₀ card k = WrittenTo 931 (λ i. getD largest i 0) card₀ card k
 
 abbrev μ-loop : tie.MeasureT-loop
 μ-loop card₀ largest k₀ card k = length largest - k
 
 loop-holds : tie.Need-loop-holds Inv-loop μ-loop
-loop-holds c = counts-none _ _
+loop-holds c = written-none _ _ _
 
 mul-card : tie.Need-mul-card Inv-loop μ-loop
 mul-card c = omega arith
@@ -36,7 +36,7 @@ loop-less : tie.Need-loop-less Inv-loop μ-loop
 loop-less c = omega arith
 
 loop-again : tie.Need-loop-again Inv-loop μ-loop
-loop-again c = counts-more _ _ _ _ (c .before .before .before .pre .0) (c .before .before .before .pre .1) (omega arith) (c .before .before .loop .inv)
+loop-again c = written-more _ _ _ _ _ (omega arith) (c .before .before .loop .inv)
 
 same-length : tie.Need-same-length Inv-loop μ-loop
 same-length c = c .before .loop .inv .size

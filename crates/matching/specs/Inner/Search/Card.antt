@@ -53,13 +53,17 @@ questionCount card = getD card 897 0
 abbrev pub mostAt : List ℕ → ℕ → ℕ
 mostAt card k = getD card (931 + k) 0
 
+-- question m is asked
+abbrev pub AskedAt : List ℕ → ℕ → Type 0
+AskedAt card m = eqb (getD card (939 + m) 0) 1 ≡ true
+
 -- the inner id of an existential, the second one of a conjunction
 abbrev pub innerAt : List ℕ → ℕ → ℕ
 innerAt card i = getD card (i * 3 + 2) 0
 
 -- What keeps every reading of the numbers inside the lists.
 pub record Numbers (card : List ℕ) : Type 0 where
-  pub long : length card ≡ 939
+  pub long : length card ≡ 971
   pub kind-low : (i : ℕ) → i < 192 → getD card (i * 3) 0 < 5
   pub inner-low : (i : ℕ) → i < 192 → innerAt card i < 192
   pub first-low : (i : ℕ) → i < 192 → getD card (i * 3) 0 ≡ 3 → getD card (i * 3 + 1) 0 < 192

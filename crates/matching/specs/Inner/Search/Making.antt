@@ -32,7 +32,7 @@ pub record HintsNoted (before after : List ℕ) : Type 0 where
 
 -- the rows, which ids hold a variable, the atoms, the questions and their number
 pub record NumbersOf (concepts questions ids card : List ℕ) : Type 0 where
-  pub long : length card ≡ 939
+  pub long : length card ≡ 971
   pub rows : (p : ℕ) → p < length concepts → getD card p 0 ≡ getD concepts p 0
   pub no-rows : (p : ℕ) → length concepts ≤ p → p < 576 → getD card p 0 ≡ 0
   pub held : (i : ℕ) → i < countOf concepts → heldAt card i ≡ hasVariable (tree concepts i)
@@ -52,7 +52,7 @@ firstAt card i = getD card (i * 3 + 1) 0
 
 -- what the sets are made from: ids and roles of the numbers are low
 pub record Readable (card : List ℕ) (count : ℕ) : Type 0 where
-  pub long : length card ≡ 939
+  pub long : length card ≡ 971
   pub few : count ≤ 192
   pub rising : (i : ℕ) → i < count → Rising i (node card i)
   pub low-roles : (i : ℕ) → i < count → kindAt card i ≡ 2 → firstAt card i < 100

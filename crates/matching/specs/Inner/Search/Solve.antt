@@ -8,7 +8,7 @@ use Rattle.subsumption.specs.declared.refusal.Outcome.the-variants.{Done}
 use Rattle.subsumption.specs.Tables.{Tables, pairsOf, rightOf, tree, hasVariable}
 use Rattle.subsumption.specs.Check.{assignmentFault}
 use Rattle.matching.specs.Inner.Search.{HoldsAt, Within, SolutionIn, NoSolution}
-use Rattle.matching.specs.Inner.Search.Card.{Card}
+use Rattle.matching.specs.Inner.Search.Card.{Card, AskedAt}
 use Rattle.matching.specs.Inner.Search.Pairs.{Changed, Joined, Met}
 use Rattle.matching.specs.Inner.Search.Interval.{IntervalOf, undecided}
 use Rattle.matching.specs.Inner.Search.Nogoods.{used, lowAt, highAt, Nogoods}
@@ -19,14 +19,18 @@ pub record FailingFor (t : Tables) (assignment : List ℕ) (kind : ℕ → Type 
   pub of-kind : m < pairsOf (t .questions) → kind m
   pub hold : pairsOf (t .questions) ≤ m → (n : ℕ) → n < pairsOf (t .questions) → kind n → HoldsAt t assignment n
 
+-- An asked question whose right side holds a variable, or not.
+abbrev pub AskedOf : Tables → List ℕ → Bool → ℕ → Type 0
+AskedOf t card right n = AskedAt card n × (hasVariable (tree (t .concepts) (rightOf (t .questions) n)) ≡ right)
+
 abbrev pub FailingOf : List ℕ → List ℕ → List ℕ → Bool → ℕ → Type 0
 FailingOf sets card choice right m =
     (t : Tables) → Card t sets card → assignmentFault t (take (t .variables) choice) ≡ Done
-    → FailingFor t (take (t .variables) choice) (λ n. hasVariable (tree (t .concepts) (rightOf (t .questions) n)) ≡ right) m
+    → FailingFor t (take (t .variables) choice) (AskedOf t card right) m
 
 abbrev pub Failing : List ℕ → List ℕ → List ℕ → ℕ → Type 0
 Failing sets card choice m =
-    (t : Tables) → Card t sets card → assignmentFault t (take (t .variables) choice) ≡ Done → FailingFor t (take (t .variables) choice) (λ n. Unit {0}) m
+    (t : Tables) → Card t sets card → assignmentFault t (take (t .variables) choice) ≡ Done → FailingFor t (take (t .variables) choice) (AskedAt card) m
 
 -- An interval around another that holds no solution.
 pub record Refuted (t : Tables) (card low high low₁ high₁ : List ℕ) : Type 0 where
@@ -36,10 +40,10 @@ pub record Refuted (t : Tables) (card low high low₁ high₁ : List ℕ) : Type
   pub below : Within high high₁
   pub none : NoSolution t card low₁ high₁
 
--- A question that fails at the low side gives an interval around it.
+-- An asked question that fails at the low side gives an interval around it.
 abbrev pub RefutedBy : List ℕ → List ℕ → List ℕ → List ℕ → ℕ → List ℕ → List ℕ → Type 0
 RefutedBy sets card full low m low₁ high₁ =
-    (t : Tables) → Card t sets card → m < pairsOf (t .questions) → IntervalOf t low full → (HoldsAt t (take (t .variables) low) m → ⊥)
+    (t : Tables) → Card t sets card → m < pairsOf (t .questions) → AskedAt card m → IntervalOf t low full → (HoldsAt t (take (t .variables) low) m → ⊥)
     → Refuted t card low low low₁ high₁
 
 -- A search's answer names no order: a solution between, or an interval around that holds none.

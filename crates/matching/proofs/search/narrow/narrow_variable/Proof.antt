@@ -56,7 +56,7 @@ loop-less-2 : tie.Need-loop-less-2 Inv-loop μ-loop
 loop-less-2 c = omega (arith, c .before .before .before .before .before .before .before .next-bit2 .ensures .after)
 
 loop-again-2 : tie.Need-loop-again-2 Inv-loop μ-loop
-loop-again-2 c = (omega arith, narrowing-less _ _ _ _ _ _ _ (c .before .before .before .before .before .before .before .before .before .loop .inv .1) (c .before .before .before .before .before .before .before .next-bit2 .ensures) _ (c .without-pair .ensures) (narrowed-pair _ _ _ _ _ (c .before .before .before .before .before .before .before .before .before .before .before .before .before .before .pre .1 .1 .0 .0) (c .before .before .before .before .before .before .before .before .before .before .before .before .before .before .pre .1 .1 .1) _ _ all-zeros (c .before .before .before .before .before .before .with-pair .ensures) (c .before .before .before .before .question-holds .result) (c .before .before .before .before .question-holds .ensures) (c .before .if1 .left) _ _ (c .without-pair .ensures)))
+loop-again-2 c = (omega arith, narrowing-less _ _ _ _ _ _ _ (c .before .before .before .before .before .before .before .before .before .loop .inv .1) (c .before .before .before .before .before .before .before .next-bit2 .ensures) _ (c .without-pair .ensures) (narrowed-pair _ _ _ _ _ (c .before .before .before .before .before .before .before .before .before .before .before .before .before .before .pre .1 .1 .0 .0) (c .before .before .before .before .before .before .before .before .before .before .before .before .before .before .pre .1 .1 .1 .0) (c .before .before .before .before .before .before .before .before .before .before .before .before .before .before .pre .1 .1 .1 .1) _ _ all-zeros (c .before .before .before .before .before .before .with-pair .ensures) (c .before .before .before .before .question-holds .result) (c .before .before .before .before .question-holds .ensures) (c .before .if1 .left) _ _ (c .without-pair .ensures)))
 
 same-length : tie.Need-same-length Inv-loop μ-loop
 same-length c = omega arith
