@@ -21,6 +21,7 @@
  *     hc_match              1114112   (512 pairs split one under another; the most measured is 361896)
  *     hc_match_within       1114112   (as hc_match)
  *     hc_match_counted      262144
+ *     hc_match_group        1114112   (as hc_match)
  *     hc_chosen             8192
  *     hc_derive             524288
  *     hc_check_derivation   65536
@@ -103,6 +104,9 @@
  * Partial choices come in order, a shorter one before its extensions, left out before taken. The
  * count of decisions is the number of open ones up to and including the answer, or of all open ones
  * when no filling within the settings makes every question hold.
+ *
+ * Groups: questions that share a blank, directly or through others, form a group; those without
+ * blanks form one more.
  *
  * Refusals. Checks run in the order 1 to 6, 16, 7, then 9, 19, 21, 22, 15, 8, 11, 10 or 14; 12
  * comes last. Within one check the lowest place wins; 8 takes several buffers in turn. The checks of a
@@ -265,6 +269,23 @@ hc_answer hc_match_counted(const uint16_t *entries, size_t entries_len,
                            const uint16_t *largest, size_t largest_len,
                            uint32_t allowance,
                            uint64_t *out, size_t out_len);
+
+/* The first filling within the settings of one group of questions: that of the question at the given
+ * place, from 0. The parts are those of the whole problem, and so are the checks of settings and of
+ * out, which wants as many numbers as blanks; blanks outside the group stay 0. Refusal 10 says that
+ * no filling within the settings makes the group's questions hold and, with all parts permitted and
+ * 64 everywhere, that no replacement does. A place that is no question is refusal 4, place 0. The
+ * groups' fillings put together, bit by bit, are the filling of hc_match_within, which has none
+ * exactly when some group has none. */
+hc_answer hc_match_group(const uint16_t *entries, size_t entries_len,
+                         const uint16_t *inclusions, size_t inclusions_len,
+                         const uint16_t *questions, size_t questions_len,
+                         const uint16_t *roles, size_t roles_len,
+                         uint16_t blanks,
+                         const uint64_t *permitted, size_t permitted_len,
+                         const uint16_t *largest, size_t largest_len,
+                         uint16_t question,
+                         uint64_t *out, size_t out_len);
 
 /* Writes the ids chosen for one blank, rising, to the front of out, which wants 64 numbers. A
  * blank number not below the count is refusal 2, place 0. value: how many, the number of ones in

@@ -43,6 +43,7 @@ static void nulls(void)
     show("nothing to fill", hc_match(NOTHING, NULL, 0));
     show("nothing to permit", hc_match_within(NOTHING, NULL, 0, NULL, 0, NULL, 0));
     show("nothing to decide", hc_match_counted(NOTHING, NULL, 0, NULL, 0, 1, NULL, 0));
+    show("no question", hc_match_group(NOTHING, NULL, 0, NULL, 0, 0, NULL, 0));
     show("no blank", hc_chosen(NOTHING, NULL, 0, 0, NULL, 0));
     show("nothing to derive", hc_derive(NOTHING, NULL, 0, 0, 0, NULL, 0));
     show("nothing to check", hc_check_derivation(NOTHING, NULL, 0, 0, 0, NULL, 0));
@@ -72,6 +73,7 @@ static void nulls(void)
     show("no settings", hc_match_within(TABLES, NULL, 0, NULL, 0, NULL, 0));
     show("no counts", hc_match_within(TABLES, filling, 1, NULL, 0, NULL, 0));
     show("no settings to count in", hc_match_counted(TABLES, NULL, 0, NULL, 0, 4, NULL, 0));
+    show("no settings of a group", hc_match_group(TABLES, NULL, 0, NULL, 0, 1, NULL, 0));
     show("no room for ids", hc_chosen(TABLES, filling, LEN(filling), 0, NULL, 0));
     show("no room for lines", hc_derive(TABLES, filling, LEN(filling), 2, 3, NULL, 0));
     show("no list of lines", hc_check_derivation(TABLES, filling, LEN(filling), 2, 3, NULL, 0));
@@ -183,6 +185,28 @@ static void decisions(void)
     show("two counts before", hc_match_counted(TABLES, all, 1, any, 2, 0, found, 0));
     show("room before", hc_match_counted(TABLES, all, 1, any, 1, 0, found, 0));
     printf("found %llu %llu\n", (unsigned long long)found[0], (unsigned long long)found[1]);
+}
+
+/* The sample's two questions share its blank; a third, and one without blanks, are groups by themselves. */
+static void groups(void)
+{
+    static const uint16_t rows[] = {1,5,0, 1,7,0, 2,1,0, 1,9,0, 4,0,0, 3,1,4, 4,1,0};
+    static const uint16_t asked[] = {5,3, 6,1, 2,4, 0,1};
+    static const uint64_t all[] = {15, 15}, past[] = {15, 16};
+    static const uint16_t any[] = {64, 64};
+    uint64_t found[] = {77, 77, 77};
+    uint16_t question;
+
+    for (question = 0; question < 5; question++) {
+        show("group", hc_match_group(rows, LEN(rows), inclusions, LEN(inclusions), asked, LEN(asked),
+                                     NULL, 0, 2, all, 2, any, 2, question, found, 3));
+        printf("found %llu %llu %llu\n", (unsigned long long)found[0],
+               (unsigned long long)found[1], (unsigned long long)found[2]);
+    }
+    show("settings outside it", hc_match_group(rows, LEN(rows), inclusions, LEN(inclusions), asked,
+                                               LEN(asked), NULL, 0, 2, past, 2, any, 2, 0, found, 3));
+    show("room outside it", hc_match_group(rows, LEN(rows), inclusions, LEN(inclusions), asked,
+                                           LEN(asked), NULL, 0, 2, all, 2, any, 2, 0, found, 1));
 }
 
 /* The sample's table without an inclusion, where 3 is the only part, and then with one and two. */
@@ -306,6 +330,7 @@ int main(void)
     role_pairs();
     settings();
     decisions();
+    groups();
     stocks();
     shift();
     filing();

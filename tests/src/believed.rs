@@ -49,6 +49,9 @@ pub const SENTENCES: &[Sentence] = &[
     Sentence { of: "owl", file: "GrammarLaws", law: "texts-exactly" },
     Sentence { of: "owl", file: "MeaningLaws", law: "texts-mean" },
     Sentence { of: "owl", file: "AcceptedLaws", law: "catalogue-accepted" },
+    Sentence { of: "groups", file: "TogetherLaws", law: "together-first" },
+    Sentence { of: "groups", file: "TogetherLaws", law: "none-exactly" },
+    Sentence { of: "groups", file: "TogetherLaws", law: "filled-together" },
     Sentence { of: "hermitcasket", file: "Texts", law: "texts" },
     Sentence { of: "hermitcasket", file: "ShownLaws", law: "parts-answer" },
 ];

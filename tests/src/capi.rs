@@ -164,6 +164,25 @@ extern "C" {
         out_len: usize,
     ) -> Answer;
 
+    fn hc_match_group(
+        concepts: *const u16,
+        concepts_len: usize,
+        inclusions: *const u16,
+        inclusions_len: usize,
+        questions: *const u16,
+        questions_len: usize,
+        roles: *const u16,
+        roles_len: usize,
+        variables: u16,
+        permitted: *const u64,
+        permitted_len: usize,
+        largest: *const u16,
+        largest_len: usize,
+        question: u16,
+        out: *mut u64,
+        out_len: usize,
+    ) -> Answer;
+
     fn hc_chosen(
         concepts: *const u16,
         concepts_len: usize,
@@ -461,6 +480,36 @@ pub fn find_counted(
             largest.as_ptr(),
             largest.len(),
             allowance,
+            out.as_mut_ptr(),
+            out.len(),
+        )
+    }
+}
+
+/// The first assignment within the settings that solves the questions of one's group.
+pub fn find_group(
+    t: TablesRef,
+    permitted: &[u64],
+    largest: &[u16],
+    question: u16,
+    out: &mut [u64],
+) -> Answer {
+    unsafe {
+        hc_match_group(
+            t.concepts.as_ptr(),
+            t.concepts.len(),
+            t.inclusions.as_ptr(),
+            t.inclusions.len(),
+            t.questions.as_ptr(),
+            t.questions.len(),
+            t.roles.as_ptr(),
+            t.roles.len(),
+            t.variables,
+            permitted.as_ptr(),
+            permitted.len(),
+            largest.as_ptr(),
+            largest.len(),
+            question,
             out.as_mut_ptr(),
             out.len(),
         )

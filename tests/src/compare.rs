@@ -8,7 +8,7 @@ use crate::lend::{Lent, LentInputs, Noise};
 use crate::limits::ROW_BYTES;
 use crate::random::{cases, full_run, seed, Random, Size};
 use crate::reference::{self, atoms::chosen as chosen_ids, derivation, Counted, Refusal};
-use crate::tables::Case;
+use crate::tables::{Case, TablesRef};
 use crate::tally::Tally;
 
 /// Noise for the buffers, the same for the same case.
@@ -97,14 +97,23 @@ pub fn find_within(case: &Case) -> Answer {
 
 /// The same where the answer is known otherwise.
 pub fn find_within_expecting(case: &Case, expected: Result<Vec<u64>, Refusal>) -> Answer {
-    let name = "hc_match_within";
+    found_expecting(case, "hc_match_within", capi::find_within, expected)
+}
+
+/// A finder within the case's settings that gives no value.
+fn found_expecting(
+    case: &Case,
+    name: &str,
+    find: impl Fn(TablesRef, &[u64], &[u16], &mut [u64]) -> Answer,
+    expected: Result<Vec<u64>, Refusal>,
+) -> Answer {
     let mut random = noise(case);
     let inputs = LentInputs::new(&case.tables, &case.assignment, &mut random);
     let permitted: Lent<u64> = Lent::holding(&case.settings.permitted, &mut random);
     let largest: Lent<u16> = Lent::holding(&case.settings.largest, &mut random);
     let mut out: Lent<u64> = Lent::noise(case.match_room, &mut random);
     let tables = inputs.tables();
-    let answer = capi::find_within(tables, permitted.slice(), largest.slice(), out.slice_mut());
+    let answer = find(tables, permitted.slice(), largest.slice(), out.slice_mut());
     let written = expected.clone().unwrap_or_default();
     judge(case, name, answer, expected.map(|_| 0), &inputs);
     judge_output(case, name, &permitted, &[]);
@@ -113,6 +122,21 @@ pub fn find_within_expecting(case: &Case, expected: Result<Vec<u64>, Refusal>) -
     assert!(now == written, "{} wrote {:?}, not {:?}, for\n{}", name, now, written, case);
     judge_output(case, name, &out, &written);
     answer
+}
+
+/// The same of the group of the case's question, against the reference's search.
+pub fn find_group(case: &Case) -> Answer {
+    let Case { tables, settings, question, match_room, .. } = case;
+    find_group_expecting(case, reference::find_group(tables, settings, *question, *match_room))
+}
+
+/// The same where the answer is known otherwise.
+pub fn find_group_expecting(case: &Case, expected: Result<Vec<u64>, Refusal>) -> Answer {
+    let name = "hc_match_group";
+    let find = |tables: TablesRef, permitted: &[u64], largest: &[u16], out: &mut [u64]| {
+        capi::find_group(tables, permitted, largest, case.question, out)
+    };
+    found_expecting(case, name, find, expected)
 }
 
 /// The same on the case's allowance, against the walk of the reference.

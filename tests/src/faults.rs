@@ -5,7 +5,7 @@ use crate::limits::{line_room, ATOM_ROOM, ROW_BYTES};
 use crate::settings::Settings;
 use crate::tables::{Case, Stock, Tables};
 
-/// In the order of the checks: 1 to 6, 16, 7, then 9, 19, 21, 22, 15, 8; and 1, 2, 4 of a given
+/// In the order of the checks, 4 with what is given alone first: 1 to 6, 16, 7, then 9, 19, 21, 22, 15, 8; and 1, 2, 4 of a given
 /// interpretation. 9 is that of an assignment, or of one told as pairs; the last three are 8 of the
 /// buffers for renumbered tables.
 #[derive(Clone, Copy, Debug, PartialEq, Eq)]
@@ -15,6 +15,7 @@ pub enum Fault {
     OutOfRange,
     ForwardId,
     LonePair,
+    NoQuestion,
     NoConcept,
     VariableInInclusion,
     VariablesOnBothSides,
@@ -107,6 +108,14 @@ pub fn settings_faults() -> Vec<Fault> {
     faults
 }
 
+/// For matching one group within settings: the question's place is judged where a pair given alone is.
+pub fn group_faults() -> Vec<Fault> {
+    let mut faults = settings_faults();
+    let after = faults.iter().position(|&fault| fault == Fault::NoConcept).unwrap();
+    faults.insert(after, Fault::NoQuestion);
+    faults
+}
+
 /// For new ids: 21 and 22, and then 8 for each buffer in turn.
 pub fn renumbering_faults() -> Vec<Fault> {
     let mut faults = table_faults(false);
@@ -163,7 +172,7 @@ impl Fault {
             Fault::RaggedRoles => (1, 4),
             Fault::OutOfRange => (2, CHANGED_KIND as u64),
             Fault::ForwardId => (3, CHANGED_INNER as u64),
-            Fault::LonePair => (4, 0),
+            Fault::LonePair | Fault::NoQuestion => (4, 0),
             Fault::NoConcept => (4, 31),
             Fault::VariableInInclusion => (5, 31),
             Fault::VariablesOnBothSides => (6, 1),
@@ -204,6 +213,7 @@ impl Fault {
             Fault::OutOfRange => tables.concepts[3 * CHANGED_KIND] = 5,
             Fault::ForwardId => tables.concepts[3 * CHANGED_INNER + 2] = CHANGED_INNER as u16,
             Fault::LonePair => case.pair = (0, COUNT as u16),
+            Fault::NoQuestion => case.question = 2,
             Fault::NoConcept => tables.inclusions.extend([COUNT as u16, 0]),
             Fault::VariableInInclusion => tables.inclusions.extend([0, VARIABLE]),
             Fault::VariablesOnBothSides => tables.questions.extend([VARIABLE, 1]),

@@ -7,7 +7,7 @@ use crate::damage;
 use crate::limits::*;
 use crate::orders;
 use crate::random::{Random, Size};
-use crate::reference::{self, atoms, countermodel, matching};
+use crate::reference::{self, atoms, countermodel, groups, matching};
 use crate::semantics::signature;
 use crate::settings::{all_atoms, Settings};
 use crate::shift::{held_marks, held_table, told};
@@ -530,6 +530,36 @@ pub fn within_case(random: &mut Random, size: Size) -> Case {
     if random.percent(15) {
         damage::settings(random, &mut case.settings);
     }
+    case.match_room = room(random, usize::from(case.tables.variables).min(20));
+    case
+}
+
+/// Accepted tables with some questions, mostly of several groups.
+pub fn grouped(random: &mut Random, size: Size) -> Tables {
+    loop {
+        let mut tables = valid(random, size);
+        let most = *random.pick(&[3, 6, 12]);
+        tables.questions.truncate(2 * random.between(1, most));
+        let groups = groups::all(&tables).len();
+        if groups > 1 || (groups == 1 && random.percent(5)) {
+            return tables;
+        }
+    }
+}
+
+/// A random case for matching one group within settings. Now and then it is damaged.
+pub fn group_case(random: &mut Random, size: Size) -> Case {
+    let mut tables = grouped(random, size);
+    let settings = settings(random, &tables);
+    if random.percent(25) {
+        damage::tables(random, &mut tables);
+    }
+    let mut case = Case::new(tables, &[]);
+    case.settings = settings;
+    if random.percent(10) {
+        damage::settings(random, &mut case.settings);
+    }
+    case.question = below_or_not(random, case.tables.questions.len() / 2);
     case.match_room = room(random, usize::from(case.tables.variables).min(20));
     case
 }

@@ -507,3 +507,15 @@ pub fn large_fixed_puzzles() -> Vec<Hard> {
 pub fn hardest_pigeons() -> Hard {
     lean_pigeons(8, 7)
 }
+
+/// The tables with an easy card beside them, if there is room: a blank of its own, wanted below a new
+/// name, and the place of its question.
+pub fn with_easy_card(tables: &Tables) -> Option<(Tables, u16)> {
+    let mut both = tables.clone();
+    let (name, variable) = (tables.concept_count() as u16, tables.variables);
+    let place = tables.questions.len() as u16 / 2;
+    both.variables += 1;
+    both.concepts.extend([1, MAX_NAME, 0, 4, variable, 0]);
+    both.questions.extend([name + 1, name]);
+    reference::check(&both).is_ok().then_some((both, place))
+}

@@ -150,6 +150,8 @@ pub struct Case {
     /// What the matcher may take, and how many decisions it is allowed.
     pub settings: Settings,
     pub allowance: u32,
+    /// The question whose group is matched alone.
+    pub question: u16,
     /// The variable whose chosen ids are listed, and the length of the buffer for them.
     pub variable: u16,
     pub chosen_room: usize,
@@ -174,7 +176,7 @@ pub struct Case {
 
 impl Case {
     /// Buffers as long as wanted, but none for shown rows, whose number is not known yet; the pair
-    /// (0, 0), no settings, the largest allowance, variable 0, no lines, no elements, nothing told, no
+    /// (0, 0), no settings, the largest allowance, question 0, variable 0, no lines, no elements, nothing told, no
     /// held table, each id its own new one.
     pub fn new(tables: Tables, assignment: &[u64]) -> Self {
         let table_room = tables.concept_count() * ROW_BYTES;
@@ -191,6 +193,7 @@ impl Case {
             match_room,
             settings: Settings::default(),
             allowance: u32::MAX,
+            question: 0,
             variable: 0,
             chosen_room: ATOM_ROOM,
             line_room,
@@ -243,6 +246,7 @@ impl fmt::Display for Case {
         writeln!(f, "match_room: {},", self.match_room)?;
         writeln!(f, "settings: {},", self.settings)?;
         writeln!(f, "allowance: {},", self.allowance)?;
+        writeln!(f, "question: {},", self.question)?;
         writeln!(f, "variable: {},", self.variable)?;
         writeln!(f, "chosen_room: {},", self.chosen_room)?;
         writeln!(f, "line_room: {},", self.line_room)?;

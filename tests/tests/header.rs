@@ -68,6 +68,18 @@ settings before 19 0 0
 two counts before 19 1 0
 room before 8 1 0
 found 4 77
+group 0 0 0
+found 8 0 77
+group 0 0 0
+found 0 2 77
+group 0 0 0
+found 8 0 77
+group 10 0 0
+found 8 0 77
+group 4 0 0
+found 8 0 77
+settings outside it 19 1 0
+room outside it 8 2 0
 shown 0 0 9
 row 0 0 5 0
 row 0 1 7 0
@@ -151,6 +163,7 @@ no entry 4 0 0
 nothing to fill 0 0 0
 nothing to permit 0 0 0
 nothing to decide 0 0 1
+no question 4 0 0
 no blank 2 0 0
 nothing to derive 4 0 0
 nothing to check 4 0 0
@@ -173,6 +186,7 @@ no room to fill 8 1 0
 no settings 19 1 0
 no counts 19 1 0
 no settings to count in 19 1 0
+no settings of a group 19 1 0
 no room for ids 8 64 0
 no room for lines 8 144 0
 no list of lines 12 0 0
@@ -249,5 +263,5 @@ fn the_archive_has_no_variables() {
             _ => panic!("{}", line),
         }
     }
-    assert_eq!(exported.len(), 16, "{:?}", exported);
+    assert_eq!(exported.len(), 17, "{:?}", exported);
 }

@@ -12,6 +12,8 @@ use Rattle.subsumption.specs.Refusal.{codeOf, Reply, replyOf}
 use Rattle.settings.specs.Settings.{Settings}
 use Rattle.matching.specs.declared.find.Match.{Match}
 use Rattle.matching.specs.declared.find.Match.the-variants.{Filled, Rejected as Stopped}
+use Rattle.matching.specs.Find.{matchReply}
+use Rattle.groups.specs.Find.{FindsGroup}
 use Rattle.allowance.specs.declared.find.Counted.{Counted}
 use Rattle.allowance.specs.Find.{replyBy, countedReply, FindsCounted}
 use Rattle.subsumption.specs.Decide.{decisionReply}
@@ -66,6 +68,11 @@ pub counted-as :
     (t : Tables) (s : Settings) (allowance : ℕ) (before after : List ℕ) (a : Answer) (x : Counted)
     → FindsCounted t s allowance before after (countedReply x) → replied a ≡ countedReply x → FindsCounted t s allowance before after (replied a)
 counted-as t s allowance before after a x p = passed-on (FindsCounted t s allowance before after) countedReply x x a p refl
+
+pub group-as :
+    (t : Tables) (s : Settings) (m : ℕ) (before after : List ℕ) (a : Answer) (x : Match) → FindsGroup t s m before after (matchReply x)
+    → replied a ≡ matchReply x → FindsGroup t s m before after (replied a)
+group-as t s m before after a x p = passed-on (FindsGroup t s m before after) matchReply x x a p refl
 
 -- ---- catalogues
 pub counts-told :

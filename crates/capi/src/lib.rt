@@ -5,6 +5,7 @@ use answers::answer_of;
 use answers::decided;
 use countermodel::Shown;
 use matching::Match;
+use matching_answers::matched;
 use owl::Catalogue;
 use subsumption::refusal::Outcome;
 use subsumption::refusal::code_of;
@@ -24,6 +25,7 @@ ghost use Rattle.matching.specs.Within.{FindsWithin};
 ghost use Rattle.matching.specs.Chosen.{choosingFault, chosenIn};
 ghost use Rattle.matching.specs.Writer.{Derives};
 ghost use Rattle.allowance.specs.Find.{countedReply, FindsCounted};
+ghost use Rattle.groups.specs.Find.{FindsGroup};
 ghost use Rattle.countermodel.specs.Show.{Shows};
 ghost use Rattle.countermodel.specs.Membership.{DecidesMember};
 ghost use Rattle.incremental.specs.Update.{Updates};
@@ -229,6 +231,35 @@ pub extern "C" fn hc_match_counted(
         out,
     );
     counted_of(counted)
+}
+
+// The same of the group of one question, without an allowance; refusal 10: no assignment within the settings makes the group's questions hold.
+#[no_mangle]
+pub extern "C" fn hc_match_group(
+    concepts: &[u16],
+    inclusions: &[u16],
+    questions: &[u16],
+    roles: &[u16],
+    variables: u16,
+    permitted: &[u64],
+    largest: &[u16],
+    question: u16,
+    out: &mut [u64],
+) -> Answer
+    ensures { λ a. ⌜ FindsGroup (tables (now (concepts .entry)) (now (inclusions .entry)) (now (questions .entry)) (now (roles .entry)) variables) (settings (now (permitted .entry)) (now (largest .entry))) question (now (out .entry)) (now (out .exit)) (replied a) ⌝ }
+{
+    let answer = groups::find_group(
+        concepts,
+        inclusions,
+        questions,
+        roles,
+        variables,
+        permitted,
+        largest,
+        question,
+        out,
+    );
+    matched(answer)
 }
 
 // Lists one variable's chosen ids; value: how many.

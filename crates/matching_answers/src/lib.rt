@@ -19,7 +19,7 @@ ghost use Rattle.matching.specs.Writer.{Derives};
 ghost use Rattle.answers.specs.Answer.{replied};
 
 // What a finder answered.
-fn matched(answer: Match) -> Answer
+pub fn matched(answer: Match) -> Answer
     ensures { λ a. ⌜ replied a ≡ matchReply answer ⌝ }
 {
     match answer {

@@ -49,6 +49,16 @@ pub fn solutions(tables: &Tables) -> Vec<Vec<u64>> {
 }
 
 fn solutions_over<'a>(tables: &'a Tables, ids: &'a [usize]) -> impl Iterator<Item = Vec<u64>> + 'a {
+    let solves =
+        |assignment: &Vec<u64>| solves_choosing(tables, &atoms::chosen_from(ids, assignment));
+    every_assignment(tables, ids).filter(solves)
+}
+
+/// Every assignment, in 01's order.
+fn every_assignment<'a>(
+    tables: &'a Tables,
+    ids: &'a [usize],
+) -> impl Iterator<Item = Vec<u64>> + 'a {
     let choices = usize::from(tables.variables) * ids.len();
     assert!(choices < 20, "too many assignments to try");
     let of_number = move |number: u32| {
@@ -58,9 +68,7 @@ fn solutions_over<'a>(tables: &'a Tables, ids: &'a [usize]) -> impl Iterator<Ite
         }
         assignment
     };
-    let solves =
-        |assignment: &Vec<u64>| solves_choosing(tables, &atoms::chosen_from(ids, assignment));
-    (0..1u32 << choices).map(of_number).filter(solves)
+    (0..1u32 << choices).map(of_number)
 }
 
 /// Whether no variable takes an atom that it may not, nor more of them than its largest count.
@@ -78,6 +86,22 @@ pub fn heeds(settings: &Settings, assignment: &[u64]) -> bool {
 /// The first of all assignments within the settings that solves, each tried.
 pub fn brute_force_within(tables: &Tables, settings: &Settings) -> Option<Vec<u64>> {
     solutions(tables).into_iter().find(|assignment| heeds(settings, assignment))
+}
+
+/// The first of all assignments within the settings that solves these questions, each tried.
+pub fn brute_force_among(
+    tables: &Tables,
+    settings: &Settings,
+    questions: &[usize],
+) -> Option<Vec<u64>> {
+    let ids = atoms::list(tables);
+    let pairs = tables.question_pairs();
+    let solves = |assignment: &Vec<u64>| {
+        let below = Canonical::build(tables, &atoms::chosen_from(&ids, assignment)).members;
+        questions.iter().all(|&m| below[pairs[m].0][pairs[m].1])
+    };
+    let mut every = every_assignment(tables, &ids);
+    every.find(|assignment| heeds(settings, assignment) && solves(assignment))
 }
 
 /// The first solution, by the search. The tables must be accepted.
@@ -103,6 +127,17 @@ pub fn first_solution_within_with_effort(
     let patterns = patterns_over(tables, &atoms::list(tables));
     let clauses = clauses_of(settings, patterns.atom_count());
     search_with_effort(&patterns, clauses, usize::from(tables.variables))
+}
+
+/// The first one within the settings that solves these questions, by the search.
+pub fn first_solution_among(
+    tables: &Tables,
+    settings: &Settings,
+    questions: &[usize],
+) -> Option<Vec<u64>> {
+    let patterns = patterns_over(tables, &atoms::list(tables));
+    let clauses = clauses_of(settings, patterns.atom_count());
+    search_among(&patterns, questions, clauses, usize::from(tables.variables)).0
 }
 
 /// A largest count that leaves room for all is none.
@@ -147,9 +182,19 @@ pub fn patterns_over(tables: &Tables, ids: &[usize]) -> Patterns {
     Patterns::new(tables, ids, wider, |i, j| below[i][j])
 }
 
-/// `clauses` are those that are known beforehand.
 fn search_with_effort(
     patterns: &Patterns,
+    clauses: Clauses,
+    variables: usize,
+) -> (Option<Vec<u64>>, Effort) {
+    let all: Vec<usize> = (0..patterns.question_count()).collect();
+    search_among(patterns, &all, clauses, variables)
+}
+
+/// `clauses` are those that are known beforehand.
+fn search_among(
+    patterns: &Patterns,
+    questions: &[usize],
     mut clauses: Clauses,
     variables: usize,
 ) -> (Option<Vec<u64>>, Effort) {
@@ -168,7 +213,7 @@ fn search_with_effort(
             assignment[pair / atoms] |= 1 << (pair % atoms);
         }
         let fails = |&question: &usize| !patterns.holds(question, &assignment);
-        let failing: Vec<usize> = (0..patterns.question_count()).filter(fails).collect();
+        let failing: Vec<usize> = questions.iter().copied().filter(fails).collect();
         if failing.is_empty() {
             return (Some(assignment), Effort { tried, ..effort });
         }

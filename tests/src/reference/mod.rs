@@ -1,6 +1,7 @@
 //! The independent implementation, written from 01 and 02 alone: refusals as a list of checks, atoms as
 //! a set of ids, subsumption by building a canonical interpretation and looking at its members,
-//! matching by learning clauses from assignments that fail, decisions counted one by one, a held table
+//! matching by learning clauses from assignments that fail, of all questions or of a group, decisions counted
+//! one by one, a held table
 //! closed pair by pair, rows written to their new ids by the old ones, catalogues read by recursive
 //! descent. It aims at being plainly right; most of it is slow.
 
@@ -10,6 +11,7 @@ pub mod clauses;
 pub mod countermodel;
 pub mod counting;
 pub mod derivation;
+pub mod groups;
 pub mod incremental;
 pub mod matching;
 pub mod model;
@@ -90,6 +92,21 @@ pub fn find_within(tables: &Tables, settings: &Settings, room: usize) -> Result<
     refusals::of_settings(tables, settings)?;
     refusals::of_room(room, usize::from(tables.variables))?;
     let first = matching::first_solution_within(tables, settings);
+    first.ok_or(Refusal { number: 10, place: 0 })
+}
+
+/// Operation: find the first assignment within the settings that solves the questions of one's group.
+pub fn find_group(
+    tables: &Tables,
+    settings: &Settings,
+    question: u16,
+    room: usize,
+) -> Result<Vec<u64>, Refusal> {
+    refusals::of_tables_and_question(tables, question)?;
+    refusals::of_settings(tables, settings)?;
+    refusals::of_room(room, usize::from(tables.variables))?;
+    let group = groups::of(tables, usize::from(question));
+    let first = matching::first_solution_among(tables, settings, &group);
     first.ok_or(Refusal { number: 10, place: 0 })
 }
 

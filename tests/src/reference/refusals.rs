@@ -28,6 +28,13 @@ pub fn of_tables_and_variable(tables: &Tables, variable: u16) -> Result<(), Refu
     of_tables(tables, None)
 }
 
+/// The same with a question's place beside the tables, judged within check 4 at place 0.
+pub fn of_tables_and_question(tables: &Tables, question: u16) -> Result<(), Refusal> {
+    let asked = usize::from(question) < tables.questions.len() / 2;
+    // an id past every table is refused just where the place is
+    of_tables(tables, (!asked).then_some((u16::MAX, u16::MAX)))
+}
+
 /// Check 9, for accepted tables.
 pub fn of_assignment(tables: &Tables, assignment: &[u64]) -> Result<(), Refusal> {
     let variables = usize::from(tables.variables);
