@@ -7,6 +7,7 @@ mod below;
 mod counted;
 mod derivations;
 mod external;
+mod group;
 mod markdown;
 mod matcher;
 mod memory;
@@ -39,8 +40,12 @@ const LINES: [(&str, Print); 9] = [
 /// What docs/PERFORMANCE.md shows, by the word `results`.
 const RESULTS: [&str; 4] = ["below", "matcher", "puzzles", "derivations"];
 
-const TABLES: [(&str, fn()); 3] =
-    [("update", update::print), ("counted", counted::print), ("stack", memory::print)];
+const TABLES: [(&str, fn()); 4] = [
+    ("update", update::print),
+    ("counted", counted::print),
+    ("group", group::print),
+    ("stack", memory::print),
+];
 
 fn main() {
     let words: Vec<String> = std::env::args().skip(1).collect();

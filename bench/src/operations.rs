@@ -146,7 +146,7 @@ const ALLOWANCE: u32 = 10_000;
 
 pub type Operation = fn(&Input, &mut Room) -> Answer;
 
-pub const OPERATIONS: [(&str, Operation); 16] = [
+pub const OPERATIONS: [(&str, Operation); 17] = [
     ("hc_check", |input, _| capi::check(input.tables.lend())),
     ("hc_atoms", |input, room| capi::atoms(input.tables.lend(), &mut room.ids)),
     ("hc_blanks", |input, _| capi::blanks(input.tables.lend(), 0)),
@@ -163,6 +163,10 @@ pub const OPERATIONS: [(&str, Operation); 16] = [
         let Settings { permitted, largest } = &input.settings;
         let out = &mut room.choices;
         capi::find_counted(input.tables.lend(), permitted, largest, ALLOWANCE, out)
+    }),
+    ("hc_match_group", |input, room| {
+        let Settings { permitted, largest } = &input.settings;
+        capi::find_group(input.tables.lend(), permitted, largest, 0, &mut room.choices)
     }),
     ("hc_chosen", |input, room| {
         capi::chosen(input.tables.lend(), &input.assignment, 0, &mut room.ids)
