@@ -52,6 +52,24 @@ module _ (t : Tables) (s : Settings) where
       → a ≤ b → (reply .number ≡ 14 → ⊥) → (reply₂ ≡ reply) × (after₂ ≡ after)
   larger-allowance a b before = larger-after (withinFault t s (length before)) a b before
 
+  counted-after :
+      (f : Outcome) (a : ℕ) (before after after₂ : List ℕ) (reply reply₂ : Reply) → FindsCountedAfter f t s a before after reply
+      → FindsCountedAfter f t s a before after₂ reply₂ → (reply₂ ≡ reply) × (after₂ ≡ after)
+  counted-after (Refused r) a before after after₂ reply reply₂ (e, k) (e₂, k₂) = (e₂ ∙ sym e, k₂ ∙ sym k)
+  counted-after Done a before after after₂ reply reply₂ (inl (e, x)) y =
+      larger-after Done a a before after after₂ reply reply₂ (inl (e, x)) y (omega arith) (λ f. omega (arith, ap (λ (z : Reply). z .number) e))
+  counted-after Done a before after after₂ reply reply₂ (inr (inl (e, x))) y =
+      larger-after Done a a before after after₂ reply reply₂ (inr (inl (e, x))) y (omega arith) (λ f. omega (arith, ap (λ (z : Reply). z .number) e))
+  counted-after Done a before after after₂ reply reply₂ (inr (inr (e, x))) (inl (e₂, (x₂, c₂))) = not-over a a _ c₂ (x .over) (omega arith)
+  counted-after Done a before after after₂ reply reply₂ (inr (inr (e, x))) (inr (inl (e₂, (x₂, c₂)))) = not-over a a _ c₂ (x .over) (omega arith)
+  counted-after Done a before after after₂ reply reply₂ (inr (inr (e, x))) (inr (inr (e₂, x₂))) = (e₂ ∙ sym e, x₂ .kept ∙ sym (x .kept))
+
+  -- The answer is decided, also where the allowance is spent.
+  pub counted-unique :
+      (a : ℕ) (before after after₂ : List ℕ) (reply reply₂ : Reply) → FindsCounted t s a before after reply → FindsCounted t s a before after₂ reply₂
+      → (reply₂ ≡ reply) × (after₂ ≡ after)
+  counted-unique a before = counted-after (withinFault t s (length before)) a before
+
   spent-after :
       (a : ℕ) (before after : List ℕ) (reply : Reply) → FindsCountedAfter Done t s a before after reply → (n : ℕ) → CountOf t s n
       → (reply .number ≡ 14) ↔ (a < n)

@@ -31,7 +31,7 @@ pub struct Counted {
     pub count: u32,
 }
 
-fn refused(r: Refusal) -> Counted
+pub fn refused(r: Refusal) -> Counted
     ensures { λ c. ⌜ countedReply c ≡ replyRefused r ⌝ }
 {
     Counted {
@@ -129,7 +129,7 @@ fn find_set(
 }
 
 // The rest of the checks, given the atoms of accepted tables, and then the walk.
-fn find_known(
+pub fn find_known(
     concepts: &[u16],
     inclusions: &[u16],
     questions: &[u16],

@@ -70,10 +70,10 @@ module _ (t : Tables) (h : tableFault t ≡ Done) (all : List ℕ) (full : Full 
   few : t .variables ≤ 8
   few = wellFormed t h .few-variables
 
-  permitted-of : (k : ℕ) → k < t .variables → getD (take (t .variables) all) k 0 ≡ 2 ^ length (atoms t) - 1
+  pub permitted-of : (k : ℕ) → k < t .variables → getD (take (t .variables) all) k 0 ≡ 2 ^ length (atoms t) - 1
   permitted-of k l = getD-take _ all k 0 l ∙ full .all k (omega (arith, few))
 
-  largest-of : (k : ℕ) → k < t .variables → _≡_ {A = ℕ} (getD (take (t .variables) (replicate 8 64)) k 0) 64
+  pub largest-of : (k : ℕ) → k < t .variables → _≡_ {A = ℕ} (getD (take (t .variables) (replicate 8 64)) k 0) 64
   largest-of k l = getD-take _ (replicate 8 64) k 0 l ∙ getD-replicate 8 k 64 0 (omega (arith, few))
 
   all-accepted : settingsFault t (settings (take (t .variables) all) (take (t .variables) (replicate 8 64))) ≡ Done

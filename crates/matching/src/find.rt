@@ -17,7 +17,7 @@ pub enum Match {
 }
 
 // Every atom for every variable.
-fn all_atoms(count: usize) -> [u64; 8]
+pub fn all_atoms(count: usize) -> [u64; 8]
     requires { ⌜ count ≤ 64 ⌝ }
     ensures { λ r. ⌜ Full count r ⌝ }
 {

@@ -1,4 +1,5 @@
 // What the crates above share with this one. These are no operations: nearly all have a `requires`.
+pub use crate::find::all_atoms;
 pub use crate::limits::ASKED;
 pub use crate::limits::CARD;
 pub use crate::limits::MOST;

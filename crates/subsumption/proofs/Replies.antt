@@ -3,7 +3,7 @@ use Prim.Native.Nat.{ℕ, zero, suc}
 use mathlib.Core.Path.{_≡_, refl, sym, ap, _∙_}
 use native.Mathlib.Omega.{arith}
 use Rattle.subsumption.specs.declared.refusal.Refusal.{Refusal}
-use Rattle.subsumption.specs.declared.refusal.Refusal.the-variants.{Limit, Malformed, ForwardId, NoConcept, VariableInInclusion, VariablesOnBothSides, TooManyAtoms, BufferTooShort, BadAssignment, NoAssignment, NotSubsumed, BadDerivation, BadText, AllowanceSpent, NoCountermodel, BadRole, BadSyntax, TooDeep, BadSettings, BadOrder, ForwardInOrder}
+use Rattle.subsumption.specs.declared.refusal.Refusal.the-variants.{Limit, Malformed, ForwardId, NoConcept, VariableInInclusion, VariablesOnBothSides, TooManyAtoms, BufferTooShort, BadAssignment, NoAssignment, NotSubsumed, BadDerivation, BadText, AllowanceSpent, NoCountermodel, BadRole, BadSyntax, TooDeep, BadSettings, BadBatch, BadOrder, ForwardInOrder}
 use Rattle.subsumption.specs.declared.refusal.Outcome.{Outcome}
 use Rattle.subsumption.specs.declared.refusal.Outcome.the-variants.{Done, Refused}
 use Rattle.subsumption.specs.Refusal.{codeOf, Reply, replyDone, replyRefused, replyWith, replyOf}
@@ -16,7 +16,7 @@ laterAt (suc (suc (suc (suc (suc (suc number)))))) place = TooManyAtoms
 laterAt zero place = BadSyntax place
 laterAt (suc zero) place = TooDeep place
 laterAt (suc (suc zero)) place = BadSettings place
-laterAt (suc (suc (suc zero))) place = TooManyAtoms
+laterAt (suc (suc (suc zero))) place = BadBatch place
 
 refusalAt : ℕ → ℕ → Refusal
 refusalAt zero place = TooManyAtoms
@@ -59,6 +59,7 @@ refusal-back (BadRole place) = refl
 refusal-back (BadSyntax place) = refl
 refusal-back (TooDeep place) = refl
 refusal-back (BadSettings place) = refl
+refusal-back (BadBatch place) = refl
 refusal-back (BadOrder place) = refl
 refusal-back (ForwardInOrder place) = refl
 
@@ -86,6 +87,7 @@ isRefused (BadRole place) e = omega arith
 isRefused (BadSyntax place) e = omega arith
 isRefused (TooDeep place) e = omega arith
 isRefused (BadSettings place) e = omega arith
+isRefused (BadBatch place) e = omega arith
 isRefused (BadOrder place) e = omega arith
 isRefused (ForwardInOrder place) e = omega arith
 

@@ -3,7 +3,7 @@ use Prim.Native.Nat.{ℕ, zero, suc}
 use mathlib.Core.Path.{_≡_}
 use mathlib.Core.Bool.{Bool, true, false}
 use Rattle.subsumption.specs.declared.refusal.Refusal.{Refusal}
-use Rattle.subsumption.specs.declared.refusal.Refusal.the-variants.{Limit, Malformed, ForwardId, NoConcept, VariableInInclusion, VariablesOnBothSides, TooManyAtoms, BufferTooShort, BadAssignment, NoAssignment, NotSubsumed, BadDerivation, BadText, AllowanceSpent, NoCountermodel, BadRole, BadSyntax, TooDeep, BadSettings, BadOrder, ForwardInOrder}
+use Rattle.subsumption.specs.declared.refusal.Refusal.the-variants.{Limit, Malformed, ForwardId, NoConcept, VariableInInclusion, VariablesOnBothSides, TooManyAtoms, BufferTooShort, BadAssignment, NoAssignment, NotSubsumed, BadDerivation, BadText, AllowanceSpent, NoCountermodel, BadRole, BadSyntax, TooDeep, BadSettings, BadBatch, BadOrder, ForwardInOrder}
 use Rattle.subsumption.specs.declared.refusal.Outcome.{Outcome}
 use Rattle.subsumption.specs.declared.refusal.Outcome.the-variants.{Done, Refused}
 use Rattle.subsumption.specs.declared.refusal.Code.{Code}
@@ -28,6 +28,7 @@ codeOf (BadRole place) = record { number = 16; place = place }
 codeOf (BadSyntax place) = record { number = 17; place = place }
 codeOf (TooDeep place) = record { number = 18; place = place }
 codeOf (BadSettings place) = record { number = 19; place = place }
+codeOf (BadBatch place) = record { number = 20; place = place }
 codeOf (BadOrder place) = record { number = 21; place = place }
 codeOf (ForwardInOrder place) = record { number = 22; place = place }
 

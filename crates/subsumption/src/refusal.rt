@@ -23,6 +23,7 @@ pub enum Refusal {
     BadSyntax(usize),
     TooDeep(usize),
     BadSettings(usize),
+    BadBatch(usize),
     BadOrder(usize),
     ForwardInOrder(usize),
 }
@@ -117,6 +118,10 @@ pub fn code_of(r: Refusal) -> Code
         },
         Refusal::BadSettings(p) => Code {
             number: 19,
+            place: p,
+        },
+        Refusal::BadBatch(p) => Code {
+            number: 20,
             place: p,
         },
         Refusal::BadOrder(p) => Code {

@@ -174,6 +174,9 @@ module _ (ids before : List ℕ) where
   chosen-done n after fault e p q = (ap replyDone p ∙ ap (λ (f : Outcome). replyWith f (length ids)) e, rw (← e) q)
 
 -- ---- which refusal comes first
+pub earlier-known : (r : Refusal) (known : Bool) → known ≡ true → r ≡ earlierOf r known
+earlier-known r known h = rw h refl
+
 pub earlier-kept : (r : Refusal) (known : Bool) (code : Code) → known ≡ false → code ≡ codeOf r → code .number ≡ 1 → r ≡ earlierOf r known
 earlier-kept r known code h e f = rw (h, eq-eqb (codeOf r .number) 1 (ap (λ (z : Code). z .number) (sym e) ∙ f)) refl
 

@@ -1,10 +1,10 @@
 use borrow.Author.Needs.{needs}
-use Rattle.matching.proofs.ChosenLaws.Faults.{earlier-kept, earlier-other}
+use Rattle.matching.proofs.ChosenLaws.Faults.{earlier-known, earlier-kept, earlier-other}
 use Rattle.matching.proofs.chosen.refused_with.Statement.{statement}
 use Rattle.matching.proofs.chosen.refused_with.Tie as tie
 
 returns : tie.Need-returns
-returns c = search needs
+returns c = search earlier-known
 
 code-of-requires : tie.Need-code-of-requires
 code-of-requires c κs = search needs

@@ -69,6 +69,9 @@ enum-known-r-15 c = search needs
 enum-known-r-16 : tie.Need-enum-known-r-16
 enum-known-r-16 c = search needs
 
+enum-known-r-17 : tie.Need-enum-known-r-17
+enum-known-r-17 c = search needs
+
 returns : tie.Need-returns
 returns c = ap codeOf (sym (c .before .r .given .1))
 
@@ -132,6 +135,9 @@ returns-20 c = ap codeOf (sym (c .before .r15 .given .1))
 returns-21 : tie.Need-returns-21
 returns-21 c = ap codeOf (sym (c .before .r16 .given .1))
 
+returns-22 : tie.Need-returns-22
+returns-22 c = ap codeOf (sym (c .before .r17 .given .1))
+
 pub code-of-spec : {M : Type 1} → statement M
 code-of-spec =
     tie.close
@@ -157,6 +163,7 @@ code-of-spec =
     enum-known-r-14
     enum-known-r-15
     enum-known-r-16
+    enum-known-r-17
     returns
     returns-2
     returns-3
@@ -177,4 +184,5 @@ code-of-spec =
     returns-18
     returns-19
     returns-20
-    returns-21)
+    returns-21
+    returns-22)
