@@ -1,0 +1,2 @@
+-- Definitions of private contracts: no operation's contract reaches them.
+pub mod Find
