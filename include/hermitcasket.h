@@ -22,6 +22,7 @@
  *     hc_match_within       1114112   (as hc_match)
  *     hc_match_counted      262144
  *     hc_match_group        1114112   (as hc_match)
+ *     hc_match_cards        262144    (as hc_match_counted)
  *     hc_chosen             8192
  *     hc_derive             524288
  *     hc_check_derivation   65536
@@ -111,7 +112,8 @@
  * Refusals. Checks run in the order 1 to 6, 16, 7, then 9, 19, 21, 22, 15, 8, 11, 10 or 14; 12
  * comes last. Within one check the lowest place wins; 8 takes several buffers in turn. The checks of a
  * given stock, again 1, 2 and 4, come after 9. Of a catalogue's text 8 comes first, then 17 for its
- * length; then the first byte at fault decides between 17, 18 and 1.
+ * length; then the first byte at fault decides between 17, 18 and 1. Of several question tables 20
+ * comes before all others.
  *
  *   number  condition                                          place
  *   1       over a count limit, or a ragged table              0 entries, 1 inclusions,
@@ -152,6 +154,9 @@
  *   19      another number of permitted sets or of largest     count of blanks
  *           counts than blanks (tested first), or a permitted  blank
  *           bit past the parts or a count over 64
+ *   20      more than 8 question tables, another number of     8
+ *           shares, or lengths that do not add up (tested
+ *           first), or a share over 1000000                    table
  *   21      of a list of new ids: a number that is no id or    its place, from 0
  *           stood before, or, tested last, too few numbers     length of the list
  *   22      by a list of new ids an inner id would not be      old id
@@ -183,6 +188,18 @@ typedef struct {
     uint64_t entries;
     uint64_t inclusions;
 } hc_catalogue;
+
+/* Of several question tables. number 0: they were run, and place is 0; otherwise refusal 20, and all
+ * else is 0. left: what is left over of the shares at the end. For table k its own number, place and
+ * count, as in the answer of hc_match_counted; 0 past the tables. */
+typedef struct {
+    uint16_t number;
+    uint64_t place;
+    uint64_t left;
+    uint16_t numbers[8];
+    uint64_t places[8];
+    uint32_t counts[8];
+} hc_cards;
 
 /* Checks the tables. value: 0. */
 hc_answer hc_check(const uint16_t *entries, size_t entries_len,
@@ -286,6 +303,22 @@ hc_answer hc_match_group(const uint16_t *entries, size_t entries_len,
                          const uint16_t *largest, size_t largest_len,
                          uint16_t question,
                          uint64_t *out, size_t out_len);
+
+/* Up to eight question tables over one catalogue, one after another: questions has all of them, and
+ * lengths says how many numbers each has. All parts are permitted, and 64 everywhere; the parts are
+ * each table's own. Table k has the stretch of out from k times the number of blanks on, a number a
+ * blank, as far as that reaches, and may use its share of decisions and what the tables before it
+ * left over. Its answer is that of hc_match_counted with that amount on that stretch: a table whose
+ * stretch is too short is refused with 8, a faulty catalogue once for each table. A table refused for
+ * anything but 10 or 14 uses nothing. The sum of counts and left is the sum of the shares. */
+hc_cards hc_match_cards(const uint16_t *entries, size_t entries_len,
+                        const uint16_t *inclusions, size_t inclusions_len,
+                        const uint16_t *questions, size_t questions_len,
+                        const uint16_t *roles, size_t roles_len,
+                        uint16_t blanks,
+                        const uint16_t *lengths, size_t lengths_len,
+                        const uint32_t *shares, size_t shares_len,
+                        uint64_t *out, size_t out_len);
 
 /* Writes the ids chosen for one blank, rising, to the front of out, which wants 64 numbers. A
  * blank number not below the count is refusal 2, place 0. value: how many, the number of ones in

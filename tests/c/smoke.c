@@ -27,6 +27,18 @@ static void show_read(const char *name, hc_catalogue read)
            (unsigned long long)read.entries, (unsigned long long)read.inclusions);
 }
 
+static void show_cards(const char *name, hc_cards cards)
+{
+    int k;
+
+    printf("%s %u %llu %llu\n", name, (unsigned)cards.number, (unsigned long long)cards.place,
+           (unsigned long long)cards.left);
+    for (k = 0; k < 8; k++)
+        if (cards.numbers[k] || cards.places[k] || cards.counts[k])
+            printf("card %d: %u %llu %lu\n", k, (unsigned)cards.numbers[k],
+                   (unsigned long long)cards.places[k], (unsigned long)cards.counts[k]);
+}
+
 /* Every operation with NULL for each list, and for one list alone beside lists that are there. */
 static void nulls(void)
 {
@@ -44,6 +56,7 @@ static void nulls(void)
     show("nothing to permit", hc_match_within(NOTHING, NULL, 0, NULL, 0, NULL, 0));
     show("nothing to decide", hc_match_counted(NOTHING, NULL, 0, NULL, 0, 1, NULL, 0));
     show("no question", hc_match_group(NOTHING, NULL, 0, NULL, 0, 0, NULL, 0));
+    show_cards("no cards", hc_match_cards(NOTHING, NULL, 0, NULL, 0, NULL, 0));
     show("no blank", hc_chosen(NOTHING, NULL, 0, 0, NULL, 0));
     show("nothing to derive", hc_derive(NOTHING, NULL, 0, 0, 0, NULL, 0));
     show("nothing to check", hc_check_derivation(NOTHING, NULL, 0, 0, 0, NULL, 0));
@@ -74,6 +87,7 @@ static void nulls(void)
     show("no counts", hc_match_within(TABLES, filling, 1, NULL, 0, NULL, 0));
     show("no settings to count in", hc_match_counted(TABLES, NULL, 0, NULL, 0, 4, NULL, 0));
     show("no settings of a group", hc_match_group(TABLES, NULL, 0, NULL, 0, 1, NULL, 0));
+    show_cards("no lengths", hc_match_cards(TABLES, NULL, 0, NULL, 0, NULL, 0));
     show("no room for ids", hc_chosen(TABLES, filling, LEN(filling), 0, NULL, 0));
     show("no room for lines", hc_derive(TABLES, filling, LEN(filling), 2, 3, NULL, 0));
     show("no list of lines", hc_check_derivation(TABLES, filling, LEN(filling), 2, 3, NULL, 0));
@@ -209,6 +223,26 @@ static void groups(void)
                                            LEN(asked), NULL, 0, 2, all, 2, any, 2, 0, found, 1));
 }
 
+/* The sample's questions three times, the second time with one too many, on shares and what is left. */
+static void cards(void)
+{
+    static const uint16_t all[] = {5,3, 2,4, 5,3, 4,4, 5,3, 2,4, 5,3};
+    static const uint16_t lengths[] = {4, 4, 4, 2};
+    static const uint32_t shares[] = {6, 1, 1, 0}, over[] = {6, 1, 1000001, 0};
+    uint64_t found[] = {77, 77, 77, 77, 77};
+    int k;
+
+#define CARDS(lengths_len, shares, out_len) \
+    hc_match_cards(entries, LEN(entries), inclusions, LEN(inclusions), all, LEN(all), NULL, 0, 1, \
+                   lengths, lengths_len, shares, LEN(shares), found, out_len)
+    show_cards("four cards", CARDS(4, shares, 5));
+    for (k = 0; k < 5; k++)
+        printf("found %llu\n", (unsigned long long)found[k]);
+    show_cards("three of them", CARDS(3, shares, 5));
+    show_cards("a large share", CARDS(4, over, 5));
+    show_cards("room for two", CARDS(4, shares, 2));
+}
+
 /* The sample's table without an inclusion, where 3 is the only part, and then with one and two. */
 static void shift(void)
 {
@@ -331,6 +365,7 @@ int main(void)
     settings();
     decisions();
     groups();
+    cards();
     stocks();
     shift();
     filing();

@@ -41,6 +41,30 @@ impl Catalogue {
     }
 }
 
+/// `hc_cards`: number and place of the whole, what is left over, and for each table its own.
+#[repr(C)]
+#[derive(Clone, Copy, Debug, Default, PartialEq, Eq)]
+pub struct Cards {
+    pub number: u16,
+    pub place: u64,
+    pub left: u64,
+    pub numbers: [u16; 8],
+    pub places: [u64; 8],
+    pub counts: [u32; 8],
+}
+
+impl Cards {
+    pub fn refused(number: u16, place: u64) -> Self {
+        Cards { number, place, ..Cards::default() }
+    }
+
+    /// What table k is told, as the finder with an allowance tells it.
+    pub fn answer(&self, k: usize) -> Answer {
+        let value = u64::from(self.counts[k]);
+        Answer { number: self.numbers[k], place: self.places[k], value }
+    }
+}
+
 extern "C" {
     fn hc_check(
         concepts: *const u16,
@@ -182,6 +206,24 @@ extern "C" {
         out: *mut u64,
         out_len: usize,
     ) -> Answer;
+
+    fn hc_match_cards(
+        concepts: *const u16,
+        concepts_len: usize,
+        inclusions: *const u16,
+        inclusions_len: usize,
+        questions: *const u16,
+        questions_len: usize,
+        roles: *const u16,
+        roles_len: usize,
+        variables: u16,
+        lengths: *const u16,
+        lengths_len: usize,
+        shares: *const u32,
+        shares_len: usize,
+        out: *mut u64,
+        out_len: usize,
+    ) -> Cards;
 
     fn hc_chosen(
         concepts: *const u16,
@@ -510,6 +552,29 @@ pub fn find_group(
             largest.as_ptr(),
             largest.len(),
             question,
+            out.as_mut_ptr(),
+            out.len(),
+        )
+    }
+}
+
+/// The finder with an allowance on several question tables, one after another.
+pub fn find_batch(t: TablesRef, lengths: &[u16], shares: &[u32], out: &mut [u64]) -> Cards {
+    unsafe {
+        hc_match_cards(
+            t.concepts.as_ptr(),
+            t.concepts.len(),
+            t.inclusions.as_ptr(),
+            t.inclusions.len(),
+            t.questions.as_ptr(),
+            t.questions.len(),
+            t.roles.as_ptr(),
+            t.roles.len(),
+            t.variables,
+            lengths.as_ptr(),
+            lengths.len(),
+            shares.as_ptr(),
+            shares.len(),
             out.as_mut_ptr(),
             out.len(),
         )

@@ -3,10 +3,11 @@
 
 use std::ops::RangeInclusive;
 
-use crate::capi::{self, Answer, Catalogue};
+use crate::capi::{self, Answer, Cards, Catalogue};
 use crate::lend::{Lent, LentInputs, Noise};
 use crate::limits::ROW_BYTES;
 use crate::random::{cases, full_run, seed, Random, Size};
+use crate::reference::batches::{self, Batch};
 use crate::reference::{self, atoms::chosen as chosen_ids, derivation, Counted, Refusal};
 use crate::tables::{Case, TablesRef};
 use crate::tally::Tally;
@@ -173,6 +174,48 @@ pub fn find_counted_expecting(case: &Case, expected: Counted) -> Answer {
     assert!(now == written, "{} wrote {:?}, not {:?}, for\n{}", name, now, written, case);
     judge_output(case, name, &out, &written);
     answer
+}
+
+/// The tables of the case's batch in turn, against the reference.
+pub fn find_batch(case: &Case) -> Cards {
+    let Case { tables, lengths, shares, match_room, .. } = case;
+    find_batch_expecting(case, batches::find(tables, lengths, shares, *match_room))
+}
+
+/// The same where the answers are known otherwise.
+pub fn find_batch_expecting(case: &Case, expected: Result<Batch, Refusal>) -> Cards {
+    let name = "hc_match_cards";
+    let mut random = noise(case);
+    let inputs = LentInputs::new(&case.tables, &case.assignment, &mut random);
+    let lengths: Lent<u16> = Lent::holding(&case.lengths, &mut random);
+    let shares: Lent<u32> = Lent::holding(&case.shares, &mut random);
+    let mut out: Lent<u64> = Lent::noise(case.match_room, &mut random);
+    let mut wanted = out.slice().to_vec();
+    let cards =
+        capi::find_batch(inputs.tables(), lengths.slice(), shares.slice(), out.slice_mut());
+    let due = match expected {
+        Err(refusal) => Cards::refused(refusal.number, refusal.place),
+        Ok(batch) => {
+            let mut due = Cards { left: batch.left, ..Cards::default() };
+            for (k, Counted { answer, count }) in batch.answers.into_iter().enumerate() {
+                due.counts[k] = count as u32;
+                match answer {
+                    Err(refusal) => (due.numbers[k], due.places[k]) = (refusal.number, refusal.place),
+                    Ok(choices) => {
+                        let stretch = batches::stretch(&case.tables, case.match_room, k);
+                        wanted[stretch].copy_from_slice(&choices);
+                    }
+                }
+            }
+            due
+        }
+    };
+    assert!(cards == due, "{} answers {:?}, the reference {:?}, for\n{}", name, cards, due, case);
+    assert!(inputs.unchanged(), "{} changed an input, for\n{}", name, case);
+    judge_output(case, name, &lengths, &[]);
+    judge_output(case, name, &shares, &[]);
+    judge_output(case, name, &out, &wanted);
+    cards
 }
 
 pub fn chosen(case: &Case) -> Answer {

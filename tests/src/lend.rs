@@ -25,6 +25,12 @@ impl Noise for u16 {
     }
 }
 
+impl Noise for u32 {
+    fn noise(random: &mut Random) -> Self {
+        random.number() as u32
+    }
+}
+
 impl Noise for u64 {
     fn noise(random: &mut Random) -> Self {
         random.number()

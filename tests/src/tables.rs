@@ -152,6 +152,9 @@ pub struct Case {
     pub allowance: u32,
     /// The question whose group is matched alone.
     pub question: u16,
+    /// The lengths of the question tables of a batch, which lie in `tables`, and their shares.
+    pub lengths: Vec<u16>,
+    pub shares: Vec<u32>,
     /// The variable whose chosen ids are listed, and the length of the buffer for them.
     pub variable: u16,
     pub chosen_room: usize,
@@ -176,7 +179,7 @@ pub struct Case {
 
 impl Case {
     /// Buffers as long as wanted, but none for shown rows, whose number is not known yet; the pair
-    /// (0, 0), no settings, the largest allowance, question 0, variable 0, no lines, no elements, nothing told, no
+    /// (0, 0), no settings, the largest allowance, question 0, no batch, variable 0, no lines, no elements, nothing told, no
     /// held table, each id its own new one.
     pub fn new(tables: Tables, assignment: &[u64]) -> Self {
         let table_room = tables.concept_count() * ROW_BYTES;
@@ -194,6 +197,8 @@ impl Case {
             settings: Settings::default(),
             allowance: u32::MAX,
             question: 0,
+            lengths: Vec::new(),
+            shares: Vec::new(),
             variable: 0,
             chosen_room: ATOM_ROOM,
             line_room,
@@ -247,6 +252,8 @@ impl fmt::Display for Case {
         writeln!(f, "settings: {},", self.settings)?;
         writeln!(f, "allowance: {},", self.allowance)?;
         writeln!(f, "question: {},", self.question)?;
+        writeln!(f, "lengths: vec!{:?},", self.lengths)?;
+        writeln!(f, "shares: vec!{:?},", self.shares)?;
         writeln!(f, "variable: {},", self.variable)?;
         writeln!(f, "chosen_room: {},", self.chosen_room)?;
         writeln!(f, "line_room: {},", self.line_room)?;

@@ -80,6 +80,23 @@ group 4 0 0
 found 8 0 77
 settings outside it 19 1 0
 room outside it 8 2 0
+four cards 0 0 0
+card 0: 0 0 4
+card 1: 6 1 0
+card 2: 0 0 4
+card 3: 14 0 0
+found 4
+found 77
+found 4
+found 77
+found 77
+three of them 20 8 0
+a large share 20 2 0
+room for two 0 0 4
+card 0: 0 0 4
+card 1: 6 1 0
+card 2: 8 1 0
+card 3: 8 1 0
 shown 0 0 9
 row 0 0 5 0
 row 0 1 7 0
@@ -164,6 +181,7 @@ nothing to fill 0 0 0
 nothing to permit 0 0 0
 nothing to decide 0 0 1
 no question 4 0 0
+no cards 0 0 0
 no blank 2 0 0
 nothing to derive 4 0 0
 nothing to check 4 0 0
@@ -187,6 +205,7 @@ no settings 19 1 0
 no counts 19 1 0
 no settings to count in 19 1 0
 no settings of a group 19 1 0
+no lengths 20 8 0
 no room for ids 8 64 0
 no room for lines 8 144 0
 no list of lines 12 0 0
@@ -263,5 +282,5 @@ fn the_archive_has_no_variables() {
             _ => panic!("{}", line),
         }
     }
-    assert_eq!(exported.len(), 17, "{:?}", exported);
+    assert_eq!(exported.len(), 18, "{:?}", exported);
 }

@@ -3,6 +3,7 @@ use allowance::Counted;
 use answers::Answer;
 use answers::answer_of;
 use answers::decided;
+use batches::Batch;
 use countermodel::Shown;
 use matching::Match;
 use matching_answers::matched;
@@ -26,6 +27,7 @@ ghost use Rattle.matching.specs.Chosen.{choosingFault, chosenIn};
 ghost use Rattle.matching.specs.Writer.{Derives};
 ghost use Rattle.allowance.specs.Find.{countedReply, FindsCounted};
 ghost use Rattle.groups.specs.Find.{FindsGroup};
+ghost use Rattle.batches.specs.Find.{FindsBatch};
 ghost use Rattle.countermodel.specs.Show.{Shows};
 ghost use Rattle.countermodel.specs.Membership.{DecidesMember};
 ghost use Rattle.incremental.specs.Update.{Updates};
@@ -260,6 +262,32 @@ pub extern "C" fn hc_match_group(
         out,
     );
     matched(answer)
+}
+
+// The same for each of several question tables, which lie one after another, on its share and what the ones before it left over.
+#[no_mangle]
+pub extern "C" fn hc_match_cards(
+    concepts: &[u16],
+    inclusions: &[u16],
+    questions: &[u16],
+    roles: &[u16],
+    variables: u16,
+    lengths: &[u16],
+    shares: &[u32],
+    out: &mut [u64],
+) -> Batch
+    ensures { λ b. ⌜ FindsBatch (tables (now (concepts .entry)) (now (inclusions .entry)) (now (questions .entry)) (now (roles .entry)) variables) (now (lengths .entry)) (now (shares .entry)) (now (out .entry)) (now (out .exit)) b ⌝ }
+{
+    batches::find_batch(
+        concepts,
+        inclusions,
+        questions,
+        roles,
+        variables,
+        lengths,
+        shares,
+        out,
+    )
 }
 
 // Lists one variable's chosen ids; value: how many.

@@ -6,6 +6,7 @@
 //! descent. It aims at being plainly right; most of it is slow.
 
 pub mod atoms;
+pub mod batches;
 pub mod blanks;
 pub mod clauses;
 pub mod countermodel;
