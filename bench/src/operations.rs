@@ -146,7 +146,7 @@ const ALLOWANCE: u32 = 10_000;
 
 pub type Operation = fn(&Input, &mut Room) -> Answer;
 
-pub const OPERATIONS: [(&str, Operation); 17] = [
+pub const OPERATIONS: [(&str, Operation); 18] = [
     ("hc_check", |input, _| capi::check(input.tables.lend())),
     ("hc_atoms", |input, room| capi::atoms(input.tables.lend(), &mut room.ids)),
     ("hc_blanks", |input, _| capi::blanks(input.tables.lend(), 0)),
@@ -167,6 +167,13 @@ pub const OPERATIONS: [(&str, Operation); 17] = [
     ("hc_match_group", |input, room| {
         let Settings { permitted, largest } = &input.settings;
         capi::find_group(input.tables.lend(), permitted, largest, 0, &mut room.choices)
+    }),
+    // the questions as one table
+    ("hc_match_cards", |input, room| {
+        let lengths = [input.tables.questions.len() as u16];
+        let cards =
+            capi::find_batch(input.tables.lend(), &lengths, &[ALLOWANCE], &mut room.choices);
+        cards.answer(0)
     }),
     ("hc_chosen", |input, room| {
         capi::chosen(input.tables.lend(), &input.assignment, 0, &mut room.ids)
