@@ -67,7 +67,7 @@ pub same-refusal : (q r : Refusal) → replyRefused q ≡ replyRefused r → q �
 same-refusal q r e = sym (refusal-back q) ∙ ap (λ (z : Reply). refusalAt (z .number) (z .place)) e ∙ refusal-back r
 
 -- a refusal's number with 0 told apart from the others
-isRefused : (r : Refusal) → codeOf r .number ≡ 0 → ⊥
+pub isRefused : (r : Refusal) → codeOf r .number ≡ 0 → ⊥
 isRefused (Limit place) e = omega arith
 isRefused (Malformed place) e = omega arith
 isRefused (ForwardId place) e = omega arith
