@@ -49,6 +49,12 @@ pub const SENTENCES: &[Sentence] = &[
     Sentence { of: "owl", file: "GrammarLaws", law: "texts-exactly" },
     Sentence { of: "owl", file: "MeaningLaws", law: "texts-mean" },
     Sentence { of: "owl", file: "AcceptedLaws", law: "catalogue-accepted" },
+    Sentence { of: "allowance", file: "CountLaws", law: "count-unique" },
+    Sentence { of: "allowance", file: "CountLaws", law: "count-exists" },
+    Sentence { of: "allowance", file: "AllowanceLaws", law: "larger-allowance" },
+    Sentence { of: "allowance", file: "AllowanceLaws", law: "spent-exactly" },
+    Sentence { of: "cards", file: "SampleCount", law: "sample-count" },
+    Sentence { of: "cards", file: "SampleCount", law: "sample-spent" },
     Sentence { of: "groups", file: "TogetherLaws", law: "together-first" },
     Sentence { of: "groups", file: "TogetherLaws", law: "none-exactly" },
     Sentence { of: "groups", file: "TogetherLaws", law: "filled-together" },
@@ -284,9 +290,11 @@ fn cited_by_sentences() -> BTreeSet<Name> {
     for sentence in SENTENCES {
         let path = crates_dir().join(sentence.of).join(format!("proofs/{}.antt", sentence.file));
         let text = read(&path);
+        // a law may stand in a module, indented
         let start = format!("pub {} :", sentence.law);
         let signature: Vec<&str> = text
             .lines()
+            .map(str::trim_start)
             .skip_while(|line| !line.starts_with(&start))
             .take_while(|line| !line.starts_with(&format!("{} ", sentence.law)))
             .collect();

@@ -13,8 +13,8 @@ use Rattle.subsumption.specs.Refusal.{Reply, replyDone}
 use Rattle.settings.specs.Settings.{Settings}
 use Rattle.matching.specs.Within.{withinFault, FirstWithin, FilledWithin}
 use Rattle.matching.proofs.EarlierLaws.{one-first}
-use Rattle.allowance.specs.Count.{CountOf, Exceeds}
-use Rattle.allowance.specs.Find.{replyCounted, Counts, FindsCountedAfter, FindsCounted}
+use Rattle.allowance.specs.Count.{CountOf, Counts, Exceeds}
+use Rattle.allowance.specs.Find.{replyCounted, FindsCountedAfter, FindsCounted}
 use Rattle.allowance.proofs.CountLaws.{count-unique, exceeds-less}
 
 -- ---- there is one first assignment within the settings

@@ -1,14 +1,17 @@
--- There is one count, and it is over every allowance that it exceeds.
-use Prim.Native.Nat.{ℕ, suc, _<_}
+-- There is a count and no second one, and it is over every allowance that it exceeds.
+use Prim.Native.Nat.{ℕ, suc, _<_, _≤_}
 use mathlib.Core.Path.{_≡_, refl, sym, ap, subst}
-use mathlib.Core.List.{List, [], _∷_, _++_}
-use mathlib.Core.Bool.{Bool}
+use mathlib.Core.List.{List, [], _∷_, _++_, List·Memᴰ, List·Memᴰ·head, List·Memᴰ·tail}
+use mathlib.Core.Bool.{Bool, true, false}
 use native.Mathlib.Omega.{arith}
+use borrow.Author.Tests.{ltb-true, ltb-false}
+use lib.Dec.{ltb}
 use lib.ListN.{length}
 use Rattle.subsumption.specs.Tables.{Tables}
 use Rattle.settings.specs.Settings.{Settings}
 use Rattle.allowance.specs.Partial.{pairs, Open, allPartials}
 use Rattle.allowance.specs.Count.{Stretch, none, opened, shut, CountOf, answered, unanswered, Exceeds}
+use Rattle.allowance.proofs.OrderLaws.{partials-short}
 
 -- Answered or not: so many open ones of a list up to and including its first answer, or all of them.
 data Met (t : Tables) (settings : Settings) : List (List Bool) → ℕ → Type 0 where
@@ -69,3 +72,59 @@ module _ (t : Tables) (settings : Settings) where
   exceeds-less allowance n e a =
       met-more (e .before) (e .here) (e .after) allowance n (e .is-open) (e .stretch)
       (subst (λ (z : List (List Bool)). Met t settings z n) (e .order) (count-met n a))
+
+-- ---- there is a count: what is open is not decided here, so this is said of what would follow if there were none
+record FirstIn (t : Tables) (settings : Settings) (xs : List (List Bool)) (n : ℕ) : Type 0 where
+  before : List (List Bool)
+  here : List Bool
+  after : List (List Bool)
+  order : xs ≡ before ++ (here ∷ after)
+  stretch : Stretch t settings before n
+  whole : length here ≡ pairs t
+  is-open : Open t settings here
+
+by-size : (m n : ℕ) (b : Bool) → ltb m n ≡ b → m ≤ n → (m < n → ⊥) → (m ≡ n → ⊥) → ⊥
+by-size m n true e h less same = less (ltb-true m n e)
+by-size m n false e h less same = same (omega (arith, ltb-false m n e))
+
+module _ (t : Tables) (settings : Settings) where
+  first-here : (s : List Bool) (xs : List (List Bool)) → length s ≡ pairs t → Open t settings s → FirstIn t settings (s ∷ xs) 0
+  first-here s xs w o = record { before = []; here = s; after = xs; order = refl; stretch = none; whole = w; is-open = o }
+
+  first-behind :
+      (s : List Bool) (xs : List (List Bool)) (m n : ℕ) (f : FirstIn t settings xs n) → Stretch t settings (s ∷ f .before) m
+      → FirstIn t settings (s ∷ xs) m
+  first-behind s xs m n f x =
+      record {
+        before = s ∷ f .before;
+        here = f .here;
+        after = f .after;
+        order = ap (λ (z : List (List Bool)). s ∷ z) (f .order);
+        stretch = x;
+        whole = f .whole;
+        is-open = f .is-open;
+      }
+
+  ends :
+      (xs : List (List Bool)) → ((x : List Bool) → List·Memᴰ x xs → length x ≤ pairs t) → ((n : ℕ) → Stretch t settings xs n → ⊥)
+      → ((n : ℕ) → FirstIn t settings xs n → ⊥) → ⊥
+  ends [] short k l = k 0 none
+  ends (s ∷ xs) short k l =
+      let size = by-size (length s) (pairs t) (ltb (length s) (pairs t)) refl (short s (List·Memᴰ·head refl)) in
+      ends xs (λ x m. short x (List·Memᴰ·tail m))
+      (λ n x.
+      let is-shut : Open t settings s → ⊥ = λ o. size (λ less. k (suc n) (opened s xs n less o x)) (λ w. l 0 (first-here s xs w o)) in
+      k n (shut s xs n is-shut x))
+      (λ n f.
+      let is-shut : Open t settings s → ⊥ =
+      λ o. size (λ less. l (suc n) (first-behind s xs (suc n) n f (opened s _ n less o (f .stretch)))) (λ w. l 0 (first-here s xs w o)) in
+      l n (first-behind s xs n n f (shut s _ n is-shut (f .stretch))))
+
+  pub count-exists : ((n : ℕ) → CountOf t settings n → ⊥) → ⊥
+  unfolding allPartials
+  count-exists k =
+      ends (allPartials t) (λ x m. omega (arith, partials-short (pairs t) [] x m)) (λ n x. k n (unanswered n x))
+      (λ n f.
+      k (suc n)
+      (answered n (f .here)
+      (record { before = f .before; after = f .after; order = f .order; stretch = f .stretch; whole = f .whole; is-open = f .is-open })))

@@ -1,5 +1,5 @@
 -- The order of the partial choices: stretches of it, and what comes behind a partial choice and all that extends it.
-use Prim.Native.Nat.{ℕ, zero, suc, _+_, _<_}
+use Prim.Native.Nat.{ℕ, zero, suc, _+_, _<_, _≤_}
 use mathlib.Core.Path.{_≡_, refl, sym, ap, ap₂, _∙_, subst}
 use mathlib.Core.List.{List, [], _∷_, _++_, append-assoc, append-nil, List·Memᴰ, List·Memᴰ·head, List·Memᴰ·tail, List·Memᴰ·cases-cons, List·Memᴰ·append-cases, List·Memᴰ·eq-of-singleton, Memᴰ·append-left, Memᴰ·append-right}
 use mathlib.Core.Bool.{Bool, true, false, false≢true, true≢false}
@@ -151,6 +151,17 @@ partials-extend (suc r) s x rest p h l =
     (λ m.
     ⊎-elim (λ a. partials-extend r (false ∷ s) x rest p a (omega arith) ∙ settled-other false s rest p (λ e. omega arith))
     (λ a. partials-extend r (true ∷ s) x rest p a (omega arith) ∙ settled-other true s rest p (λ e. omega arith))
+    (List·Memᴰ·append-cases (partials r (false ∷ s)) m))
+    (List·Memᴰ·cases-cons h)
+
+-- none settles more than all pairs
+pub partials-short : (r : ℕ) (s x : List Bool) → List·Memᴰ x (partials r s) → length x ≤ length s + r
+unfolding partials
+partials-short zero s x h = omega (arith, ap length (List·Memᴰ·eq-of-singleton h))
+partials-short (suc r) s x h =
+    ⊎-elim (λ e. omega (arith, ap length e))
+    (λ m.
+    ⊎-elim (λ a. omega (arith, partials-short r (false ∷ s) x a)) (λ a. omega (arith, partials-short r (true ∷ s) x a))
     (List·Memᴰ·append-cases (partials r (false ∷ s)) m))
     (List·Memᴰ·cases-cons h)
 

@@ -1,5 +1,5 @@
 -- The count of decisions (02, A.4): the open partial choices up to and including the answer, or all of them when nothing fills the card.
-use Prim.Native.Nat.{ℕ, suc, _<_}
+use Prim.Native.Nat.{ℕ, suc, _<_, _≤_}
 use mathlib.Core.Path.{_≡_}
 use mathlib.Core.List.{List, [], _∷_, _++_}
 use mathlib.Core.Bool.{Bool}
@@ -28,6 +28,11 @@ pub record Answered (t : Tables) (settings : Settings) (n : ℕ) (s : List Bool)
 pub data CountOf (t : Tables) (settings : Settings) : ℕ → Type 0 where
   answered : (n : ℕ) (s : List Bool) → Answered t settings n s → CountOf t settings (suc n)
   unanswered : (n : ℕ) → Stretch t settings (allPartials t) n → CountOf t settings n
+
+-- This is the count, and it is no more than the allowance.
+pub record Counts (t : Tables) (settings : Settings) (allowance count : ℕ) : Type 0 where
+  pub counted : CountOf t settings count
+  pub enough : count ≤ allowance
 
 -- The count is over so many: there is one more open before or at the answer.
 pub record Exceeds (t : Tables) (settings : Settings) (allowance : ℕ) : Type 0 where

@@ -1,5 +1,5 @@
 -- Finding an assignment on an allowance (02, A.4): the first finder's answer and the count, or the allowance is spent.
-use Prim.Native.Nat.{ℕ, _≤_}
+use Prim.Native.Nat.{ℕ}
 use mathlib.Core.Path.{_≡_}
 use mathlib.Core.List.{List}
 use mathlib.Core.Logic.{_⊎_}
@@ -15,7 +15,7 @@ use Rattle.matching.specs.declared.find.Match.{Match}
 use Rattle.matching.specs.declared.find.Match.the-variants.{Filled, Rejected}
 use Rattle.allowance.specs.declared.find.Counted.{Counted}
 use Rattle.matching.specs.Within.{withinFault, FilledWithin, NoneWithin}
-use Rattle.allowance.specs.Count.{CountOf, Exceeds}
+use Rattle.allowance.specs.Count.{Counts, Exceeds}
 
 -- A refusal that comes with a count.
 abbrev pub replyCounted : Refusal → ℕ → Reply
@@ -28,11 +28,6 @@ replyBy (Rejected r) count = replyCounted r count
 
 abbrev pub countedReply : Counted → Reply
 countedReply counted = replyBy (counted .answer) (counted .count)
-
--- Within the allowance, the count with the answer of the finder without one.
-pub record Counts (t : Tables) (settings : Settings) (allowance count : ℕ) : Type 0 where
-  pub counted : CountOf t settings count
-  pub enough : count ≤ allowance
 
 -- The count is over the allowance; nothing is written.
 pub record Spends (t : Tables) (settings : Settings) (allowance : ℕ) (before after : List ℕ) : Type 0 where

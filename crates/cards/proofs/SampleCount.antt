@@ -9,18 +9,14 @@ use Rattle.subsumption.specs.declared.refusal.Outcome.the-variants.{Done}
 use Rattle.subsumption.specs.Tables.{both}
 use Rattle.subsumption.specs.Atoms.{bit}
 use Rattle.subsumption.specs.Check.{assignmentFault}
-use Rattle.settings.specs.Settings.{Settings, settings, Unrestricted}
+use Rattle.settings.specs.Settings.{Unrestricted}
 use Rattle.matching.proofs.WithinLaws.{heeds-all}
 use Rattle.allowance.specs.Partial.{pairs, Completed, Open, partials, allPartials}
 use Rattle.allowance.specs.Count.{Stretch, none, opened, shut, CountOf, answered, Exceeds}
 use Rattle.allowance.proofs.PartialLaws.{upTo, takenAt, read-completed, whole-solves, whole-open, open-back}
-use Rattle.cards.specs.Samples.{Holds, card, D, G, H, notBelow, parts, filling, house, questions, cards}
+use Rattle.cards.specs.Samples.{Holds, card, D, G, H, notBelow, parts, filling, house, questions, cards, free}
 use Rattle.cards.proofs.SampleLaws.{allBelow, allBelow-at}
 use Rattle.cards.proofs.SampleCards.{every-card}
-
--- every atom is permitted, and 64 of them
-abbrev pub free : Settings
-free = settings (7 ∷ []) (64 ∷ [])
 
 card-d : Holds (card D (house questions) (notBelow (0 ∷ []) 5 3))
 unfolding cards

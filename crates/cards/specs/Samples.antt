@@ -7,6 +7,7 @@ use Rattle.subsumption.specs.Tables.{Tables, tables}
 use Rattle.subsumption.specs.Atoms.{atoms}
 use Rattle.subsumption.specs.Subsumption.{Subsumed}
 use Rattle.subsumption.specs.Check.{tableFault, assignmentFault}
+use Rattle.settings.specs.Settings.{Settings, settings}
 use Rattle.matching.specs.Solving.{Substitution, SolvesBy, First}
 
 -- What a card says of its tables: a pair is below under every accepted assignment, or under none; it is below under one assignment, or is
@@ -75,3 +76,7 @@ cards =
     ∷ card K looped (alwaysBelow 0 2)
     ∷ card L looped (neverBelow 1 0)
     ∷ []
+
+-- Settings of the sample problem that permit every atom, and 64 of them (02, A.4: its count is 4).
+abbrev pub free : Settings
+free = settings (7 ∷ []) (64 ∷ [])
