@@ -232,15 +232,19 @@ fn what_is_not_said() {
     assert_eq!((atoms::list(&older), atoms::list(&newer)), (vec![1], vec![0, 1]));
     assert_eq!((any(&older), any(&newer)), (Some(vec![1]), Some(vec![2])));
     assert_eq!(with_ids_kept(&older, &newer, &[1]), [2]);
-    // with the new position barred the filling moves to another id, and with both it is gone
-    assert_eq!(within(&newer, &Settings::new(&[1], &[64])), Some(vec![1]));
-    assert_eq!(within(&newer, &Settings::new(&[0], &[64])), None);
-    // a smaller largest count takes it away too
+    // with parts barred an inclusion may empty a card: position 0 was id 1, and is id 0 once an inclusion names it
+    let first = Settings::new(&[1], &[64]);
+    let named = Tables::new(&rows, &[[0, 0]], &[[2, 1]], 1);
+    assert_eq!(atoms::list(&named), [0, 1]);
+    assert_eq!((within(&older, &first), within(&named, &first)), (Some(vec![1]), None));
+    // a smaller largest count takes the filling away too
     assert_eq!(within(&newer, &Settings::new(&[3], &[0])), None);
-    // a question that brings a part can move the filling earlier in the numbers, since positions move
-    let asked = Tables::new(&rows, &[], &[[2, 1], [2, 0]], 1);
-    assert_eq!((atoms::list(&asked), any(&asked)), (vec![0, 1], Some(vec![3])));
-    let later = Tables::new(&rows, &[[0, 1]], &[[2, 1], [2, 0]], 1);
-    assert_eq!(any(&later), Some(vec![1]));
+    // a question that brings a part gives the others new positions, and so can move the filling either way
+    let brought = Tables::new(&rows, &[], &[[2, 1], [0, 0]], 1);
+    assert_eq!((atoms::list(&brought), any(&brought)), (vec![0, 1], Some(vec![2])));
+    assert!(!no_later(&any(&older).expect("filled"), &any(&brought).expect("filled")));
+    let both = Tables::new(&rows, &[], &[[2, 1], [2, 0]], 1);
+    assert_eq!((atoms::list(&both), any(&both)), (vec![0, 1], Some(vec![3])));
+    assert!(no_later(&any(&older).expect("filled"), &any(&both).expect("filled")));
     assert!(no_later(&[2], &[1]) && !no_later(&[1], &[2]) && no_later(&[1], &[1]));
 }
