@@ -4,6 +4,7 @@
 //! tells the definitions that are reached from those that only private contracts use.
 
 use std::collections::{BTreeMap, BTreeSet};
+use std::ffi::OsStr;
 use std::fs;
 use std::path::{Path, PathBuf};
 
@@ -100,12 +101,12 @@ fn files(folder: &Path, extension: &str) -> Vec<PathBuf> {
     let mut found = Vec::new();
     let mut open = vec![folder.to_path_buf()];
     while let Some(at) = open.pop() {
-        let Ok(entries) = fs::read_dir(&at) else { continue };
-        for entry in entries {
+        // a folder that is not there has no files
+        for entry in fs::read_dir(&at).into_iter().flatten() {
             let path = entry.expect("an entry of a folder").path();
             if path.is_dir() {
                 open.push(path);
-            } else if path.extension().is_some_and(|of| of == extension) {
+            } else if path.extension() == Some(OsStr::new(extension)) {
                 found.push(path);
             }
         }
@@ -151,9 +152,14 @@ fn imports(text: &str) -> Imports {
     let mut found = Imports::new();
     for line in text.lines() {
         let line = line.trim_start_matches("ghost ").trim_end_matches(';');
-        let Some(rest) = line.strip_prefix("use ") else { continue };
-        let Some((path, names)) = rest.split_once(".{") else { continue };
-        let Some((of, module)) = spec_module(path) else { continue };
+        let (path, names) = match line.strip_prefix("use ").and_then(|rest| rest.split_once(".{")) {
+            Some(parts) => parts,
+            None => continue,
+        };
+        let (of, module) = match spec_module(path) {
+            Some(found) => found,
+            None => continue,
+        };
         for part in names.trim_end_matches('}').split(", ") {
             let (name, local) = part.split_once(" as ").unwrap_or((part, part));
             let to = Name { of: of.clone(), module: module.clone(), name: name.to_string() };
@@ -178,7 +184,7 @@ fn constructors(line: &str) -> Vec<String> {
             return vec![name.trim().to_string()];
         }
     }
-    let Some((names, _)) = line.split_once(" : ") else { return Vec::new() };
+    let names = line.split_once(" : ").map_or("", |(names, _)| names);
     names.split_whitespace().map(str::to_string).collect()
 }
 
@@ -247,7 +253,8 @@ fn operations(of: &str) -> Vec<(String, String)> {
         .filter(|(program, _, _)| *program == of)
         .map(|(_, module, name)| (module.to_string(), name.to_string()))
         .collect();
-    let Ok(lib) = fs::read_to_string(src.join("lib.rt")) else { return found };
+    // a program has none
+    let lib = fs::read_to_string(src.join("lib.rt")).unwrap_or_default();
     if lib.contains("pub extern \"C\" fn") {
         found.push(("lib".to_string(), String::new()));
     }
@@ -381,7 +388,7 @@ pub fn lines_to_believe() -> usize {
         .iter()
         .flat_map(|of| files(&crates_dir().join(of).join("specs"), "antt"))
         .filter(|path| !path.to_string_lossy().contains("/Inner"))
-        .filter(|path| path.file_name().is_some_and(|name| name != "Lib.antt"))
+        .filter(|path| path.file_name() != Some(OsStr::new("Lib.antt")))
         .map(|path| lines(&path))
         .sum()
 }

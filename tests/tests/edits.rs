@@ -120,8 +120,9 @@ fn an_inclusion_turns_no_yes_into_a_no() {
         for k in 0..(cases(size) / share).max(1) {
             let mut random = Random::for_case(seed, k);
             let older = generate::valid(&mut random, size);
-            let Some(newer) = more_inclusions(&mut random, &older) else {
-                continue;
+            let newer = match more_inclusions(&mut random, &older) {
+                Some(newer) => newer,
+                None => continue,
             };
             let assignment = generate::assignment(&mut random, &older);
             let kept = with_ids_kept(&older, &newer, &assignment);
@@ -152,8 +153,9 @@ fn an_inclusion_leaves_a_filled_card_filled() {
         for k in 0..(cases(size) / share).max(1) {
             let mut random = Random::for_case(seed, k);
             let older = card(&mut random, size);
-            let Some(newer) = more_inclusions(&mut random, &older) else {
-                continue;
+            let newer = match more_inclusions(&mut random, &older) {
+                Some(newer) => newer,
+                None => continue,
             };
             // before, parts may be barred; after, none is
             let mut settings = generate::settings(&mut random, &older);
@@ -184,8 +186,9 @@ fn a_question_moves_the_filling_later() {
         for k in 0..(cases(size) / share).max(1) {
             let mut random = Random::for_case(seed, k);
             let older = card(&mut random, size);
-            let Some(newer) = more_questions(&mut random, &older) else {
-                continue;
+            let newer = match more_questions(&mut random, &older) {
+                Some(newer) => newer,
+                None => continue,
             };
             let settings = generate::settings(&mut random, &older);
             let answers = [

@@ -192,8 +192,9 @@ fn one_unsolvable_group() {
     let mut tally = Tally::new("group, unsolvable");
     let hard = [hard::puzzles(seed), hard::with_harmless(60), hard::at_the_limits(seed)];
     for (tables, known) in hard.iter().flatten().map(|hard| (&hard.tables, &hard.known)) {
-        let Some((card, easy)) = hard::with_easy_card(tables) else {
-            continue;
+        let (card, easy) = match hard::with_easy_card(tables) {
+            Some(with) => with,
+            None => continue,
         };
         let settings = Settings::open(&card);
         let mut due = vec![0; usize::from(card.variables)];

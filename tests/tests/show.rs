@@ -244,7 +244,10 @@ fn what_is_shown_refutes_the_pair() {
         tally.case();
         let pair = failing_pair(&mut random, &tables, &assignment);
         tally.note("all pairs hold", pair.is_none());
-        let Some(pair) = pair else { continue };
+        let pair = match pair {
+            Some(pair) => pair,
+            None => continue,
+        };
         let stock = shown(&tables, &assignment, pair);
         let rows: Vec<[u16; 4]> = stock.split().collect();
         assert!(rows.windows(2).all(|two| two[0] < two[1]), "{:?} of\n{}", rows, tables);
