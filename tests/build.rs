@@ -1,21 +1,7 @@
-//! Links the proved library. Nothing checks the declarations of src/capi.rs against it but the tests.
-
-use std::env;
-use std::path::PathBuf;
+//! Where the proved library is, for the tests that look into it or link it to C.
 
 fn main() {
-    let package = env::var("CARGO_MANIFEST_DIR").expect("cargo sets CARGO_MANIFEST_DIR");
-    let mut folder = PathBuf::from(package);
-    folder.pop();
-    folder.extend(["target", "staticlib"]);
-    let archive = folder.join("libcapi.a");
-
-    println!("cargo:rerun-if-changed={}", archive.display());
-    if !archive.is_file() {
-        eprintln!("{} is missing: run `rt staticlib capi` first", archive.display());
-        std::process::exit(1);
-    }
-    println!("cargo:rustc-link-search=native={}", folder.display());
-    println!("cargo:rustc-link-lib=static=capi");
-    println!("cargo:rustc-env=HC_ARCHIVE={}", archive.display());
+    let archive = std::env::var("DEP_CAPI_ARCHIVE").expect("the crate hermitcasket tells it");
+    println!("cargo:rerun-if-changed={}", archive);
+    println!("cargo:rustc-env=HC_ARCHIVE={}", archive);
 }

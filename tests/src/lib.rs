@@ -3,7 +3,6 @@
 
 pub mod believed;
 pub mod builder;
-pub mod capi;
 pub mod compare;
 pub mod damage;
 pub mod families;
@@ -29,3 +28,6 @@ pub mod shift;
 pub mod substitution;
 pub mod tables;
 pub mod tally;
+
+/// The library's functions, by the safe crate.
+pub use hermitcasket::raw as capi;

@@ -17,15 +17,8 @@ pub struct Tables {
     pub variables: u16,
 }
 
-/// Lent tables: what one call of the C interface takes.
-#[derive(Clone, Copy)]
-pub struct TablesRef<'a> {
-    pub concepts: &'a [u16],
-    pub inclusions: &'a [u16],
-    pub questions: &'a [u16],
-    pub roles: &'a [u16],
-    pub variables: u16,
-}
+/// Lent tables: what one call takes.
+pub use hermitcasket::Tables as TablesRef;
 
 /// One row of an accepted concept table. 01: top, name, "some", "and", blank.
 #[derive(Clone, Copy, Debug, PartialEq, Eq)]
