@@ -128,6 +128,8 @@
  *   3       inner id not smaller                               id
  *   4       a pair's id is no entry                            inclusions then questions counted
  *                                                              through; a pair given alone 0
+ *           an id given alone is no entry, the place of a      0
+ *           question given alone is none
  *           of a stock: the asked entry is none; the thing     0; 1
  *           is one that the stock lacks
  *   5       blank in an inclusion                              inclusion
@@ -172,6 +174,63 @@
 extern "C" {
 #endif
 
+/* Limits; what is over one is refused. */
+#define HC_MAX_ENTRIES 192
+#define HC_MAX_INCLUSIONS 96
+#define HC_MAX_QUESTIONS 32
+#define HC_MAX_ROLE_PAIRS 32
+#define HC_MAX_BLANKS 8
+#define HC_MAX_NAME 999
+#define HC_MAX_ROLE 99
+#define HC_MAX_PARTS 64
+#define HC_MAX_COUNT 64         /* of the largest counts in settings */
+#define HC_MAX_THINGS 192       /* of a given stock */
+#define HC_MAX_CARDS 8          /* question tables of hc_match_cards */
+#define HC_MAX_SHARE 1000000    /* decisions that one of them may be given */
+#define HC_MAX_TEXT 8192        /* bytes of a catalogue in OWL functional syntax */
+#define HC_MAX_DEPTH 32         /* of a class in it */
+
+/* What output buffers want, however little is written: a filling one number a blank; the others this.
+ * How many numbers the rows of a stock are depends on the tables: hc_show tells it as the place of
+ * refusal 8. */
+#define HC_PARTS_ROOM 64                                           /* numbers, hc_atoms */
+#define HC_CHOSEN_ROOM 64                                          /* numbers, hc_chosen */
+#define HC_ROW_BYTES 24                                            /* bytes of a row of the below table */
+#define HC_TABLE_ROOM(entries) (HC_ROW_BYTES * (size_t)(entries))  /* bytes, hc_subsumption_table */
+#define HC_LINES_ROOM(entries) (4 * (size_t)(entries) * (entries)) /* numbers, hc_derive */
+#define HC_CATALOGUE_ENTRIES 576                                   /* numbers, hc_read_owl */
+#define HC_CATALOGUE_INCLUSIONS 192                                /* numbers, hc_read_owl */
+
+/* Bytes of stack with which every call gets by. */
+#define HC_STACK 1114112
+
+/* The refusals' numbers, as in the table above. */
+enum hc_refusal {
+    HC_DONE = 0,
+    HC_LIMIT = 1,
+    HC_MALFORMED = 2,
+    HC_FORWARD_ID = 3,
+    HC_NO_ENTRY = 4,
+    HC_BLANK_IN_INCLUSION = 5,
+    HC_BLANKS_ON_BOTH_SIDES = 6,
+    HC_TOO_MANY_PARTS = 7,
+    HC_BUFFER_TOO_SHORT = 8,
+    HC_BAD_FILLING = 9,
+    HC_NO_FILLING = 10,
+    HC_NOT_BELOW = 11,
+    HC_BAD_DERIVATION = 12,
+    HC_BAD_TEXT = 13, /* of house text: the program's, no function gives it */
+    HC_ALLOWANCE_SPENT = 14,
+    HC_NOTHING_TO_SHOW = 15,
+    HC_BAD_ROLE = 16,
+    HC_BAD_SYNTAX = 17,
+    HC_TOO_DEEP = 18,
+    HC_BAD_SETTINGS = 19,
+    HC_BAD_CARDS = 20,
+    HC_BAD_ORDER = 21,
+    HC_FORWARD_IN_ORDER = 22
+};
+
 /* number 0: done, and place is 0. Otherwise the refusal, and value is 0, but for the count that
  * hc_match_counted gives. */
 typedef struct {
@@ -196,9 +255,9 @@ typedef struct {
     uint16_t number;
     uint64_t place;
     uint64_t left;
-    uint16_t numbers[8];
-    uint64_t places[8];
-    uint32_t counts[8];
+    uint16_t numbers[HC_MAX_CARDS];
+    uint64_t places[HC_MAX_CARDS];
+    uint32_t counts[HC_MAX_CARDS];
 } hc_cards;
 
 /* Checks the tables. value: 0. */

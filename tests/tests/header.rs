@@ -226,15 +226,15 @@ fn run(command: &mut Command) -> Output {
     output
 }
 
-/// Compiles c/smoke.c with these words and runs it.
-fn smoke(label: &str, words: &[&str]) -> String {
+/// Compiles a file of the repository with these words, links it and runs it.
+fn compiled(source: &str, label: &str, words: &[&str]) -> String {
     let package = Path::new(env!("CARGO_MANIFEST_DIR"));
     let program = PathBuf::from(env!("CARGO_TARGET_TMPDIR")).join(label);
     run(Command::new("cc")
         .args(["-Wall", "-Wextra", "-Wpedantic", "-Werror", "-I"])
         .arg(package.join("../include"))
         .args(words)
-        .arg(package.join("c/smoke.c"))
+        .arg(package.join("..").join(source))
         .args(["-x", "none"])
         .arg(env!("HC_ARCHIVE"))
         .arg("-o")
@@ -244,12 +244,20 @@ fn smoke(label: &str, words: &[&str]) -> String {
 
 #[test]
 fn a_c_program_gets_the_same_answers() {
-    assert_eq!(smoke("smoke_c", &["-std=c99"]), EXPECTED);
+    assert_eq!(compiled("tests/c/smoke.c", "smoke_c", &["-std=c99"]), EXPECTED);
 }
 
 #[test]
 fn a_cpp_program_gets_the_same_answers() {
-    assert_eq!(smoke("smoke_cpp", &["-x", "c++", "-std=c++11"]), EXPECTED);
+    assert_eq!(compiled("tests/c/smoke.c", "smoke_cpp", &["-x", "c++", "-std=c++11"]), EXPECTED);
+}
+
+/// examples/card.c as its first lines say.
+#[test]
+fn the_example_prints_its_lines() {
+    let lines = include_str!("../../examples/card.lines");
+    assert_eq!(compiled("examples/card.c", "card_c", &["-std=c99"]), lines);
+    assert_eq!(compiled("examples/card.c", "card_cpp", &["-x", "c++", "-std=c++11"]), lines);
 }
 
 /// The header alone is enough, whatever is included before or after it, and once is as good as twice.
