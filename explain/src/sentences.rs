@@ -1,0 +1,150 @@
+//! A derivation as indented sentences: the asked pair first, and under each pair what it rests on.
+
+use std::collections::{HashMap, HashSet};
+
+use hermitcasket::Result;
+
+use crate::words::Card;
+
+type Pair = (u16, u16);
+
+/// What the left is below and why, in words, and the pairs that this rests on.
+fn reason(card: &Card, [rule, left, right, extra]: [u16; 4]) -> Result<(String, Vec<Pair>)> {
+    let (row, other) = (card.row(left), card.row(right));
+    let to = card.quoted(right);
+    Ok(match rule {
+        1 if left == right => ("itself".into(), vec![]),
+        1 => (format!("{}, since it is the same name", to), vec![]),
+        2 => (to, vec![]),
+        3 => {
+            let (place, member) = [("first", row[1]), ("second", row[2])][usize::from(extra)];
+            (format!("{}, since its {} member is", to, place), vec![(member, right)])
+        }
+        4 => {
+            let said = format!("{}, since it is below both members", to);
+            (said, vec![(left, other[1]), (left, other[2])])
+        }
+        5 if row[1] == other[1] => {
+            (format!("{}, since what is inside is", to), vec![(row[2], other[2])])
+        }
+        5 => {
+            let (narrow, wide) = (card.legend.role(row[1]), card.legend.role(other[1]));
+            let said = format!("{}, since \"{}\" counts as \"{}\"", to, narrow, wide);
+            (said, vec![(row[2], other[2])])
+        }
+        6 => (by_inclusion(card, (left, right), extra), {
+            let (from, to) = card.inclusion(extra);
+            vec![(left, from), (to, right)]
+        }),
+        7 => {
+            let said = format!("{}, since it is filled with {}", to, card.quoted(extra));
+            (said, vec![(extra, right)])
+        }
+        _ => match card.chosen(other[1])? {
+            chosen if chosen.is_empty() => (format!("{}, which is left empty", to), vec![]),
+            chosen => {
+                let said = format!("{}, which is filled with \"{}\"", to, card.entries(&chosen));
+                (said, chosen.into_iter().map(|atom| (left, atom)).collect())
+            }
+        },
+    })
+}
+
+/// The inclusion is written out where it says more than the pair.
+fn by_inclusion(card: &Card, pair: Pair, place: u16) -> String {
+    let (from, to) = card.inclusion(place);
+    let said = format!("{} by inclusion {}", card.quoted(pair.1), place);
+    match pair == (from, to) {
+        true => said,
+        false => format!("{}, {} is below {}", said, card.quoted(from), card.quoted(to)),
+    }
+}
+
+/// The sentences of an accepted derivation. A pair that was shown is not shown again, and that an entry is below
+/// itself goes without saying where something else rests on it.
+pub fn sentences(card: &Card, lines: &[[u16; 4]]) -> Result<String> {
+    let mut by_pair: HashMap<Pair, [u16; 4]> = HashMap::new();
+    for line in lines {
+        // of two lines of one pair the first one, whose premises are all before it
+        by_pair.entry((line[1], line[2])).or_insert(*line);
+    }
+    let mut told: HashSet<Pair> = HashSet::new();
+    let mut said = String::new();
+    let mut open: Vec<(usize, Pair)> =
+        lines.last().map(|line| (0, (line[1], line[2]))).into_iter().collect();
+    while let Some((depth, pair)) = open.pop() {
+        let (words, mut premises) = reason(card, by_pair[&pair])?;
+        premises.retain(|(left, right)| left != right);
+        let again = !told.insert(pair) && !premises.is_empty();
+        let mark = if again { " (shown above)" } else { "" };
+        said +=
+            &format!("{}{} is below {}{}\n", "  ".repeat(depth), card.quoted(pair.0), words, mark);
+        if !again {
+            open.extend(premises.into_iter().rev().map(|premise| (depth + 1, premise)));
+        }
+    }
+    Ok(said)
+}
+
+#[cfg(test)]
+mod tests {
+    use super::sentences;
+    use crate::words::{Card, Legend};
+    use hermitcasket::OwnedTables;
+
+    /// 0 rye, 1 bread, 2 anything, 3 contains rye, 4 holds rye, 5 rye and bread, 6 blank 0, 7 blank 1, 8 rye again. Rye is
+    /// bread, "contains" is a way of "holds", blank 0 is filled with rye and contains rye.
+    fn told(left: u16, right: u16) -> String {
+        let concepts =
+            vec![1, 1, 0, 1, 2, 0, 0, 0, 0, 2, 1, 0, 2, 2, 0, 3, 0, 1, 4, 0, 0, 4, 1, 0, 1, 1, 0];
+        let inclusions = vec![0, 1, 3, 3];
+        let tables = OwnedTables {
+            concepts,
+            inclusions,
+            roles: vec![1, 2],
+            variables: 2,
+            questions: vec![],
+        };
+        let words = "name 1 rye\nname 2 bread\nrole 1 contains\nrole 2 holds\n";
+        let legend = Legend::read(words).expect("a legend");
+        let card = Card { tables: &tables, assignment: &[0b101, 0], legend: &legend };
+        let lines = tables.lend().derivation(card.assignment, left, right).expect("below");
+        sentences(&card, &lines).expect("told")
+    }
+
+    /// Rules 1 to 8, as the derivations of these pairs use them.
+    #[test]
+    fn each_rule_has_its_sentence() {
+        assert_eq!(told(0, 0), "\"rye\" is below itself\n");
+        assert_eq!(told(0, 8), "\"rye\" is below \"rye\", since it is the same name\n");
+        assert_eq!(told(0, 2), "\"rye\" is below \"anything\"\n");
+        assert_eq!(
+            told(5, 1),
+            "\"rye and bread\" is below \"bread\", since its second member is\n"
+        );
+        let both = "\"rye\" is below \"rye and bread\", since it is below both members\n  \
+                    \"rye\" is below \"bread\" by inclusion 0\n";
+        assert_eq!(told(0, 5), both);
+        let wide =
+            "\"contains rye\" is below \"holds rye\", since \"contains\" counts as \"holds\"\n";
+        assert_eq!(told(3, 4), wide);
+        assert_eq!(told(0, 1), "\"rye\" is below \"bread\" by inclusion 0\n");
+        let chosen = "\"blank 0\" is below \"rye\", since it is filled with \"rye\"\n";
+        assert_eq!(told(6, 0), chosen);
+        assert_eq!(told(6, 7), "\"blank 0\" is below \"blank 1\", which is left empty\n");
+    }
+
+    #[test]
+    fn what_was_shown_is_not_shown_again() {
+        // 3 both; 1 both; 0 rye, which is bread by an inclusion
+        let concepts = vec![1, 1, 0, 1, 2, 0, 2, 1, 0, 2, 1, 1, 3, 3, 3];
+        let tables = OwnedTables { concepts, inclusions: vec![0, 1], ..OwnedTables::default() };
+        let card = Card { tables: &tables, assignment: &[], legend: &Legend::default() };
+        let lines = tables.lend().derivation(&[], 2, 4).expect("below");
+        let due = "\"role 1 name 1\" is below \"(role 1 name 2) and (role 1 name 2)\", since it is below both members\n  \
+                   \"role 1 name 1\" is below \"role 1 name 2\", since what is inside is\n    \
+                   \"name 1\" is below \"name 2\" by inclusion 0\n  \
+                   \"role 1 name 1\" is below \"role 1 name 2\", since what is inside is (shown above)\n";
+        assert_eq!(sentences(&card, &lines).expect("told"), due);
+    }
+}

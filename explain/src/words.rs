@@ -1,0 +1,175 @@
+//! Words for names and roles, from a legend, and for whole entries.
+
+use std::collections::HashMap;
+
+use hermitcasket::{OwnedTables, Result};
+
+/// Entries with more names and blanks than this are called by their ids: written out, a card of nested "and" is as
+/// long as two to the number of its entries.
+const MOST: u64 = 12;
+
+/// Lines such as `name 14 butter roll` and `role 2 filled with`.
+#[derive(Default)]
+pub struct Legend {
+    words: HashMap<(String, u16), String>,
+}
+
+impl Legend {
+    pub fn read(text: &str) -> std::result::Result<Legend, String> {
+        let mut words = HashMap::new();
+        for (at, line) in text.lines().enumerate() {
+            let mut parts = line.splitn(3, ' ');
+            let kind = parts.next().filter(|kind| ["name", "role"].contains(kind));
+            let number = parts.next().and_then(|number| number.parse().ok());
+            match (kind, number, parts.next()) {
+                (Some(kind), Some(number), Some(word)) if !word.is_empty() => {
+                    words.insert((kind.to_string(), number), word.to_string());
+                }
+                _ => {
+                    return Err(format!(
+                        "line {} is `{}`, not such as `name 14 butter roll`",
+                        at + 1,
+                        line
+                    ))
+                }
+            }
+        }
+        Ok(Legend { words })
+    }
+
+    fn word(&self, kind: &str, number: u16) -> String {
+        let word = self.words.get(&(kind.to_string(), number));
+        word.cloned().unwrap_or_else(|| format!("{} {}", kind, number))
+    }
+
+    pub fn name(&self, number: u16) -> String {
+        self.word("name", number)
+    }
+
+    pub fn role(&self, number: u16) -> String {
+        self.word("role", number)
+    }
+}
+
+/// A card with an assignment, and words for it. The tables are accepted.
+pub struct Card<'a> {
+    pub tables: &'a OwnedTables,
+    pub assignment: &'a [u64],
+    pub legend: &'a Legend,
+}
+
+impl Card<'_> {
+    pub fn row(&self, id: u16) -> [u16; 3] {
+        let at = 3 * usize::from(id);
+        [self.tables.concepts[at], self.tables.concepts[at + 1], self.tables.concepts[at + 2]]
+    }
+
+    pub fn inclusion(&self, place: u16) -> (u16, u16) {
+        let at = 2 * usize::from(place);
+        (self.tables.inclusions[at], self.tables.inclusions[at + 1])
+    }
+
+    /// The ids that are chosen for a blank.
+    pub fn chosen(&self, blank: u16) -> Result<Vec<u16>> {
+        self.tables.lend().chosen(self.assignment, blank)
+    }
+
+    /// How many names, blanks and tops there are in each entry up to one, at most one more than `MOST`.
+    fn sizes(&self, id: u16) -> Vec<u64> {
+        let mut sizes: Vec<u64> = Vec::new();
+        for id in 0..=id {
+            let [kind, first, second] = self.row(id);
+            let size = match kind {
+                2 => sizes[usize::from(second)],
+                3 => sizes[usize::from(first)] + sizes[usize::from(second)],
+                _ => 1,
+            };
+            sizes.push(size.min(MOST + 1));
+        }
+        sizes
+    }
+
+    /// The entry in words.
+    pub fn entry(&self, id: u16) -> String {
+        if self.sizes(id)[usize::from(id)] > MOST {
+            return format!("entry {}", id);
+        }
+        match self.row(id) {
+            [1, name, _] => self.legend.name(name),
+            [2, role, inner] => format!("{} {}", self.legend.role(role), self.inner(inner)),
+            [3, first, second] => format!("{} and {}", self.inner(first), self.inner(second)),
+            [4, blank, _] => format!("blank {}", blank),
+            _ => "anything".to_string(),
+        }
+    }
+
+    pub fn quoted(&self, id: u16) -> String {
+        format!("\"{}\"", self.entry(id))
+    }
+
+    fn inner(&self, id: u16) -> String {
+        match self.row(id) {
+            [2 | 3, ..] => format!("({})", self.entry(id)),
+            _ => self.entry(id),
+        }
+    }
+
+    /// Several entries, or that there is none of them.
+    pub fn entries(&self, ids: &[u16]) -> String {
+        let words: Vec<String> = ids.iter().map(|&id| self.inner(id)).collect();
+        match ids {
+            [] => "anything".to_string(),
+            [one] => self.entry(*one),
+            _ => words.join(" and "),
+        }
+    }
+}
+
+#[cfg(test)]
+mod tests {
+    use super::{Card, Legend};
+    use hermitcasket::OwnedTables;
+
+    fn said(concepts: Vec<u16>, id: u16) -> String {
+        let tables = OwnedTables { concepts, variables: 1, ..OwnedTables::default() };
+        let legend = Legend::read("name 5 rye flour\nrole 1 contains\n").expect("a legend");
+        Card { tables: &tables, assignment: &[0], legend: &legend }.entry(id)
+    }
+
+    #[test]
+    fn entries_in_words() {
+        let concepts = vec![0, 0, 0, 1, 5, 0, 1, 6, 0, 2, 1, 1, 4, 0, 0, 3, 3, 4, 2, 2, 5];
+        let words = (0..7).map(|id| said(concepts.clone(), id)).collect::<Vec<_>>();
+        let due = [
+            "anything",
+            "rye flour",
+            "name 6",
+            "contains rye flour",
+            "blank 0",
+            "(contains rye flour) and blank 0",
+            "role 2 ((contains rye flour) and blank 0)",
+        ];
+        assert_eq!(words, due);
+    }
+
+    /// Nested "and" of each with itself: twice the names at every step.
+    #[test]
+    fn large_entries_are_called_by_their_ids() {
+        let mut concepts = vec![1, 5, 0];
+        for id in 0..191 {
+            concepts.extend([3, id, id]);
+        }
+        assert_eq!(said(concepts.clone(), 1), "rye flour and rye flour");
+        assert_eq!(said(concepts.clone(), 191), "entry 191");
+        assert_eq!(said(concepts, 4), "entry 4");
+    }
+
+    #[test]
+    fn a_legend_is_judged() {
+        assert!(Legend::read("").is_ok());
+        for line in ["name 5", "name five rye", "blank 5 rye", "name 5 "] {
+            let due = format!("line 1 is `{}`, not such as `name 14 butter roll`", line);
+            assert_eq!(Legend::read(line).err(), Some(due));
+        }
+    }
+}
