@@ -1,4 +1,5 @@
-//! What README.md and examples/README.md show is run: the C lines, the derivation, the cards.
+//! What README.md, the documents beside it and examples/README.md show is run: the lines of C and Rust, the derivation, the
+//! cards. explain/tests/explain.rs runs what README shows of explain.
 
 use std::fs;
 use std::path::{Path, PathBuf};
@@ -67,26 +68,18 @@ fn program(lines: &str) -> String {
     format!("{}\n#include <stdio.h>\nint main(void)\n{{\n{}}}\n", includes.join("\n"), body)
 }
 
-/// Each call of an operation is followed by a comment that says what is then so.
-#[test]
-fn the_c_lines_do_what_their_comments_say() {
-    let readme = read("README.md");
-    let is_c = |block: &String| block.contains(';');
-    let headings = [
-        "Linking it",
-        "Keeping the table during the shift",
-        "Renumbering before filing",
-        "Catalogues from suppliers",
-    ];
-    let shown = headings.iter().flat_map(|heading| blocks(section(&readme, heading)));
-    let lines: String = shown.filter(is_c).collect();
-    let calls = lines.matches(" = hc_").count();
-    let claims = lines.lines().filter_map(condition).count();
-    assert!(calls >= 4 && claims == calls, "{} calls, {} claims in\n{}", calls, claims, lines);
-
+/// Compiles lines of C as one program and runs it. Each call of an operation is followed by a comment that says what is
+/// then so. How many calls there are.
+fn run_c(label: &str, lines: &str) -> usize {
+    let lines_of_code: Vec<&str> = lines.lines().collect();
+    let calls = |line: &&&str| line.contains(" = hc_");
+    for (at, line) in lines_of_code.iter().enumerate().filter(|(_, line)| calls(line)) {
+        let next = lines_of_code.get(at + 1).copied().unwrap_or_default();
+        assert!(condition(next).is_some(), "nothing is said of {}", line);
+    }
     let folder = PathBuf::from(env!("CARGO_TARGET_TMPDIR"));
-    let (source, compiled) = (folder.join("readme.c"), folder.join("readme"));
-    fs::write(&source, program(&lines)).expect("a C file");
+    let (source, compiled) = (folder.join(format!("{}.c", label)), folder.join(label));
+    fs::write(&source, program(lines)).expect("a C file");
     run(Command::new("cc")
         .args(["-std=c99", "-Wall", "-Wextra", "-Wpedantic", "-Werror", "-I"])
         .arg(root().join("include"))
@@ -95,13 +88,67 @@ fn the_c_lines_do_what_their_comments_say() {
         .arg("-o")
         .arg(&compiled));
     run(&mut Command::new(&compiled));
+    lines_of_code.iter().filter(calls).count()
+}
+
+fn is_c(block: &String) -> bool {
+    block.contains(" = hc_") || block.contains("uint")
+}
+
+/// All lines of C of the guide make up one program; every function of the header is called in it.
+#[test]
+fn the_guide_does_what_its_comments_say() {
+    let guide = read("docs/GUIDE.md");
+    let lines: String = blocks(&guide).into_iter().filter(is_c).collect();
+    let calls = run_c("guide", &lines);
+    assert!(calls >= 40, "{} calls in\n{}", calls, lines);
+    let header = read("include/hermitcasket.h");
+    let names = header.lines().filter_map(|line| {
+        let words = line.strip_prefix("hc_")?.split_once(" hc_")?.1;
+        Some(format!("hc_{}", words.split('(').next()?))
+    });
+    let names: Vec<String> = names.collect();
+    assert_eq!(names.len(), 18, "{:?}", names);
+    for name in names {
+        assert!(lines.contains(&format!(" = {}(", name)), "the guide does not call {}", name);
+    }
+}
+
+/// README's way to C: the lines do what their comments say, and the command builds the example and prints its lines.
+#[test]
+fn readme_leads_to_c() {
+    let readme = read("README.md");
+    let shown = blocks(section(&readme, "From C"));
+    assert_eq!(run_c("readme", &shown[1]), 2);
+    let commands: Vec<&str> = shown[0].lines().collect();
+    assert_eq!((commands.len(), commands[0]), (2, "rt staticlib capi"));
+    let output = run(Command::new("bash").args(["-c", commands[1]]).current_dir(root()));
+    let printed = String::from_utf8(output.stdout).expect("plain text");
+    assert_eq!(printed, read("examples/card.lines"));
+}
+
+/// README's lines of Rust are those of the crate's documentation, which runs as a test.
+#[test]
+fn readme_leads_to_rust() {
+    let readme = read("README.md");
+    let shown = blocks(section(&readme, "From Rust"));
+    let shown = shown.into_iter().find(|block| block.starts_with("use hermitcasket"));
+    let source = read("rust/src/lib.rs");
+    let example = source.split("//! ```\n").nth(1).expect("an example");
+    let lines = example.lines().map(|line| line.trim_start_matches("//!"));
+    let lines = lines.map(|line| line.strip_prefix(' ').unwrap_or(line));
+    let due: String = lines
+        .filter(|line| !line.is_empty() && !line.starts_with("# "))
+        .map(|line| format!("{}\n", line))
+        .collect();
+    assert_eq!(shown.expect("lines of Rust"), due);
 }
 
 /// The lines of the section on derivations, under the choice that it names.
 #[test]
 fn the_derivation_is_accepted() {
-    let readme = read("README.md");
-    let shown = blocks(section(&readme, "Derivations")).concat();
+    let formats = read("docs/FORMATS.md");
+    let shown = blocks(section(&formats, "Derivations")).concat();
     let first_four = |line: &str| {
         let words = line.split_whitespace().take(4);
         words.map(|word| word.parse().ok()).collect::<Option<Vec<u16>>>()
@@ -114,47 +161,89 @@ fn the_derivation_is_accepted() {
     assert_eq!(answer, Answer::done(0), "{}", shown);
 }
 
-/// What a line of the shell prints at the top folder.
-fn printed(line: &str, program: &str) -> String {
+/// What a line of the shell prints at the top folder, and its exit status.
+fn printed(line: &str, program: &str) -> (String, Option<i32>) {
     let missing = format!("target/bin/{0} is missing: run rt check {0} first", program);
     assert!(root().join("target/bin").join(program).is_file(), "{}", missing);
-    let output = run(Command::new("bash").args(["-c", line]).current_dir(root()));
-    String::from_utf8(output.stdout).expect("plain text")
+    let output =
+        Command::new("bash").args(["-c", line]).current_dir(root()).output().expect("bash");
+    (String::from_utf8(output.stdout).expect("plain text"), output.status.code())
 }
 
-/// What ./run prints for a card.
+/// What ./run prints for a card; its status says which kind of answer that is.
 fn answer(card: &str) -> String {
-    printed(&format!("./run < examples/{}", card), "hermitcasket")
+    let (answer, status) = printed(&format!("./run < examples/{}", card), "hermitcasket");
+    let first = answer.lines().next().unwrap_or_default();
+    let due = match first.split('=').collect::<Vec<&str>>()[..] {
+        ["answer", "filled"] | ["things", _] => 0,
+        ["answer", "none"] => 1,
+        ["answer", "refused"] => 2,
+        _ => 3,
+    };
+    assert_eq!(status, Some(due), "{}", answer);
+    answer
 }
 
 /// The house text of a catalogue.
 fn house_text(catalogue: &str) -> String {
     let line = format!("target/bin/hermitcasket_owl < examples/{}", catalogue);
-    printed(&line, "hermitcasket_owl")
+    printed(&line, "hermitcasket_owl").0
 }
 
-/// README's command prints what stands below it.
+/// README's commands print what stands below them.
 #[test]
-fn the_command_prints_what_is_shown() {
+fn the_commands_print_what_is_shown() {
     let readme = read("README.md");
-    let shown = blocks(section(&readme, "Run"));
-    assert_eq!(shown.len(), 2, "{:?}", shown);
-    let card = shown[0].trim().strip_prefix("./run < examples/").expect("a command with a card");
-    assert_eq!(answer(card), shown[1]);
+    for (heading, due) in [("Two commands", "answer=filled"), ("A none, believed", "answer=none")] {
+        let shown = blocks(section(&readme, heading));
+        let card =
+            shown[0].trim().strip_prefix("./run < examples/").expect("a command with a card");
+        assert_eq!(answer(card), shown[1]);
+        assert!(shown[1].starts_with(due), "{}", shown[1]);
+    }
+    legend("brioche.txt", section(&readme, "A card, answered"));
 }
 
-/// The supplier's catalogue stands in README as it is in its file, and the command prints what stands
+/// What README and the other documents lead to is there.
+#[test]
+fn links_lead_somewhere() {
+    let mut count = 0;
+    for document in
+        ["README.md", "examples/README.md", "docs/GUIDE.md", "docs/FORMATS.md", "docs/LAYOUT.md"]
+    {
+        let text = read(document);
+        let folder = root().join(Path::new(document).parent().expect("a folder"));
+        for target in text.split("](").skip(1).filter_map(|rest| rest.split(')').next()) {
+            let (path, heading) = target.split_once('#').unwrap_or((target, ""));
+            let file = if path.is_empty() { root().join(document) } else { folder.join(path) };
+            assert!(file.exists(), "{} leads to {}", document, target);
+            if !heading.is_empty() {
+                let there = fs::read_to_string(&file).expect("a document");
+                let anchor = |title: &str| -> String {
+                    let kept = title.to_lowercase().replace(' ', "-");
+                    kept.chars().filter(|&c| c.is_alphanumeric() || c == '-').collect()
+                };
+                let found = sections(&there).iter().any(|(title, _)| anchor(title) == heading);
+                assert!(found, "{} leads to {}", document, target);
+            }
+            count += 1;
+        }
+    }
+    assert!(count > 30, "{} links", count);
+}
+
+/// The supplier's catalogue stands in the guide as it is in its file, and the command prints what stands
 /// below it. What is printed can be piped on.
 #[test]
 fn the_catalogue_is_printed_as_shown() {
-    let readme = read("README.md");
-    let shown = blocks(section(&readme, "Catalogues from suppliers"));
+    let guide = read("docs/GUIDE.md");
+    let shown = blocks(section(&guide, "Catalogues from suppliers"));
     assert_eq!(shown[0], read("examples/supplier.ofn"));
     let line = "target/bin/hermitcasket_owl < examples/supplier.ofn";
     assert_eq!(shown[1].trim(), line);
     assert_eq!(house_text("supplier.ofn"), shown[2]);
     let piped = printed(&format!("{} | ./run", line), "hermitcasket");
-    assert_eq!(piped, "answer=filled\nblanks=0\n");
+    assert_eq!(piped, ("answer=filled\nblanks=0\n".to_string(), Some(0)));
 }
 
 /// The card over it has the catalogue's entries first and its inclusions.
