@@ -8,19 +8,20 @@
 //! as SVG if a file is named. The legend has a line for each number: `name 14 butter roll`, `role 2 filled with`.
 //! Exit status: 0 below, 1 not below, 2 refused, 3 could not run.
 
-mod card;
+mod house_text;
+mod interpretation;
 mod picture;
 mod sentences;
-mod stock;
 mod words;
 
 use std::env;
 use std::fs;
+use std::io::{self, Write};
 use std::process::ExitCode;
 
 use hermitcasket::{Derivation, Refusal};
 
-use words::{Card, Legend};
+use words::{Legend, Wording};
 
 const USAGE: &str = "explain CARD LEFT RIGHT [--legend FILE] [--lines FILE] [--picture FILE]";
 
@@ -94,14 +95,14 @@ fn lines(text: &str) -> Result<Derivation, String> {
 /// What is printed, and whether the left is below the right.
 fn explain(arguments: &Arguments) -> Result<(String, bool), Stop> {
     let (path, left, right) = match &arguments.plain[..] {
-        [card, left, right] => (card, left.parse::<u16>(), right.parse::<u16>()),
+        [path, left, right] => (path, left.parse::<u16>(), right.parse::<u16>()),
         _ => return could_not(USAGE.to_string()),
     };
     let (left, right) = match (left, right) {
         (Ok(left), Ok(right)) => (left, right),
         _ => return could_not(format!("LEFT and RIGHT are ids\n{}", USAGE)),
     };
-    let tables = of(path, card::read(&read(path)?))?;
+    let tables = of(path, house_text::read(&read(path)?))?;
     let legend = match &arguments.legend {
         Some(path) => of(path, Legend::read(&read(path)?))?,
         None => Legend::default(),
@@ -112,51 +113,56 @@ fn explain(arguments: &Arguments) -> Result<(String, bool), Stop> {
         None => "nothing fills the card, so every blank is read as anything\n".to_string(),
     };
     let assignment = found.unwrap_or_else(|| vec![0; usize::from(tables.variables)]);
-    let card = Card { tables: &tables, assignment: &assignment, legend: &legend };
-    for blank in 0..tables.variables {
-        said += &format!("blank {}: {}\n", blank, card.entries(&card.chosen(blank)?));
+    let words = Wording { tables: &tables, assignment: &assignment, legend: &legend };
+    for variable in 0..tables.variables {
+        said += &format!("blank {}: {}\n", variable, words.concepts(&words.chosen(variable)?));
     }
     let is_below = tables.lend().is_subsumed(&assignment, left, right)?;
     said += &match is_below {
-        true => yes(&card, left, right, arguments)?,
-        false => no(&card, left, right, arguments)?,
+        true => yes(&words, left, right, arguments)?,
+        false => no(&words, left, right, arguments)?,
     };
     Ok((said, is_below))
 }
 
-fn yes(card: &Card, left: u16, right: u16, arguments: &Arguments) -> Result<String, Stop> {
-    let tables = card.tables.lend();
+fn yes(words: &Wording, left: u16, right: u16, arguments: &Arguments) -> Result<String, Stop> {
+    let tables = words.tables.lend();
     let lines = match &arguments.lines {
         Some(path) => of(path, lines(&read(path)?))?,
-        None => tables.derivation(card.assignment, left, right)?,
+        None => tables.derivation(words.assignment, left, right)?,
     };
-    tables.check_derivation(card.assignment, left, right, &lines)?;
-    Ok(sentences::sentences(card, &lines)?)
+    tables.check_derivation(words.assignment, left, right, &lines)?;
+    Ok(sentences::sentences(words, &lines)?)
 }
 
-fn no(card: &Card, left: u16, right: u16, arguments: &Arguments) -> Result<String, Stop> {
-    let tables = card.tables.lend();
+fn no(words: &Wording, left: u16, right: u16, arguments: &Arguments) -> Result<String, Stop> {
+    let tables = words.tables.lend();
     if let Some(path) = &arguments.lines {
         // no lines show it; the library says which one is wrong
-        tables.check_derivation(card.assignment, left, right, &of(path, lines(&read(path)?))?)?;
+        tables.check_derivation(words.assignment, left, right, &of(path, lines(&read(path)?))?)?;
     }
-    let shown = tables.countermodel(card.assignment, left, right)?;
-    let columns = stock::columns(&shown, left, card.legend);
+    let shown = tables.countermodel(words.assignment, left, right)?;
+    let columns = interpretation::columns(&shown, left, words.legend);
     if let Some(path) = &arguments.picture {
         let drawn = fs::write(path, picture::draw(&columns));
         drawn.or_else(|error| could_not(format!("{}: {}", path, error)))?;
     }
-    let not = format!("{} is not below {}: ", card.quoted(left), card.quoted(right));
+    let not = format!("{} is not below {}: ", words.quoted(left), words.quoted(right));
     let look =
         format!("thing {} is of the one and not of the other, and all inclusions hold\n", left);
-    Ok(not + &look + &stock::sentences(&columns))
+    Ok(not + &look + &interpretation::sentences(&columns))
 }
 
 fn main() -> ExitCode {
     match arguments().and_then(|arguments| explain(&arguments)) {
         Ok((said, is_below)) => {
-            print!("{}", said);
-            ExitCode::from(if is_below { 0 } else { 1 })
+            // whoever reads may have gone
+            let written = io::stdout().write_all(said.as_bytes());
+            ExitCode::from(match (written, is_below) {
+                (Err(_), _) => 3,
+                (Ok(()), true) => 0,
+                (Ok(()), false) => 1,
+            })
         }
         Err(Stop::Refused(refusal)) => {
             eprintln!("explain: {}", refusal);

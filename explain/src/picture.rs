@@ -1,10 +1,10 @@
-//! A shown stock as an SVG picture: a box a thing, in columns by the number of links on the way, and an arrow a
+//! A shown interpretation (01: stock) as an SVG picture: a box an element, in columns by the number of links on the way, and an arrow a
 //! link.
 
 use std::collections::HashMap;
 use std::fmt::Write;
 
-use crate::stock::Thing;
+use crate::interpretation::Element;
 
 const COLUMN: f64 = 250.0;
 const BOX: f64 = 150.0;
@@ -28,31 +28,31 @@ fn text(x: f64, y: f64, words: &str, style: &str) -> String {
     )
 }
 
-/// Lines in a box: the thing's number and its names, or that it has none.
-fn height(thing: &Thing) -> f64 {
-    LINE * (1 + thing.names.len().max(1)) as f64 + 16.0
+/// Lines in a box: the element's number and its names, or that it has none.
+fn height(element: &Element) -> f64 {
+    LINE * (1 + element.names.len().max(1)) as f64 + 16.0
 }
 
-fn draw_box(thing: &Thing, (x, y): (f64, f64), is_first: bool) -> String {
+fn draw_box(element: &Element, (x, y): (f64, f64), is_first: bool) -> String {
     let (stroke, width) = if is_first { ("#c2410c", 3.0) } else { ("#475569", 1.5) };
-    let (left, top) = (x - BOX / 2.0, y - height(thing) / 2.0);
+    let (left, top) = (x - BOX / 2.0, y - height(element) / 2.0);
     let mut drawn = format!(
         "<rect x=\"{}\" y=\"{}\" width=\"{}\" height=\"{}\" rx=\"12\" fill=\"white\" stroke=\"{}\" stroke-width=\"{}\"/>\n",
-        left, top, BOX, height(thing), stroke, width
+        left, top, BOX, height(element), stroke, width
     );
-    let title = format!("thing {}", thing.number);
+    let title = format!("thing {}", element.number);
     drawn += &text(x, top + LINE, &title, " font-size=\"12\" fill=\"#64748b\"");
-    if thing.names.is_empty() {
+    if element.names.is_empty() {
         drawn += &text(x, top + 2.0 * LINE, "no name", " font-style=\"italic\" fill=\"#64748b\"");
     }
-    for (k, name) in thing.names.iter().enumerate() {
+    for (k, name) in element.names.iter().enumerate() {
         drawn += &text(x, top + LINE * (k + 2) as f64, name, "");
     }
     drawn
 }
 
-/// The way of an arrow, and where its words stand: forwards from side to side; back likewise, a little lower; to a
-/// thing of the same column in a bow at the right; to the thing itself over its top.
+/// The way of an arrow, and where its words stand: forwards from side to side; back likewise, a little lower; to an
+/// element of the same column in a bow at the right; to the element itself over its top.
 fn way(from: (f64, f64), to: (f64, f64), top: f64) -> (String, (f64, f64)) {
     let half = BOX / 2.0;
     let middle = ((from.0 + to.0) / 2.0, (from.1 + to.1) / 2.0);
@@ -91,25 +91,26 @@ fn draw_link(from: (f64, f64), to: (f64, f64), top: f64, roles: &[String]) -> St
 }
 
 /// The middle of each box.
-fn places(columns: &[Vec<Thing>], high: f64) -> HashMap<u16, (f64, f64)> {
+fn places(columns: &[Vec<Element>], high: f64) -> HashMap<u16, (f64, f64)> {
     let mut places = HashMap::new();
     for (c, column) in columns.iter().enumerate() {
-        let taken: f64 = column.iter().map(|thing| height(thing) + GAP).sum();
+        let taken: f64 = column.iter().map(|element| height(element) + GAP).sum();
         let mut top = (high + LINE - taken) / 2.0;
-        for thing in column {
+        for element in column {
             places.insert(
-                thing.number,
-                (100.0 + COLUMN * c as f64, top + (height(thing) + GAP) / 2.0),
+                element.number,
+                (100.0 + COLUMN * c as f64, top + (height(element) + GAP) / 2.0),
             );
-            top += height(thing) + GAP;
+            top += height(element) + GAP;
         }
     }
     places
 }
 
-/// The picture; the first thing is the one to look at.
-pub fn draw(columns: &[Vec<Thing>]) -> String {
-    let tall = |column: &Vec<Thing>| column.iter().map(|thing| height(thing) + GAP).sum::<f64>();
+/// The picture; the first element is the one to look at.
+pub fn draw(columns: &[Vec<Element>]) -> String {
+    let tall =
+        |column: &Vec<Element>| column.iter().map(|element| height(element) + GAP).sum::<f64>();
     let high = columns.iter().map(tall).fold(0.0, f64::max) + LINE;
     let wide = 200.0 + COLUMN * columns.len().saturating_sub(1) as f64 + 60.0;
     let places = places(columns, high);
@@ -121,14 +122,14 @@ pub fn draw(columns: &[Vec<Thing>]) -> String {
          refY=\"4\" orient=\"auto\"><path d=\"M0,0 L8,4 L0,8 z\" fill=\"#475569\"/></marker></defs>",
         wide, high
     );
-    for thing in columns.iter().flatten() {
-        for (roles, other) in &thing.links {
-            let from = places[&thing.number];
-            drawn += &draw_link(from, places[other], from.1 - height(thing) / 2.0, roles);
+    for element in columns.iter().flatten() {
+        for (roles, other) in &element.links {
+            let from = places[&element.number];
+            drawn += &draw_link(from, places[other], from.1 - height(element) / 2.0, roles);
         }
     }
-    for (k, thing) in columns.iter().flatten().enumerate() {
-        drawn += &draw_box(thing, places[&thing.number], k == 0);
+    for (k, element) in columns.iter().flatten().enumerate() {
+        drawn += &draw_box(element, places[&element.number], k == 0);
     }
     drawn + "</svg>\n"
 }

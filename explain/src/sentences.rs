@@ -4,14 +4,14 @@ use std::collections::{HashMap, HashSet};
 
 use hermitcasket::Result;
 
-use crate::words::Card;
+use crate::words::Wording;
 
 type Pair = (u16, u16);
 
 /// What the left is below and why, in words, and the pairs that this rests on.
-fn reason(card: &Card, [rule, left, right, extra]: [u16; 4]) -> Result<(String, Vec<Pair>)> {
-    let (row, other) = (card.row(left), card.row(right));
-    let to = card.quoted(right);
+fn reason(words: &Wording, [rule, left, right, extra]: [u16; 4]) -> Result<(String, Vec<Pair>)> {
+    let (row, other) = (words.row(left), words.row(right));
+    let to = words.quoted(right);
     Ok(match rule {
         1 if left == right => ("itself".into(), vec![]),
         1 => (format!("{}, since it is the same name", to), vec![]),
@@ -28,22 +28,22 @@ fn reason(card: &Card, [rule, left, right, extra]: [u16; 4]) -> Result<(String, 
             (format!("{}, since what is inside is", to), vec![(row[2], other[2])])
         }
         5 => {
-            let (narrow, wide) = (card.legend.role(row[1]), card.legend.role(other[1]));
+            let (narrow, wide) = (words.legend.role(row[1]), words.legend.role(other[1]));
             let said = format!("{}, since \"{}\" counts as \"{}\"", to, narrow, wide);
             (said, vec![(row[2], other[2])])
         }
-        6 => (by_inclusion(card, (left, right), extra), {
-            let (from, to) = card.inclusion(extra);
+        6 => (by_inclusion(words, (left, right), extra), {
+            let (from, to) = words.inclusion(extra);
             vec![(left, from), (to, right)]
         }),
         7 => {
-            let said = format!("{}, since it is filled with {}", to, card.quoted(extra));
+            let said = format!("{}, since it is filled with {}", to, words.quoted(extra));
             (said, vec![(extra, right)])
         }
-        _ => match card.chosen(other[1])? {
+        _ => match words.chosen(other[1])? {
             chosen if chosen.is_empty() => (format!("{}, which is left empty", to), vec![]),
             chosen => {
-                let said = format!("{}, which is filled with \"{}\"", to, card.entries(&chosen));
+                let said = format!("{}, which is filled with \"{}\"", to, words.concepts(&chosen));
                 (said, chosen.into_iter().map(|atom| (left, atom)).collect())
             }
         },
@@ -51,18 +51,18 @@ fn reason(card: &Card, [rule, left, right, extra]: [u16; 4]) -> Result<(String, 
 }
 
 /// The inclusion is written out where it says more than the pair.
-fn by_inclusion(card: &Card, pair: Pair, place: u16) -> String {
-    let (from, to) = card.inclusion(place);
-    let said = format!("{} by inclusion {}", card.quoted(pair.1), place);
+fn by_inclusion(words: &Wording, pair: Pair, place: u16) -> String {
+    let (from, to) = words.inclusion(place);
+    let said = format!("{} by inclusion {}", words.quoted(pair.1), place);
     match pair == (from, to) {
         true => said,
-        false => format!("{}, {} is below {}", said, card.quoted(from), card.quoted(to)),
+        false => format!("{}, {} is below {}", said, words.quoted(from), words.quoted(to)),
     }
 }
 
 /// The sentences of an accepted derivation. A pair that was shown is not shown again, and that an entry is below
 /// itself goes without saying where something else rests on it.
-pub fn sentences(card: &Card, lines: &[[u16; 4]]) -> Result<String> {
+pub fn sentences(words: &Wording, lines: &[[u16; 4]]) -> Result<String> {
     let mut by_pair: HashMap<Pair, [u16; 4]> = HashMap::new();
     for line in lines {
         // of two lines of one pair the first one, whose premises are all before it
@@ -73,12 +73,12 @@ pub fn sentences(card: &Card, lines: &[[u16; 4]]) -> Result<String> {
     let mut open: Vec<(usize, Pair)> =
         lines.last().map(|line| (0, (line[1], line[2]))).into_iter().collect();
     while let Some((depth, pair)) = open.pop() {
-        let (words, mut premises) = reason(card, by_pair[&pair])?;
+        let (below, mut premises) = reason(words, by_pair[&pair])?;
         premises.retain(|(left, right)| left != right);
         let again = !told.insert(pair) && !premises.is_empty();
         let mark = if again { " (shown above)" } else { "" };
         said +=
-            &format!("{}{} is below {}{}\n", "  ".repeat(depth), card.quoted(pair.0), words, mark);
+            &format!("{}{} is below {}{}\n", "  ".repeat(depth), words.quoted(pair.0), below, mark);
         if !again {
             open.extend(premises.into_iter().rev().map(|premise| (depth + 1, premise)));
         }
@@ -89,7 +89,7 @@ pub fn sentences(card: &Card, lines: &[[u16; 4]]) -> Result<String> {
 #[cfg(test)]
 mod tests {
     use super::sentences;
-    use crate::words::{Card, Legend};
+    use crate::words::{Legend, Wording};
     use hermitcasket::OwnedTables;
 
     /// 0 rye, 1 bread, 2 anything, 3 contains rye, 4 holds rye, 5 rye and bread, 6 blank 0, 7 blank 1, 8 rye again. Rye is
@@ -107,9 +107,9 @@ mod tests {
         };
         let words = "name 1 rye\nname 2 bread\nrole 1 contains\nrole 2 holds\n";
         let legend = Legend::read(words).expect("a legend");
-        let card = Card { tables: &tables, assignment: &[0b101, 0], legend: &legend };
-        let lines = tables.lend().derivation(card.assignment, left, right).expect("below");
-        sentences(&card, &lines).expect("told")
+        let wording = Wording { tables: &tables, assignment: &[0b101, 0], legend: &legend };
+        let lines = tables.lend().derivation(wording.assignment, left, right).expect("below");
+        sentences(&wording, &lines).expect("told")
     }
 
     /// Rules 1 to 8, as the derivations of these pairs use them.
@@ -139,12 +139,12 @@ mod tests {
         // 3 both; 1 both; 0 rye, which is bread by an inclusion
         let concepts = vec![1, 1, 0, 1, 2, 0, 2, 1, 0, 2, 1, 1, 3, 3, 3];
         let tables = OwnedTables { concepts, inclusions: vec![0, 1], ..OwnedTables::default() };
-        let card = Card { tables: &tables, assignment: &[], legend: &Legend::default() };
+        let wording = Wording { tables: &tables, assignment: &[], legend: &Legend::default() };
         let lines = tables.lend().derivation(&[], 2, 4).expect("below");
         let due = "\"role 1 name 1\" is below \"(role 1 name 2) and (role 1 name 2)\", since it is below both members\n  \
                    \"role 1 name 1\" is below \"role 1 name 2\", since what is inside is\n    \
                    \"name 1\" is below \"name 2\" by inclusion 0\n  \
                    \"role 1 name 1\" is below \"role 1 name 2\", since what is inside is (shown above)\n";
-        assert_eq!(sentences(&card, &lines).expect("told"), due);
+        assert_eq!(sentences(&wording, &lines).expect("told"), due);
     }
 }

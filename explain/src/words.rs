@@ -1,11 +1,11 @@
-//! Words for names and roles, from a legend, and for whole entries.
+//! Words for names and roles, from a legend, and for whole concepts.
 
 use std::collections::HashMap;
 
 use hermitcasket::{OwnedTables, Result};
 
-/// Entries with more names and blanks than this are called by their ids: written out, a card of nested "and" is as
-/// long as two to the number of its entries.
+/// Concepts with more names and variables than this are called by their ids: an "and" of each with itself, written
+/// out, is as long as two to the number of concepts.
 const MOST: u64 = 12;
 
 /// Lines such as `name 14 butter roll` and `role 2 filled with`.
@@ -51,14 +51,14 @@ impl Legend {
     }
 }
 
-/// A card with an assignment, and words for it. The tables are accepted.
-pub struct Card<'a> {
+/// Accepted tables with an assignment, and words for what is in them (01: entries, blanks, parts).
+pub struct Wording<'a> {
     pub tables: &'a OwnedTables,
     pub assignment: &'a [u64],
     pub legend: &'a Legend,
 }
 
-impl Card<'_> {
+impl Wording<'_> {
     pub fn row(&self, id: u16) -> [u16; 3] {
         let at = 3 * usize::from(id);
         [self.tables.concepts[at], self.tables.concepts[at + 1], self.tables.concepts[at + 2]]
@@ -69,12 +69,12 @@ impl Card<'_> {
         (self.tables.inclusions[at], self.tables.inclusions[at + 1])
     }
 
-    /// The ids that are chosen for a blank.
-    pub fn chosen(&self, blank: u16) -> Result<Vec<u16>> {
-        self.tables.lend().chosen(self.assignment, blank)
+    /// The ids that are chosen for a variable.
+    pub fn chosen(&self, variable: u16) -> Result<Vec<u16>> {
+        self.tables.lend().chosen(self.assignment, variable)
     }
 
-    /// How many names, blanks and tops there are in each entry up to one, at most one more than `MOST`.
+    /// How many names, variables and tops there are in each concept up to one, at most one more than `MOST`.
     fn sizes(&self, id: u16) -> Vec<u64> {
         let mut sizes: Vec<u64> = Vec::new();
         for id in 0..=id {
@@ -89,8 +89,8 @@ impl Card<'_> {
         sizes
     }
 
-    /// The entry in words.
-    pub fn entry(&self, id: u16) -> String {
+    /// The concept in words.
+    pub fn concept(&self, id: u16) -> String {
         if self.sizes(id)[usize::from(id)] > MOST {
             return format!("entry {}", id);
         }
@@ -98,28 +98,28 @@ impl Card<'_> {
             [1, name, _] => self.legend.name(name),
             [2, role, inner] => format!("{} {}", self.legend.role(role), self.inner(inner)),
             [3, first, second] => format!("{} and {}", self.inner(first), self.inner(second)),
-            [4, blank, _] => format!("blank {}", blank),
+            [4, variable, _] => format!("blank {}", variable),
             _ => "anything".to_string(),
         }
     }
 
     pub fn quoted(&self, id: u16) -> String {
-        format!("\"{}\"", self.entry(id))
+        format!("\"{}\"", self.concept(id))
     }
 
     fn inner(&self, id: u16) -> String {
         match self.row(id) {
-            [2 | 3, ..] => format!("({})", self.entry(id)),
-            _ => self.entry(id),
+            [2 | 3, ..] => format!("({})", self.concept(id)),
+            _ => self.concept(id),
         }
     }
 
-    /// Several entries, or that there is none of them.
-    pub fn entries(&self, ids: &[u16]) -> String {
+    /// Several concepts at once, or anything where there are none.
+    pub fn concepts(&self, ids: &[u16]) -> String {
         let words: Vec<String> = ids.iter().map(|&id| self.inner(id)).collect();
         match ids {
             [] => "anything".to_string(),
-            [one] => self.entry(*one),
+            [one] => self.concept(*one),
             _ => words.join(" and "),
         }
     }
@@ -127,17 +127,17 @@ impl Card<'_> {
 
 #[cfg(test)]
 mod tests {
-    use super::{Card, Legend};
+    use super::{Legend, Wording};
     use hermitcasket::OwnedTables;
 
     fn said(concepts: Vec<u16>, id: u16) -> String {
         let tables = OwnedTables { concepts, variables: 1, ..OwnedTables::default() };
         let legend = Legend::read("name 5 rye flour\nrole 1 contains\n").expect("a legend");
-        Card { tables: &tables, assignment: &[0], legend: &legend }.entry(id)
+        Wording { tables: &tables, assignment: &[0], legend: &legend }.concept(id)
     }
 
     #[test]
-    fn entries_in_words() {
+    fn concepts_in_words() {
         let concepts = vec![0, 0, 0, 1, 5, 0, 1, 6, 0, 2, 1, 1, 4, 0, 0, 3, 3, 4, 2, 2, 5];
         let words = (0..7).map(|id| said(concepts.clone(), id)).collect::<Vec<_>>();
         let due = [
@@ -154,7 +154,7 @@ mod tests {
 
     /// Nested "and" of each with itself: twice the names at every step.
     #[test]
-    fn large_entries_are_called_by_their_ids() {
+    fn large_concepts_are_called_by_their_ids() {
         let mut concepts = vec![1, 5, 0];
         for id in 0..191 {
             concepts.extend([3, id, id]);

@@ -7,7 +7,7 @@
 use hermitcasket::{Refusal, Tables};
 
 /// 0 brioche, 1 butter, 2 filled with brioche, 3 pastry, 4 the blank, 5 butter and the blank.
-const CARD: Tables = Tables {
+const SAMPLE: Tables = Tables {
     concepts: &[1, 5, 0, 1, 7, 0, 2, 1, 0, 1, 9, 0, 4, 0, 0, 3, 1, 4],
     inclusions: &[2, 3],
     questions: &[5, 3, 2, 4],
@@ -17,21 +17,21 @@ const CARD: Tables = Tables {
 
 /// The lines that are printed.
 pub fn told() -> Result<Vec<String>, Refusal> {
-    let assignment = match CARD.find_assignment()? {
+    let assignment = match SAMPLE.find_assignment()? {
         Some(assignment) => assignment,
         None => return Ok(vec!["nothing fills the card".to_string()]),
     };
-    let chosen = CARD.chosen(&assignment, 0)?;
+    let chosen = SAMPLE.chosen(&assignment, 0)?;
     let chosen: String = chosen.iter().map(|id| format!(" {}", id)).collect();
     let mut lines = vec![format!("blank 0:{}", chosen)];
-    for [rule, left, right, extra] in CARD.derivation(&assignment, 5, 3)? {
+    for [rule, left, right, extra] in SAMPLE.derivation(&assignment, 5, 3)? {
         lines.push(format!("rule {}: {} is below {} ({})", rule, left, right, extra));
     }
-    for row in CARD.countermodel(&assignment, 3, 2)?.rows {
+    for row in SAMPLE.countermodel(&assignment, 3, 2)?.rows {
         lines.push(match row {
-            [0, thing, name, _] => format!("thing {} is {}", thing, name),
-            [_, thing, role, other] => {
-                format!("thing {} is linked by {} to thing {}", thing, role, other)
+            [0, element, name, _] => format!("thing {} is {}", element, name),
+            [_, element, role, other] => {
+                format!("thing {} is linked by {} to thing {}", element, role, other)
             }
         });
     }

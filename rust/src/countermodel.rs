@@ -23,9 +23,9 @@ impl Tables<'_> {
     /// ```
     /// # use hermitcasket::Tables;
     /// let tables = Tables { concepts: &[1, 7, 0, 1, 8, 0], inclusions: &[0, 1], ..Tables::default() };
-    /// let stock = tables.countermodel(&[], 1, 0)?;
-    /// assert_eq!(stock.rows, [[0, 0, 7, 0], [0, 0, 8, 0], [0, 1, 8, 0]]);
-    /// assert!(tables.is_member(&[], &stock, 1, 1)? && !tables.is_member(&[], &stock, 0, 1)?);
+    /// let shown = tables.countermodel(&[], 1, 0)?;
+    /// assert_eq!(shown.rows, [[0, 0, 7, 0], [0, 0, 8, 0], [0, 1, 8, 0]]);
+    /// assert!(tables.is_member(&[], &shown, 1, 1)? && !tables.is_member(&[], &shown, 0, 1)?);
     /// assert_eq!(tables.countermodel(&[], 0, 1).unwrap_err().number(), 15);
     /// # Ok::<(), hermitcasket::Refusal>(())
     /// ```

@@ -8,7 +8,7 @@
 //! ```
 //! use hermitcasket::Tables;
 //!
-//! let card = Tables {
+//! let tables = Tables {
 //!     // 0 brioche, 1 butter, 2 filled with brioche, 3 pastry, 4 a variable, 5 butter and the variable
 //!     concepts: &[1, 5, 0, 1, 7, 0, 2, 1, 0, 1, 9, 0, 4, 0, 0, 3, 1, 4],
 //!     inclusions: &[2, 3],      // what is filled with brioche is pastry
@@ -16,9 +16,9 @@
 //!     variables: 1,
 //!     ..Tables::default()
 //! };
-//! let assignment = card.find_assignment()?.expect("something fills the card");
-//! assert_eq!(card.chosen(&assignment, 0)?, [3]); // pastry
-//! assert!(card.is_subsumed(&assignment, 5, 3)?); // butter and pastry is pastry
+//! let assignment = tables.find_assignment()?.expect("something fills the card");
+//! assert_eq!(tables.chosen(&assignment, 0)?, [3]); // pastry
+//! assert!(tables.is_subsumed(&assignment, 5, 3)?); // butter and pastry is pastry
 //! # Ok::<(), hermitcasket::Refusal>(())
 //! ```
 //!

@@ -7,7 +7,7 @@ use hermitcasket::{
 };
 
 /// 01's sample: 0 brioche, 1 butter, 2 filled with brioche, 3 pastry, 4 the variable, 5 butter and it.
-const CARD: Tables = Tables {
+const SAMPLE: Tables = Tables {
     concepts: &[1, 5, 0, 1, 7, 0, 2, 1, 0, 1, 9, 0, 4, 0, 0, 3, 1, 4],
     inclusions: &[2, 3],
     questions: &[5, 3, 2, 4],
@@ -29,42 +29,42 @@ fn due(number: u16, place: u64, words: &str) -> (u16, u64, String) {
 
 #[test]
 fn tables_are_checked() {
-    assert_eq!(CARD.check(), Ok(()));
+    assert_eq!(SAMPLE.check(), Ok(()));
     let many = vec![0; 3 * 193];
     let roles = vec![0; 2 * 33];
     let names: Vec<u16> = (0..65).flat_map(|name| [1, name, 0]).collect();
     let loops: Vec<u16> = (0..65).flat_map(|id| [id, id]).collect();
     let cases = [
-        (Tables { concepts: &many, ..CARD }, due(1, 0, "over 192 concepts, or one is cut short")),
-        (Tables { inclusions: &[2], ..CARD }, due(1, 1, "over 96 inclusions, or one is cut short")),
-        (Tables { questions: &[5], ..CARD }, due(1, 2, "over 32 questions, or one is cut short")),
-        (Tables { variables: 9, ..CARD }, due(1, 3, "over 8 variables")),
-        (Tables { roles: &roles, ..CARD }, due(1, 4, "over 32 role pairs, or one is cut short")),
+        (Tables { concepts: &many, ..SAMPLE }, due(1, 0, "over 192 concepts, or one is cut short")),
+        (Tables { inclusions: &[2], ..SAMPLE }, due(1, 1, "over 96 inclusions, or one is cut short")),
+        (Tables { questions: &[5], ..SAMPLE }, due(1, 2, "over 32 questions, or one is cut short")),
+        (Tables { variables: 9, ..SAMPLE }, due(1, 3, "over 8 variables")),
+        (Tables { roles: &roles, ..SAMPLE }, due(1, 4, "over 32 role pairs, or one is cut short")),
         (
-            Tables { concepts: &[1, 5, 0, 1, 1000, 0, 2, 1, 0, 1, 9, 0, 4, 0, 0, 3, 1, 4], ..CARD },
+            Tables { concepts: &[1, 5, 0, 1, 1000, 0, 2, 1, 0, 1, 9, 0, 4, 0, 0, 3, 1, 4], ..SAMPLE },
             due(2, 1, "concept 1 is of no kind, or a number of it is out of range"),
         ),
         (
-            Tables { concepts: &[2, 1, 0], ..CARD },
+            Tables { concepts: &[2, 1, 0], ..SAMPLE },
             due(3, 0, "concept 0 has an inner id that is not smaller than its own"),
         ),
         (
-            Tables { questions: &[5, 6], ..CARD },
+            Tables { questions: &[5, 6], ..SAMPLE },
             due(4, 1, "pair 1 has an id that is no concept, inclusions and then questions counted through"),
         ),
-        (Tables { inclusions: &[2, 4], ..CARD }, due(5, 0, "inclusion 0 holds a variable")),
-        (Tables { questions: &[5, 4], ..CARD }, due(6, 0, "question 0 holds variables on both sides")),
+        (Tables { inclusions: &[2, 4], ..SAMPLE }, due(5, 0, "inclusion 0 holds a variable")),
+        (Tables { questions: &[5, 4], ..SAMPLE }, due(6, 0, "question 0 holds variables on both sides")),
         (
-            Tables { concepts: &names, inclusions: &loops, questions: &[], ..CARD },
+            Tables { concepts: &names, inclusions: &loops, questions: &[], ..SAMPLE },
             due(7, 64, "there are more than 64 atoms"),
         ),
-        (Tables { roles: &[1, 2, 1, 100], ..CARD }, due(16, 1, "role pair 1 has a role over 99")),
+        (Tables { roles: &[1, 2, 1, 100], ..SAMPLE }, due(16, 1, "role pair 1 has a role over 99")),
     ];
     for (tables, due) in cases {
         assert_eq!(refused(tables.check()), due);
         // the same of every operation, whatever else is lent to it
         let settings = Settings { permitted: vec![0], largest: vec![64] };
-        let stock = Interpretation { size: 1, rows: vec![] };
+        let lone = Interpretation { size: 1, rows: vec![] };
         let mut held = SubsumptionTable::from_bytes(vec![0; 192 * 24]);
         assert_eq!(refused(tables.atoms()), due);
         assert_eq!(refused(tables.variables_in(0)), due);
@@ -78,7 +78,7 @@ fn tables_are_checked() {
         assert_eq!(refused(tables.derivation(&[0], 0, 0)), due);
         assert_eq!(refused(tables.check_derivation(&[0], 0, 0, &[])), due);
         assert_eq!(refused(tables.countermodel(&[0], 0, 0)), due);
-        assert_eq!(refused(tables.is_member(&[0], &stock, 0, 0)), due);
+        assert_eq!(refused(tables.is_member(&[0], &lone, 0, 0)), due);
         assert_eq!(refused(tables.update_table(&[], &mut held)), due);
         assert_eq!(refused(tables.renumber(&[])), due);
         let lengths = [tables.questions.len() as u16];
@@ -89,46 +89,46 @@ fn tables_are_checked() {
 
 #[test]
 fn atoms_and_variables() {
-    assert_eq!(CARD.atoms(), Ok(vec![0, 2, 3]));
-    assert_eq!((CARD.variables_in(5), CARD.variables_in(3)), (Ok(1), Ok(0)));
-    assert_eq!(refused(CARD.variables_in(6)), due(4, 0, "an asked id is no concept"));
+    assert_eq!(SAMPLE.atoms(), Ok(vec![0, 2, 3]));
+    assert_eq!((SAMPLE.variables_in(5), SAMPLE.variables_in(3)), (Ok(1), Ok(0)));
+    assert_eq!(refused(SAMPLE.variables_in(6)), due(4, 0, "an asked id is no concept"));
 }
 
 #[test]
 fn assignments_are_found() {
-    assert_eq!(CARD.find_assignment(), Ok(Some(vec![4])));
-    let none = Tables { questions: &[5, 3, 0, 4], ..CARD };
+    assert_eq!(SAMPLE.find_assignment(), Ok(Some(vec![4])));
+    let none = Tables { questions: &[5, 3, 0, 4], ..SAMPLE };
     assert_eq!(none.find_assignment(), Ok(None));
-    assert_eq!(CARD.chosen(&[4], 0), Ok(vec![3]));
-    assert_eq!(CARD.chosen(&[5], 0), Ok(vec![0, 3]));
-    assert_eq!(refused(CARD.chosen(&[4], 1)), due(2, 0, "the asked variable is none"));
+    assert_eq!(SAMPLE.chosen(&[4], 0), Ok(vec![3]));
+    assert_eq!(SAMPLE.chosen(&[5], 0), Ok(vec![0, 3]));
+    assert_eq!(refused(SAMPLE.chosen(&[4], 1)), due(2, 0, "the asked variable is none"));
     let numbers = "the assignment must have 1 numbers, one a variable";
-    assert_eq!(refused(CARD.chosen(&[], 0)), due(9, 1, numbers));
+    assert_eq!(refused(SAMPLE.chosen(&[], 0)), due(9, 1, numbers));
     assert_eq!(
-        refused(CARD.chosen(&[8], 0)),
+        refused(SAMPLE.chosen(&[8], 0)),
         due(9, 0, "variable 0 is assigned a bit past the atoms")
     );
 }
 
 #[test]
 fn settings_are_heeded() {
-    let all = CARD.unrestricted().expect("accepted");
+    let all = SAMPLE.unrestricted().expect("accepted");
     assert_eq!(all, Settings { permitted: vec![7], largest: vec![64] });
-    assert_eq!(CARD.find_within(&all), Ok(Some(vec![4])));
+    assert_eq!(SAMPLE.find_within(&all), Ok(Some(vec![4])));
     let barred = Settings { permitted: vec![3], ..all.clone() };
-    assert_eq!(CARD.find_within(&barred), Ok(Some(vec![2])));
-    assert_eq!(CARD.find_group(&barred, 1), Ok(Some(vec![2])));
-    assert_eq!(refused(CARD.find_group(&barred, 2)), due(4, 0, "the asked question is none"));
+    assert_eq!(SAMPLE.find_within(&barred), Ok(Some(vec![2])));
+    assert_eq!(SAMPLE.find_group(&barred, 1), Ok(Some(vec![2])));
+    assert_eq!(refused(SAMPLE.find_group(&barred, 2)), due(4, 0, "the asked question is none"));
     let few = Settings { largest: vec![0], ..all.clone() };
-    assert_eq!((CARD.find_within(&few), CARD.find_group(&few, 0)), (Ok(None), Ok(None)));
+    assert_eq!((SAMPLE.find_within(&few), SAMPLE.find_group(&few, 0)), (Ok(None), Ok(None)));
     let words = "variable 0 is permitted a bit past the atoms, or over 64 of them";
     let past = Settings { permitted: vec![8], ..all.clone() };
-    assert_eq!(refused(CARD.find_within(&past)), due(19, 0, words));
+    assert_eq!(refused(SAMPLE.find_within(&past)), due(19, 0, words));
     let over = Settings { largest: vec![65], ..all.clone() };
-    assert_eq!(refused(CARD.find_counted(&over, 9)), due(19, 0, words));
+    assert_eq!(refused(SAMPLE.find_counted(&over, 9)), due(19, 0, words));
     let short = Settings { largest: vec![], ..all };
     assert_eq!(
-        refused(CARD.find_group(&short, 0)),
+        refused(SAMPLE.find_group(&short, 0)),
         due(19, 1, "the settings must be 1, one a variable")
     );
     // no atoms and all 64 of them
@@ -143,14 +143,14 @@ fn settings_are_heeded() {
 
 #[test]
 fn decisions_are_counted() {
-    let all = CARD.unrestricted().expect("accepted");
+    let all = SAMPLE.unrestricted().expect("accepted");
     let found = Counted::Found { assignment: vec![4], count: 4 };
-    assert_eq!(CARD.find_counted(&all, 4), Ok(found.clone()));
-    assert_eq!(CARD.find_counted(&all, 3), Ok(Counted::Spent { allowance: 3 }));
+    assert_eq!(SAMPLE.find_counted(&all, 4), Ok(found.clone()));
+    assert_eq!(SAMPLE.find_counted(&all, 3), Ok(Counted::Spent { allowance: 3 }));
     let few = Settings { largest: vec![0], ..all };
-    assert_eq!(CARD.find_counted(&few, 9), Ok(Counted::None { count: 3 }));
+    assert_eq!(SAMPLE.find_counted(&few, 9), Ok(Counted::None { count: 3 }));
     // the second table is faulty, the third has 3 left over by the first
-    let three = Tables { questions: &[5, 3, 2, 4, 5, 3, 4, 4, 5, 3, 2, 4], ..CARD };
+    let three = Tables { questions: &[5, 3, 2, 4, 5, 3, 4, 4, 5, 3, 2, 4], ..SAMPLE };
     let batch = three.find_batch(&[4, 4, 4], &[5, 1, 1]).expect("a batch that is run");
     assert_eq!(batch.answers[0], Ok(found));
     let words = "question 1 holds variables on both sides";
@@ -162,62 +162,62 @@ fn decisions_are_counted() {
     assert_eq!(refused(three.find_batch(&[2; 9], &[5; 9])), due(20, 8, words));
     let words = "the share of table 1 is over 1000000";
     assert_eq!(refused(three.find_batch(&[4, 8], &[5, 1_000_001])), due(20, 1, words));
-    let none = Tables { questions: &[], ..CARD }.find_batch(&[], &[]).expect("no tables");
+    let none = Tables { questions: &[], ..SAMPLE }.find_batch(&[], &[]).expect("no tables");
     assert_eq!((none.answers, none.left), (vec![], 0));
 }
 
 #[test]
 fn subsumption_is_told() {
-    let table = CARD.subsumption_table(&[4]).expect("accepted");
+    let table = SAMPLE.subsumption_table(&[4]).expect("accepted");
     assert_eq!((table.marks(), table.bytes().len()), (13, 6 * 24));
     for (left, right) in (0..6).flat_map(|left| (0..6).map(move |right| (left, right))) {
-        assert_eq!(CARD.is_subsumed(&[4], left, right), Ok(table.is_subsumed(left, right)));
+        assert_eq!(SAMPLE.is_subsumed(&[4], left, right), Ok(table.is_subsumed(left, right)));
     }
     for far in [6, 191, 192, 200, u16::MAX] {
         assert!(!table.is_subsumed(0, far) && !table.is_subsumed(far, 0), "{}", far);
     }
-    assert_eq!(refused(CARD.is_subsumed(&[4], 6, 0)), due(4, 0, "an asked id is no concept"));
-    assert_eq!(refused(CARD.subsumption_table(&[])).0, 9);
+    assert_eq!(refused(SAMPLE.is_subsumed(&[4], 6, 0)), due(4, 0, "an asked id is no concept"));
+    assert_eq!(refused(SAMPLE.subsumption_table(&[])).0, 9);
 }
 
 #[test]
 fn derivations_are_written_and_checked() {
-    let lines = CARD.derivation(&[4], 5, 3).expect("subsumed");
+    let lines = SAMPLE.derivation(&[4], 5, 3).expect("subsumed");
     assert_eq!(lines, [[1, 3, 3, 0], [7, 4, 3, 3], [3, 5, 3, 1]]);
-    assert_eq!(CARD.check_derivation(&[4], 5, 3, &lines), Ok(()));
+    assert_eq!(SAMPLE.check_derivation(&[4], 5, 3, &lines), Ok(()));
     let words = "the pair is not subsumed, so there is no derivation of it";
-    assert_eq!(refused(CARD.derivation(&[4], 3, 5)), due(11, 0, words));
+    assert_eq!(refused(SAMPLE.derivation(&[4], 3, 5)), due(11, 0, words));
     let words = "after 3 lines the last one is another pair";
-    assert_eq!(refused(CARD.check_derivation(&[4], 3, 5, &lines)), due(12, 3, words));
+    assert_eq!(refused(SAMPLE.check_derivation(&[4], 3, 5, &lines)), due(12, 3, words));
     let words = "line 0 does not follow by its rule";
-    assert_eq!(refused(CARD.check_derivation(&[4], 5, 3, &lines[1..])), due(12, 0, words));
+    assert_eq!(refused(SAMPLE.check_derivation(&[4], 5, 3, &lines[1..])), due(12, 0, words));
     let words = "the derivation has no lines";
-    assert_eq!(refused(CARD.check_derivation(&[4], 5, 3, &[])), due(12, 0, words));
+    assert_eq!(refused(SAMPLE.check_derivation(&[4], 5, 3, &[])), due(12, 0, words));
 }
 
 #[test]
 fn interpretations_are_shown_and_looked_into() {
-    let shown = CARD.countermodel(&[4], 3, 2).expect("not subsumed");
+    let shown = SAMPLE.countermodel(&[4], 3, 2).expect("not subsumed");
     assert_eq!((shown.size, shown.rows.len()), (6, 8));
-    assert_eq!(CARD.is_member(&[4], &shown, 3, 3), Ok(true));
-    assert_eq!(CARD.is_member(&[4], &shown, 2, 3), Ok(false));
+    assert_eq!(SAMPLE.is_member(&[4], &shown, 3, 3), Ok(true));
+    assert_eq!(SAMPLE.is_member(&[4], &shown, 2, 3), Ok(false));
     let words = "the pair is subsumed, so there is no countermodel";
-    assert_eq!(refused(CARD.countermodel(&[4], 2, 3)), due(15, 0, words));
+    assert_eq!(refused(SAMPLE.countermodel(&[4], 2, 3)), due(15, 0, words));
     let own = Interpretation { size: 1, rows: vec![[0, 0, 9, 0]] };
-    assert_eq!(CARD.is_member(&[4], &own, 3, 0), Ok(true));
-    assert_eq!(refused(CARD.is_member(&[4], &own, 3, 1)), due(4, 1, "the asked element is none"));
-    assert_eq!(refused(CARD.is_member(&[4], &own, 6, 0)), due(4, 0, "an asked id is no concept"));
+    assert_eq!(SAMPLE.is_member(&[4], &own, 3, 0), Ok(true));
+    assert_eq!(refused(SAMPLE.is_member(&[4], &own, 3, 1)), due(4, 1, "the asked element is none"));
+    assert_eq!(refused(SAMPLE.is_member(&[4], &own, 6, 0)), due(4, 0, "an asked id is no concept"));
     let words = "row 0 of the interpretation is of no kind, or has an element that is none";
     let odd = Interpretation { size: 1, rows: vec![[2, 0, 9, 0]] };
-    assert_eq!(refused(CARD.is_member(&[4], &odd, 3, 0)), due(2, 0, words));
+    assert_eq!(refused(SAMPLE.is_member(&[4], &odd, 3, 0)), due(2, 0, words));
     let words = "the interpretation has no elements or over 192, or a row is cut short";
-    assert_eq!(refused(CARD.is_member(&[4], &Interpretation::default(), 3, 0)), due(1, 0, words));
+    assert_eq!(refused(SAMPLE.is_member(&[4], &Interpretation::default(), 3, 0)), due(1, 0, words));
 }
 
 #[test]
 fn held_tables_are_kept() {
-    let more = Tables { inclusions: &[2, 3, 0, 3], ..CARD };
-    let before = CARD.subsumption_table(&[4]).expect("accepted");
+    let more = Tables { inclusions: &[2, 3, 0, 3], ..SAMPLE };
+    let before = SAMPLE.subsumption_table(&[4]).expect("accepted");
     let mut held = before.clone();
     let words = "told pair 1 has a variable or an atom that is none";
     assert_eq!(refused(more.update_table(&[[0, 3], [0, 5]], &mut held)), due(9, 1, words));
@@ -231,14 +231,14 @@ fn held_tables_are_kept() {
 
 #[test]
 fn ids_are_renewed() {
-    let moved = CARD.renumber(&[1, 0, 2, 3, 4, 5]).expect("a list of all ids");
+    let moved = SAMPLE.renumber(&[1, 0, 2, 3, 4, 5]).expect("a list of all ids");
     assert_eq!(moved.concepts, [1, 7, 0, 1, 5, 0, 2, 1, 1, 1, 9, 0, 4, 0, 0, 3, 0, 4]);
     assert_eq!(moved.lend().find_assignment(), Ok(Some(vec![4])));
     let words = "number 1 of the list is no id, or stood before";
-    assert_eq!(refused(CARD.renumber(&[0, 0])), due(21, 1, words));
-    assert_eq!(refused(CARD.renumber(&[0, 1])), due(21, 2, "the list of new ids ends after 2"));
+    assert_eq!(refused(SAMPLE.renumber(&[0, 0])), due(21, 1, words));
+    assert_eq!(refused(SAMPLE.renumber(&[0, 1])), due(21, 2, "the list of new ids ends after 2"));
     let words = "concept 2 would have an inner id that is not smaller than its own";
-    assert_eq!(refused(CARD.renumber(&[2, 1, 0, 3, 4, 5])), due(22, 2, words));
+    assert_eq!(refused(SAMPLE.renumber(&[2, 1, 0, 3, 4, 5])), due(22, 2, words));
 }
 
 #[test]

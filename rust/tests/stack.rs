@@ -16,14 +16,14 @@ const ABORTED: i32 = 6;
 fn enough_stack_gives_an_answer() {
     let enough = limits::STACK + (64 << 10);
     let bytes = env::var("HC_STACK").map_or(enough, |bytes| bytes.parse().expect("a number"));
-    let card = Tables {
+    let tables = Tables {
         concepts: &[1, 7, 0, 4, 0, 0],
         questions: &[1, 0],
         variables: 1,
         ..Tables::default()
     };
     let thread = thread::Builder::new().stack_size(bytes);
-    let handle = thread.spawn(move || card.find_assignment()).expect("a thread");
+    let handle = thread.spawn(move || tables.find_assignment()).expect("a thread");
     assert_eq!(handle.join().expect("an answer"), Ok(Some(vec![1])));
 }
 
