@@ -22,8 +22,9 @@
 //! # Ok::<(), hermitcasket::Refusal>(())
 //! ```
 //!
-//! **Words.** The crate uses the field's: a concept is 01's entry, a variable a blank, an atom a part, an
-//! assignment a filling, an interpretation a stock, an element a thing; subsumed is below.
+//! **Words.** The crate uses the field's. In the bakery's, which the C header and the programs use, a concept is an
+//! entry, a variable a blank, an atom a part, an assignment a filling, an interpretation a stock, an element a
+//! thing, and subsumed is below.
 //!
 //! **Answers.** Every operation gives a [`Result`]. An error is a [`Refusal`]: the reason with its number, the
 //! place, and a sentence. "None" is no error: [`Tables::find_assignment`] gives `Ok(None)` exactly when no

@@ -1,4 +1,4 @@
-//! The limits of tables and texts (01, "Tables"; 02). What is over one is refused.
+//! The limits of tables and texts, and what buffers must hold. What is over a limit is refused.
 
 pub const CONCEPTS: usize = 192;
 pub const INCLUSIONS: usize = 96;
