@@ -1,5 +1,5 @@
-//! Links the proved library: target/staticlib/libcapi.a of this repository, or of the folder that
-//! HERMITCASKET_LIBRARY names. Packages that depend on this one are told its path as DEP_CAPI_ARCHIVE.
+//! Links the proved library: target/staticlib/libcapi.a of this repository, or the one in the folder whose whole path
+//! HERMITCASKET_LIBRARY has. Packages that depend on this one are told its path as DEP_CAPI_ARCHIVE.
 
 use std::env;
 use std::path::{Path, PathBuf};
@@ -18,7 +18,8 @@ fn main() {
     let archive = folder.join("libcapi.a");
     println!("cargo:rerun-if-changed={}", archive.display());
     if !archive.is_file() {
-        eprintln!("{} is missing: run `rt staticlib capi` first", archive.display());
+        let wanted = "run `rt staticlib capi` first, or set HERMITCASKET_LIBRARY to the whole path of its folder";
+        eprintln!("{} is missing: {}", archive.display(), wanted);
         std::process::exit(1);
     }
     println!("cargo:rustc-link-search=native={}", folder.display());

@@ -1,83 +1,124 @@
-//! Reads a card in house text. It takes the lines in their order and leaves what they say to the library's checks;
-//! the program ./run is the judge of a text's layout.
+//! Reads a problem in house text, line by line, and refuses what the program refuses: a text off the layout with 13
+//! and the byte where its line starts, a count over its limit with 1 and the table. What the lines say is left to the
+//! library's checks.
 
-use std::str::{FromStr, Lines};
+use hermitcasket::{limits, OwnedTables};
 
-use hermitcasket::OwnedTables;
+/// Number and place.
+pub type Refused = (u16, u64);
 
-/// Numbers of a line `key=number,number`, if it has that key and so many of them.
-fn numbers<const COUNT: usize>(line: &str, key: &str) -> Option<[u16; COUNT]> {
-    let list = line.strip_prefix(key)?.strip_prefix('=')?;
-    let numbers: Vec<u16> = list.split(',').map(u16::from_str).collect::<Result<_, _>>().ok()?;
-    numbers.try_into().ok()
+/// The numbers of `list`, with commas between them and written without leading zeros.
+fn numbers(list: &str) -> Option<Vec<u16>> {
+    let number = |word: &str| {
+        let is_plain = word == "0" || !word.starts_with('0');
+        let digits = word.bytes().all(|byte| byte.is_ascii_digit());
+        if is_plain && digits {
+            word.parse().ok()
+        } else {
+            None
+        }
+    };
+    list.split(',').map(number).collect()
 }
 
 struct Reader<'a> {
-    lines: Lines<'a>,
-    /// How many lines were read.
+    text: &'a str,
+    /// How many bytes were read.
     at: usize,
 }
 
 impl<'a> Reader<'a> {
-    fn next(&mut self, due: &str) -> Result<&'a str, String> {
-        self.at += 1;
-        let line = self.lines.next();
-        line.ok_or_else(|| format!("line {} is missing, where {} is due", self.at, due))
+    fn off<T>(&self) -> Result<T, Refused> {
+        Err((13, self.at as u64))
     }
 
-    fn off<T>(&self, line: &str, due: &str) -> Result<T, String> {
-        Err(format!("line {} is `{}`, where {} is due", self.at, line, due))
+    /// Whether the line that is due has this key.
+    fn is_next(&self, key: &str) -> bool {
+        self.text[self.at..].strip_prefix(key).map_or(false, |rest| rest.starts_with('='))
     }
 
-    fn count(&mut self, key: &str) -> Result<u16, String> {
-        let line = self.next(key)?;
-        numbers(line, key).map_or_else(|| self.off(line, key), |[count]| Ok(count))
+    /// The numbers of the line that is due, if it has that key and so many of them.
+    fn line<const COUNT: usize>(&mut self, key: &str) -> Result<[u16; COUNT], Refused> {
+        let (line, _) = match self.text[self.at..].split_once('\n') {
+            Some(parts) => parts,
+            None => return self.off(),
+        };
+        let list = line.strip_prefix(key).and_then(|rest| rest.strip_prefix('='));
+        match list.and_then(numbers).and_then(|numbers| numbers.try_into().ok()) {
+            Some(numbers) => {
+                self.at += line.len() + 1;
+                Ok(numbers)
+            }
+            None => self.off(),
+        }
     }
 
-    fn pairs(&mut self, key: &str, count: u16) -> Result<Vec<u16>, String> {
+    fn count(&mut self, key: &str, most: usize, table: u64) -> Result<u16, Refused> {
+        let [count] = self.line(key)?;
+        if usize::from(count) > most {
+            return Err((1, table));
+        }
+        Ok(count)
+    }
+
+    fn pairs(&mut self, key: &str, count: u16) -> Result<Vec<u16>, Refused> {
         let mut pairs = Vec::new();
         for _ in 0..count {
-            let line = self.next(key)?;
-            match numbers::<2>(line, key) {
-                Some(pair) => pairs.extend(pair),
-                None => return self.off(line, key),
-            }
+            pairs.extend(self.line::<2>(key)?);
         }
         Ok(pairs)
     }
 
-    fn concepts(&mut self, count: u16) -> Result<Vec<u16>, String> {
-        let mut concepts = Vec::new();
-        for _ in 0..count {
-            let line = self.next("an entry")?;
-            match concept(line) {
-                Some(row) => concepts.extend(row),
-                None => return self.off(line, "an entry"),
-            }
+    fn concept(&mut self) -> Result<[u16; 3], Refused> {
+        let one = |kind: u16, [number]: [u16; 1]| [kind, number, 0];
+        let two = |kind: u16, [first, second]: [u16; 2]| [kind, first, second];
+        if self.is_next("name") {
+            return Ok(one(1, self.line("name")?));
         }
-        Ok(concepts)
+        if self.is_next("some") {
+            return Ok(two(2, self.line("some")?));
+        }
+        if self.is_next("and") {
+            return Ok(two(3, self.line("and")?));
+        }
+        if self.is_next("blank") {
+            return Ok(one(4, self.line("blank")?));
+        }
+        let start = self.at;
+        match self.line("top")? {
+            [0] => Ok([0, 0, 0]),
+            _ => Err((13, start as u64)),
+        }
     }
 }
 
-fn concept(line: &str) -> Option<[u16; 3]> {
-    let one = |kind, key| numbers(line, key).map(|[number]| [kind, number, 0]);
-    let two = |kind, key| numbers(line, key).map(|[first, second]| [kind, first, second]);
-    let plain = one(0, "top").or_else(|| one(1, "name")).or_else(|| one(4, "blank"));
-    plain.or_else(|| two(2, "some")).or_else(|| two(3, "and"))
-}
-
-/// The tables of a text; a last line `show=` is passed over.
-pub fn read(text: &str) -> Result<OwnedTables, String> {
-    let mut reader = Reader { lines: text.lines(), at: 0 };
-    let variables = reader.count("blanks")?;
-    let has_roles = reader.lines.clone().next().map_or(false, |line| line.starts_with("roles="));
-    let roles = match has_roles {
-        true => reader.count("roles").and_then(|count| reader.pairs("wider", count))?,
-        false => Vec::new(),
-    };
-    let concepts = reader.count("entries").and_then(|count| reader.concepts(count))?;
-    let inclusions = reader.count("inclusions").and_then(|count| reader.pairs("below", count))?;
-    let questions = reader.count("questions").and_then(|count| reader.pairs("below", count))?;
+/// The tables of a text. A pair that is to be shown is passed over.
+pub fn read(text: &str) -> Result<OwnedTables, Refused> {
+    if text.len() > limits::TEXT {
+        return Err((13, limits::TEXT as u64));
+    }
+    let mut reader = Reader { text, at: 0 };
+    let variables = reader.count("blanks", limits::VARIABLES, 3)?;
+    let mut roles = Vec::new();
+    if reader.is_next("roles") {
+        let count = reader.count("roles", limits::ROLE_PAIRS, 4)?;
+        roles = reader.pairs("wider", count)?;
+    }
+    let count = reader.count("entries", limits::CONCEPTS, 0)?;
+    let mut concepts = Vec::new();
+    for _ in 0..count {
+        concepts.extend(reader.concept()?);
+    }
+    let count = reader.count("inclusions", limits::INCLUSIONS, 1)?;
+    let inclusions = reader.pairs("below", count)?;
+    let count = reader.count("questions", limits::QUESTIONS, 2)?;
+    let questions = reader.pairs("below", count)?;
+    if reader.at < text.len() {
+        reader.line::<2>("show")?;
+    }
+    if reader.at < text.len() {
+        return reader.off();
+    }
     Ok(OwnedTables { concepts, inclusions, questions, roles, variables })
 }
 
@@ -96,17 +137,28 @@ mod tests {
     }
 
     #[test]
-    fn role_pairs_and_a_wanted_stock_are_read() {
+    fn role_pairs_and_a_pair_to_be_shown_are_read() {
         let tables = read(include_str!("../../examples/doubt.txt")).expect("house text");
         assert_eq!((tables.roles, tables.variables), (vec![2, 1], 0));
     }
 
     #[test]
-    fn the_line_at_fault_is_named() {
-        let cut: String = SAMPLE.lines().take(4).map(|line| format!("{}\n", line)).collect();
-        assert_eq!(read(&cut).unwrap_err(), "line 5 is missing, where an entry is due");
-        let other = SAMPLE.replace("some=1,0", "some=1");
-        assert_eq!(read(&other).unwrap_err(), "line 5 is `some=1`, where an entry is due");
-        assert_eq!(read("").unwrap_err(), "line 1 is missing, where blanks is due");
+    fn the_line_at_fault_is_refused() {
+        for (from, to, refused) in [
+            ("some=1,0", "some=1", (13, 33)),
+            ("blanks=1", "blanks=01", (13, 0)),
+            ("blanks=1", "blanks=+1", (13, 0)),
+            ("blanks=1\n", "blanks=1\r\n", (13, 0)),
+            ("blanks=1", "blanks=9", (1, 3)),
+            ("entries=6", "entries=193", (1, 0)),
+            ("inclusions=1", "inclusions=97", (1, 1)),
+            ("below=2,4\n", "below=2,4", (13, 110)),
+            ("below=2,4\n", "below=2,4\n\n", (13, 120)),
+            ("name=5", "top=1", (13, 19)),
+        ] {
+            assert_eq!(read(&SAMPLE.replacen(from, to, 1)).err(), Some(refused), "{}", to);
+        }
+        assert_eq!(read("").err(), Some((13, 0)));
+        assert_eq!(read(&" ".repeat(8193)).err(), Some((13, 8192)));
     }
 }

@@ -45,21 +45,24 @@ fn element(shown: &Interpretation, number: u16, legend: &Legend) -> Element {
     element
 }
 
-/// A line for each element.
-pub fn sentences(columns: &[Vec<Element>]) -> String {
+/// A line for each of these elements, and how many others there are.
+pub fn sentences(columns: &[Vec<Element>], size: u16) -> String {
     let mut said = String::new();
     for element in columns.iter().flatten() {
         let mut parts = match element.names.is_empty() {
             true => vec!["bears no name".to_string()],
             false => vec![format!("is {}", element.names.join(", "))],
         };
-        parts.extend(
-            element
-                .links
-                .iter()
-                .map(|(roles, other)| format!("{} thing {}", roles.join(", "), other)),
-        );
+        let link =
+            |(roles, other): &(Vec<String>, u16)| format!("{} thing {}", roles.join(", "), other);
+        parts.extend(element.links.iter().map(link));
         said += &format!("  thing {} {}\n", element.number, parts.join("; "));
     }
-    said
+    match usize::from(size) - columns.iter().flatten().count() {
+        0 => said,
+        1 => said + "  (and one thing more, to which none of these is linked)\n",
+        others => {
+            said + &format!("  (and {} things more, to which none of these is linked)\n", others)
+        }
+    }
 }

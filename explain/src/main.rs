@@ -3,11 +3,11 @@
 //!     explain CARD LEFT RIGHT [--legend FILE] [--lines FILE] [--picture FILE]
 //!
 //! The card is in house text. Its blanks are filled as `hc_match` fills them, or read as top where nothing does.
-//! A yes is told as indented sentences, from a derivation that the library writes or from the lines of a file
-//! (rule, left, right, extra), which the library checks first. A no is told by a stock where it fails, and drawn
-//! as SVG if a file is named. The legend has a line for each number: `name 14 butter roll`, `role 2 filled with`.
-//! Exit status: 0 below, 1 not below, 2 refused, 3 could not run.
+//! A yes is told as indented sentences, from a derivation that the library writes or from the lines of a file, which the
+//! library checks first. A no is told by a stock where it fails, and drawn as SVG if a file is named. docs/FORMATS.md has the
+//! formats. Exit status: 0 below, 1 not below, 2 refused, 3 could not run.
 
+mod arguments;
 mod house_text;
 mod interpretation;
 mod picture;
@@ -19,158 +19,134 @@ use std::fs;
 use std::io::{self, Write};
 use std::process::ExitCode;
 
-use hermitcasket::{Derivation, Refusal};
+use hermitcasket::{Derivation, OwnedTables, Refusal};
 
-use words::{Legend, Wording};
+use arguments::Arguments;
+use words::{house_words, Legend, Wording};
 
-const USAGE: &str = "explain CARD LEFT RIGHT [--legend FILE] [--lines FILE] [--picture FILE]";
-
-/// What ends the program early: a refusal of the library, or anything else.
+/// What ends the program early, in words: a refusal, or anything else.
 enum Stop {
-    Refused(Refusal),
+    Refused(String),
     CouldNot(String),
 }
 
 impl From<Refusal> for Stop {
     fn from(refusal: Refusal) -> Stop {
-        Stop::Refused(refusal)
+        Stop::Refused(house_words(&refusal.to_string()))
     }
 }
 
-fn could_not<T>(words: String) -> Result<T, Stop> {
-    Err(Stop::CouldNot(words))
-}
-
-#[derive(Default)]
-struct Arguments {
-    plain: Vec<String>,
-    legend: Option<String>,
-    lines: Option<String>,
-    picture: Option<String>,
-}
-
-fn arguments() -> Result<Arguments, Stop> {
-    let mut found = Arguments::default();
-    let mut words = env::args().skip(1);
-    while let Some(word) = words.next() {
-        let option = match word.as_str() {
-            "--legend" => &mut found.legend,
-            "--lines" => &mut found.lines,
-            "--picture" => &mut found.picture,
-            _ => {
-                found.plain.push(word);
-                continue;
-            }
-        };
-        match words.next() {
-            Some(file) => *option = Some(file),
-            None => return could_not(format!("{} wants a file\n{}", word, USAGE)),
-        }
-    }
-    Ok(found)
+fn could_not<T>(path: &str, words: impl ToString) -> Result<T, Stop> {
+    Err(Stop::CouldNot(format!("{}: {}", path, words.to_string())))
 }
 
 fn read(path: &str) -> Result<String, Stop> {
-    fs::read_to_string(path).or_else(|error| could_not(format!("{}: {}", path, error)))
+    fs::read_to_string(path).or_else(|error| could_not(path, error))
 }
 
-/// What was read of a file, or what is wrong with it.
-fn of<T>(path: &str, read: Result<T, String>) -> Result<T, Stop> {
-    read.or_else(|words| could_not(format!("{}: {}", path, words)))
+fn read_card(path: &str) -> Result<OwnedTables, Stop> {
+    house_text::read(&read(path)?).map_err(|(number, place)| {
+        let words = match number {
+            1 => format!(
+                "refusal 1: over the limit of {}",
+                ["entries", "inclusions", "questions", "blanks", "roles"][place as usize]
+            ),
+            _ => format!("refusal 13: off the layout of house text at byte {}", place),
+        };
+        Stop::Refused(format!("{}: {}", path, words))
+    })
 }
 
-/// Lines of four numbers, with spaces or commas between them.
-fn lines(text: &str) -> Result<Derivation, String> {
+fn read_legend(path: &Option<String>) -> Result<Legend, Stop> {
+    match path {
+        Some(path) => Legend::read(&read(path)?).or_else(|words| could_not(path, words)),
+        None => Ok(Legend::default()),
+    }
+}
+
+/// Lines of four numbers, with spaces or commas between them. They are counted from 0, as in a refusal.
+fn read_lines(path: &str) -> Result<Derivation, Stop> {
     let mut lines = Vec::new();
-    for (at, line) in text.lines().enumerate() {
-        let words =
-            line.split(|c: char| c == ',' || c.is_whitespace()).filter(|word| !word.is_empty());
+    for (at, line) in read(path)?.lines().enumerate() {
+        let is_between = |c: char| c == ',' || c.is_whitespace();
+        let words = line.split(is_between).filter(|word| !word.is_empty());
         let numbers: Option<Vec<u16>> = words.map(|word| word.parse().ok()).collect();
-        let four: Option<[u16; 4]> = numbers.and_then(|numbers| numbers.try_into().ok());
-        lines.push(four.ok_or_else(|| format!("line {} is not four numbers", at + 1))?);
+        match numbers.and_then(|numbers| numbers.try_into().ok()) {
+            Some(four) => lines.push(four),
+            None => return could_not(path, format!("line {} (from 0) is not four numbers", at)),
+        }
     }
     Ok(lines)
 }
 
 /// What is printed, and whether the left is below the right.
 fn explain(arguments: &Arguments) -> Result<(String, bool), Stop> {
-    let (path, left, right) = match &arguments.plain[..] {
-        [path, left, right] => (path, left.parse::<u16>(), right.parse::<u16>()),
-        _ => return could_not(USAGE.to_string()),
-    };
-    let (left, right) = match (left, right) {
-        (Ok(left), Ok(right)) => (left, right),
-        _ => return could_not(format!("LEFT and RIGHT are ids\n{}", USAGE)),
-    };
-    let tables = of(path, house_text::read(&read(path)?))?;
-    let legend = match &arguments.legend {
-        Some(path) => of(path, Legend::read(&read(path)?))?,
-        None => Legend::default(),
-    };
+    let tables = read_card(&arguments.card)?;
+    let legend = read_legend(&arguments.legend)?;
     let found = tables.lend().find_assignment()?;
-    let mut said = match found {
-        Some(_) => String::new(),
-        None => "nothing fills the card, so every blank is read as anything\n".to_string(),
-    };
+    let mut said = match (&found, tables.variables) {
+        (Some(_), _) => "",
+        (None, 0) => "not every question of the card holds\n",
+        (None, _) => "nothing fills the card, so every blank is read as anything\n",
+    }
+    .to_string();
     let assignment = found.unwrap_or_else(|| vec![0; usize::from(tables.variables)]);
     let words = Wording { tables: &tables, assignment: &assignment, legend: &legend };
     for variable in 0..tables.variables {
         said += &format!("blank {}: {}\n", variable, words.concepts(&words.chosen(variable)?));
     }
-    let is_below = tables.lend().is_subsumed(&assignment, left, right)?;
+    let is_below = tables.lend().is_subsumed(&assignment, arguments.left, arguments.right)?;
     said += &match is_below {
-        true => yes(&words, left, right, arguments)?,
-        false => no(&words, left, right, arguments)?,
+        true => yes(&words, arguments)?,
+        false => no(&words, arguments)?,
     };
     Ok((said, is_below))
 }
 
-fn yes(words: &Wording, left: u16, right: u16, arguments: &Arguments) -> Result<String, Stop> {
-    let tables = words.tables.lend();
+fn yes(words: &Wording, arguments: &Arguments) -> Result<String, Stop> {
+    let (tables, left, right) = (words.tables.lend(), arguments.left, arguments.right);
+    if arguments.picture.is_some() {
+        eprintln!("explain: it is below, so there is no stock to draw");
+    }
     let lines = match &arguments.lines {
-        Some(path) => of(path, lines(&read(path)?))?,
+        Some(path) => read_lines(path)?,
         None => tables.derivation(words.assignment, left, right)?,
     };
     tables.check_derivation(words.assignment, left, right, &lines)?;
     Ok(sentences::sentences(words, &lines)?)
 }
 
-fn no(words: &Wording, left: u16, right: u16, arguments: &Arguments) -> Result<String, Stop> {
-    let tables = words.tables.lend();
+fn no(words: &Wording, arguments: &Arguments) -> Result<String, Stop> {
+    let (tables, left, right) = (words.tables.lend(), arguments.left, arguments.right);
     if let Some(path) = &arguments.lines {
-        // no lines show it; the library says which one is wrong
-        tables.check_derivation(words.assignment, left, right, &of(path, lines(&read(path)?))?)?;
+        // no lines show it; the library says what is wrong with these
+        tables.check_derivation(words.assignment, left, right, &read_lines(path)?)?;
     }
     let shown = tables.countermodel(words.assignment, left, right)?;
     let columns = interpretation::columns(&shown, left, words.legend);
     if let Some(path) = &arguments.picture {
-        let drawn = fs::write(path, picture::draw(&columns));
-        drawn.or_else(|error| could_not(format!("{}: {}", path, error)))?;
+        fs::write(path, picture::draw(&columns)).or_else(|error| could_not(path, error))?;
     }
     let not = format!("{} is not below {}: ", words.quoted(left), words.quoted(right));
-    let look =
-        format!("thing {} is of the one and not of the other, and all inclusions hold\n", left);
-    Ok(not + &look + &interpretation::sentences(&columns))
+    let look = format!(
+        "all inclusions hold here, and thing {} is of the one and not of the other\n",
+        left
+    );
+    Ok(not + &look + &interpretation::sentences(&columns, shown.size))
 }
 
 fn main() -> ExitCode {
-    match arguments().and_then(|arguments| explain(&arguments)) {
+    let arguments = Arguments::read(env::args().skip(1)).map_err(Stop::CouldNot);
+    let (words, status) = match arguments.and_then(|arguments| explain(&arguments)) {
         Ok((said, is_below)) => {
             // whoever reads may have gone
             let written = io::stdout().write_all(said.as_bytes());
-            ExitCode::from(match (written, is_below) {
-                (Err(_), _) => 3,
-                (Ok(()), true) => 0,
-                (Ok(()), false) => 1,
-            })
+            let status = if is_below { 0 } else { 1 };
+            return ExitCode::from(if written.is_ok() { status } else { 3 });
         }
-        Err(Stop::Refused(refusal)) => {
-            eprintln!("explain: {}", refusal);
-            ExitCode::from(2)
-        }
-        Err(Stop::CouldNot(words)) => {
-            eprintln!("explain: {}", words);
-            ExitCode::from(3)
-        }
-    }
+        Err(Stop::Refused(words)) => (words, 2),
+        Err(Stop::CouldNot(words)) => (words, 3),
+    };
+    eprintln!("explain: {}", words);
+    ExitCode::from(status)
 }

@@ -41,7 +41,9 @@ fn reason(words: &Wording, [rule, left, right, extra]: [u16; 4]) -> Result<(Stri
             (said, vec![(extra, right)])
         }
         _ => match words.chosen(other[1])? {
-            chosen if chosen.is_empty() => (format!("{}, which is left empty", to), vec![]),
+            chosen if chosen.is_empty() => {
+                (format!("{}, which is left empty, so everything is", to), vec![])
+            }
             chosen => {
                 let said = format!("{}, which is filled with \"{}\"", to, words.concepts(&chosen));
                 (said, chosen.into_iter().map(|atom| (left, atom)).collect())
@@ -131,7 +133,10 @@ mod tests {
         assert_eq!(told(0, 1), "\"rye\" is below \"bread\" by inclusion 0\n");
         let chosen = "\"blank 0\" is below \"rye\", since it is filled with \"rye\"\n";
         assert_eq!(told(6, 0), chosen);
-        assert_eq!(told(6, 7), "\"blank 0\" is below \"blank 1\", which is left empty\n");
+        assert_eq!(
+            told(6, 7),
+            "\"blank 0\" is below \"blank 1\", which is left empty, so everything is\n"
+        );
     }
 
     #[test]

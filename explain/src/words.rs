@@ -4,8 +4,8 @@ use std::collections::HashMap;
 
 use hermitcasket::{OwnedTables, Result};
 
-/// Concepts with more names and variables than this are called by their ids: an "and" of each with itself, written
-/// out, is as long as two to the number of concepts.
+/// Concepts with more names, variables and roles than this are called by their ids: an "and" of each with itself,
+/// written out, is as long as two to the number of concepts.
 const MOST: u64 = 12;
 
 /// Lines such as `name 14 butter roll` and `role 2 filled with`.
@@ -14,15 +14,20 @@ pub struct Legend {
     words: HashMap<(String, u16), String>,
 }
 
+/// Something, and nothing that a picture cannot hold.
+fn is_plain(word: &str) -> bool {
+    !word.is_empty() && !word.chars().any(char::is_control)
+}
+
 impl Legend {
     pub fn read(text: &str) -> std::result::Result<Legend, String> {
         let mut words = HashMap::new();
-        for (at, line) in text.lines().enumerate() {
+        for (at, line) in text.lines().enumerate().filter(|(_, line)| !line.is_empty()) {
             let mut parts = line.splitn(3, ' ');
             let kind = parts.next().filter(|kind| ["name", "role"].contains(kind));
             let number = parts.next().and_then(|number| number.parse().ok());
             match (kind, number, parts.next()) {
-                (Some(kind), Some(number), Some(word)) if !word.is_empty() => {
+                (Some(kind), Some(number), Some(word)) if is_plain(word) => {
                     words.insert((kind.to_string(), number), word.to_string());
                 }
                 _ => {
@@ -51,6 +56,21 @@ impl Legend {
     }
 }
 
+/// A sentence of the library's in the words of the formats (01's).
+pub fn house_words(sentence: &str) -> String {
+    let pairs = [
+        ("concepts", "entries"),
+        ("concept", "entry"),
+        ("variable", "blank"),
+        ("atom", "part"),
+        ("assignment", "filling"),
+        ("interpretation", "stock"),
+        ("element", "thing"),
+        ("subsumed", "below"),
+    ];
+    pairs.iter().fold(sentence.to_string(), |said, (word, of_house)| said.replace(word, of_house))
+}
+
 /// Accepted tables with an assignment, and words for what is in them (01: entries, blanks, parts).
 pub struct Wording<'a> {
     pub tables: &'a OwnedTables,
@@ -74,13 +94,13 @@ impl Wording<'_> {
         self.tables.lend().chosen(self.assignment, variable)
     }
 
-    /// How many names, variables and tops there are in each concept up to one, at most one more than `MOST`.
+    /// How many words there are in each concept up to one, at most one more than `MOST`.
     fn sizes(&self, id: u16) -> Vec<u64> {
         let mut sizes: Vec<u64> = Vec::new();
         for id in 0..=id {
             let [kind, first, second] = self.row(id);
             let size = match kind {
-                2 => sizes[usize::from(second)],
+                2 => 1 + sizes[usize::from(second)],
                 3 => sizes[usize::from(first)] + sizes[usize::from(second)],
                 _ => 1,
             };
@@ -167,7 +187,8 @@ mod tests {
     #[test]
     fn a_legend_is_judged() {
         assert!(Legend::read("").is_ok());
-        for line in ["name 5", "name five rye", "blank 5 rye", "name 5 "] {
+        assert!(Legend::read("\nname 5 rye\n\n").is_ok());
+        for line in ["name 5", "name five rye", "blank 5 rye", "name 5 ", "name 5 rye\u{1}"] {
             let due = format!("line 1 is `{}`, not such as `name 14 butter roll`", line);
             assert_eq!(Legend::read(line).err(), Some(due));
         }

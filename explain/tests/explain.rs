@@ -122,8 +122,9 @@ fn where_nothing_fills_the_card_blanks_are_anything() {
     let (printed, _, status) = explain(&["examples/plain.txt", "7", "1", LEGEND[0], LEGEND[1]]);
     let due = "nothing fills the card, so every blank is read as anything\n\
                blank 0: anything\n\
-               \"dough and blank 0\" is not below \"rich\": thing 7 is of the one and not of the other, and all inclusions hold\n  \
-               thing 7 is dough\n";
+               \"dough and blank 0\" is not below \"rich\": all inclusions hold here, and thing 7 is of the one and not of the other\n  \
+               thing 7 is dough\n  \
+               (and 8 things more, to which none of these is linked)\n";
     assert_eq!((printed.as_str(), status), (due, 1));
 }
 
@@ -131,9 +132,10 @@ fn where_nothing_fills_the_card_blanks_are_anything() {
 #[test]
 fn links_are_told() {
     let (printed, _, status) = explain(&["examples/doubt.txt", "5", "1"]);
-    let due = "\"role 2 name 12\" is not below \"name 20\": thing 5 is of the one and not of the other, and all inclusions hold\n  \
+    let due = "\"role 2 name 12\" is not below \"name 20\": all inclusions hold here, and thing 5 is of the one and not of the other\n  \
                thing 5 bears no name; role 1, role 2 thing 3\n  \
-               thing 3 is name 12\n";
+               thing 3 is name 12\n  \
+               (and 5 things more, to which none of these is linked)\n";
     assert_eq!((printed.as_str(), status), (due, 1));
 }
 
@@ -142,30 +144,82 @@ fn refused_tables_are_refused() {
     let forward = read("examples/sample.txt").replace("some=1,0", "some=1,2");
     let path = file("forward.txt", &forward);
     let (printed, said, status) = explain(&[&path, "5", "3"]);
-    let due = "explain: refusal 3: concept 2 has an inner id that is not smaller than its own\n";
+    let due = "explain: refusal 3: entry 2 has an inner id that is not smaller than its own\n";
     assert_eq!((printed.as_str(), said.as_str(), status), ("", due, 2));
     let (_, said, status) = explain(&["examples/sample.txt", "5", "6"]);
-    assert_eq!((said.as_str(), status), ("explain: refusal 4: an asked id is no concept\n", 2));
+    assert_eq!((said.as_str(), status), ("explain: refusal 4: an asked id is no entry\n", 2));
 }
 
 #[test]
 fn what_cannot_be_run_says_why() {
-    let cut = file("cut.txt", "blanks=1\nentries=2\n");
     let legend = file("odd.legend", "brioche\n");
     let lines = file("three", "1 3 3\n");
-    let cases: [(&[&str], &str); 8] = [
+    let cases: [(&[&str], &str); 7] = [
         (&[], "explain CARD LEFT RIGHT"),
         (&["examples/sample.txt", "5"], "explain CARD LEFT RIGHT"),
-        (&["examples/sample.txt", "5", "x"], "LEFT and RIGHT are ids"),
+        (&["examples/sample.txt", "5", "x"], "x is no id"),
         (&["examples/none.txt", "5", "3"], "examples/none.txt: "),
-        (&[&cut, "5", "3"], "line 3 is missing, where an entry is due"),
         (&["examples/sample.txt", "5", "3", "--legend"], "--legend wants a file"),
         (&["examples/sample.txt", "5", "3", "--legend", &legend], "line 1 is `brioche`"),
-        (&["examples/sample.txt", "5", "3", "--lines", &lines], "line 1 is not four numbers"),
+        (
+            &["examples/sample.txt", "5", "3", "--lines", &lines],
+            "line 0 (from 0) is not four numbers",
+        ),
     ];
     for (words, due) in cases {
         let (printed, said, status) = explain(words);
         assert_eq!((printed.as_str(), status), ("", 3), "{:?}", words);
         assert!(said.starts_with("explain: ") && said.contains(due), "{:?}: {}", words, said);
     }
+}
+
+/// A text is refused exactly where the program refuses it as a text, with the same number and place.
+#[test]
+fn texts_are_judged_as_the_program_judges_them() {
+    let program = root().join("target/bin/hermitcasket");
+    let text = read("examples/doubt.txt");
+    let mut seen = [0, 0];
+    for at in 0..text.len() {
+        for (label, damage) in [("cut", ""), ("zero", "0"), ("line", "\n"), ("nine", "9")] {
+            let end = if label == "cut" { text.len() } else { at + 1 };
+            let damaged = format!("{}{}{}", &text[..at], damage, &text[end..]);
+            let path = file("damaged.txt", &damaged);
+            let input = fs::File::open(&path).expect("the card");
+            let output = Command::new(&program).stdin(input).output().expect("the program");
+            let answer = String::from_utf8(output.stdout).expect("plain text");
+            let number = |key: &str| answer.lines().find_map(|line| line.strip_prefix(key));
+            let (_, said, status) = explain(&[&path, "5", "1"]);
+            let due = match (number("number="), number("place=")) {
+                (Some("13"), Some(place)) => {
+                    format!("refusal 13: off the layout of house text at byte {}\n", place)
+                }
+                // of a count, or of the tables, which say the same
+                (Some("1"), Some(_)) => "refusal 1: over ".to_string(),
+                _ => String::new(),
+            };
+            seen[usize::from(due.is_empty())] += 1;
+            if due.is_empty() {
+                assert!(
+                    !said.contains("refusal 13") && !said.contains("refusal 1:"),
+                    "{}{}",
+                    damaged,
+                    said
+                );
+            } else {
+                assert!(said.contains(&due) && status == 2, "{}{}{}", damaged, answer, said);
+            }
+        }
+    }
+    assert!(seen[0] > 300 && seen[1] > 50, "{:?}", seen);
+}
+
+#[test]
+fn nothing_is_drawn_of_a_yes() {
+    let picture = file("untouched.svg", "as it was");
+    let (_, said, status) = explain(&["examples/sample.txt", "5", "3", "--picture", &picture]);
+    assert_eq!(
+        (said.as_str(), status),
+        ("explain: it is below, so there is no stock to draw\n", 0)
+    );
+    assert_eq!(fs::read_to_string(picture).expect("the file"), "as it was");
 }

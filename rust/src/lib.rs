@@ -31,7 +31,8 @@
 //! substitution of concepts of any size for the variables makes every question hold.
 //!
 //! **Linking.** `rt staticlib capi` at the top of the repository writes the library that this crate links. The
-//! environment variable `HERMITCASKET_LIBRARY` names another folder that has `libcapi.a`.
+//! environment variable `HERMITCASKET_LIBRARY` has the whole path of another folder with `libcapi.a`, which is for
+//! x86-64.
 //!
 //! **Stack.** A search may need [`limits::STACK`] bytes of it. Where a thread has fewer left, the program ends as it
 //! does when Rust's own code overflows the stack. Threads of Rust have 2 MiB unless told otherwise.

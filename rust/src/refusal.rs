@@ -2,6 +2,8 @@
 
 use std::fmt;
 
+use crate::limits;
+
 /// Why the library did not do its work. Nothing was written.
 ///
 /// ```
@@ -10,9 +12,12 @@ use std::fmt;
 /// let refusal = Tables { concepts: &[1, 1000, 0], ..Tables::default() }.check().unwrap_err();
 /// assert_eq!((refusal.number(), refusal.place), (2, 0));
 /// assert_eq!(refusal.reason, Reason::Malformed);
-/// assert_eq!(refusal.to_string(), "refusal 2: concept 0 is of no kind, or a number of it is out of range");
+/// assert_eq!(
+///     refusal.to_string(),
+///     "refusal 2: concept 0 is of no kind, a number of it is out of range, or one that is not used is not 0"
+/// );
 /// ```
-#[derive(Clone, Copy, Debug, PartialEq, Eq)]
+#[derive(Clone, Copy, PartialEq, Eq)]
 pub struct Refusal {
     pub reason: Reason,
     /// Where: of what it is a number, the sentence says.
@@ -144,72 +149,101 @@ impl Refusal {
 }
 
 fn words(reason: Reason, place: u64, beside: Beside) -> &'static str {
-    let Beside { asked, variables, length } = beside;
-    let (at_count, at_end) = (place == u64::from(variables), place == length as u64);
-    match (reason, asked) {
-        (Reason::Limit, Asked::Member) => {
-            "the interpretation has no elements or over 192, or a row is cut short"
+    match reason {
+        Reason::Limit => over_limit(place, beside.asked),
+        Reason::Malformed => malformed(beside.asked),
+        Reason::ForwardId => "concept {} has an inner id that is not smaller than its own",
+        Reason::NoConcept => no_concept(place, beside.asked),
+        Reason::VariableInInclusion => "inclusion {} holds a variable",
+        Reason::VariablesOnBothSides => "question {} holds variables on both sides",
+        Reason::TooManyAtoms => "there are more than {} atoms",
+        // in this crate only a held table can be
+        Reason::BufferTooShort => "the held table is too short: it must have {} bytes",
+        Reason::BadAssignment => bad_assignment(place, beside),
+        Reason::NoAssignment => "no assignment makes the questions hold",
+        Reason::NotSubsumed => "the pair is not subsumed, so there is no derivation of it",
+        Reason::BadDerivation => bad_derivation(place, beside.length),
+        Reason::BadText => "the line at byte {} is off the layout",
+        Reason::AllowanceSpent => "the allowance of decisions is spent",
+        Reason::NoCountermodel => "the pair is subsumed, so there is no countermodel",
+        Reason::BadRole => "role pair {} has a role over 99",
+        Reason::BadSyntax => bad_syntax(place, beside.length),
+        Reason::TooDeep => "the class at byte {} begins over 32 deep",
+        Reason::BadSettings if place == u64::from(beside.variables) => {
+            "each list of settings must have {} numbers, one a variable"
         }
-        (Reason::Limit, Asked::Catalogue) => "the catalogue has over 192 concepts",
-        (Reason::Limit, _) => over_limit(place),
-        (Reason::Malformed, Asked::Member) => {
-            "row {} of the interpretation is of no kind, or has an element that is none"
-        }
-        (Reason::Malformed, Asked::Variable) => "the asked variable is none",
-        (Reason::Malformed, _) => "concept {} is of no kind, or a number of it is out of range",
-        (Reason::ForwardId, _) => "concept {} has an inner id that is not smaller than its own",
-        (Reason::NoConcept, Asked::Member) if place == 1 => "the asked element is none",
-        (Reason::NoConcept, Asked::Question) => "the asked question is none",
-        (Reason::NoConcept, Asked::Nothing) => {
-            "pair {} has an id that is no concept, inclusions and then questions counted through"
-        }
-        (Reason::NoConcept, _) => "an asked id is no concept",
-        (Reason::VariableInInclusion, _) => "inclusion {} holds a variable",
-        (Reason::VariablesOnBothSides, _) => "question {} holds variables on both sides",
-        (Reason::TooManyAtoms, _) => "there are more than {} atoms",
-        (Reason::BufferTooShort, _) => "the held table is too short: it must have {} bytes",
-        (Reason::BadAssignment, Asked::Told) => {
-            "told pair {} has a variable or an atom that is none"
-        }
-        (Reason::BadAssignment, _) if at_count => {
-            "the assignment must have {} numbers, one a variable"
-        }
-        (Reason::BadAssignment, _) => "variable {} is assigned a bit past the atoms",
-        (Reason::NoAssignment, _) => "no assignment makes the questions hold",
-        (Reason::NotSubsumed, _) => "the pair is not subsumed, so there is no derivation of it",
-        (Reason::BadDerivation, _) if length == 0 => "the derivation has no lines",
-        (Reason::BadDerivation, _) if at_end => "after {} lines the last one is another pair",
-        (Reason::BadDerivation, _) => "line {} does not follow by its rule",
-        (Reason::BadText, _) => "the line at byte {} is off the layout",
-        (Reason::AllowanceSpent, _) => "the allowance of decisions is spent",
-        (Reason::NoCountermodel, _) => "the pair is subsumed, so there is no countermodel",
-        (Reason::BadRole, _) => "role pair {} has a role over 99",
-        (Reason::BadSyntax, _) if at_end => "the text ends at byte {}, too early",
-        (Reason::BadSyntax, _) if length > 8192 => "the text is over {} bytes long",
-        (Reason::BadSyntax, _) => "what starts at byte {} is none of the syntax there",
-        (Reason::TooDeep, _) => "the class at byte {} begins over 32 deep",
-        (Reason::BadSettings, _) if at_count => "the settings must be {}, one a variable",
-        (Reason::BadSettings, _) => {
-            "variable {} is permitted a bit past the atoms, or over 64 of them"
-        }
-        (Reason::BadBatch, _) if place == 8 => {
+        Reason::BadSettings => "variable {} is permitted a bit past the atoms, or over 64 of them",
+        Reason::BadBatch if place == 8 => {
             "over {} tables, another number of shares, or lengths that do not add up"
         }
-        (Reason::BadBatch, _) => "the share of table {} is over 1000000",
-        (Reason::BadOrder, _) if at_end => "the list of new ids ends after {}",
-        (Reason::BadOrder, _) => "number {} of the list is no id, or stood before",
-        (Reason::ForwardInOrder, _) => {
+        Reason::BadBatch => "the share of table {} is over 1000000",
+        Reason::BadOrder if place == beside.length as u64 => "the list of new ids ends after {}",
+        Reason::BadOrder => "number {} of the list is no id, or stood before",
+        Reason::ForwardInOrder => {
             "concept {} would have an inner id that is not smaller than its own"
         }
     }
 }
 
-fn over_limit(place: u64) -> &'static str {
-    match place {
-        0 => "over 192 concepts, or one is cut short",
-        1 => "over 96 inclusions, or one is cut short",
-        2 => "over 32 questions, or one is cut short",
-        3 => "over 8 variables",
+fn malformed(asked: Asked) -> &'static str {
+    match asked {
+        Asked::Member => "row {} of the interpretation is of no kind, or has an element that is none",
+        Asked::Variable => "the asked variable is none",
+        _ => "concept {} is of no kind, a number of it is out of range, or one that is not used is not 0",
+    }
+}
+
+fn no_concept(place: u64, asked: Asked) -> &'static str {
+    match asked {
+        Asked::Member if place == 1 => "the asked element is none",
+        Asked::Question => "the asked question is none",
+        Asked::Nothing => {
+            "pair {} has an id that is no concept, inclusions and then questions counted through"
+        }
+        _ => "an asked id is no concept",
+    }
+}
+
+fn bad_assignment(place: u64, beside: Beside) -> &'static str {
+    if beside.asked == Asked::Told {
+        "told pair {} has a variable or an atom that is none"
+    } else if place == u64::from(beside.variables) {
+        "the assignment must have {} numbers, one a variable"
+    } else {
+        "variable {} is assigned a bit past the atoms"
+    }
+}
+
+fn bad_derivation(place: u64, lines: usize) -> &'static str {
+    if lines == 0 {
+        "the derivation has no lines"
+    } else if place == lines as u64 {
+        "after {} lines the last one is another pair"
+    } else {
+        "line {} does not follow by its rule"
+    }
+}
+
+fn bad_syntax(place: u64, bytes: usize) -> &'static str {
+    if place == bytes as u64 {
+        "the text ends at byte {}, too early"
+    } else if bytes > limits::TEXT {
+        "the text is over {} bytes long"
+    } else {
+        "what starts at byte {} is none of the syntax there"
+    }
+}
+
+fn over_limit(place: u64, asked: Asked) -> &'static str {
+    match (asked, place) {
+        (Asked::Member, _) => {
+            "the interpretation has no elements or over 192, or a row is cut short"
+        }
+        (Asked::Catalogue, _) => "the catalogue has over 192 concepts",
+        (_, 0) => "over 192 concepts, or one is cut short",
+        (_, 1) => "over 96 inclusions, or one is cut short",
+        (_, 2) => "over 32 questions, or one is cut short",
+        (_, 3) => "over 8 variables",
         _ => "over 32 role pairs, or one is cut short",
     }
 }
@@ -218,6 +252,13 @@ impl fmt::Display for Refusal {
     fn fmt(&self, f: &mut fmt::Formatter<'_>) -> fmt::Result {
         let words = self.words.replace("{}", &self.place.to_string());
         write!(f, "refusal {}: {}", self.number(), words)
+    }
+}
+
+/// The same, so that a program that ends with a refusal says what is wrong.
+impl fmt::Debug for Refusal {
+    fn fmt(&self, f: &mut fmt::Formatter<'_>) -> fmt::Result {
+        fmt::Display::fmt(self, f)
     }
 }
 

@@ -25,14 +25,14 @@ impl SubsumptionTable {
         &mut self.bytes
     }
 
-    /// Whether the left is subsumed by the right; no where an id is no concept.
+    /// Whether the left is marked as subsumed by the right; no past the table.
     pub fn is_subsumed(&self, left: u16, right: u16) -> bool {
         let (left, right) = (usize::from(left), usize::from(right));
         let byte = self.bytes.get(left * limits::ROW_BYTES + right / 8);
         right < limits::CONCEPTS && byte.map_or(false, |byte| byte >> (right % 8) & 1 == 1)
     }
 
-    /// How many pairs are subsumed.
+    /// How many marks there are.
     pub fn marks(&self) -> u32 {
         self.bytes.iter().map(|byte| byte.count_ones()).sum()
     }

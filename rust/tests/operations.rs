@@ -42,7 +42,7 @@ fn tables_are_checked() {
         (Tables { roles: &roles, ..SAMPLE }, due(1, 4, "over 32 role pairs, or one is cut short")),
         (
             Tables { concepts: &[1, 5, 0, 1, 1000, 0, 2, 1, 0, 1, 9, 0, 4, 0, 0, 3, 1, 4], ..SAMPLE },
-            due(2, 1, "concept 1 is of no kind, or a number of it is out of range"),
+            due(2, 1, "concept 1 is of no kind, a number of it is out of range, or one that is not used is not 0"),
         ),
         (
             Tables { concepts: &[2, 1, 0], ..SAMPLE },
@@ -129,7 +129,7 @@ fn settings_are_heeded() {
     let short = Settings { largest: vec![], ..all };
     assert_eq!(
         refused(SAMPLE.find_group(&short, 0)),
-        due(19, 1, "the settings must be 1, one a variable")
+        due(19, 1, "each list of settings must have 1 numbers, one a variable")
     );
     // no atoms and all 64 of them
     let empty = Tables { variables: 2, ..Tables::default() };
@@ -265,4 +265,6 @@ fn each_number_has_its_reason() {
         assert_eq!(reason.number(), number);
     }
     assert_eq!((Reason::AllowanceSpent.number(), Reason::ForwardInOrder.number()), (14, 22));
+    let refusal = SAMPLE.variables_in(6).expect_err("a refusal");
+    assert_eq!(format!("{:?}", refusal), "refusal 4: an asked id is no concept");
 }

@@ -96,7 +96,11 @@ fn it_says_how_far_it_is() {
     let first = said(&run(&folder));
     let lines: Vec<&str> = first.lines().collect();
     assert_eq!(lines.len(), 4, "{}", first);
-    assert!(lines[0].starts_with("run: the first time: proving 3 crates, some "), "{}", first);
+    assert!(
+        lines[0].starts_with("run: the first time: proving 3 crates, at most some "),
+        "{}",
+        first
+    );
     assert!(lines[0].ends_with(": base link hermitcasket"), "{}", first);
     for (line, start, end) in [
         (lines[1], "run: 1 of 3 after ", " s: base proved (3 s); to go: link hermitcasket"),
@@ -159,9 +163,63 @@ fn what_is_not_proved_is_not_run() {
     }
 }
 
+/// A card may be named. One that cannot be read is no answer, which a shell would make of `./run < CARD`.
 #[test]
-fn it_takes_no_words() {
-    let output = run_with(&folder("words", "answer=none\n"), &["examples/brioche.txt"], b"");
-    assert_eq!((status(&output), output.stdout.len()), (3, 0));
-    assert!(said(&output).contains("./run < examples/brioche.txt"), "{}", said(&output));
+fn a_card_may_be_named() {
+    let folder = folder("a name with spaces", "answer=none\n");
+    fs::write(folder.join("a card"), "blanks=0\n").expect("a card");
+    let named = folder.join("a card");
+    let output = run_with(&folder, &[named.to_str().expect("a plain path")], b"other");
+    assert_eq!((status(&output), output.stdout), (1, b"answer=none\nblanks=0\n".to_vec()));
+    for words in [&["missing"][..], &["bin"], &["a", "b"]] {
+        let output = run_with(&folder, words, b"");
+        assert_eq!((status(&output), output.stdout.len()), (3, 0), "{:?}", words);
+    }
+}
+
+/// A source that is written while rt is at work is newer than the program.
+#[test]
+fn an_edit_during_the_proof_is_not_lost() {
+    let folder = folder("meanwhile", "answer=none\n");
+    let rt = fs::read_to_string(folder.join("bin/rt")).expect("rt");
+    let edits =
+        rt.replace("mkdir -p", "[ -e edited ] || touch crates/base/src/lib.rt edited\nmkdir -p");
+    assert_ne!(rt, edits);
+    write_tool(&folder.join("bin/rt"), &edits);
+    run(&folder);
+    assert!(said(&run(&folder)).contains("a source is newer than the program"));
+    assert_eq!(said(&run(&folder)), "", "then it is silent");
+}
+
+#[test]
+fn without_rt_it_says_so() {
+    let folder = folder("no rt", "answer=none\n");
+    let tools = folder.join("tools");
+    fs::create_dir_all(&tools).expect("a folder");
+    for tool in ["bash", "dirname", "readlink", "mktemp", "awk", "rm", "cat"] {
+        let found = Command::new("bash").args(["-c", &format!("command -v {}", tool)]).output();
+        let path = String::from_utf8(found.expect("bash").stdout).expect("plain text");
+        std::os::unix::fs::symlink(path.trim(), tools.join(tool)).expect("a link");
+    }
+    let mut command = Command::new(tools.join("bash"));
+    let output = command.arg(folder.join("run")).env("PATH", &tools).output().expect("run");
+    assert_eq!((status(&output), output.stdout.len()), (3, 0), "{}", said(&output));
+    assert!(
+        said(&output).contains("rt, the command of the Rattle kit, is not on the path"),
+        "{}",
+        said(&output)
+    );
+}
+
+/// From another folder, through a link, with CDPATH set.
+#[test]
+fn it_finds_its_own_folder() {
+    let folder = folder("linked", "answer=none\n");
+    let link = folder.join("elsewhere");
+    std::os::unix::fs::symlink(folder.join("run"), &link).expect("a link");
+    let path = format!("{}:{}", folder.join("bin").display(), env::var("PATH").expect("a path"));
+    let mut command = Command::new("bash");
+    command.arg(&link).env("PATH", path).env("CDPATH", "/").current_dir("/");
+    let output = command.stdin(Stdio::null()).output().expect("run");
+    assert_eq!(status(&output), 1, "{}", said(&output));
 }
