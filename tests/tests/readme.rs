@@ -50,10 +50,11 @@ fn blocks(section: &str) -> Vec<String> {
     blocks
 }
 
-/// The condition of a line that is a comment: its words up to a colon.
+/// The condition of a line that is a comment and asks for one: its words up to a colon.
 fn condition(line: &str) -> Option<&str> {
     let comment = line.trim().strip_prefix("/*")?.strip_suffix("*/")?;
-    Some(comment.split(':').next().unwrap_or(comment).trim())
+    let words = comment.split(':').next().unwrap_or(comment).trim();
+    Some(words).filter(|words| words.contains(" == "))
 }
 
 /// A program of the lines, each comment asked as a condition behind the line before it.
@@ -119,7 +120,7 @@ fn the_guide_does_what_its_comments_say() {
 fn readme_leads_to_c() {
     let readme = read("README.md");
     let shown = blocks(section(&readme, "From C"));
-    assert_eq!(run_c("readme", &shown[1]), 2);
+    assert_eq!(run_c("readme", &shown[1]), 3);
     let commands: Vec<&str> = shown[0].lines().collect();
     assert_eq!((commands.len(), commands[0]), (2, "rt staticlib capi"));
     let output = run(Command::new("bash").args(["-c", commands[1]]).current_dir(root()));
@@ -142,6 +143,42 @@ fn readme_leads_to_rust() {
         .map(|line| format!("{}\n", line))
         .collect();
     assert_eq!(shown.expect("lines of Rust"), due);
+}
+
+/// README names every function of the header, and the one of the safe crate beside it.
+#[test]
+fn readme_names_every_operation() {
+    let (readme, header) = (read("README.md"), read("include/hermitcasket.h"));
+    let modules = [
+        "tables",
+        "subsumption",
+        "matching",
+        "derivations",
+        "countermodel",
+        "incremental",
+        "renumbering",
+        "owl",
+    ];
+    let rust: String =
+        modules.iter().map(|module| read(&format!("rust/src/{}.rs", module))).collect();
+    let names =
+        |cell: &str| cell.split('`').skip(1).step_by(2).map(String::from).collect::<Vec<_>>();
+    let mut of_c = Vec::new();
+    for row in section(&readme, "What it does").lines().filter(|line| line.contains("`hc_")) {
+        let cells: Vec<&str> = row.split(" | ").collect();
+        if !row.starts_with('|') {
+            continue;
+        }
+        let functions: Vec<String> =
+            names(cells[1]).into_iter().filter(|name| name.starts_with("hc_")).collect();
+        assert_eq!(functions.len(), names(cells[2]).len(), "{}", row);
+        for name in names(cells[2]) {
+            assert!(rust.contains(&format!("pub fn {}(", name)), "{}", row);
+        }
+        of_c.extend(functions);
+    }
+    assert!(of_c.iter().all(|name| header.contains(&format!(" {}(", name))), "{:?}", of_c);
+    assert_eq!(of_c.len(), 18, "{:?}", of_c);
 }
 
 /// The lines of the section on derivations, under the choice that it names.
