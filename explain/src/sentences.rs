@@ -93,6 +93,8 @@ mod tests {
     use super::sentences;
     use crate::words::{Legend, Wording};
     use hermitcasket::OwnedTables;
+    use hermitcasket_tests::generate;
+    use hermitcasket_tests::random::{seed, Random, Size};
 
     /// 0 rye, 1 bread, 2 anything, 3 contains rye, 4 holds rye, 5 rye and bread, 6 blank 0, 7 blank 1, 8 rye again. Rye is
     /// bread, "contains" is a way of "holds", blank 0 is filled with rye and contains rye.
@@ -151,5 +153,47 @@ mod tests {
                    \"name 1\" is below \"name 2\" by inclusion 0\n  \
                    \"role 1 name 1\" is below \"role 1 name 2\", since what is inside is (shown above)\n";
         assert_eq!(sentences(&wording, &lines).expect("told"), due);
+    }
+
+    /// Of random tables, every pair that is below: its sentence comes first, and every line that the derivation rests on
+    /// has one, but for what is below itself.
+    #[test]
+    fn derivations_of_random_tables_are_told() {
+        let (mut told, mut lines_told) = (0, 0);
+        let seed = seed("explain, sentences");
+        for k in 0..400 {
+            let mut random = Random::for_case(seed, k);
+            let drawn = generate::valid(&mut random, Size::Small);
+            let assignment = generate::assignment(&mut random, &drawn);
+            let lent = drawn.lend();
+            let tables = OwnedTables {
+                concepts: drawn.concepts.clone(),
+                inclusions: drawn.inclusions.clone(),
+                questions: drawn.questions.clone(),
+                roles: drawn.roles.clone(),
+                variables: drawn.variables,
+            };
+            let words =
+                Wording { tables: &tables, assignment: &assignment, legend: &Legend::default() };
+            let count = drawn.concept_count() as u16;
+            for (left, right) in
+                (0..count).flat_map(|left| (0..count).map(move |right| (left, right)))
+            {
+                let lines = match lent.derivation(&assignment, left, right) {
+                    Ok(lines) => lines,
+                    Err(_) => continue,
+                };
+                let said = sentences(&words, &lines).expect("told");
+                assert!(said.starts_with(&format!("{} is below ", words.quoted(left))), "{}", said);
+                for line in lines.iter().filter(|line| line[1] != line[2]) {
+                    let start =
+                        format!("{} is below {}", words.quoted(line[1]), words.quoted(line[2]));
+                    assert!(said.contains(&start), "{} is not in\n{}", start, said);
+                }
+                told += 1;
+                lines_told += said.lines().count();
+            }
+        }
+        assert!(told > 1000 && lines_told > 2 * told, "{} pairs, {} sentences", told, lines_told);
     }
 }
