@@ -97,7 +97,8 @@ fn it_says_how_far_it_is() {
     let lines: Vec<&str> = first.lines().collect();
     assert_eq!(lines.len(), 4, "{}", first);
     assert!(
-        lines[0].starts_with("run: the first time: proving 3 crates, at most some "),
+        lines[0]
+            .starts_with("run: the first time: proving 3 crates, eight to nine minutes at most "),
         "{}",
         first
     );
