@@ -332,7 +332,7 @@ pub extern "C" fn hc_derive(
 ) -> Answer
     ensures { λ a. ⌜ Derives (tables (now (concepts .entry)) (now (inclusions .entry)) (now (questions .entry)) (now (roles .entry)) variables) (now (assignment .entry)) left right (now (out .entry)) (now (out .exit)) (replied a) ⌝ }
 {
-    matching_answers::derive(
+    derivation_answers::derive(
         concepts,
         inclusions,
         questions,
@@ -360,7 +360,7 @@ pub extern "C" fn hc_check_derivation(
 ) -> Answer
     ensures { λ a. ⌜ replied a ≡ replyOf (checkingFault (tables (now (concepts .entry)) (now (inclusions .entry)) (now (questions .entry)) (now (roles .entry)) variables) (now (assignment .entry)) left right (now (lines .entry))) ⌝ }
 {
-    matching_answers::check_derivation(
+    derivation_answers::check_derivation(
         concepts,
         inclusions,
         questions,

@@ -5,10 +5,8 @@ use mathlib.Core.List.{List}
 use Rattle.subsumption.specs.Tables.{Tables}
 use Rattle.settings.specs.Settings.{Settings}
 use Rattle.matching.specs.declared.find.Match.{Match}
-use Rattle.matching.specs.declared.writer.Derived.{Derived}
 use Rattle.matching.specs.Find.{matchReply, Finds}
 use Rattle.matching.specs.Within.{FindsWithin}
-use Rattle.matching.specs.Writer.{derivedReply, Derives}
 use Rattle.answers.specs.declared.Answer.{Answer}
 use Rattle.answers.specs.Answer.{replied}
 use Rattle.answers.proofs.AnswerLaws.{passed-on}
@@ -21,9 +19,3 @@ module _ (t : Tables) (before after : List ℕ) (a : Answer) where
       (x : Match) (s : Settings) → FindsWithin t s before after (matchReply x) → replied a ≡ matchReply x
       → FindsWithin t s before after (replied a)
   within-as x s p = passed-on (FindsWithin t s before after) matchReply x x a p refl
-
-pub derives-as :
-    (t : Tables) (assignment before after : List ℕ) (left right : ℕ) (a : Answer) (x y : Derived)
-    → Derives t assignment left right before after (derivedReply x) → x ≡ y → replied a ≡ derivedReply y
-    → Derives t assignment left right before after (replied a)
-derives-as t assignment before after left right a x y = passed-on (Derives t assignment left right before after) derivedReply x y a

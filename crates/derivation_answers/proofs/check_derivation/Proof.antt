@@ -1,7 +1,7 @@
 use native.Mathlib.Omega.{arith}
 use mathlib.Core.Path.{_∙_}
-use Rattle.matching_answers.proofs.check_derivation.Statement.{statement}
-use Rattle.matching_answers.proofs.check_derivation.Tie as tie
+use Rattle.derivation_answers.proofs.check_derivation.Statement.{statement}
+use Rattle.derivation_answers.proofs.check_derivation.Tie as tie
 
 check-derivation-requires : tie.Need-check-derivation-requires
 check-derivation-requires c κs = omega arith

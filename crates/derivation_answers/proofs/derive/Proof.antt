@@ -1,8 +1,8 @@
 use native.Mathlib.Omega.{arith}
 use Rattle.subsumption.specs.Tables.{tables}
-use Rattle.matching_answers.proofs.AnswerLaws.{derives-as}
-use Rattle.matching_answers.proofs.derive.Statement.{statement}
-use Rattle.matching_answers.proofs.derive.Tie as tie
+use Rattle.derivation_answers.proofs.AnswerLaws.{derives-as}
+use Rattle.derivation_answers.proofs.derive.Statement.{statement}
+use Rattle.derivation_answers.proofs.derive.Tie as tie
 
 derive-requires : tie.Need-derive-requires
 derive-requires c κs = omega arith
