@@ -114,3 +114,18 @@ fn fails() {
         assert!(!sum.ends_with(" 0 failed"), "{}:\n{}", label, printed);
     }
 }
+
+/// A file of tests that no program has among its modules would not be run.
+#[test]
+fn every_file_is_run() {
+    let package = Path::new(env!("CARGO_MANIFEST_DIR"));
+    let programs = fs::read_to_string(package.join("Cargo.toml")).expect("Cargo.toml");
+    let modules = include_str!("all.rs");
+    for entry in fs::read_dir(package.join("tests")).expect("a folder") {
+        let path = entry.expect("a file").path();
+        let name = path.file_stem().and_then(|name| name.to_str()).expect("a plain name");
+        let is_module = modules.lines().any(|line| line == format!("mod {};", name));
+        let is_program = programs.lines().any(|line| line == format!("name = \"{}\"", name));
+        assert!(is_module != is_program, "{}", path.display());
+    }
+}

@@ -1,0 +1,33 @@
+//! The tests as one program, a module for each file. `cargo test --test all check::` runs those of one.
+
+mod atoms;
+mod batch;
+mod believed;
+mod belongs;
+mod check;
+mod chosen;
+mod counted;
+mod decide;
+mod derivation;
+mod edits;
+mod find;
+mod group;
+mod header;
+mod interface;
+mod limits;
+mod owl;
+mod program;
+mod program_owl;
+mod readme;
+mod reference;
+mod renumber;
+mod roles;
+mod safe;
+mod sample_cards;
+mod search;
+mod show;
+mod table;
+mod twins;
+mod update;
+mod variables;
+mod within;
