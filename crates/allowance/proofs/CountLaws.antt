@@ -2,12 +2,12 @@
 use Prim.Native.Nat.{ℕ, suc, _<_, _≤_}
 use mathlib.Core.Path.{_≡_, refl, sym, ap, subst}
 use mathlib.Core.List.{List, [], _∷_, _++_, List·Memᴰ, List·Memᴰ·head, List·Memᴰ·tail}
-use mathlib.Core.Bool.{Bool, true, false}
+use mathlib.Core.Bool.{Bool}
+use mathlib.Core.Logic.{⊎-elim}
 use native.Mathlib.Omega.{arith}
-use borrow.Author.Tests.{ltb-true, ltb-false}
-use lib.Dec.{ltb}
 use lib.ListN.{length}
 use Rattle.subsumption.specs.Tables.{Tables}
+use Rattle.subsumption.proofs.Bools.{le-or-lt}
 use Rattle.settings.specs.Settings.{Settings}
 use Rattle.allowance.specs.Partial.{pairs, Open, allPartials}
 use Rattle.allowance.specs.Count.{Stretch, none, opened, shut, CountOf, answered, unanswered, Exceeds}
@@ -83,9 +83,8 @@ record FirstIn (t : Tables) (settings : Settings) (xs : List (List Bool)) (n : �
   whole : length here ≡ pairs t
   is-open : Open t settings here
 
-by-size : (m n : ℕ) (b : Bool) → ltb m n ≡ b → m ≤ n → (m < n → ⊥) → (m ≡ n → ⊥) → ⊥
-by-size m n true e h less same = less (ltb-true m n e)
-by-size m n false e h less same = same (omega (arith, ltb-false m n e))
+by-size : (m n : ℕ) → m ≤ n → (m < n → ⊥) → (m ≡ n → ⊥) → ⊥
+by-size m n h less same = ⊎-elim (λ l. same (omega arith)) less (le-or-lt n m)
 
 module _ (t : Tables) (settings : Settings) where
   first-here : (s : List Bool) (xs : List (List Bool)) → length s ≡ pairs t → Open t settings s → FirstIn t settings (s ∷ xs) 0
@@ -110,7 +109,7 @@ module _ (t : Tables) (settings : Settings) where
       → ((n : ℕ) → FirstIn t settings xs n → ⊥) → ⊥
   ends [] short k l = k 0 none
   ends (s ∷ xs) short k l =
-      let size = by-size (length s) (pairs t) (ltb (length s) (pairs t)) refl (short s (List·Memᴰ·head refl)) in
+      let size = by-size (length s) (pairs t) (short s (List·Memᴰ·head refl)) in
       ends xs (λ x m. short x (List·Memᴰ·tail m))
       (λ n x.
       let is-shut : Open t settings s → ⊥ = λ o. size (λ less. k (suc n) (opened s xs n less o x)) (λ w. l 0 (first-here s xs w o)) in
