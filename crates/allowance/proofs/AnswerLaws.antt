@@ -23,9 +23,9 @@ use Rattle.settings.specs.Settings.{Settings, settingsFault}
 use Rattle.settings.specs.Inner.Check.{Loaded}
 use Rattle.settings.proofs.SettingsLaws.{settings-long}
 use Rattle.matching.specs.Within.{withinFault, FirstWithin}
-use Rattle.matching.specs.Inner.Search.Card.{Card}
+use Rattle.matching.specs.Inner.Search.Problem.{Problem}
 use Rattle.matching.specs.Inner.Within.{Counting, Asking, Copied}
-use Rattle.matching.proofs.SearchLaws.Card.{card-kept}
+use Rattle.matching.proofs.SearchLaws.Problem.{problem-kept}
 use Rattle.matching.proofs.SearchLaws.Fronts.{below-bits, front-known, accept}
 use Rattle.matching.proofs.FindLaws.{all-asked}
 use Rattle.matching.proofs.SubstitutionLaws.Locality.{none-by-substitution}
@@ -47,18 +47,18 @@ module _ (t : Tables) (ids : List ℕ) (a : Accepted t ids) where
   pairs-few = mul-le-mul-right {m = t .variables} {n = 8} (length ids) (wellFormed t (a .passed) .few-variables)
 
 pub lent :
-    (t : Tables) (s : Settings) (ids sets before counted card permitted : List ℕ) → Accepted t ids → settingsFault t s ≡ Done → Card t sets before
-    → Counting (s .largest) before counted → Asking 18446744073709551615 counted card → Loaded (s .permitted) permitted
-    → Lent t s sets card permitted (length ids)
-lent t s ids sets before counted card permitted a ok c counting asking loaded =
+    (t : Tables) (s : Settings) (ids sets before counted problem permitted : List ℕ) → Accepted t ids → settingsFault t s ≡ Done → Problem t sets before
+    → Counting (s .largest) before counted → Asking 18446744073709551615 counted problem → Loaded (s .permitted) permitted
+    → Lent t s sets problem permitted (length ids)
+lent t s ids sets before counted problem permitted a ok c counting asking loaded =
     record {
-      card-of = card-kept before card (written-front (s .largest) before counted card _ counting asking) t sets c;
+      problem-of = problem-kept before problem (written-front (s .largest) before counted problem _ counting asking) t sets c;
       all-asked = λ m l. asking .asked m (omega (arith, wellFormed t (a .passed) .few-questions)) .1 (all-asked t (a .passed) m l);
       set = ok;
       loaded = loaded;
       counts =
           λ k l.
-          written-most (s .largest) before counted card _ counting asking k (omega (arith, settings-long t s ok .1))
+          written-most (s .largest) before counted problem _ counting asking k (omega (arith, settings-long t s ok .1))
           (omega (arith, wellFormed t (a .passed) .few-variables));
       many = sym (ap length (a .listed));
     }
@@ -75,7 +75,7 @@ low-completed t permitted low high p h w =
       taken = λ k q l m. ap (λ (z : ℕ). bit z q) (getD-take _ low k 0 l) ∙ w .low-taken k q l m;
     }
 
-module _ (t : Tables) (s : Settings) (sets card permitted : List ℕ) (count allowance : ℕ) (lends : Lent t s sets card permitted count) where
+module _ (t : Tables) (s : Settings) (sets problem permitted : List ℕ) (count allowance : ℕ) (lends : Lent t s sets problem permitted count) where
   pub walked-by :
       (found spent : Bool) (choice : List ℕ) (met : ℕ) → WalkedTo t s permitted count allowance found spent choice met
       → WalkedBy t s allowance found spent choice met
@@ -84,7 +84,7 @@ module _ (t : Tables) (s : Settings) (sets card permitted : List ℕ) (count all
         long = f .words .low-long;
         first =
             first-within t s (f .before) (f .s) (f .first) _
-            (low-completed t permitted choice (f .high) (f .s) (lends .card-of .passed)
+            (low-completed t permitted choice (f .high) (f .s) (lends .problem-of .passed)
             (subst (λ (z : ℕ). At (t .variables) z permitted choice (f .high) (f .s)) (sym (lends .many)) (f .words)));
         counted = subst (CountOf t s) (sym (f .counted)) (answered (f .before) (f .s) (f .first));
         enough = e;

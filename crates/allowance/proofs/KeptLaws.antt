@@ -12,7 +12,7 @@ use Rattle.subsumption.specs.Tables.{Tables}
 use Rattle.subsumption.specs.Check.{tableFault}
 use Rattle.subsumption.proofs.Bools.{last-cases, le-or-lt}
 use Rattle.subsumption.proofs.Accepted.{wellFormed}
-use Rattle.matching.specs.Inner.Search.Card.{questionCount}
+use Rattle.matching.specs.Inner.Search.Problem.{questionCount}
 use Rattle.matching.specs.Inner.Search.Nogoods.{words, Put}
 use Rattle.matching.specs.Inner.Search.Pairs.{Contained}
 use Rattle.matching.specs.Inner.Search.Solve.{FailingOf}
@@ -171,8 +171,8 @@ recalled-at kept choice other true right passed ring i e l m o f x =
     }
 recalled-at kept choice other false right passed ring i e l m o f x = absurd (false≢true x)
 
-module _ (sets card choice : List ℕ) (right : Bool) (kept : List ℕ) where
-  pub tried-known : (passed b : Bool) → Recalled kept choice right passed b → b ≡ true → Tried sets card choice right kept kept passed
+module _ (sets problem choice : List ℕ) (right : Bool) (kept : List ℕ) where
+  pub tried-known : (passed b : Bool) → Recalled kept choice right passed b → b ≡ true → Tried sets problem choice right kept kept passed
   tried-known passed true a e t c all i k = (told-follows t (c .passed) right passed choice _ (a .follows) (k .each right passed (a .place) (a .low) (a .read)), k)
   tried-known passed false a e t c all i k = absurd (false≢true e)
 
@@ -197,14 +197,14 @@ kept-noted t before after choice right passed k x n =
     }
 
 -- ---- a test
-module _ (sets card choice : List ℕ) (right : Bool) (m : ℕ) (f : FailingOf sets card choice right m) (before after : List ℕ) where
-  pub tried-passes : questionCount card ≤ m → Noted before after choice right true → Tried sets card choice right before after true
+module _ (sets problem choice : List ℕ) (right : Bool) (m : ℕ) (f : FailingOf sets problem choice right m) (before after : List ℕ) where
+  pub tried-passes : questionCount problem ≤ m → Noted before after choice right true → Tried sets problem choice right before after true
   tried-passes l n t c all a k =
       let holds : Asked t right (take (t .variables) choice) = λ o x e. f t c a .hold (omega (arith, c .questions)) o x (all o x, e) in
       (holds, kept-noted t before after choice right true k holds n)
 
-  pub tried-fails : m < questionCount card → Noted before after choice right false → Tried sets card choice right before after false
+  pub tried-fails : m < questionCount problem → Noted before after choice right false → Tried sets problem choice right before after false
   tried-fails l n t c all a k =
-      let at = is-question t sets card c m l in
+      let at = is-question t sets problem c m l in
       let fails : Asked t right (take (t .variables) choice) → ⊥ = λ s. f t c a .fails at (s m at (f t c a .of-kind at .1)) in
       (fails, kept-noted t before after choice right false k fails n)

@@ -49,9 +49,9 @@ word-outside a b k n w =
     (same-bits _ _
     (λ q. same-bool _ _ (λ e. ⊎-elim (λ x. w k q x) (λ x. x) (bit-or-cases (getD a k 0) (getD b k 0) q e)) (λ e. bit-or-right (getD a k 0) (getD b k 0) q e)))
 
-module _ (t : Tables) (settings : Settings) (sets card permitted : List ℕ) (count : ℕ) (lent : Lent t settings sets card permitted count) where
+module _ (t : Tables) (settings : Settings) (sets problem permitted : List ℕ) (count : ℕ) (lent : Lent t settings sets problem permitted count) where
   few-variables : t .variables ≤ 8
-  few-variables = wellFormed t (lent .card-of .passed) .few-variables
+  few-variables = wellFormed t (lent .problem-of .passed) .few-variables
 
   permitted-same : (k q : ℕ) → takes permitted k q ≡ takes (settings .permitted) k q
   permitted-same k q = ap (λ (z : ℕ). bit z q) (lent .loaded .same k)
@@ -134,7 +134,7 @@ module _ (t : Tables) (settings : Settings) (sets card permitted : List ℕ) (co
     open-within o k q e =
         permitted-same k q ∙ open-heeds o .permitted k q (front-takes (t .variables) low k q (a .low-known k q e .0) e)
 
-    module _ (most : List ℕ) (lent-counts : most ≡ take 8 (drop 931 card)) where
+    module _ (most : List ℕ) (lent-counts : most ≡ take 8 (drop 931 problem)) where
       over-most : Over most low → Open t settings s → ⊥
       over-most x o =
           ⊎-elim
@@ -147,7 +147,7 @@ module _ (t : Tables) (settings : Settings) (sets card permitted : List ℕ) (co
             ap size (getD-take (t .variables) low (x .variable) 0 l),
             open-heeds o .few (x .variable),
             lent .counts (x .variable) l,
-            counts-same card most lent-counts (x .variable) (x .low),
+            counts-same problem most lent-counts (x .variable) (x .low),
           ))
           (le-or-lt (t .variables) (x .variable))
 
@@ -161,7 +161,7 @@ module _ (t : Tables) (settings : Settings) (sets card permitted : List ℕ) (co
                 (λ (l : t .variables ≤ k).
                 omega
                 (arith, ap size (List·getD-eq-default (take (t .variables) low) 0 {n = k} (omega (arith, length-take (t .variables) low))), size-zero))
-                (λ l. omega (arith, few-front card most low (counts-same card most lent-counts) (t .variables) few-variables f k, lent .counts k l))
+                (λ l. omega (arith, few-front problem most low (counts-same problem most lent-counts) (t .variables) few-variables f k, lent .counts k l))
                 (le-or-lt (t .variables) k);
           }
 
@@ -191,10 +191,10 @@ module _ (t : Tables) (settings : Settings) (sets card permitted : List ℕ) (co
         }
 
     low-passes : Within low permitted → assignmentFault t (take (t .variables) low) ≡ Done
-    low-passes w = low-accepted t (lent .card-of .passed) low permitted (interval low (a .low-long) w)
+    low-passes w = low-accepted t (lent .problem-of .passed) low permitted (interval low (a .low-long) w)
 
     high-passes : Within low permitted → assignmentFault t (take (t .variables) high) ≡ Done
-    high-passes w = low-accepted t (lent .card-of .passed) high permitted (interval high (a .high-long) within)
+    high-passes w = low-accepted t (lent .problem-of .passed) high permitted (interval high (a .high-long) within)
       where
         within : Within high permitted
         within k q e =
@@ -204,39 +204,39 @@ module _ (t : Tables) (settings : Settings) (sets card permitted : List ℕ) (co
             (λ i. w k q (a .low-taken k q l m ∙ settled-known s _ _ _ i ∙ f)) (le-or-lt (length s) (k * count + q))
 
 -- what the tests tell, in the order of the code
-module _ (sets card permitted low high before : List ℕ) where
-  pub outside-shut : (w : Bool) → Decided (Within low permitted) w → w ≡ false → OpenedBy sets card permitted low high before before false
+module _ (sets problem permitted low high before : List ℕ) where
+  pub outside-shut : (w : Bool) → Decided (Within low permitted) w → w ≡ false → OpenedBy sets problem permitted low high before before false
   outside-shut w d e count t settings s lent a k =
-      (λ o. decided-false _ w d e (open-within t settings sets card permitted count lent low high s a o), k)
+      (λ o. decided-false _ w d e (open-within t settings sets problem permitted count lent low high s a o), k)
 
   pub over-shut :
-      (most : List ℕ) → most ≡ take 8 (drop 931 card) → (f : Bool) → Counted most low f → f ≡ false
-      → OpenedBy sets card permitted low high before before false
+      (most : List ℕ) → most ≡ take 8 (drop 931 problem) → (f : Bool) → Counted most low f → f ≡ false
+      → OpenedBy sets problem permitted low high before before false
   over-shut most m f c e count t settings s lent a k =
-      (over-most t settings sets card permitted count lent low high s a most m (subst (Counted most low) e c), k)
+      (over-most t settings sets problem permitted count lent low high s a most m (subst (Counted most low) e c), k)
 
   module _ (after : List ℕ) (w : Bool) (d : Decided (Within low permitted) w) (e : w ≡ true) where
     pub fewer-shut :
-        (x : Bool) → Tried sets card low true before after x → x ≡ false → OpenedBy sets card permitted low high before after false
+        (x : Bool) → Tried sets problem low true before after x → x ≡ false → OpenedBy sets problem permitted low high before after false
     fewer-shut x h f count t settings s lent a k =
-        let (y, k₁) = h t (lent .card-of) (lent .all-asked) (low-passes t settings sets card permitted count lent low high s a (decided-true _ w d e)) k in
-        (λ o. decided-false _ x y f (open-fewer t settings sets card permitted count lent low high s a o), k₁)
+        let (y, k₁) = h t (lent .problem-of) (lent .all-asked) (low-passes t settings sets problem permitted count lent low high s a (decided-true _ w d e)) k in
+        (λ o. decided-false _ x y f (open-fewer t settings sets problem permitted count lent low high s a o), k₁)
 
     pub more-decides :
-        (most : List ℕ) → most ≡ take 8 (drop 931 card) → (f : Bool) → Counted most low f → f ≡ true → (middle : List ℕ) (x : Bool)
-        → Tried sets card low true before middle x → x ≡ true → (y : Bool) → Tried sets card high false middle after y
-        → OpenedBy sets card permitted low high before after y
+        (most : List ℕ) → most ≡ take 8 (drop 931 problem) → (f : Bool) → Counted most low f → f ≡ true → (middle : List ℕ) (x : Bool)
+        → Tried sets problem low true before middle x → x ≡ true → (y : Bool) → Tried sets problem high false middle after y
+        → OpenedBy sets problem permitted low high before after y
     more-decides most m f c g middle x h i y j count t settings s lent a k =
         let within : Within low permitted = decided-true _ w d e in
-        let (p, k₁) = h t (lent .card-of) (lent .all-asked) (low-passes t settings sets card permitted count lent low high s a within) k in
-        let (q, k₂) = j t (lent .card-of) (lent .all-asked) (high-passes t settings sets card permitted count lent low high s a within) k₁ in
+        let (p, k₁) = h t (lent .problem-of) (lent .all-asked) (low-passes t settings sets problem permitted count lent low high s a within) k in
+        let (q, k₂) = j t (lent .problem-of) (lent .all-asked) (high-passes t settings sets problem permitted count lent low high s a within) k₁ in
         (go y q (decided-true _ x p i) (subst (Counted most low) g c) within, k₂)
       where
         go :
             (y : Bool) → Decided (Asked t false (take (t .variables) high)) y → Asked t true (take (t .variables) low) → Counted most low true
             → Within low permitted → Decided (Open t settings s) y
-        go true q p c w = passed-open t settings sets card permitted count lent low high s a most m w c p q
-        go false q p c w = λ o. q (open-more t settings sets card permitted count lent low high s a o)
+        go true q p c w = passed-open t settings sets problem permitted count lent low high s a most m w c p q
+        go false q p c w = λ o. q (open-more t settings sets problem permitted count lent low high s a o)
 
 -- ---- how far the walk is
 -- the partial choice, read off the words
@@ -376,32 +376,32 @@ module _ (t : Tables) (settings : Settings) where
 -- ---- one turn of the walk
 -- whatever the tables and settings are
 abbrev pub Goes : List ℕ → List ℕ → List ℕ → ℕ → ℕ → List ℕ → List ℕ → ℕ → ℕ → Type 0
-Goes sets card permitted count all kept low many met =
-    (t : Tables) (settings : Settings) → Lent t settings sets card permitted count → t .variables * count ≡ all
+Goes sets problem permitted count all kept low many met =
+    (t : Tables) (settings : Settings) → Lent t settings sets problem permitted count → t .variables * count ≡ all
     → Progress t settings (readOff count low many) met × Kept t kept
 
 pub goes-none :
-    (sets card permitted : List ℕ) (count all : ℕ) (kept low : List ℕ) → ((t : Tables) → Kept t kept) → Goes sets card permitted count all kept low 0 0
+    (sets problem permitted : List ℕ) (count all : ℕ) (kept low : List ℕ) → ((t : Tables) → Kept t kept) → Goes sets problem permitted count all kept low 0 0
 unfolding upTo
-goes-none sets card permitted count all kept low k t settings lent e = (progress-none t settings, k t)
+goes-none sets problem permitted count all kept low k t settings lent e = (progress-none t settings, k t)
 
-module _ (sets card permitted : List ℕ) (count all : ℕ) (low high : List ℕ) (many met : ℕ) (x : Standing count all permitted low high many)
-    (kept kept₁ : List ℕ) (g : Goes sets card permitted count all kept low many met) (answer : Bool)
-    (by : OpenedBy sets card permitted low high kept kept₁ answer) where
-  module _ (t : Tables) (settings : Settings) (lent : Lent t settings sets card permitted count) (e : t .variables * count ≡ all) where
+module _ (sets problem permitted : List ℕ) (count all : ℕ) (low high : List ℕ) (many met : ℕ) (x : Standing count all permitted low high many)
+    (kept kept₁ : List ℕ) (g : Goes sets problem permitted count all kept low many met) (answer : Bool)
+    (by : OpenedBy sets problem permitted low high kept kept₁ answer) where
+  module _ (t : Tables) (settings : Settings) (lent : Lent t settings sets problem permitted count) (e : t .variables * count ≡ all) where
     all-pairs : pairs t ≡ all
     all-pairs = ap (λ (z : ℕ). t .variables * z) (lent .many) ∙ e
 
     words : At (t .variables) count permitted low high (readOff count low many)
     words =
-        words-at t settings sets card permitted count lent low high (readOff count low many) (omega (arith, x .few, upTo-length (takenAt low count) many)) (x .words)
+        words-at t settings sets problem permitted count lent low high (readOff count low many) (omega (arith, x .few, upTo-length (takenAt low count) many)) (x .words)
 
     tested : Decided (Open t settings (readOff count low many)) answer × Kept t kept₁
     tested = by count t settings _ lent words (g t settings lent e .1)
 
   pub goes-leave :
       answer ≡ true → many < all → (low₁ : List ℕ) (many₁ : ℕ) → readOff count low₁ many₁ ≡ false ∷ readOff count low many
-      → Goes sets card permitted count all kept₁ low₁ many₁ (met + 1)
+      → Goes sets problem permitted count all kept₁ low₁ many₁ (met + 1)
   goes-leave a l low₁ many₁ f t settings lent e = (
     subst (λ (z : List Bool). Progress t settings z (met + 1)) (sym f)
         (progress-open t settings _ met (g t settings lent e .0)
@@ -412,28 +412,28 @@ module _ (sets card permitted : List ℕ) (count all : ℕ) (low high : List ℕ
 
   pub goes-next :
       answer ≡ false → (low₁ : List ℕ) (many₁ : ℕ) → hasNext (readOff count low many) ≡ true → readOff count low₁ many₁ ≡ nextOf (readOff count low many)
-      → Goes sets card permitted count all kept₁ low₁ many₁ met
+      → Goes sets problem permitted count all kept₁ low₁ many₁ met
   goes-next a low₁ many₁ h f t settings lent e = (
     subst (λ (z : List Bool). Progress t settings z met) (sym f)
-        (progress-next t settings _ met (g t settings lent e .0) (lent .card-of .passed) (decided-false _ answer (tested t settings lent e .0) a) h),
+        (progress-next t settings _ met (g t settings lent e .0) (lent .problem-of .passed) (decided-false _ answer (tested t settings lent e .0) a) h),
     tested t settings lent e .1,
   )
 
   module _ (allowance : ℕ) where
-    pub walked-spent : answer ≡ true → met ≡ allowance → Walked sets card permitted count all allowance false true low met
+    pub walked-spent : answer ≡ true → met ≡ allowance → Walked sets problem permitted count all allowance false true low met
     walked-spent a m t settings lent e = (
       subst (Exceeds t settings) m (progress-spent t settings _ met (g t settings lent e .0) (decided-true _ answer (tested t settings lent e .0) a)),
       m,
     )
 
     pub walked-none :
-        answer ≡ false → met ≤ allowance → hasNext (readOff count low many) ≡ false → Walked sets card permitted count all allowance false false low met
+        answer ≡ false → met ≤ allowance → hasNext (readOff count low many) ≡ false → Walked sets problem permitted count all allowance false false low met
     walked-none a l h t settings lent e = (
-      progress-last t settings _ met (g t settings lent e .0) (lent .card-of .passed) (decided-false _ answer (tested t settings lent e .0) a) h,
+      progress-last t settings _ met (g t settings lent e .0) (lent .problem-of .passed) (decided-false _ answer (tested t settings lent e .0) a) h,
       l,
     )
 
-    pub walked-found : answer ≡ true → met + 1 ≤ allowance → many ≡ all → Walked sets card permitted count all allowance true false low (met + 1)
+    pub walked-found : answer ≡ true → met + 1 ≤ allowance → many ≡ all → Walked sets problem permitted count all allowance true false low (met + 1)
     walked-found a l m t settings lent e = (
       record {
         high = high;

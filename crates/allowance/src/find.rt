@@ -3,9 +3,9 @@ use crate::walk::Trail;
 use crate::walk::walk;
 use matching::Match;
 use matching::helpers::ALL;
-use matching::helpers::CARD;
+use matching::helpers::PROBLEM;
 use matching::helpers::SETS;
-use matching::helpers::make_card;
+use matching::helpers::make_problem;
 use matching::helpers::put_asked;
 use matching::helpers::put_counts;
 use matching::helpers::write_choice;
@@ -57,8 +57,8 @@ fn walk_known(
     ensures { λ r. ⌜ WalkedBy (tables (now (concepts .entry)) (now (inclusions .entry)) (now (questions .entry)) (now (roles .entry)) variables) (settings (now (permitted .entry)) (now (largest .entry))) allowance (r .found) (r .spent) (r .choice) (r .met) ⌝ }
 {
     let mut sets = [0u64; SETS];
-    let mut card = [0u16; CARD];
-    make_card(
+    let mut problem = [0u16; PROBLEM];
+    make_problem(
         concepts,
         inclusions,
         questions,
@@ -66,13 +66,13 @@ fn walk_known(
         variables,
         ids,
         &mut sets,
-        &mut card,
+        &mut problem,
     );
-    put_counts(&mut card, largest);
-    put_asked(&mut card, ALL);
+    put_counts(&mut problem, largest);
+    put_asked(&mut problem, ALL);
     let high = load_permitted(permitted);
     let pairs = variables as usize * ids.len();
-    walk(&sets, &card, high, ids.len(), pairs, allowance)
+    walk(&sets, &problem, high, ids.len(), pairs, allowance)
 }
 
 // The buffer's check, given accepted tables and settings, and then the walk.

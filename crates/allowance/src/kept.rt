@@ -9,7 +9,7 @@ use matching::helpers::put;
 ghost use mathlib.Core.Path.{_≡_};
 ghost use Prim.Native.Nat.{_≤_};
 ghost use lib.ListN.{length};
-ghost use Rattle.matching.specs.Inner.Search.Card.{Shaped};
+ghost use Rattle.matching.specs.Inner.Search.Problem.{Shaped};
 ghost use Rattle.allowance.specs.Inner.Kept.{ringAt, FollowsIf, Recalled, Noted, Tried};
 
 const RING: usize = 16;
@@ -89,19 +89,19 @@ fn note(kept: &mut [u64], choice: [u64; 8], right: bool, passed: bool)
 // Whether all questions of the kind hold under the choice, by a test; what came of it is kept.
 fn test(
     sets: &[u64],
-    card: &[u16],
+    problem: &[u16],
     scratch: &mut [u64],
     kept: &mut [u64],
     choice: [u64; 8],
     right: bool,
 ) -> bool
-    requires { ⌜ Shaped (now sets) (now card) ⌝ }
+    requires { ⌜ Shaped (now sets) (now problem) ⌝ }
     requires { ⌜ (length (now scratch) ≡ 16977) × (length (now kept) ≡ 516) ⌝ }
     requires { ⌜ length choice ≡ 8 ⌝ }
-    ensures { λ r. ⌜ Tried (now (sets .entry)) (now (card .entry)) choice right (now (kept .entry)) (now (kept .exit)) r ⌝ }
+    ensures { λ r. ⌜ Tried (now (sets .entry)) (now (problem .entry)) choice right (now (kept .entry)) (now (kept .exit)) r ⌝ }
 {
-    let m = failing_of(sets, card, scratch, choice, right);
-    if m < card[QUESTION_COUNT] as usize {
+    let m = failing_of(sets, problem, scratch, choice, right);
+    if m < problem[QUESTION_COUNT] as usize {
         note(kept, choice, right, false);
         return false;
     }
@@ -112,16 +112,16 @@ fn test(
 // Whether all questions of the kind hold under the choice.
 pub fn holds(
     sets: &[u64],
-    card: &[u16],
+    problem: &[u16],
     scratch: &mut [u64],
     kept: &mut [u64],
     choice: [u64; 8],
     right: bool,
 ) -> bool
-    requires { ⌜ Shaped (now sets) (now card) ⌝ }
+    requires { ⌜ Shaped (now sets) (now problem) ⌝ }
     requires { ⌜ (length (now scratch) ≡ 16977) × (length (now kept) ≡ 516) ⌝ }
     requires { ⌜ length choice ≡ 8 ⌝ }
-    ensures { λ r. ⌜ Tried (now (sets .entry)) (now (card .entry)) choice right (now (kept .entry)) (now (kept .exit)) r ⌝ }
+    ensures { λ r. ⌜ Tried (now (sets .entry)) (now (problem .entry)) choice right (now (kept .entry)) (now (kept .exit)) r ⌝ }
 {
     if is_known(kept, choice, right, true) {
         return true;
@@ -129,5 +129,5 @@ pub fn holds(
     if is_known(kept, choice, right, false) {
         return false;
     }
-    test(sets, card, scratch, kept, choice, right)
+    test(sets, problem, scratch, kept, choice, right)
 }

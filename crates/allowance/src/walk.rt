@@ -12,7 +12,7 @@ ghost use mathlib.Core.Path.{_≡_};
 ghost use Prim.Native.Nat.{_*_, _≤_};
 ghost use lib.ListN.{length};
 ghost use Rattle.matching.specs.Inner.Search.{Decided, Within};
-ghost use Rattle.matching.specs.Inner.Search.Card.{Shaped};
+ghost use Rattle.matching.specs.Inner.Search.Problem.{Shaped};
 ghost use Rattle.allowance.specs.Inner.Walk.{OpenedBy, Walked};
 
 // What was found, or that the allowance was spent, and how many open ones were met.
@@ -40,44 +40,44 @@ fn is_permitted(low: [u64; 8], permitted: [u64; 8]) -> bool
 
 fn is_open(
     sets: &[u64],
-    card: &[u16],
+    problem: &[u16],
     scratch: &mut [u64],
     kept: &mut [u64],
     permitted: [u64; 8],
     place: Place,
 ) -> bool
-    requires { ⌜ Shaped (now sets) (now card) ⌝ }
+    requires { ⌜ Shaped (now sets) (now problem) ⌝ }
     requires { ⌜ (length (now scratch) ≡ 16977) × (length (now kept) ≡ 516) ⌝ }
     requires { ⌜ (length permitted ≡ 8) × (length (place .low) ≡ 8) × (length (place .high) ≡ 8) ⌝ }
     ensures { λ r. ⌜ length (now (kept .exit)) ≡ 516 ⌝ }
-    ensures { λ r. ⌜ OpenedBy (now (sets .entry)) (now (card .entry)) permitted (place .low) (place .high) (now (kept .entry)) (now (kept .exit)) r ⌝ }
+    ensures { λ r. ⌜ OpenedBy (now (sets .entry)) (now (problem .entry)) permitted (place .low) (place .high) (now (kept .entry)) (now (kept .exit)) r ⌝ }
 {
     let low = place.low;
     let high = place.high;
     if !is_permitted(low, permitted) {
         return false;
     }
-    if !is_few(&card[MOST..ASKED], low) {
+    if !is_few(&problem[MOST..ASKED], low) {
         return false;
     }
-    if !holds(sets, card, scratch, kept, low, true) {
+    if !holds(sets, problem, scratch, kept, low, true) {
         return false;
     }
-    holds(sets, card, scratch, kept, high, false)
+    holds(sets, problem, scratch, kept, high, false)
 }
 
 // `count` is the number of the atoms, `pairs` that of the pairs.
 pub fn walk(
     sets: &[u64],
-    card: &[u16],
+    problem: &[u16],
     permitted: [u64; 8],
     count: usize,
     pairs: usize,
     allowance: u32,
 ) -> Trail
-    requires { ⌜ Shaped (now sets) (now card) ⌝ }
+    requires { ⌜ Shaped (now sets) (now problem) ⌝ }
     requires { ⌜ (length permitted ≡ 8) × (count ≤ 64) × (pairs ≤ 8 * count) ⌝ }
-    ensures { λ r. ⌜ Walked (now (sets .entry)) (now (card .entry)) permitted count pairs allowance (r .found) (r .spent) (r .choice) (r .met) ⌝ }
+    ensures { λ r. ⌜ Walked (now (sets .entry)) (now (problem .entry)) permitted count pairs allowance (r .found) (r .spent) (r .choice) (r .met) ⌝ }
 {
     let mut scratch = [0u64; SCRATCH];
     let mut kept = [0u64; KEPT];
@@ -90,7 +90,7 @@ pub fn walk(
     let mut met: u32 = 0;
     loop {
         let choice = place.low;
-        if is_open(sets, card, &mut scratch, &mut kept, permitted, place) {
+        if is_open(sets, problem, &mut scratch, &mut kept, permitted, place) {
             if met == allowance {
                 return Trail {
                     found: false,

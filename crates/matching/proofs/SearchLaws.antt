@@ -7,7 +7,7 @@ pub mod Walks
 pub mod Values
 pub mod Patterns
 pub mod Making
-pub mod Card
+pub mod Problem
 pub mod Pairs
 pub mod Interval
 pub mod Nogoods

@@ -29,7 +29,7 @@ use Rattle.matching.specs.Solving.{takes}
 use Rattle.matching.specs.Within.{withinFault, FindsWithinAfter, FindsWithin}
 use Rattle.matching.specs.Among.{SolvesAmong, FirstAmong, NoneAmong}
 use Rattle.matching.specs.Inner.Search.{Within, Between, Meets, NoSolution}
-use Rattle.matching.specs.Inner.Search.Card.{mostAt, AskedAt, Card}
+use Rattle.matching.specs.Inner.Search.Problem.{mostAt, AskedAt, Problem}
 use Rattle.matching.specs.Inner.Search.Nogoods.{used, Room, Nogoods}
 use Rattle.matching.specs.Inner.Search.Narrow.{Narrower, Narrowed}
 use Rattle.matching.specs.Inner.Search.Solve.{Answers, Searched}
@@ -61,7 +61,7 @@ copied-more choice before after k h s =
 pub copied-all : (count k : ℕ) (choice before after : List ℕ) → k ≤ count → count ≤ k → Copied k choice before after → Copied count choice before after
 copied-all count k choice before after h l s = let e : k ≡ count = omega arith in subst (λ (z : ℕ). Copied z choice before after) e s
 
--- ---- writing into a card: the counts, and which questions are asked
+-- ---- writing into a problem: the counts, and which questions are asked
 pub record WrittenTo (start : ℕ) (number : ℕ → ℕ) (before after : List ℕ) (n : ℕ) : Type 0 where
   pub size : length after ≡ length before
   pub front : (p : ℕ) → p < start → getD after p 0 ≡ getD before p 0
@@ -104,20 +104,20 @@ asked-all wanted before after n h s =
     }
 
 -- one after the other
-module _ (largest before counted card : List ℕ) (wanted : ℕ) (counting : Counting largest before counted) (asking : Asking wanted counted card) where
-  pub written-size : length card ≡ length before
+module _ (largest before counted problem : List ℕ) (wanted : ℕ) (counting : Counting largest before counted) (asking : Asking wanted counted problem) where
+  pub written-size : length problem ≡ length before
   written-size = asking .size ∙ counting .size
 
-  pub written-front : (p : ℕ) → p < 931 → getD card p 0 ≡ getD before p 0
+  pub written-front : (p : ℕ) → p < 931 → getD problem p 0 ≡ getD before p 0
   written-front p l = asking .front p (omega arith) ∙ counting .front p l
 
-  pub written-most : (k : ℕ) → k < length largest → k < 8 → mostAt card k ≡ getD largest k 0
+  pub written-most : (k : ℕ) → k < length largest → k < 8 → mostAt problem k ≡ getD largest k 0
   written-most k l m = asking .front (931 + k) (omega arith) ∙ counting .counts k l
 
 -- ---- the interval of all permitted assignments: every solution that takes permitted atoms only is between nothing and the narrowed high side
-module _ (t : Tables) (h : tableFault t ≡ Done) (card low permitted high : List ℕ) (zeros : (k : ℕ) → getD low k 0 ≡ 0) (long : length low ≡ 8)
+module _ (t : Tables) (h : tableFault t ≡ Done) (problem low permitted high : List ℕ) (zeros : (k : ℕ) → getD low k 0 ≡ 0) (long : length low ≡ 8)
     (accepted : assignmentFault t (take (t .variables) permitted) ≡ Done) (idle : (k q : ℕ) → t .variables ≤ k → takes permitted k q ≡ true → ⊥)
-    (size : length high ≡ 8) (n : Narrower t card permitted high) where
+    (size : length high ≡ 8) (n : Narrower t problem permitted high) where
   none-low : (k q : ℕ) → takes low k q ≡ true → ⊥
   none-low k q e = bit-of-zero q (subst (λ (z : ℕ). bit z q ≡ true) (zeros k) e)
 
@@ -134,15 +134,15 @@ module _ (t : Tables) (h : tableFault t ≡ Done) (card low permitted high : Lis
       }
 
   all-between :
-      (other : List ℕ) → assignmentFault t other ≡ Done → Within other (take (t .variables) permitted) → SolvesAmong (AskedAt card) t other
+      (other : List ℕ) → assignmentFault t other ≡ Done → Within other (take (t .variables) permitted) → SolvesAmong (AskedAt problem) t other
       → Between (take (t .variables) low) (take (t .variables) high) other
   all-between other a w s =
       record { above = λ k q e. absurd (none-low k q (front-known (t .variables) low k q e .1)); below = n .all other a s w }
 
-  nothing-found : (choice : List ℕ) → NoSolution t card low high → FoundBy t card permitted false choice
+  nothing-found : (choice : List ℕ) → NoSolution t problem low high → FoundBy t problem permitted false choice
   nothing-found choice x other a w m = x other a (all-between other a w (m .solves)) m
 
-  first-found : (choice : List ℕ) → FirstIn t card low high choice → Found t card permitted choice
+  first-found : (choice : List ℕ) → FirstIn t problem low high choice → Found t problem permitted choice
   first-found choice f =
       record {
         long = f .solution .long;
@@ -160,27 +160,27 @@ module _ (t : Tables) (h : tableFault t ≡ Done) (card low permitted high : Lis
 pub room-none : (store : List ℕ) → length store ≡ 16385 → used store ≡ 0 → Room store
 room-none store e f = record { long = e; few = omega arith }
 
-module _ (sets card low permitted high : List ℕ) (zeros : (k : ℕ) → getD low k 0 ≡ 0) (long : length low ≡ 8)
-    (size : length high ≡ 8) (n : Narrowed sets card permitted high)
+module _ (sets problem low permitted high : List ℕ) (zeros : (k : ℕ) → getD low k 0 ≡ 0) (long : length low ≡ 8)
+    (size : length high ≡ 8) (n : Narrowed sets problem permitted high)
     (before after : List ℕ) (fits : length before ≡ 16385) (none : used before ≡ 0) (found : Bool) (known rest : List ℕ)
-    (s : Searched sets card high low high before after (λ t. Answers t card low high found known rest)) where
-  module _ (t : Tables) (c : Card t sets card) (a : assignmentFault t (take (t .variables) permitted) ≡ Done)
+    (s : Searched sets problem high low high before after (λ t. Answers t problem low high found known rest)) where
+  module _ (t : Tables) (c : Problem t sets problem) (a : assignmentFault t (take (t .variables) permitted) ≡ Done)
       (i : (k q : ℕ) → t .variables ≤ k → takes permitted k q ≡ true → ⊥) where
     start : IntervalOf t low high
-    start = whole t (c .passed) card low permitted high zeros long a i size (n t c a)
+    start = whole t (c .passed) problem low permitted high zeros long a i size (n t c a)
 
-    searched : Answers t card low high found known rest × Nogoods t card after
-    searched = s t c start (full-interval t low high start) (nogoods-none t card before fits none)
+    searched : Answers t problem low high found known rest × Nogoods t problem after
+    searched = s t c start (full-interval t low high start) (nogoods-none t problem before fits none)
 
-  pub found-first : (choice : List ℕ) → found ≡ true → FirstOf sets card low high after known choice → FoundIn sets card permitted true choice
+  pub found-first : (choice : List ℕ) → found ≡ true → FirstOf sets problem low high after known choice → FoundIn sets problem permitted true choice
   found-first choice e f t c a i =
-      first-found t (c .passed) card low permitted high zeros long a i size (n t c a) choice
-      (f t c (start t c a i) (searched t c a i .1) (answers-found t card low high found known rest (searched t c a i .0) e))
+      first-found t (c .passed) problem low permitted high zeros long a i size (n t c a) choice
+      (f t c (start t c a i) (searched t c a i .1) (answers-found t problem low high found known rest (searched t c a i .0) e))
 
-  pub found-none : found ≡ false → FoundIn sets card permitted false known
+  pub found-none : found ≡ false → FoundIn sets problem permitted false known
   found-none e t c a i =
-      nothing-found t (c .passed) card low permitted high zeros long a i size (n t c a) known
-      (refuted-none t card low high known rest (answers-none t card low high found known rest (searched t c a i .0) e))
+      nothing-found t (c .passed) problem low permitted high zeros long a i size (n t c a) known
+      (refuted-none t problem low high known rest (answers-none t problem low high found known rest (searched t c a i .0) e))
 
 -- ---- what settings ask of an assignment
 -- past the variables an accepted assignment takes nothing
@@ -212,14 +212,14 @@ module _ (t : Tables) (s : Settings) (ok : settingsFault t s ≡ Done) (permitte
       (subst (λ (z : ℕ). bit z q ≡ true)
       (loaded .same k ∙ List·getD-eq-default (s .permitted) 0 {n = k} (omega (arith, settings-long t s ok .0))) e)
 
-  module _ (h : tableFault t ≡ Done) (before counted card : List ℕ) (wanted : ℕ)
-      (counting : Counting (s .largest) before counted) (asking : Asking wanted counted card) where
-    most-of : (k : ℕ) → k < t .variables → mostAt card k ≡ getD (s .largest) k 0
+  module _ (h : tableFault t ≡ Done) (before counted problem : List ℕ) (wanted : ℕ)
+      (counting : Counting (s .largest) before counted) (asking : Asking wanted counted problem) where
+    most-of : (k : ℕ) → k < t .variables → mostAt problem k ≡ getD (s .largest) k 0
     most-of k l =
-        written-most (s .largest) before counted card wanted counting asking k (omega (arith, settings-long t s ok .1))
+        written-most (s .largest) before counted problem wanted counting asking k (omega (arith, settings-long t s ok .1))
         (omega (arith, wellFormed t h .few-variables))
 
-    asked-of : (m : ℕ) → m < pairsOf (t .questions) → AskedAt card m ↔ (bit wanted m ≡ true)
+    asked-of : (m : ℕ) → m < pairsOf (t .questions) → AskedAt problem m ↔ (bit wanted m ≡ true)
     asked-of m l = asking .asked m (omega (arith, wellFormed t h .few-questions))
 
     module _ (other : List ℕ) (a : assignmentFault t other ≡ Done) where
@@ -228,14 +228,14 @@ module _ (t : Tables) (s : Settings) (ok : settingsFault t s ≡ Done) (permitte
           front-takes (t .variables) permitted k q (accepted-bits t other a k q e .0)
           (subst (λ (z : ℕ). bit z q ≡ true) (sym (loaded .same k)) (h .permitted k q e))
 
-      heeds-meets : Heeds s other → SolvesAmong (λ m. bit wanted m ≡ true) t other → Meets t card other
+      heeds-meets : Heeds s other → SolvesAmong (λ m. bit wanted m ≡ true) t other → Meets t problem other
       heeds-meets h x =
           record {
             solves = λ m l y. x m l (asked-of m l .0 y);
-            few = few-each t other a (mostAt card) (λ k l. omega (arith, h .few k, most-of k l));
+            few = few-each t other a (mostAt problem) (λ k l. omega (arith, h .few k, most-of k l));
           }
 
-      inside-heeds : Within other (take (t .variables) permitted) → Meets t card other → Heeds s other
+      inside-heeds : Within other (take (t .variables) permitted) → Meets t problem other → Heeds s other
       inside-heeds w m =
           record {
             permitted =
@@ -243,7 +243,7 @@ module _ (t : Tables) (s : Settings) (ok : settingsFault t s ≡ Done) (permitte
             few = few-each t other a (λ k. getD (s .largest) k 0) (λ k l. omega (arith, m .few k, most-of k l));
           }
 
-    pub found-among : (b : Bool) (choice : List ℕ) → FoundBy t card permitted b choice → FoundAmong (λ m. bit wanted m ≡ true) t s b choice
+    pub found-among : (b : Bool) (choice : List ℕ) → FoundBy t problem permitted b choice → FoundAmong (λ m. bit wanted m ≡ true) t s b choice
     found-among true choice f =
         record {
           long = f .long;

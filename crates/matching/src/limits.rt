@@ -12,7 +12,7 @@ pub const STORE: usize = 16385;
 // The bytes of a subsumption table.
 pub const TABLE: usize = 4608;
 
-// The sets of ids that tests read, three words each, and where the kinds of them start (src/search/card.rt).
+// The sets of ids that tests read, three words each, and where the kinds of them start (src/search/problem.rt).
 pub const SETS: usize = 2496;
 
 pub const COLUMNS: usize = 576;
@@ -26,7 +26,7 @@ pub const CONES: usize = 2304;
 pub const CLOSERS: usize = 2400;
 
 // The numbers that tests read, and where the kinds of them start.
-pub const CARD: usize = 971;
+pub const PROBLEM: usize = 971;
 
 pub const HELD: usize = 576;
 

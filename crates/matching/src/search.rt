@@ -1,5 +1,4 @@
 // The search for an assignment that makes every question hold, and for the first one. Private to the crate.
-pub mod card;
 pub mod interval;
 pub mod lookup;
 pub mod narrow;
@@ -8,6 +7,7 @@ pub mod nogoods;
 pub mod order;
 pub mod pairs;
 pub mod patterns;
+pub mod problem;
 pub mod sets;
 pub mod solve;
 pub mod widen;

@@ -1,15 +1,15 @@
 // Finding the first assignment within settings that makes every question hold, or those that are asked.
 use crate::find::Match;
 use crate::limits::ASKED;
-use crate::limits::CARD;
 use crate::limits::MOST;
+use crate::limits::PROBLEM;
 use crate::limits::SCRATCH;
 use crate::limits::SETS;
 use crate::limits::STORE;
-use crate::search::card::make_card;
 use crate::search::interval::Interval;
 use crate::search::narrow::narrow;
 use crate::search::order::first_solution;
+use crate::search::problem::make_problem;
 use crate::search::solve::some_solution;
 use settings::helpers::check_settings;
 use settings::helpers::load_permitted;
@@ -28,7 +28,7 @@ ghost use Rattle.subsumption.specs.Atoms.{bit};
 ghost use Rattle.subsumption.specs.Inner.Listing.{Accepted};
 ghost use Rattle.settings.specs.Settings.{settings, settingsFault};
 ghost use Rattle.matching.specs.Inner.Within.{Counting, Asking, FoundIn, FoundAmong, FindsAmong, Copied};
-ghost use Rattle.matching.specs.Inner.Search.Card.{Shaped};
+ghost use Rattle.matching.specs.Inner.Search.Problem.{Shaped};
 ghost use Rattle.matching.specs.Find.{matchReply};
 ghost use Rattle.matching.specs.Within.{FindsWithin};
 
@@ -41,21 +41,21 @@ pub struct Solution {
     pub choice: [u64; 8],
 }
 
-// The first solution of the card that takes permitted atoms only, if there is one.
-fn search(sets: &[u64], card: &[u16], permitted: [u64; 8]) -> Solution
-    requires { ⌜ Shaped (now sets) (now card) ⌝ }
+// The first solution of the problem that takes permitted atoms only, if there is one.
+fn search(sets: &[u64], problem: &[u16], permitted: [u64; 8]) -> Solution
+    requires { ⌜ Shaped (now sets) (now problem) ⌝ }
     requires { ⌜ length permitted ≡ 8 ⌝ }
-    ensures { λ r. ⌜ FoundIn (now (sets .entry)) (now (card .entry)) permitted (r .found) (r .choice) ⌝ }
+    ensures { λ r. ⌜ FoundIn (now (sets .entry)) (now (problem .entry)) permitted (r .found) (r .choice) ⌝ }
 {
     let mut store = [0u64; STORE];
     let mut scratch = [0u64; SCRATCH];
     let low = [0u64; 8];
-    let full = narrow(sets, card, &mut scratch, permitted);
+    let full = narrow(sets, problem, &mut scratch, permitted);
     let start = Interval { low, high: full };
-    let some = some_solution(sets, card, &mut store, &mut scratch, full, start);
+    let some = some_solution(sets, problem, &mut store, &mut scratch, full, start);
     let known = some.low;
     if some.found {
-        let choice = first_solution(sets, card, &mut store, &mut scratch, start, known);
+        let choice = first_solution(sets, problem, &mut store, &mut scratch, start, known);
         return Solution {
             found: true,
             choice,
@@ -67,26 +67,26 @@ fn search(sets: &[u64], card: &[u16], permitted: [u64; 8]) -> Solution
     }
 }
 
-// Writes the largest counts into the card.
-pub fn put_counts(card: &mut [u16], largest: &[u16])
-    requires { ⌜ (length (now card) ≡ 971) × (length (now largest) ≤ 8) ⌝ }
-    ensures { λ _. ⌜ Counting (now (largest .entry)) (now (card .entry)) (now (card .exit)) ⌝ }
+// Writes the largest counts into the problem.
+pub fn put_counts(problem: &mut [u16], largest: &[u16])
+    requires { ⌜ (length (now problem) ≡ 971) × (length (now largest) ≤ 8) ⌝ }
+    ensures { λ _. ⌜ Counting (now (largest .entry)) (now (problem .entry)) (now (problem .exit)) ⌝ }
 {
     let mut k: usize = 0;
     while k < largest.len() {
-        card[MOST + k] = largest[k];
+        problem[MOST + k] = largest[k];
         k += 1;
     }
 }
 
-// Writes into the card which questions are asked: those whose bit is set.
-pub fn put_asked(card: &mut [u16], wanted: u64)
-    requires { ⌜ length (now card) ≡ 971 ⌝ }
-    ensures { λ _. ⌜ Asking wanted (now (card .entry)) (now (card .exit)) ⌝ }
+// Writes into the problem which questions are asked: those whose bit is set.
+pub fn put_asked(problem: &mut [u16], wanted: u64)
+    requires { ⌜ length (now problem) ≡ 971 ⌝ }
+    ensures { λ _. ⌜ Asking wanted (now (problem .entry)) (now (problem .exit)) ⌝ }
 {
     let mut m: usize = 0;
     while m < 32 {
-        card[ASKED + m] = ((wanted >> m) % 2) as u16;
+        problem[ASKED + m] = ((wanted >> m) % 2) as u16;
         m += 1;
     }
 }
@@ -108,8 +108,8 @@ fn find_first(
     ensures { λ r. ⌜ FoundAmong (λ m. bit wanted m ≡ true) (tables (now (concepts .entry)) (now (inclusions .entry)) (now (questions .entry)) (now (roles .entry)) variables) (settings (now (permitted .entry)) (now (largest .entry))) (r .found) (r .choice) ⌝ }
 {
     let mut sets = [0u64; SETS];
-    let mut card = [0u16; CARD];
-    make_card(
+    let mut problem = [0u16; PROBLEM];
+    make_problem(
         concepts,
         inclusions,
         questions,
@@ -117,12 +117,12 @@ fn find_first(
         variables,
         ids,
         &mut sets,
-        &mut card,
+        &mut problem,
     );
-    put_counts(&mut card, largest);
-    put_asked(&mut card, wanted);
+    put_counts(&mut problem, largest);
+    put_asked(&mut problem, wanted);
     let high = load_permitted(permitted);
-    search(&sets, &card, high)
+    search(&sets, &problem, high)
 }
 
 pub fn write_choice(choice: [u64; 8], count: usize, out: &mut [u64])

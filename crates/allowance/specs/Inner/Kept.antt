@@ -9,7 +9,7 @@ use Rattle.subsumption.specs.declared.refusal.Outcome.the-variants.{Done}
 use Rattle.subsumption.specs.Tables.{Tables, pairsOf}
 use Rattle.subsumption.specs.Check.{assignmentFault}
 use Rattle.matching.specs.Inner.Search.{Decided, Within}
-use Rattle.matching.specs.Inner.Search.Card.{Card, AskedAt}
+use Rattle.matching.specs.Inner.Search.Problem.{Problem, AskedAt}
 use Rattle.matching.specs.Inner.Search.Nogoods.{words}
 use Rattle.allowance.specs.Partial.{Asked}
 
@@ -65,12 +65,12 @@ pub record Noted (before after choice : List ℕ) (right passed : Bool) : Type 0
       (r p : Bool) (i : ℕ) → i < 16 → i < noted after r p
       → ((i < noted before r p) × (inRing after r p i ≡ inRing before r p i)) ⊎ ((r ≡ right) × (p ≡ passed) × (inRing after r p i ≡ choice))
 
--- the card asks every question
+-- the problem asks every question
 abbrev pub AllAsked : Tables → List ℕ → Type 0
-AllAsked t card = (m : ℕ) → m < pairsOf (t .questions) → AskedAt card m
+AllAsked t problem = (m : ℕ) → m < pairsOf (t .questions) → AskedAt problem m
 
 -- whether the questions of the kind hold; what is kept stays true
 abbrev pub Tried : List ℕ → List ℕ → List ℕ → Bool → List ℕ → List ℕ → Bool → Type 0
-Tried sets card choice right before after answer =
-    (t : Tables) → Card t sets card → AllAsked t card → assignmentFault t (take (t .variables) choice) ≡ Done → Kept t before
+Tried sets problem choice right before after answer =
+    (t : Tables) → Problem t sets problem → AllAsked t problem → assignmentFault t (take (t .variables) choice) ≡ Done → Kept t before
     → Decided (Asked t right (take (t .variables) choice)) answer × Kept t after

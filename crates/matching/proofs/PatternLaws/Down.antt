@@ -13,7 +13,7 @@ use Rattle.subsumption.specs.Inner.Closure.{Steps}
 use Rattle.subsumption.proofs.WellFormed.{WellFormed}
 use Rattle.subsumption.proofs.RoleLaws.{wider-refl, wider-trans}
 use Rattle.subsumption.proofs.Soundness.{subsumed-same, subsumed-steps}
-use Rattle.matching.specs.Inner.Search.Card.{FreeId}
+use Rattle.matching.specs.Inner.Search.Problem.{FreeId}
 use Rattle.matching.proofs.SubstitutionLaws.Decided.{NotNot}
 use Rattle.matching.proofs.PatternLaws.Free.{known-inward, free-inward, free-top, free-name, free-var, free-right, free-chosen}
 use Rattle.matching.proofs.PatternLaws.Least.{steps-least}

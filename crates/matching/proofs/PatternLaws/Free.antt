@@ -5,7 +5,7 @@ use mathlib.Core.List.{List, List·Memᴰ}
 use mathlib.Core.Bool.{true≢false}
 use Rattle.subsumption.specs.Tables.{Tables, topAt, nameAt, varAt, node, countOf, pairsOf, leftOf, rightOf}
 use Rattle.subsumption.specs.Atoms.{chosen}
-use Rattle.matching.specs.Inner.Search.Card.{FreeId}
+use Rattle.matching.specs.Inner.Search.Problem.{FreeId}
 use Rattle.subsumption.proofs.WellFormed.{WellFormed}
 use Rattle.subsumption.proofs.Inward.{Inward, Ground, ground-inward, below-inward}
 use Rattle.subsumption.proofs.Trees.{variable-top, variable-name, variable-var}

@@ -19,7 +19,7 @@ use Rattle.settings.specs.Inner.Counts.{Over, Counted, Reached, Clamped, KeptAt
 use Rattle.settings.proofs.SizeLaws.{size-le, size-zero, size-same}
 use Rattle.matching.specs.Solving.{takes}
 use Rattle.matching.specs.Inner.Search.{Within, Meets, NoSolution}
-use Rattle.matching.specs.Inner.Search.Card.{mostAt}
+use Rattle.matching.specs.Inner.Search.Problem.{mostAt}
 use Rattle.matching.specs.Inner.Search.Interval.{IntervalOf, undecided}
 use Rattle.matching.specs.Inner.Search.Solve.{Refuted}
 use Rattle.matching.proofs.SearchLaws.Fronts.{front-known, front-takes, front-within, accepted-long, accepted-bits, within-accepted}
@@ -34,24 +34,24 @@ same-bit x y q e h = subst (λ (z : ℕ). bit z q ≡ true) e h
 low-variable : (a : List ℕ) (k q : ℕ) → length a ≡ 8 → takes a k q ≡ true → k < 8
 low-variable a k q e h = ⊎-elim (λ (l : 8 ≤ k). absurd (bit-of-zero q (same-bit _ _ q (past-none a k q e l) h))) (λ l. l) (le-or-lt 8 k)
 
--- the counts that are lent are the card's
-pub counts-same : (card most : List ℕ) → most ≡ take 8 (drop 931 card) → (k : ℕ) → k < 8 → getD most k 0 ≡ mostAt card k
-counts-same card most e k l = ap (λ (z : List ℕ). getD z k 0) e ∙ getD-take 8 (drop 931 card) k 0 l ∙ getD-drop 931 card k 0
+-- the counts that are lent are the problem's
+pub counts-same : (problem most : List ℕ) → most ≡ take 8 (drop 931 problem) → (k : ℕ) → k < 8 → getD most k 0 ≡ mostAt problem k
+counts-same problem most e k l = ap (λ (z : List ℕ). getD z k 0) e ∙ getD-take 8 (drop 931 problem) k 0 l ∙ getD-drop 931 problem k 0
 
 -- ---- counts that are kept, and one that is not
-module _ (card most low : List ℕ) (same : (k : ℕ) → k < 8 → getD most k 0 ≡ mostAt card k) where
-  pub few-front : (v : ℕ) → v ≤ 8 → Counted most low true → (k : ℕ) → size (getD (take v low) k 0) ≤ mostAt card k
+module _ (problem most low : List ℕ) (same : (k : ℕ) → k < 8 → getD most k 0 ≡ mostAt problem k) where
+  pub few-front : (v : ℕ) → v ≤ 8 → Counted most low true → (k : ℕ) → size (getD (take v low) k 0) ≤ mostAt problem k
   few-front v h f k =
       ⊎-elim
       (λ (l : v ≤ k). omega (arith, ap size (List·getD-eq-default (take v low) 0 {n = k} (omega (arith, length-take v low))), size-zero))
       (λ l. omega (arith, ap size (getD-take v low k 0 l), f k (omega arith), same k (omega arith)))
       (le-or-lt v k)
 
-  pub over-refutes : (t : Tables) (full : List ℕ) → IntervalOf t low full → Over most low → Refuted t card low low low full
+  pub over-refutes : (t : Tables) (full : List ℕ) → IntervalOf t low full → Over most low → Refuted t problem low low low full
   over-refutes t full i o =
       record { low-long = i .low-long; high-long = i .high-long; above = λ k q e. e; below = i .ordered; none = none }
     where
-      none : NoSolution t card low full
+      none : NoSolution t problem low full
       none other a b m =
           omega (arith, o .over, same (o .variable) (o .low), m .few (o .variable), size-le (getD low (o .variable) 0) (getD other (o .variable) 0) more)
         where
@@ -105,12 +105,12 @@ module _ (t : Tables) (most low high inner : List ℕ) (i : IntervalOf t low hig
       }
 
 -- ---- the nogood of a clamped interval as one of the whole
-module _ (t : Tables) (h : tableFault t ≡ Done) (card most full low high inner below above : List ℕ) (same : (k : ℕ) → k < 8 → getD most k 0 ≡ mostAt card k)
-    (i : IntervalOf t low high) (j : IntervalOf t high full) (c : Clamped most low high inner) (r : Refuted t card low inner below above) (low₁ high₁ : List ℕ)
+module _ (t : Tables) (h : tableFault t ≡ Done) (problem most full low high inner below above : List ℕ) (same : (k : ℕ) → k < 8 → getD most k 0 ≡ mostAt problem k)
+    (i : IntervalOf t low high) (j : IntervalOf t high full) (c : Clamped most low high inner) (r : Refuted t problem low inner below above) (low₁ high₁ : List ℕ)
     (u : Unclamped full low high inner below above low₁ high₁) where
   -- where the nogood is about the low side's choice, a solution takes no more
   no-more :
-      (other : List ℕ) (k q : ℕ) → k < 8 → q < 64 → NamedAt full low high inner low₁ high₁ k → Meets t card other
+      (other : List ℕ) (k q : ℕ) → k < 8 → q < 64 → NamedAt full low high inner low₁ high₁ k → Meets t problem other
       → ((p : ℕ) → takes low k p ≡ true → takes other k p ≡ true) → takes other k q ≡ true → takes above k q ≡ true
   no-more other k q l l' n m more e =
       ⊎-elim
@@ -120,7 +120,7 @@ module _ (t : Tables) (h : tableFault t ≡ Done) (card most full low high inner
       (same-bit _ _ q (sym (x .0)) (size-same (getD low k 0) (getD other k 0) more (omega (arith, x .1, m .few k, same k l)) q l' e)))
       (c .each k l)
 
-  pub unclamped-refutes : Refuted t card low high low₁ high₁
+  pub unclamped-refutes : Refuted t problem low high low₁ high₁
   unclamped-refutes = record { low-long = u .low-long; high-long = u .high-long; above = wider; below = higher; none = none }
     where
       wider : Within low₁ low
@@ -135,7 +135,7 @@ module _ (t : Tables) (h : tableFault t ≡ Done) (card most full low high inner
           (⊎-elim (λ (y : getD inner k 0 ≡ getD high k 0). r .below k q (same-bit _ _ q (sym y) e)) (λ f. f q e) (x .around)))
           (λ (x : NamedAt full low high inner low₁ high₁ k). same-bit _ _ q (sym (x .high-full)) (j .ordered k q e)) (u .each k (low-variable high k q (i .high-long) e))
 
-      none : NoSolution t card low₁ high₁
+      none : NoSolution t problem low₁ high₁
       none other a b m = r .none other a (record { above = over; below = under }) m
         where
           over : Within (take (t .variables) below) other

@@ -16,7 +16,7 @@ use Rattle.subsumption.proofs.MarkLaws.{counted-less}
 use Rattle.subsumption.proofs.Accepted.{wellFormed}
 use Rattle.matching.specs.Solving.{takes}
 use Rattle.matching.specs.Inner.Search.{Decided, HoldsAt, Within, SolutionIn, NoSolution}
-use Rattle.matching.specs.Inner.Search.Card.{AskedAt}
+use Rattle.matching.specs.Inner.Search.Problem.{AskedAt}
 use Rattle.matching.specs.Inner.Search.Pairs.{Changed}
 use Rattle.matching.specs.Inner.Search.Interval.{IntervalOf, undecided, openPairs, Picked}
 use Rattle.matching.specs.Inner.Search.Solve.{Refuted}
@@ -103,15 +103,15 @@ module _ (low high : List ℕ) (p : ℕ) (l : p < 512) (u : undecided low high p
 
 -- ---- tests of an interval
 module _ (t : Tables) (h : tableFault t ≡ Done) where
-  module _ (card low high : List ℕ) (m : ℕ) (l : m < pairsOf (t .questions)) (x : AskedAt card m) where
+  module _ (problem low high : List ℕ) (m : ℕ) (l : m < pairsOf (t .questions)) (x : AskedAt problem m) where
     -- an asked question with a variable on the right that fails at the low side
     pub low-shuts :
-        hasVariable (tree (t .concepts) (rightOf (t .questions) m)) ≡ true → (HoldsAt t (take (t .variables) low) m → ⊥) → NoSolution t card low high
+        hasVariable (tree (t .concepts) (rightOf (t .questions) m)) ≡ true → (HoldsAt t (take (t .variables) low) m → ⊥) → NoSolution t problem low high
     low-shuts e n other a b s = n (antitone t (wellFormed t h) _ other (b .above) _ _ (left-free t h m l e) (s .solves m l x))
 
     -- another one that fails at the high side
     pub high-shuts :
-        hasVariable (tree (t .concepts) (rightOf (t .questions) m)) ≡ false → (HoldsAt t (take (t .variables) high) m → ⊥) → NoSolution t card low high
+        hasVariable (tree (t .concepts) (rightOf (t .questions) m)) ≡ false → (HoldsAt t (take (t .variables) high) m → ⊥) → NoSolution t problem low high
     high-shuts e n other a b s = n (monotone t (wellFormed t h) other _ (b .below) _ _ e (s .solves m l x))
 
   module _ (low high : List ℕ) where
@@ -124,8 +124,8 @@ module _ (t : Tables) (h : tableFault t ≡ Done) where
 
       -- nothing is undecided: what shuts the low side shuts the interval
       pub decided-shut :
-          (card low₁ high₁ : List ℕ) → Refuted t card low low low₁ high₁ → ((p : ℕ) → p < 512 → undecided low high p ≡ false) → NoSolution t card low high
-      decided-shut card low₁ high₁ r d other a b s =
+          (problem low₁ high₁ : List ℕ) → Refuted t problem low low low₁ high₁ → ((p : ℕ) → p < 512 → undecided low high p ≡ false) → NoSolution t problem low high
+      decided-shut problem low₁ high₁ r d other a b s =
           r .none other a
           (record {
             above = λ k q e. let (l, x) = front-known (t .variables) low₁ k q e in b .above k q (front-takes (t .variables) low k q l (r .above k q x));
@@ -160,8 +160,8 @@ module _ (t : Tables) (h : tableFault t ≡ Done) where
                 idle = i .idle;
               })
 
-          pub take-found : (card choice : List ℕ) → SolutionIn t card low₂ high₂ choice → SolutionIn t card low high choice
-          take-found card choice s =
+          pub take-found : (problem choice : List ℕ) → SolutionIn t problem low₂ high₂ choice → SolutionIn t problem low high choice
+          take-found problem choice s =
               record {
                 long = s .long;
                 between =
@@ -189,8 +189,8 @@ module _ (t : Tables) (h : tableFault t ≡ Done) where
                 idle = λ k q l x. i .idle k q l (shrunk high high₁ _ _ c k q x);
               })
 
-          pub leave-found : (card choice : List ℕ) → SolutionIn t card low₁ high₁ choice → SolutionIn t card low high choice
-          leave-found card choice s =
+          pub leave-found : (problem choice : List ℕ) → SolutionIn t problem low₁ high₁ choice → SolutionIn t problem low high choice
+          leave-found problem choice s =
               record {
                 long = s .long;
                 between =

@@ -1,4 +1,4 @@
--- Why the sets and numbers are those of the tables (src/search/card.rt).
+-- Why the sets and numbers are those of the tables (src/search/problem.rt).
 pub mod Filling
 pub mod Cones
 pub mod Closers

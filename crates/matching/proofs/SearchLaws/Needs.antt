@@ -21,7 +21,7 @@ use Rattle.settings.specs.Settings.{size}
 use Rattle.settings.proofs.SizeLaws.{size-most}
 use Rattle.matching.specs.Solving.{takes}
 use Rattle.matching.specs.Inner.Search.{Within, Between, Meets}
-use Rattle.matching.specs.Inner.Search.Card.{mostAt}
+use Rattle.matching.specs.Inner.Search.Problem.{mostAt}
 use Rattle.matching.specs.Inner.Search.Pairs.{Joined, Met, Contained}
 use Rattle.matching.specs.Inner.Search.Interval.{IntervalOf}
 use Rattle.matching.specs.Inner.Search.Nogoods.{used, lowAt, highAt, Nogoods}
@@ -68,21 +68,21 @@ zero-at : (l : ℕ) → _≡_ {A = ℕ} (getD (replicate 8 0) l 0) 0
 zero-at l = ⊎-elim (λ (h : 8 ≤ l). List·getD-eq-default (replicate 8 0) 0 {n = l} h) (λ h. getD-replicate 8 l 0 0 h) (le-or-lt 8 l)
 
 -- after c nogoods: a solution takes at least so many of the pairs met
-pub record Wanting (card store full low high : List ℕ) (k : ℕ) (about allowed : List ℕ) (met sum c : ℕ) : Type 0 where
+pub record Wanting (problem store full low high : List ℕ) (k : ℕ) (about allowed : List ℕ) (met sum c : ℕ) : Type 0 where
   pub low-long : length about ≡ 8
   pub high-long : length allowed ≡ 8
   pub within : Within about low
   pub around : Within high full → Within high allowed
   pub few : sum ≤ 64 + c
   pub least :
-      (t : Tables) → IntervalOf t low high → Nogoods t card store → (other : List ℕ) → assignmentFault t other ≡ Done
-      → Between (take (t .variables) about) (take (t .variables) allowed) other → Meets t card other
+      (t : Tables) → IntervalOf t low high → Nogoods t problem store → (other : List ℕ) → assignmentFault t other ≡ Done
+      → Between (take (t .variables) about) (take (t .variables) allowed) other → Meets t problem other
       → sum ≤ counted (λ q. both (takes other k q) (bit met q)) 64
 
-module _ (card store full low high : List ℕ) (k : ℕ) where
+module _ (problem store full low high : List ℕ) (k : ℕ) where
   pub wanting-none :
       (sum : ℕ) → k < 8 → length full ≡ 8 → sum ≡ size (getD low k 0)
-      → Wanting card store full low high k (set (replicate 8 0) k (getD low k 0)) full (getD low k 0) sum 0
+      → Wanting problem store full low high k (set (replicate 8 0) k (getD low k 0)) full (getD low k 0) sum 0
   unfolding size
   wanting-none sum h long e =
       record {
@@ -117,12 +117,12 @@ module _ (card store full low high : List ℕ) (k : ℕ) where
           (λ y. absurd (bit-of-zero q (sym (ap (λ (z : ℕ). bit z q) (getD-set-other (replicate 8 0) k l _ 0 y ∙ zero-at l)) ∙ x)))
           (eq-or-ne l k)
 
-  module _ (about allowed : List ℕ) (met sum c : ℕ) (w : Wanting card store full low high k about allowed met sum c) where
-    pub wanting-skip : Wanting card store full low high k about allowed met sum (c + 1)
+  module _ (about allowed : List ℕ) (met sum c : ℕ) (w : Wanting problem store full low high k about allowed met sum c) where
+    pub wanting-skip : Wanting problem store full low high k about allowed met sum (c + 1)
     wanting-skip =
         record { low-long = w .low-long; high-long = w .high-long; within = w .within; around = w .around; few = omega (arith, w .few); least = w .least }
 
-    pub wanting-over : mostAt card k < sum → WantedOver card store full low high true about allowed
+    pub wanting-over : mostAt problem k < sum → WantedOver problem store full low high true about allowed
     unfolding size
     wanting-over h t i j n =
         record {
@@ -142,8 +142,8 @@ module _ (card store full low high : List ℕ) (k : ℕ) where
 
       -- a solution takes one of the pairs wanted
       taken :
-          (t : Tables) → Nogoods t card store → (other : List ℕ) → assignmentFault t other ≡ Done → Between (take (t .variables) more) (take (t .variables) fewer) other
-          → Meets t card other → anyBelow 64 (λ q. both (takes other k q) (bit wanted q)) ≡ true
+          (t : Tables) → Nogoods t problem store → (other : List ℕ) → assignmentFault t other ≡ Done → Between (take (t .variables) more) (take (t .variables) fewer) other
+          → Meets t problem other → anyBelow 64 (λ q. both (takes other k q) (bit wanted q)) ≡ true
       taken t g other a b m = go (anyBelow 64 (λ q. both (takes other k q) (bit wanted q))) refl
         where
           go : (v : Bool) → anyBelow 64 (λ q. both (takes other k q) (bit wanted q)) ≡ v → anyBelow 64 (λ q. both (takes other k q) (bit wanted q)) ≡ true
@@ -172,7 +172,7 @@ module _ (card store full low high : List ℕ) (k : ℕ) where
                   front-takes (t .variables) (highAt store c) i q h
                   (⊎-elim (λ v. subst (λ (s : List ℕ). takes s i q ≡ true) f v) (kept i q y) (or-cases _ _ (both-true _ _ (sym (u .bits i q) ∙ z) .1)))
 
-      pub wanting-more : Wanting card store full low high k more fewer (bitOr met wanted) (sum + 1) (c + 1)
+      pub wanting-more : Wanting problem store full low high k more fewer (bitOr met wanted) (sum + 1) (c + 1)
       wanting-more =
           record {
             low-long = j .long;
@@ -186,8 +186,8 @@ module _ (card store full low high : List ℕ) (k : ℕ) where
           }
         where
           least :
-              (t : Tables) → IntervalOf t low high → Nogoods t card store → (other : List ℕ) → assignmentFault t other ≡ Done
-              → Between (take (t .variables) more) (take (t .variables) fewer) other → Meets t card other
+              (t : Tables) → IntervalOf t low high → Nogoods t problem store → (other : List ℕ) → assignmentFault t other ≡ Done
+              → Between (take (t .variables) more) (take (t .variables) fewer) other → Meets t problem other
               → sum + 1 ≤ counted (λ q. both (takes other k q) (bit (bitOr met wanted) q)) 64
           least t i g other a b m =
               let (q, h, x) = anyBelow-elim 64 (λ p. both (takes other k p) (bit wanted p)) (taken t g other a b m) in

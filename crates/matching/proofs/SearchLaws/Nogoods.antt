@@ -134,17 +134,17 @@ module _ (low high before one two : List ℕ) (r : Room before) (few : used befo
       )
 
 pub nogoods-added :
-    (t : Tables) (card low high before after : List ℕ) → Nogoods t card before → NoSolution t card low high → Added low high before after → Nogoods t card after
-nogoods-added t card low high before after n s a =
+    (t : Tables) (problem low high before after : List ℕ) → Nogoods t problem before → NoSolution t problem low high → Added low high before after → Nogoods t problem after
+nogoods-added t problem low high before after n s a =
     record {
       room = a .room;
       each =
           λ c l.
           ⊎-elim
-          (λ (x : Kept before after c). subst (λ (z : List ℕ). NoSolution t card z (highAt after c)) (sym (x .1)) (subst (NoSolution t card (lowAt before c)) (sym (x .2)) (n .each c (x .0))))
-          (λ (x : (lowAt after c ≡ low) × (highAt after c ≡ high)). subst (λ (z : List ℕ). NoSolution t card z (highAt after c)) (sym (x .0)) (subst (NoSolution t card low) (sym (x .1)) s))
+          (λ (x : Kept before after c). subst (λ (z : List ℕ). NoSolution t problem z (highAt after c)) (sym (x .1)) (subst (NoSolution t problem (lowAt before c)) (sym (x .2)) (n .each c (x .0))))
+          (λ (x : (lowAt after c ≡ low) × (highAt after c ≡ high)). subst (λ (z : List ℕ). NoSolution t problem z (highAt after c)) (sym (x .0)) (subst (NoSolution t problem low) (sym (x .1)) s))
           (a .each c l);
     }
 
-pub nogoods-none : (t : Tables) (card store : List ℕ) → length store ≡ 16385 → used store ≡ 0 → Nogoods t card store
-nogoods-none t card store e f = record { room = record { long = e; few = omega arith }; each = λ c l. absurd (omega arith) }
+pub nogoods-none : (t : Tables) (problem store : List ℕ) → length store ≡ 16385 → used store ≡ 0 → Nogoods t problem store
+nogoods-none t problem store e f = record { room = record { long = e; few = omega arith }; each = λ c l. absurd (omega arith) }

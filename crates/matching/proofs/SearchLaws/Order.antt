@@ -16,7 +16,7 @@ use Rattle.matching.specs.Solving.{takes, Earlier}
 use Rattle.matching.specs.Inner.Search.{Within, Between, Meets, SolutionIn, NoSolution}
 use Rattle.matching.specs.Inner.Search.Pairs.{Changed}
 use Rattle.matching.specs.Inner.Search.Interval.{IntervalOf, undecided}
-use Rattle.matching.specs.Inner.Search.Card.{Card}
+use Rattle.matching.specs.Inner.Search.Problem.{Problem}
 use Rattle.matching.specs.Inner.Search.Nogoods.{Room, Nogoods}
 use Rattle.matching.specs.Inner.Search.Solve.{Answers, Searched}
 use Rattle.matching.specs.Inner.Search.Order.{FirstIn, FirstOf}
@@ -39,19 +39,19 @@ pub record Ahead (high other : List ℕ) (p : ℕ) : Type 0 where
   pub taken : at other place ≡ true
   pub same : (i : ℕ) → i < place → at high i ≡ at other i
 
-pub record Walk (t : Tables) (card low₀ high₀ low high witness : List ℕ) (p : ℕ) : Type 0 where
+pub record Walk (t : Tables) (problem low₀ high₀ low high witness : List ℕ) (p : ℕ) : Type 0 where
   pub interval : IntervalOf t low high
-  pub solution : SolutionIn t card low high witness
+  pub solution : SolutionIn t problem low high witness
   pub above : Within low₀ low
   pub below : Within high high₀
   pub within : p ≤ 512
   pub settled : (j : ℕ) → j < p → undecided low high j ≡ false
   pub rest :
-      (other : List ℕ) → assignmentFault t other ≡ Done → Between (take (t .variables) low₀) (take (t .variables) high₀) other → Meets t card other
+      (other : List ℕ) → assignmentFault t other ≡ Done → Between (take (t .variables) low₀) (take (t .variables) high₀) other → Meets t problem other
       → Between (take (t .variables) low) (take (t .variables) high) other ⊎ Ahead (take (t .variables) high) other p
 
-module _ (t : Tables) (card : List ℕ) (h : tableFault t ≡ Done) (low₀ high₀ : List ℕ) where
-  pub walk-start : (witness : List ℕ) → IntervalOf t low₀ high₀ → SolutionIn t card low₀ high₀ witness → Walk t card low₀ high₀ low₀ high₀ witness 0
+module _ (t : Tables) (problem : List ℕ) (h : tableFault t ≡ Done) (low₀ high₀ : List ℕ) where
+  pub walk-start : (witness : List ℕ) → IntervalOf t low₀ high₀ → SolutionIn t problem low₀ high₀ witness → Walk t problem low₀ high₀ low₀ high₀ witness 0
   walk-start witness i s =
       record {
         interval = i;
@@ -67,7 +67,7 @@ module _ (t : Tables) (card : List ℕ) (h : tableFault t ≡ Done) (low₀ high
   further high other p a =
       record { place = a .place; before = omega (arith, a .before); left-out = a .left-out; taken = a .taken; same = a .same }
 
-  module _ (low high witness : List ℕ) (p : ℕ) (w : Walk t card low₀ high₀ low high witness p) where
+  module _ (low high witness : List ℕ) (p : ℕ) (w : Walk t problem low₀ high₀ low high witness p) where
     -- a settled pair: between means the same
     agree : (other : List ℕ) → Between (take (t .variables) low) (take (t .variables) high) other → (i : ℕ) → i < p → at (take (t .variables) high) i ≡ at other i
     agree other b i l = same-bool _ _ there (λ e. b .below _ _ e)
@@ -91,7 +91,7 @@ module _ (t : Tables) (card : List ℕ) (h : tableFault t ≡ Done) (low₀ high
               (sym (open-intro low high j (b _ _ (open-high low₂ high₂ j x)) (not-that _ (λ y. true≢false (sym (a _ _ y) ∙ open-low low₂ high₂ j x))))
               ∙ w .settled j n))
 
-      pub walk-skip : undecided low high p ≡ false → Walk t card low₀ high₀ low high witness (p + 1)
+      pub walk-skip : undecided low high p ≡ false → Walk t problem low₀ high₀ low high witness (p + 1)
       walk-skip d =
           record {
             interval = w .interval;
@@ -144,7 +144,7 @@ module _ (t : Tables) (card : List ℕ) (h : tableFault t ≡ Done) (low₀ high
                 same = λ i m. unchanged i (omega (arith, a .before)) ∙ a .same i m;
               }
 
-          left-walk : (choice : List ℕ) → SolutionIn t card low high₁ choice → Walk t card low₀ high₀ low high₁ choice (p + 1)
+          left-walk : (choice : List ℕ) → SolutionIn t problem low high₁ choice → Walk t problem low₀ high₀ low high₁ choice (p + 1)
           left-walk choice s =
               record {
                 interval = leave-keeps t h low high (w .interval) p u low high₁ refl c;
@@ -156,15 +156,15 @@ module _ (t : Tables) (card : List ℕ) (h : tableFault t ≡ Done) (low₀ high
                 rest = λ other a b x. ⊎-elim (λ y. left-rest other y) (λ y. inr (kept-ahead other y)) (w .rest other a b x);
               }
 
-          pub walk-leave : (low₁ choice : List ℕ) → low₁ ≡ low → SolutionIn t card low₁ high₁ choice → Walk t card low₀ high₀ low₁ high₁ choice (p + 1)
+          pub walk-leave : (low₁ choice : List ℕ) → low₁ ≡ low → SolutionIn t problem low₁ high₁ choice → Walk t problem low₀ high₀ low₁ high₁ choice (p + 1)
           walk-leave low₁ choice e =
-              subst (λ (z : List ℕ). SolutionIn t card z high₁ choice → Walk t card low₀ high₀ z high₁ choice (p + 1)) (sym e) (left-walk choice)
+              subst (λ (z : List ℕ). SolutionIn t problem z high₁ choice → Walk t problem low₀ high₀ z high₁ choice (p + 1)) (sym e) (left-walk choice)
 
           -- the witness leaves it out itself
-          pub walk-witness : (low₁ : List ℕ) → low₁ ≡ low → at witness p ≡ false → Walk t card low₀ high₀ low₁ high₁ witness (p + 1)
+          pub walk-witness : (low₁ : List ℕ) → low₁ ≡ low → at witness p ≡ false → Walk t problem low₀ high₀ low₁ high₁ witness (p + 1)
           walk-witness low₁ e x =
               walk-leave low₁ witness e
-              (subst (λ (z : List ℕ). SolutionIn t card z high₁ witness) (sym e)
+              (subst (λ (z : List ℕ). SolutionIn t problem z high₁ witness) (sym e)
               (record {
                 long = w .solution .long;
                 between =
@@ -179,9 +179,9 @@ module _ (t : Tables) (card : List ℕ) (h : tableFault t ≡ Done) (low₀ high
               }))
 
           -- no solution leaves it out
-          module _ (low₂ : List ℕ) (d : Changed low low₂ (p / 64) (p % 64) true) (x : at witness p ≡ true) (none : NoSolution t card low high₁) where
+          module _ (low₂ : List ℕ) (d : Changed low low₂ (p / 64) (p % 64) true) (x : at witness p ≡ true) (none : NoSolution t problem low high₁) where
             taken-rest :
-                (other : List ℕ) → assignmentFault t other ≡ Done → Meets t card other → Between (take (t .variables) low) (take (t .variables) high) other
+                (other : List ℕ) → assignmentFault t other ≡ Done → Meets t problem other → Between (take (t .variables) low) (take (t .variables) high) other
                 → Between (take (t .variables) low₂) (take (t .variables) high) other
             taken-rest other a s b = ⊎-elim (λ y. absurd (none other a y s)) (λ y. with y) (left-rest other b)
               where
@@ -204,7 +204,7 @@ module _ (t : Tables) (card : List ℕ) (h : tableFault t ≡ Done) (low₀ high
                             ⊎-elim (λ (e : y .place ≡ p). true≢false (sym (subst (λ (m : ℕ). at other m ≡ true) e (y .taken)) ∙ z))
                             (λ e. true≢false (sym (y .taken) ∙ sym (agree other b (y .place) e) ∙ sym (unchanged (y .place) e) ∙ y .left-out)) o
 
-            taken-walk : Walk t card low₀ high₀ low₂ high witness (p + 1)
+            taken-walk : Walk t problem low₀ high₀ low₂ high witness (p + 1)
             taken-walk =
                 record {
                   interval = take-keeps t h low high (w .interval) p u low₂ high refl d;
@@ -227,10 +227,10 @@ module _ (t : Tables) (card : List ℕ) (h : tableFault t ≡ Done) (low₀ high
 
         pub walk-take :
             (high₁ : List ℕ) → Changed high high₁ (p / 64) (p % 64) false → (low₁ low₂ high₂ : List ℕ) → low₁ ≡ low → high₂ ≡ high → Changed low low₂ (p / 64) (p % 64) true
-            → at witness p ≡ true → NoSolution t card low₁ high₁ → Walk t card low₀ high₀ low₂ high₂ witness (p + 1)
+            → at witness p ≡ true → NoSolution t problem low₁ high₁ → Walk t problem low₀ high₀ low₂ high₂ witness (p + 1)
         walk-take high₁ c low₁ low₂ high₂ e f d x n =
-            subst (λ (z : List ℕ). Walk t card low₀ high₀ low₂ z witness (p + 1)) (sym f)
-            (taken-walk high₁ c low₂ d x (subst (λ (z : List ℕ). NoSolution t card z high₁) e n))
+            subst (λ (z : List ℕ). Walk t problem low₀ high₀ low₂ z witness (p + 1)) (sym f)
+            (taken-walk high₁ c low₂ d x (subst (λ (z : List ℕ). NoSolution t problem z high₁) e n))
 
     module _ (l : 512 ≤ p) where
       accepted : assignmentFault t (take (t .variables) witness) ≡ Done
@@ -296,7 +296,7 @@ module _ (t : Tables) (card : List ℕ) (h : tableFault t ≡ Done) (low₀ high
                 pair : (k q : ℕ) → k < 8 → takes (take (t .variables) witness) k q ≡ takes other k q
                 pair k q m = by-place 512 (omega arith) (λ i z. sym (is-high i z) ∙ agree other b i (omega arith)) k q (λ z. omega arith)
 
-      pub walk-done : FirstIn t card low₀ high₀ witness
+      pub walk-done : FirstIn t problem low₀ high₀ witness
       walk-done =
           record {
             solution =
@@ -313,15 +313,15 @@ module _ (t : Tables) (card : List ℕ) (h : tableFault t ≡ Done) (low₀ high
           }
 
 -- ---- whatever the tables
-module _ (sets card low₀ high₀ store₀ known : List ℕ) where
+module _ (sets problem low₀ high₀ store₀ known : List ℕ) where
   pub record Walking (low high witness store : List ℕ) (p : ℕ) : Type 0 where
     pub low-long : length low ≡ 8
     pub high-long : length high ≡ 8
     pub witness-long : length witness ≡ 8
     pub room : Room store
     pub walk :
-        (t : Tables) → Card t sets card → IntervalOf t low₀ high₀ → Nogoods t card store₀ → SolutionIn t card low₀ high₀ known
-        → Walk t card low₀ high₀ low high witness p × Nogoods t card store
+        (t : Tables) → Problem t sets problem → IntervalOf t low₀ high₀ → Nogoods t problem store₀ → SolutionIn t problem low₀ high₀ known
+        → Walk t problem low₀ high₀ low high witness p × Nogoods t problem store
 
   pub walking-start : (length low₀ ≡ 8) × (length high₀ ≡ 8) × (length known ≡ 8) → Room store₀ → Walking low₀ high₀ known store₀ 0
   walking-start (a, b, d) r =
@@ -330,12 +330,12 @@ module _ (sets card low₀ high₀ store₀ known : List ℕ) where
         high-long = b;
         witness-long = d;
         room = r;
-        walk = λ t c i n s. (walk-start t card (c .passed) low₀ high₀ known i s, n);
+        walk = λ t c i n s. (walk-start t problem (c .passed) low₀ high₀ known i s, n);
       }
 
   module _ (low high witness store : List ℕ) (p : ℕ) (w : Walking low high witness store p) where
-    pub walking-done : 512 ≤ p → FirstOf sets card low₀ high₀ store₀ known witness
-    walking-done l t c i n s = walk-done t card (c .passed) low₀ high₀ low high witness p (w .walk t c i n s .0) l
+    pub walking-done : 512 ≤ p → FirstOf sets problem low₀ high₀ store₀ known witness
+    walking-done l t c i n s = walk-done t problem (c .passed) low₀ high₀ low high witness p (w .walk t c i n s .0) l
 
     module _ (l : p < 512) where
       pub walking-skip : undecided low high p ≡ false → Walking low high witness store (p + 1)
@@ -346,7 +346,7 @@ module _ (sets card low₀ high₀ store₀ known : List ℕ) where
             witness-long = w .witness-long;
             room = w .room;
             walk =
-                λ t c i n s. let (v, m) = w .walk t c i n s in (walk-skip t card (c .passed) low₀ high₀ low high witness p v l d, m);
+                λ t c i n s. let (v, m) = w .walk t c i n s in (walk-skip t problem (c .passed) low₀ high₀ low high witness p v l d, m);
           }
 
       module _ (u : undecided low high p ≡ true) (low₁ high₁ : List ℕ) (e : low₁ ≡ low) (d : Changed high high₁ (p / 64) (p % 64) false) where
@@ -359,14 +359,14 @@ module _ (sets card low₀ high₀ store₀ known : List ℕ) where
               room = w .room;
               walk =
                   λ t c i n s.
-                  let (v, m) = w .walk t c i n s in (walk-witness t card (c .passed) low₀ high₀ low high witness p v l u high₁ d low₁ e x, m);
+                  let (v, m) = w .walk t c i n s in (walk-witness t problem (c .passed) low₀ high₀ low high witness p v l u high₁ d low₁ e x, m);
             }
 
         module _ (after : List ℕ) (room : Room after) (found : Bool) (choice rest : List ℕ)
-            (s : Searched sets card high₀ low₁ high₁ store after (λ t. Answers t card low₁ high₁ found choice rest)) where
+            (s : Searched sets problem high₀ low₁ high₁ store after (λ t. Answers t problem low₁ high₁ found choice rest)) where
           searched :
-              (t : Tables) → Card t sets card → IntervalOf t low₀ high₀ → Walk t card low₀ high₀ low high witness p → Nogoods t card store
-              → Answers t card low₁ high₁ found choice rest × Nogoods t card after
+              (t : Tables) → Problem t sets problem → IntervalOf t low₀ high₀ → Walk t problem low₀ high₀ low high witness p → Nogoods t problem store
+              → Answers t problem low₁ high₁ found choice rest × Nogoods t problem after
           searched t c i v m =
               s t c (leave-keeps t (c .passed) low high (v .interval) p u low₁ high₁ e d)
               (record {
@@ -389,7 +389,7 @@ module _ (sets card low₀ high₀ store₀ known : List ℕ) where
                     λ t c i n x.
                     let (v, m) = w .walk t c i n x in
                     let (a, o) = searched t c i v m in
-                    (walk-leave t card (c .passed) low₀ high₀ low high witness p v l u high₁ d low₁ choice e (answers-found t card low₁ high₁ found choice rest a f), o);
+                    (walk-leave t problem (c .passed) low₀ high₀ low high witness p v l u high₁ d low₁ choice e (answers-found t problem low₁ high₁ found choice rest a f), o);
               }
 
           pub walking-take :
@@ -405,8 +405,8 @@ module _ (sets card low₀ high₀ store₀ known : List ℕ) where
                     λ t c i n z.
                     let (v, m) = w .walk t c i n z in
                     let (a, o) = searched t c i v m in (
-                      walk-take t card (c .passed) low₀ high₀ low high witness p v l u high₁ d low₁ low₂ high₂ e g y x
-                          (refuted-none t card low₁ high₁ choice rest (answers-none t card low₁ high₁ found choice rest a f)),
+                      walk-take t problem (c .passed) low₀ high₀ low high witness p v l u high₁ d low₁ low₂ high₂ e g y x
+                          (refuted-none t problem low₁ high₁ choice rest (answers-none t problem low₁ high₁ found choice rest a f)),
                       o,
                     );
               }

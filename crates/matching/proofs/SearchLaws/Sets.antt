@@ -21,7 +21,7 @@ use Rattle.square.proofs.BitLaws.{Lowest, lowest, no-bits}
 use Rattle.square.proofs.SetLaws.{line-three}
 use Rattle.matching.specs.declared.search.sets.Words.{Words}
 use Rattle.matching.specs.Inner.Search.Sets.{NextBit, NextIn, Compared, PutAt}
-use Rattle.matching.specs.Inner.Search.Card.{lineAt, fitAt}
+use Rattle.matching.specs.Inner.Search.Problem.{lineAt, fitAt}
 
 -- ---- where lines and fits stand
 pub line-right : (b : Bool) (i : ℕ) → b ≡ true → 576 + i * 3 ≡ lineAt b i

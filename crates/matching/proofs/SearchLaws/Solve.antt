@@ -18,7 +18,7 @@ use Rattle.subsumption.proofs.Columns.{any-false}
 use Rattle.settings.specs.Inner.Counts.{Counted, Clamped, Unclamped}
 use Rattle.matching.specs.Solving.{takes}
 use Rattle.matching.specs.Inner.Search.{HoldsAt, Within, SolutionIn, NoSolution}
-use Rattle.matching.specs.Inner.Search.Card.{Card, heldAt, rightAt, questionCount, AskedAt}
+use Rattle.matching.specs.Inner.Search.Problem.{Problem, heldAt, rightAt, questionCount, AskedAt}
 use Rattle.matching.specs.Inner.Search.Pairs.{Changed, Contained}
 use Rattle.matching.specs.Inner.Search.Interval.{IntervalOf, undecided, Picked}
 use Rattle.matching.specs.declared.search.interval.Pick.{Pick}
@@ -33,27 +33,27 @@ use Rattle.matching.proofs.SearchLaws.Nogoods.{words-long, nogoods-adde
 use Rattle.matching.proofs.SearchLaws.Interval.{decided-true, decided-false, at-pair, grown, grown-cases, shrunk, shrunk-cases, low-shuts, high-shuts, decided-shut, low-accepted, picked-none, take-keeps, take-found, leave-keeps, leave-found}
 use Rattle.matching.proofs.SearchLaws.Counts.{counts-same, few-front, over-refutes, clamped-open, clamped-inside, clamped-full, unclamped-refutes}
 
--- ---- questions of the card
-module _ (t : Tables) (sets card : List ℕ) (c : Card t sets card) where
-  pub is-question : (m : ℕ) → m < questionCount card → m < pairsOf (t .questions)
+-- ---- questions of the problem
+module _ (t : Tables) (sets problem : List ℕ) (c : Problem t sets problem) where
+  pub is-question : (m : ℕ) → m < questionCount problem → m < pairsOf (t .questions)
   is-question m l = subst (λ (z : ℕ). m < z) (c .questions) l
 
   -- the mark of its right side
-  pub right-held : (m : ℕ) → m < pairsOf (t .questions) → heldAt card (rightAt card m) ≡ hasVariable (tree (t .concepts) (rightOf (t .questions) m))
-  right-held m l = ap (heldAt card) (c .right m l) ∙ c .held _ (wellFormed t (c .passed) .question-right m l)
+  pub right-held : (m : ℕ) → m < pairsOf (t .questions) → heldAt problem (rightAt problem m) ≡ hasVariable (tree (t .concepts) (rightOf (t .questions) m))
+  right-held m l = ap (heldAt problem) (c .right m l) ∙ c .held _ (wellFormed t (c .passed) .question-right m l)
 
 -- ---- largest counts as they are lent
 abbrev pub counts : List ℕ → List ℕ
-counts card = words card 931
+counts problem = words problem 931
 
-pub counts-long : (card : List ℕ) → length card ≡ 971 → length (counts card) ≡ 8
-counts-long card e = words-long card 931 (omega (arith, e))
+pub counts-long : (problem : List ℕ) → length problem ≡ 971 → length (counts problem) ≡ 8
+counts-long problem e = words-long problem 931 (omega (arith, e))
 
 -- ---- looking for one that fails
 abbrev pub HoldTo : List ℕ → List ℕ → List ℕ → Bool → ℕ → Type 0
-HoldTo sets card choice right m =
-    (t : Tables) → Card t sets card → assignmentFault t (take (t .variables) choice) ≡ Done → (n : ℕ) → n < m → n < pairsOf (t .questions)
-    → AskedOf t card right n → HoldsAt t (take (t .variables) choice) n
+HoldTo sets problem choice right m =
+    (t : Tables) → Problem t sets problem → assignmentFault t (take (t .variables) choice) ≡ Done → (n : ℕ) → n < m → n < pairsOf (t .questions)
+    → AskedOf t problem right n → HoldsAt t (take (t .variables) choice) n
 
 unlike : (a b : Bool) → not (Bool·beq a b) ≡ true → a ≡ b → ⊥
 unlike true true o e = false≢true o
@@ -67,44 +67,44 @@ alike true false o = absurd (true≢false o)
 alike false true o = absurd (true≢false o)
 alike false false o = refl
 
-module _ (sets card choice : List ℕ) (right : Bool) where
-  pub hold-none : HoldTo sets card choice right 0
+module _ (sets problem choice : List ℕ) (right : Bool) where
+  pub hold-none : HoldTo sets problem choice right 0
   hold-none t c a n l = absurd (omega arith)
 
   one-more :
-      (m : ℕ) → HoldTo sets card choice right m
-      → ((t : Tables) → Card t sets card → assignmentFault t (take (t .variables) choice) ≡ Done → m < pairsOf (t .questions)
-      → AskedOf t card right m → HoldsAt t (take (t .variables) choice) m)
-      → HoldTo sets card choice right (m + 1)
+      (m : ℕ) → HoldTo sets problem choice right m
+      → ((t : Tables) → Problem t sets problem → assignmentFault t (take (t .variables) choice) ≡ Done → m < pairsOf (t .questions)
+      → AskedOf t problem right m → HoldsAt t (take (t .variables) choice) m)
+      → HoldTo sets problem choice right (m + 1)
   one-more m h g t c a n l =
       ⊎-elim
       (λ (e : n ≡ m).
-      subst (λ (z : ℕ). z < pairsOf (t .questions) → AskedOf t card right z → HoldsAt t (take (t .variables) choice) z) (sym e)
+      subst (λ (z : ℕ). z < pairsOf (t .questions) → AskedOf t problem right z → HoldsAt t (take (t .variables) choice) z) (sym e)
       (g t c a))
       (λ x. h t c a n x) (last-cases n m (omega arith))
 
-  pub hold-unasked : (m : ℕ) → (getD card (939 + m) 0 ≡ 1 → ⊥) → HoldTo sets card choice right m → HoldTo sets card choice right (m + 1)
+  pub hold-unasked : (m : ℕ) → (getD problem (939 + m) 0 ≡ 1 → ⊥) → HoldTo sets problem choice right m → HoldTo sets problem choice right (m + 1)
   hold-unasked m o h = one-more m h (λ t c a l x. absurd (o (eqb-true _ 1 (x .0))))
 
   -- of the other kind
-  pub hold-skip : (m : ℕ) → not (Bool·beq (heldAt card (rightAt card m)) right) ≡ true → HoldTo sets card choice right m → HoldTo sets card choice right (m + 1)
-  hold-skip m o h = one-more m h (λ t c a l x. absurd (unlike _ _ o (right-held t sets card c m l ∙ x .1)))
+  pub hold-skip : (m : ℕ) → not (Bool·beq (heldAt problem (rightAt problem m)) right) ≡ true → HoldTo sets problem choice right m → HoldTo sets problem choice right (m + 1)
+  hold-skip m o h = one-more m h (λ t c a l x. absurd (unlike _ _ o (right-held t sets problem c m l ∙ x .1)))
 
-  module _ (m : ℕ) (b : Bool) (d : Tested sets card m choice b) where
-    pub hold-more : b ≡ true → HoldTo sets card choice right m → HoldTo sets card choice right (m + 1)
+  module _ (m : ℕ) (b : Bool) (d : Tested sets problem m choice b) where
+    pub hold-more : b ≡ true → HoldTo sets problem choice right m → HoldTo sets problem choice right (m + 1)
     hold-more e h = one-more m h (λ t c a l x. decided-true _ b (d t c a l) e)
 
     pub failing-here :
-        b ≡ false → m < questionCount card → getD card (939 + m) 0 ≡ 1 → not (Bool·beq (heldAt card (rightAt card m)) right) ≡ false
-        → FailingOf sets card choice right m
+        b ≡ false → m < questionCount problem → getD problem (939 + m) 0 ≡ 1 → not (Bool·beq (heldAt problem (rightAt problem m)) right) ≡ false
+        → FailingOf sets problem choice right m
     failing-here e l w o t c a =
         record {
           fails = λ x. decided-false _ b (d t c a x) e;
-          of-kind = λ x. (eq-eqb _ 1 w, sym (right-held t sets card c m x) ∙ alike _ _ o);
-          hold = λ x. absurd (omega (arith, is-question t sets card c m l));
+          of-kind = λ x. (eq-eqb _ 1 w, sym (right-held t sets problem c m x) ∙ alike _ _ o);
+          hold = λ x. absurd (omega (arith, is-question t sets problem c m l));
         }
 
-  pub failing-none : (m : ℕ) → HoldTo sets card choice right m → questionCount card ≤ m → FailingOf sets card choice right (questionCount card)
+  pub failing-none : (m : ℕ) → HoldTo sets problem choice right m → questionCount problem ≤ m → FailingOf sets problem choice right (questionCount problem)
   failing-none m h l t c a =
       record {
         fails = λ x. absurd (omega (arith, c .questions));
@@ -112,12 +112,12 @@ module _ (sets card choice : List ℕ) (right : Bool) where
         hold = λ x n y. h t c a n (omega (arith, c .questions)) y;
       }
 
-module _ (sets card choice : List ℕ) (m : ℕ) where
-  pub failing-first : FailingOf sets card choice true m → m < questionCount card → Failing sets card choice m
+module _ (sets problem choice : List ℕ) (m : ℕ) where
+  pub failing-first : FailingOf sets problem choice true m → m < questionCount problem → Failing sets problem choice m
   failing-first f l t c a = record { fails = f t c a .fails; of-kind = λ x. f t c a .of-kind x .0; hold = λ x. absurd (omega (arith, c .questions)) }
 
   -- none with a variable on the right, then the others
-  pub failing-second : (n : ℕ) → FailingOf sets card choice true n → questionCount card ≤ n → FailingOf sets card choice false m → Failing sets card choice m
+  pub failing-second : (n : ℕ) → FailingOf sets problem choice true n → questionCount problem ≤ n → FailingOf sets problem choice false m → Failing sets problem choice m
   failing-second n f l g t c a =
       record {
         fails = g t c a .fails;
@@ -126,7 +126,7 @@ module _ (sets card choice : List ℕ) (m : ℕ) where
       }
     where
       go :
-          pairsOf (t .questions) ≤ m → (o : ℕ) → o < pairsOf (t .questions) → AskedAt card o → (b : Bool)
+          pairsOf (t .questions) ≤ m → (o : ℕ) → o < pairsOf (t .questions) → AskedAt problem o → (b : Bool)
           → hasVariable (tree (t .concepts) (rightOf (t .questions) o)) ≡ b → HoldsAt t (take (t .variables) choice) o
       go x o y z true e = f t c a .hold (omega (arith, c .questions)) o y (z, e)
       go x o y z false e = g t c a .hold x o y (z, e)
@@ -144,8 +144,8 @@ module _ (t : Tables) (low full : List ℕ) (i : IntervalOf t low full) where
     empty-interval =
         record { low-long = long; high-long = i .high-long; accepted = i .accepted; ordered = λ k q x. absurd (none-taken k q x); idle = i .idle }
 
-    pub low-refuted : (card core : List ℕ) → Mixed low empty core → NoSolution t card core full → Refuted t card low low core full
-    low-refuted card core w n =
+    pub low-refuted : (problem core : List ℕ) → Mixed low empty core → NoSolution t problem core full → Refuted t problem low low core full
+    low-refuted problem core w n =
         record {
           low-long = w .long;
           high-long = i .high-long;
@@ -154,8 +154,8 @@ module _ (t : Tables) (low full : List ℕ) (i : IntervalOf t low full) where
           none = n;
         }
 
-    pub high-refuted : (card rest : List ℕ) → Mixed low full rest → NoSolution t card empty rest → Refuted t card low low empty rest
-    high-refuted card rest w n =
+    pub high-refuted : (problem rest : List ℕ) → Mixed low full rest → NoSolution t problem empty rest → Refuted t problem low low empty rest
+    high-refuted problem rest w n =
         record {
           low-long = long;
           high-long = w .long;
@@ -165,33 +165,33 @@ module _ (t : Tables) (low full : List ℕ) (i : IntervalOf t low full) where
         }
 
 -- a question fails at the low side: carried on, it shuts an interval around
-module _ (sets card full low empty : List ℕ) (m : ℕ) (zeros : (k : ℕ) → getD empty k 0 ≡ 0) (long : length empty ≡ 8) where
+module _ (sets problem full low empty : List ℕ) (m : ℕ) (zeros : (k : ℕ) → getD empty k 0 ≡ 0) (long : length empty ≡ 8) where
   pub refuted-right :
-      (core : List ℕ) → heldAt card (rightAt card m) ≡ true → Mixed low empty core → StillFails sets card m low empty core
-      → RefutedBy sets card full low m core full
+      (core : List ℕ) → heldAt problem (rightAt problem m) ≡ true → Mixed low empty core → StillFails sets problem m low empty core
+      → RefutedBy sets problem full low m core full
   refuted-right core e w f t c l x i n =
-      low-refuted t low full i empty zeros long card core w
-      (low-shuts t (c .passed) card core full m l x (sym (right-held t sets card c m l) ∙ e) (f t c l full i (empty-interval t low full i empty zeros long) n))
+      low-refuted t low full i empty zeros long problem core w
+      (low-shuts t (c .passed) problem core full m l x (sym (right-held t sets problem c m l) ∙ e) (f t c l full i (empty-interval t low full i empty zeros long) n))
 
   pub refuted-left :
-      (rest : List ℕ) → heldAt card (rightAt card m) ≡ false → Mixed low full rest → StillFails sets card m low full rest
-      → RefutedBy sets card full low m empty rest
+      (rest : List ℕ) → heldAt problem (rightAt problem m) ≡ false → Mixed low full rest → StillFails sets problem m low full rest
+      → RefutedBy sets problem full low m empty rest
   refuted-left rest e w f t c l x i n =
-      high-refuted t low full i empty zeros long card rest w
-      (high-shuts t (c .passed) card empty rest m l x (sym (right-held t sets card c m l) ∙ e) (f t c l full i (full-interval t low full i) n))
+      high-refuted t low full i empty zeros long problem rest w
+      (high-shuts t (c .passed) problem empty rest m l x (sym (right-held t sets problem c m l) ∙ e) (f t c l full i (full-interval t low full i) n))
 
-module _ (sets card full low before : List ℕ) (m : ℕ) (f : Failing sets card low m) where
+module _ (sets problem full low before : List ℕ) (m : ℕ) (f : Failing sets problem low m) where
   pub tried-refuted :
-      (low₁ high₁ after : List ℕ) → m < questionCount card → RefutedBy sets card full low m low₁ high₁ → Added low₁ high₁ before after
-      → Searched sets card full low low before after (λ t. Answers t card low low false low₁ high₁)
+      (low₁ high₁ after : List ℕ) → m < questionCount problem → RefutedBy sets problem full low m low₁ high₁ → Added low₁ high₁ before after
+      → Searched sets problem full low low before after (λ t. Answers t problem low low false low₁ high₁)
   tried-refuted low₁ high₁ after l r a t c i j n =
-      let x = is-question t sets card c m l in
+      let x = is-question t sets problem c m l in
       let y = r t c x (f t c (i .accepted) .of-kind x) j (f t c (i .accepted) .fails x) in
-      (y, nogoods-added t card low₁ high₁ before after n (y .none) a)
+      (y, nogoods-added t problem low₁ high₁ before after n (y .none) a)
 
   pub tried-solves :
-      (b : Bool) → Counted (counts card) low b → not b ≡ false → questionCount card ≤ m
-      → Searched sets card full low low before before (λ t. Answers t card low low true low low)
+      (b : Bool) → Counted (counts problem) low b → not b ≡ false → questionCount problem ≤ m
+      → Searched sets problem full low low before before (λ t. Answers t problem low low true low low)
   tried-solves b o e l t c i j n = (
     record {
       long = i .low-long;
@@ -199,7 +199,7 @@ module _ (sets card full low before : List ℕ) (m : ℕ) (f : Failing sets card
       meets =
           record {
             solves = f t c (i .accepted) .hold (omega (arith, c .questions));
-            few = few-front card (counts card) low (counts-same card _ refl) (t .variables) (wellFormed t (c .passed) .few-variables) (subst (Counted (counts card) low) (not-false b e) o);
+            few = few-front problem (counts problem) low (counts-same problem _ refl) (t .variables) (wellFormed t (c .passed) .few-variables) (subst (Counted (counts problem) low) (not-false b e) o);
           };
     },
     n,
@@ -207,22 +207,22 @@ module _ (sets card full low before : List ℕ) (m : ℕ) (f : Failing sets card
 
 -- it takes more than a largest count
 pub tried-over :
-    (sets card full low store : List ℕ) (b : Bool) → Counted (counts card) low b → not b ≡ true
-    → Searched sets card full low low store store (λ t. Answers t card low low false low full)
-tried-over sets card full low store b o e t c i j n =
-    (over-refutes card (counts card) low (counts-same card _ refl) t full j (subst (Counted (counts card) low) (not-true b e) o), n)
+    (sets problem full low store : List ℕ) (b : Bool) → Counted (counts problem) low b → not b ≡ true
+    → Searched sets problem full low low store store (λ t. Answers t problem low low false low full)
+tried-over sets problem full low store b o e t c i j n =
+    (over-refutes problem (counts problem) low (counts-same problem _ refl) t full j (subst (Counted (counts problem) low) (not-true b e) o), n)
 
 -- ---- one step
 pub answers-found :
-    (t : Tables) (card low high : List ℕ) (b : Bool) (low₁ high₁ : List ℕ) → Answers t card low high b low₁ high₁ → b ≡ true → SolutionIn t card low high low₁
-answers-found t card low high b low₁ high₁ x e = subst (λ (z : Bool). Answers t card low high z low₁ high₁) e x
+    (t : Tables) (problem low high : List ℕ) (b : Bool) (low₁ high₁ : List ℕ) → Answers t problem low high b low₁ high₁ → b ≡ true → SolutionIn t problem low high low₁
+answers-found t problem low high b low₁ high₁ x e = subst (λ (z : Bool). Answers t problem low high z low₁ high₁) e x
 
 pub answers-none :
-    (t : Tables) (card low high : List ℕ) (b : Bool) (low₁ high₁ : List ℕ) → Answers t card low high b low₁ high₁ → b ≡ false → Refuted t card low high low₁ high₁
-answers-none t card low high b low₁ high₁ x e = subst (λ (z : Bool). Answers t card low high z low₁ high₁) e x
+    (t : Tables) (problem low high : List ℕ) (b : Bool) (low₁ high₁ : List ℕ) → Answers t problem low high b low₁ high₁ → b ≡ false → Refuted t problem low high low₁ high₁
+answers-none t problem low high b low₁ high₁ x e = subst (λ (z : Bool). Answers t problem low high z low₁ high₁) e x
 
-pub refuted-none : (t : Tables) (card low high low₁ high₁ : List ℕ) → Refuted t card low high low₁ high₁ → NoSolution t card low high
-refuted-none t card low high low₁ high₁ r other a b s =
+pub refuted-none : (t : Tables) (problem low high low₁ high₁ : List ℕ) → Refuted t problem low high low₁ high₁ → NoSolution t problem low high
+refuted-none t problem low high low₁ high₁ r other a b s =
     r .none other a
     (record {
       above = λ k q e. b .above k q (front-within (t .variables) low₁ low (r .above) k q e);
@@ -233,9 +233,9 @@ refuted-none t card low high low₁ high₁ r other a b s =
 pub contained : (a b : List ℕ) (w : Bool) → Contained a b w → w ≡ true → Within a b
 contained a b w c e = subst (Contained a b) e c
 
-module _ (t : Tables) (card : List ℕ) (h : tableFault t ≡ Done) (low high : List ℕ) (i : IntervalOf t low high) (low₁ high₁ : List ℕ) where
+module _ (t : Tables) (problem : List ℕ) (h : tableFault t ≡ Done) (low high : List ℕ) (i : IntervalOf t low high) (low₁ high₁ : List ℕ) where
   pub tried-done :
-      (b w : Bool) → Answers t card low low b low₁ high₁ → Contained high high₁ w → (b || w) ≡ true → Answers t card low high b low₁ high₁
+      (b w : Bool) → Answers t problem low low b low₁ high₁ → Contained high high₁ w → (b || w) ≡ true → Answers t problem low high b low₁ high₁
   tried-done true w s c e =
       record {
         long = s .long;
@@ -245,14 +245,14 @@ module _ (t : Tables) (card : List ℕ) (h : tableFault t ≡ Done) (low high : 
   tried-done false w r c e =
       record { low-long = r .low-long; high-long = r .high-long; above = r .above; below = contained high high₁ w c e; none = r .none }
 
-  pub tried-all : (b w : Bool) → Answers t card low low b low₁ high₁ → (b || w) ≡ false → (r : Pick) → Picked low high r → r ≡ Nothing → Refuted t card low high low high
+  pub tried-all : (b w : Bool) → Answers t problem low low b low₁ high₁ → (b || w) ≡ false → (r : Pick) → Picked low high r → r ≡ Nothing → Refuted t problem low high low high
   tried-all b w s e r p f =
       record {
         low-long = i .low-long;
         high-long = i .high-long;
         above = λ k q x. x;
         below = λ k q x. x;
-        none = decided-shut t h low high i card low₁ high₁ (answers-none t card low low b low₁ high₁ s (any-false b w e .0)) (picked-none low high r p f);
+        none = decided-shut t h low high i problem low₁ high₁ (answers-none t problem low low b low₁ high₁ s (any-false b w e .0)) (picked-none low high r p f);
       }
 
 pub recalled-known :
@@ -272,15 +272,15 @@ kept-long store place low high r l e f = (
 )
 
 pub known-refuted :
-    (t : Tables) (card store low high : List ℕ) (b : Bool) (low₁ high₁ : List ℕ) → Nogoods t card store → Recalled store low high b low₁ high₁ → b ≡ true → Refuted t card low high low₁ high₁
-known-refuted t card store low high b low₁ high₁ n x e =
+    (t : Tables) (problem store low high : List ℕ) (b : Bool) (low₁ high₁ : List ℕ) → Nogoods t problem store → Recalled store low high b low₁ high₁ → b ≡ true → Refuted t problem low high low₁ high₁
+known-refuted t problem store low high b low₁ high₁ n x e =
     let k : Known store low high low₁ high₁ = subst (λ (z : Bool). Recalled store low high z low₁ high₁) e x in
     record {
       low-long = kept-long store (k .place) low₁ high₁ (n .room) (k .kept) (k .low-here) (k .high-here) .0;
       high-long = kept-long store (k .place) low₁ high₁ (n .room) (k .kept) (k .low-here) (k .high-here) .1;
       above = k .above;
       below = k .below;
-      none = subst (λ (z : List ℕ). NoSolution t card z high₁) (sym (k .low-here)) (subst (NoSolution t card (lowAt store (k .place))) (sym (k .high-here)) (n .each (k .place) (k .kept)));
+      none = subst (λ (z : List ℕ). NoSolution t problem z high₁) (sym (k .low-here)) (subst (NoSolution t problem (lowAt store (k .place))) (sym (k .high-here)) (n .each (k .place) (k .kept)));
     }
 
 pub can-split : (low high : List ℕ) (p : ℕ) (b : Bool) → CanSplit low high p b → b ≡ true → (p < 512) × (undecided low high p ≡ true)
@@ -304,12 +304,12 @@ less-high t high high₂ full k q c i =
     record { low-long = c .long; high-long = i .high-long; accepted = i .accepted; ordered = λ l r x. i .ordered l r (shrunk high high₂ k q c l r x); idle = i .idle }
 
 -- ---- splitting at a pair
-module _ (t : Tables) (card : List ℕ) (h : tableFault t ≡ Done) (low high : List ℕ) (i : IntervalOf t low high) (p : ℕ) (u : undecided low high p ≡ true) where
+module _ (t : Tables) (problem : List ℕ) (h : tableFault t ≡ Done) (low high : List ℕ) (i : IntervalOf t low high) (p : ℕ) (u : undecided low high p ≡ true) where
   module _ (low₂ high₂ : List ℕ) (e : high₂ ≡ high) (c : Changed low low₂ (p / 64) (p % 64) true) where
     -- a nogood of the one half that does not need the pair
     pub with-answers :
-        (b n : Bool) (l₁ h₁ : List ℕ) → Answers t card low₂ high₂ b l₁ h₁ → n ≡ takes l₁ (p / 64) (p % 64) → (b || not n) ≡ true → Answers t card low high b l₁ h₁
-    with-answers true n l₁ h₁ s f g = take-found t h low high i p u low₂ high₂ e c card l₁ s
+        (b n : Bool) (l₁ h₁ : List ℕ) → Answers t problem low₂ high₂ b l₁ h₁ → n ≡ takes l₁ (p / 64) (p % 64) → (b || not n) ≡ true → Answers t problem low high b l₁ h₁
+    with-answers true n l₁ h₁ s f g = take-found t h low high i p u low₂ high₂ e c problem l₁ s
     with-answers false true l₁ h₁ r f g = absurd (false≢true g)
     with-answers false false l₁ h₁ r f g =
         record {
@@ -324,8 +324,8 @@ module _ (t : Tables) (card : List ℕ) (h : tableFault t ≡ Done) (low high : 
 
   module _ (low₃ high₃ : List ℕ) (e : low₃ ≡ low) (c : Changed high high₃ (p / 64) (p % 64) false) where
     pub without-answers :
-        (b n : Bool) (l₁ h₁ : List ℕ) → Answers t card low₃ high₃ b l₁ h₁ → n ≡ takes h₁ (p / 64) (p % 64) → (b || n) ≡ true → Answers t card low high b l₁ h₁
-    without-answers true n l₁ h₁ s f g = leave-found t h low high i p u low₃ high₃ e c card l₁ s
+        (b n : Bool) (l₁ h₁ : List ℕ) → Answers t problem low₃ high₃ b l₁ h₁ → n ≡ takes h₁ (p / 64) (p % 64) → (b || n) ≡ true → Answers t problem low high b l₁ h₁
+    without-answers true n l₁ h₁ s f g = leave-found t h low high i p u low₃ high₃ e c problem l₁ s
     without-answers false false l₁ h₁ r f g = absurd (false≢true g)
     without-answers false true l₁ h₁ r f g =
         record {
@@ -341,9 +341,9 @@ module _ (t : Tables) (card : List ℕ) (h : tableFault t ≡ Done) (low high : 
   -- the nogoods of both halves give one of the whole
   module _ (low₂ high₂ : List ℕ) (e : high₂ ≡ high) (c : Changed low low₂ (p / 64) (p % 64) true)
       (low₃ high₃ : List ℕ) (f : low₃ ≡ low) (d : Changed high high₃ (p / 64) (p % 64) false)
-      (la ha lb hb : List ℕ) (a : Refuted t card low₂ high₂ la ha) (b : Refuted t card low₃ high₃ lb hb)
+      (la ha lb hb : List ℕ) (a : Refuted t problem low₂ high₂ la ha) (b : Refuted t problem low₃ high₃ lb hb)
       (l r : List ℕ) (m : Merged la ha lb hb (p / 64) (p % 64) l r) where
-    none-merged : NoSolution t card l r
+    none-merged : NoSolution t problem l r
     none-merged other x y s = go (takes other (p / 64) (p % 64)) refl
       where
         go : (z : Bool) → takes other (p / 64) (p % 64) ≡ z → ⊥
@@ -378,7 +378,7 @@ module _ (t : Tables) (card : List ℕ) (h : tableFault t ≡ Done) (low high : 
             })
             s
 
-    pub merged-refutes : Refuted t card low high l r
+    pub merged-refutes : Refuted t problem low high l r
     merged-refutes =
         record {
           low-long = m .joined .long;
@@ -402,22 +402,22 @@ module _ (t : Tables) (card : List ℕ) (h : tableFault t ≡ Done) (low high : 
         }
 
 -- ---- whatever the tables
-module _ (sets card full low high before after : List ℕ) where
+module _ (sets problem full low high before after : List ℕ) where
   -- what a step promises of its answer
   abbrev pub Stepping : Bool → Bool → List ℕ → List ℕ → ℕ → Type 0
   Stepping done found l h p =
       ((length l ≡ 8) × (length h ≡ 8))
       × (Room after
-      × ((done ≡ false → (p < 512) × (undecided low high p ≡ true)) × Searched sets card full low high before after (λ t. done ≡ true → Answers t card low high found l h)))
+      × ((done ≡ false → (p < 512) × (undecided low high p ≡ true)) × Searched sets problem full low high before after (λ t. done ≡ true → Answers t problem low high found l h)))
 
   pub step-answers :
-      (done found : Bool) (l h : List ℕ) → Searched sets card full low high before after (λ t. done ≡ true → Answers t card low high found l h) → done ≡ true
-      → Searched sets card full low high before after (λ t. Answers t card low high found l h)
+      (done found : Bool) (l h : List ℕ) → Searched sets problem full low high before after (λ t. done ≡ true → Answers t problem low high found l h) → done ≡ true
+      → Searched sets problem full low high before after (λ t. Answers t problem low high found l h)
   step-answers done found l h s e t c i j n = let (a, m) = s t c i j n in (a e, m)
 
   pub step-answered :
       (done found₁ found : Bool) (l₁ h₁ l h : List ℕ) (p : ℕ) → (done ≡ true) × (found₁ ≡ found) × (l₁ ≡ l) × (h₁ ≡ h)
-      → (length l ≡ 8) × (length h ≡ 8) → Room after → Searched sets card full low high before after (λ t. Answers t card low high found l h)
+      → (length l ≡ 8) × (length h ≡ 8) → Room after → Searched sets problem full low high before after (λ t. Answers t problem low high found l h)
       → Stepping done found₁ l₁ h₁ p
   step-answered done found₁ found l₁ h₁ l h p (d, f, e, g) (a, b) r s = (
     (ap length e ∙ a, ap length g ∙ b),
@@ -428,8 +428,8 @@ module _ (sets card full low high before after : List ℕ) where
         λ t c i j n.
             let (y, m) = s t c i j n in (
               λ x.
-                  subst (λ (z : Bool). Answers t card low high z l₁ h₁) (sym f)
-                  (subst (λ (z : List ℕ). Answers t card low high found z h₁) (sym e) (subst (Answers t card low high found l) (sym g) y)),
+                  subst (λ (z : Bool). Answers t problem low high z l₁ h₁) (sym f)
+                  (subst (λ (z : List ℕ). Answers t problem low high found z h₁) (sym e) (subst (Answers t problem low high found l) (sym g) y)),
               m,
             ),
       ),
@@ -438,7 +438,7 @@ module _ (sets card full low high before after : List ℕ) where
 
   pub step-split :
       (done found : Bool) (l₁ h₁ : List ℕ) (p₁ p : ℕ) → (done ≡ false) × (l₁ ≡ low) × (h₁ ≡ high) × (p₁ ≡ p) → (length low ≡ 8) × (length high ≡ 8)
-      → Room after → (p < 512) × (undecided low high p ≡ true) → Searched sets card full low high before after (λ t. Unit {0})
+      → Room after → (p < 512) × (undecided low high p ≡ true) → Searched sets problem full low high before after (λ t. Unit {0})
       → Stepping done found l₁ h₁ p₁
   step-split done found l₁ h₁ p₁ p (d, e, g, f) (a, b) r u s = (
     (ap length e ∙ a, ap length g ∙ b),
@@ -452,48 +452,48 @@ module _ (sets card full low high before after : List ℕ) where
   )
 
 -- by a test of the low side
-module _ (sets card full low high before after : List ℕ) (b : Bool) (l h : List ℕ)
-    (s : Searched sets card full low low before after (λ t. Answers t card low low b l h)) where
-  at-low : (t : Tables) → Card t sets card → IntervalOf t low high → IntervalOf t high full → Nogoods t card before → Answers t card low low b l h × Nogoods t card after
+module _ (sets problem full low high before after : List ℕ) (b : Bool) (l h : List ℕ)
+    (s : Searched sets problem full low low before after (λ t. Answers t problem low low b l h)) where
+  at-low : (t : Tables) → Problem t sets problem → IntervalOf t low high → IntervalOf t high full → Nogoods t problem before → Answers t problem low low b l h × Nogoods t problem after
   at-low t c i j n =
       s t c (record { low-long = i .low-long; high-long = i .low-long; accepted = low-accepted t (c .passed) low high i; ordered = λ k q e. e; idle = λ k q l x. i .idle k q l (i .ordered k q x) })
       (through t low high full i j) n
 
-  pub by-test : (w : Bool) → Contained high h w → (b || w) ≡ true → Searched sets card full low high before after (λ t. Answers t card low high b l h)
-  by-test w x e t c i j n = let (y, m) = at-low t c i j n in (tried-done t card (c .passed) low high i l h b w y x e, m)
+  pub by-test : (w : Bool) → Contained high h w → (b || w) ≡ true → Searched sets problem full low high before after (λ t. Answers t problem low high b l h)
+  by-test w x e t c i j n = let (y, m) = at-low t c i j n in (tried-done t problem (c .passed) low high i l h b w y x e, m)
 
   pub by-decided :
       (w : Bool) → (b || w) ≡ false → (r : Pick) → Picked low high r → r ≡ Nothing
-      → Searched sets card full low high before after (λ t. Answers t card low high false low high)
-  by-decided w e r x f t c i j n = let (y, m) = at-low t c i j n in (tried-all t card (c .passed) low high i l h b w y e r x f, m)
+      → Searched sets problem full low high before after (λ t. Answers t problem low high false low high)
+  by-decided w e r x f t c i j n = let (y, m) = at-low t c i j n in (tried-all t problem (c .passed) low high i l h b w y e r x f, m)
 
-  pub by-none : Searched sets card full low high before after (λ t. Unit {0})
+  pub by-none : Searched sets problem full low high before after (λ t. Unit {0})
   by-none t c i j n = (tt, at-low t c i j n .1)
 
 pub by-known :
-    (sets card full low high store : List ℕ) (b : Bool) (l h : List ℕ) → Recalled store low high b l h → b ≡ true
-    → Searched sets card full low high store store (λ t. Answers t card low high false l h)
-by-known sets card full low high store b l h x e t c i j n = (known-refuted t card store low high b l h n x e, n)
+    (sets problem full low high store : List ℕ) (b : Bool) (l h : List ℕ) → Recalled store low high b l h → b ≡ true
+    → Searched sets problem full low high store store (λ t. Answers t problem low high false l h)
+by-known sets problem full low high store b l h x e t c i j n = (known-refuted t problem store low high b l h n x e, n)
 
-pub by-nothing : (sets card full low high store : List ℕ) → Searched sets card full low high store store (λ t. Unit {0})
-by-nothing sets card full low high store t c i j n = (tt, n)
+pub by-nothing : (sets problem full low high store : List ℕ) → Searched sets problem full low high store store (λ t. Unit {0})
+by-nothing sets problem full low high store t c i j n = (tt, n)
 
 -- by counts of needs
 pub by-wanted :
-    (sets card full low high store : List ℕ) (b : Bool) (l h : List ℕ) → WantedOver card store full low high b l h → b ≡ true
-    → Searched sets card full low high store store (λ t. Answers t card low high false l h)
-by-wanted sets card full low high store b l h x e t c i j n = (subst (λ (z : Bool). WantedOver card store full low high z l h) e x t i j n, n)
+    (sets problem full low high store : List ℕ) (b : Bool) (l h : List ℕ) → WantedOver problem store full low high b l h → b ≡ true
+    → Searched sets problem full low high store store (λ t. Answers t problem low high false l h)
+by-wanted sets problem full low high store b l h x e t c i j n = (subst (λ (z : Bool). WantedOver problem store full low high z l h) e x t i j n, n)
 
 -- by a step at the clamped interval
-module _ (sets card full low high before after inner : List ℕ) (z : Clamped (counts card) low high inner)
-    (done found : Bool) (l h : List ℕ) (p : ℕ) (s : Stepping sets card full low inner before after done found l h p) where
+module _ (sets problem full low high before after inner : List ℕ) (z : Clamped (counts problem) low high inner)
+    (done found : Bool) (l h : List ℕ) (p : ℕ) (s : Stepping sets problem full low inner before after done found l h p) where
   at-inner :
-      (t : Tables) → Card t sets card → IntervalOf t low high → IntervalOf t high full → Nogoods t card before
-      → (done ≡ true → Answers t card low inner found l h) × Nogoods t card after
+      (t : Tables) → Problem t sets problem → IntervalOf t low high → IntervalOf t high full → Nogoods t problem before
+      → (done ≡ true → Answers t problem low inner found l h) × Nogoods t problem after
   at-inner t c i j n = s .1 .1 .1 t c (clamped-inside t _ low high inner i z) (clamped-full t _ low high inner i z full j) n
 
   -- its split or solution is one of the whole
-  pub clamp-keeps : (not done || found) ≡ true → Stepping sets card full low high before after done found l h p
+  pub clamp-keeps : (not done || found) ≡ true → Stepping sets problem full low high before after done found l h p
   clamp-keeps e = (
     s .0,
     (
@@ -505,7 +505,7 @@ module _ (sets card full low high before after inner : List ℕ) (z : Clamped (c
     ),
   )
     where
-      wider : (t : Tables) → IntervalOf t low high → (b : Bool) → b ≡ true → Answers t card low inner b l h → Answers t card low high b l h
+      wider : (t : Tables) → IntervalOf t low high → (b : Bool) → b ≡ true → Answers t problem low inner b l h → Answers t problem low high b l h
       wider t i true f a =
           record {
             long = a .long;
@@ -521,50 +521,50 @@ module _ (sets card full low high before after inner : List ℕ) (z : Clamped (c
   -- its nogood makes one of the whole
   pub clamp-refutes :
       (not done || found) ≡ false → (l₁ h₁ : List ℕ) → Unclamped full low high inner l h l₁ h₁
-      → Searched sets card full low high before after (λ t. Answers t card low high false l₁ h₁)
+      → Searched sets problem full low high before after (λ t. Answers t problem low high false l₁ h₁)
   clamp-refutes e l₁ h₁ u t c i j n =
       let (a, m) = at-inner t c i j n in
       let (d, f) = any-false (not done) found e in
-      (unclamped-refutes t (c .passed) card _ full low high inner l h (counts-same card _ refl) i j z (answers-none t card low inner found l h (a (not-false done d)) f) l₁ h₁ u, m)
+      (unclamped-refutes t (c .passed) problem _ full low high inner l h (counts-same problem _ refl) i j z (answers-none t problem low inner found l h (a (not-false done d)) f) l₁ h₁ u, m)
 
 -- at a pair: first with it, then without it
-module _ (sets card full low high : List ℕ) (p : ℕ) (u : undecided low high p ≡ true) (start one two : List ℕ) (done tried : Bool) (l₀ h₀ : List ℕ)
-    (s : Searched sets card full low high start one (λ t. done ≡ true → Answers t card low high tried l₀ h₀)) (low₂ high₂ : List ℕ) (e : high₂ ≡ high) (c : Changed low low₂ (p / 64) (p % 64) true)
-    (found : Bool) (la ha : List ℕ) (a : Searched sets card full low₂ high₂ one two (λ t. Answers t card low₂ high₂ found la ha)) where
+module _ (sets problem full low high : List ℕ) (p : ℕ) (u : undecided low high p ≡ true) (start one two : List ℕ) (done tried : Bool) (l₀ h₀ : List ℕ)
+    (s : Searched sets problem full low high start one (λ t. done ≡ true → Answers t problem low high tried l₀ h₀)) (low₂ high₂ : List ℕ) (e : high₂ ≡ high) (c : Changed low low₂ (p / 64) (p % 64) true)
+    (found : Bool) (la ha : List ℕ) (a : Searched sets problem full low₂ high₂ one two (λ t. Answers t problem low₂ high₂ found la ha)) where
   with-pair :
-      (t : Tables) → Card t sets card → IntervalOf t low high → IntervalOf t high full → Nogoods t card start → Answers t card low₂ high₂ found la ha × Nogoods t card two
+      (t : Tables) → Problem t sets problem → IntervalOf t low high → IntervalOf t high full → Nogoods t problem start → Answers t problem low₂ high₂ found la ha × Nogoods t problem two
   with-pair t k i j n =
       a t k (take-keeps t (k .passed) low high i p u low₂ high₂ e c) (same-high t high high₂ full e j) (s t k i j n .1)
 
   pub split-with :
       (x : Bool) → x ≡ takes la (p / 64) (p % 64) → (found || not x) ≡ true
-      → Searched sets card full low high start two (λ t. Answers t card low high found la ha)
+      → Searched sets problem full low high start two (λ t. Answers t problem low high found la ha)
   split-with x f g t k i j n =
-      let (y, m) = with-pair t k i j n in (with-answers t card (k .passed) low high i p u low₂ high₂ e c found x la ha y f g, m)
+      let (y, m) = with-pair t k i j n in (with-answers t problem (k .passed) low high i p u low₂ high₂ e c found x la ha y f g, m)
 
   module _ (three low₃ high₃ : List ℕ) (f : low₃ ≡ low) (d : Changed high high₃ (p / 64) (p % 64) false)
-      (found₃ : Bool) (lb hb : List ℕ) (b : Searched sets card full low₃ high₃ two three (λ t. Answers t card low₃ high₃ found₃ lb hb)) where
+      (found₃ : Bool) (lb hb : List ℕ) (b : Searched sets problem full low₃ high₃ two three (λ t. Answers t problem low₃ high₃ found₃ lb hb)) where
     without-pair :
-        (t : Tables) → Card t sets card → IntervalOf t low high → IntervalOf t high full → Nogoods t card start → Answers t card low₃ high₃ found₃ lb hb × Nogoods t card three
+        (t : Tables) → Problem t sets problem → IntervalOf t low high → IntervalOf t high full → Nogoods t problem start → Answers t problem low₃ high₃ found₃ lb hb × Nogoods t problem three
     without-pair t k i j n =
         b t k (leave-keeps t (k .passed) low high i p u low₃ high₃ f d) (less-high t high high₃ full _ _ d j) (with-pair t k i j n .1)
 
     pub split-without :
         (x : Bool) → x ≡ takes hb (p / 64) (p % 64) → (found₃ || x) ≡ true
-        → Searched sets card full low high start three (λ t. Answers t card low high found₃ lb hb)
+        → Searched sets problem full low high start three (λ t. Answers t problem low high found₃ lb hb)
     split-without x g o t k i j n =
-        let (y, m) = without-pair t k i j n in (without-answers t card (k .passed) low high i p u low₃ high₃ f d found₃ x lb hb y g o, m)
+        let (y, m) = without-pair t k i j n in (without-answers t problem (k .passed) low high i p u low₃ high₃ f d found₃ x lb hb y g o, m)
 
     module _ (x y : Bool) (o : (found || not x) ≡ false) (q : (found₃ || y) ≡ false) (l r : List ℕ) (m : Merged la ha lb hb (p / 64) (p % 64) l r) where
-      pub split-both : Searched sets card full low high start three (λ t. Answers t card low high false l r)
+      pub split-both : Searched sets problem full low high start three (λ t. Answers t problem low high false l r)
       split-both t k i j n =
           let (v, _) = with-pair t k i j n in
           let (w, z) = without-pair t k i j n in (
-            merged-refutes t card (k .passed) low high i p u low₂ high₂ e c low₃ high₃ f d la ha lb hb
-                (answers-none t card low₂ high₂ found la ha v (any-false found (not x) o .0))
-                (answers-none t card low₃ high₃ found₃ lb hb w (any-false found₃ y q .0)) l r m,
+            merged-refutes t problem (k .passed) low high i p u low₂ high₂ e c low₃ high₃ f d la ha lb hb
+                (answers-none t problem low₂ high₂ found la ha v (any-false found (not x) o .0))
+                (answers-none t problem low₃ high₃ found₃ lb hb w (any-false found₃ y q .0)) l r m,
             z,
           )
 
-      pub split-kept : (four : List ℕ) → Added l r three four → Searched sets card full low high start four (λ t. Answers t card low high false l r)
-      split-kept four g t k i j n = let (v, z) = split-both t k i j n in (v, nogoods-added t card l r three four z (v .none) g)
+      pub split-kept : (four : List ℕ) → Added l r three four → Searched sets problem full low high start four (λ t. Answers t problem low high false l r)
+      split-kept four g t k i j n = let (v, z) = split-both t k i j n in (v, nogoods-added t problem l r three four z (v .none) g)

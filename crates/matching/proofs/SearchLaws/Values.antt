@@ -24,7 +24,7 @@ use Rattle.subsumption.proofs.Soundness.{subsumed-same, subsumed-trans}
 use Rattle.square.specs.Inner.Square.{onLine}
 use Rattle.matching.specs.declared.search.sets.Words.{Words}
 use Rattle.matching.specs.Inner.Search.Sets.{inWords, Joined}
-use Rattle.matching.specs.Inner.Search.Card.{lineAt, fitAt, closersAt, heldAt, atomAt, innerAt, FreeId, nothing, Fitting, closes, inMembers, Closers, Card}
+use Rattle.matching.specs.Inner.Search.Problem.{lineAt, fitAt, closersAt, heldAt, atomAt, innerAt, FreeId, nothing, Fitting, closes, inMembers, Closers, Problem}
 use Rattle.matching.specs.Inner.Search.Patterns.{ReadBy, ValueRead, BelowAll, ChosenAbove, AboveSome, LinkOf, Linked, MembersOf, Follows, by-set, by-top, by-and, ClosedUp, Upper, Exact, Generates, ValueOf}
 use Rattle.matching.proofs.PatternLaws.Free.{free-inward, free-chosen}
 use Rattle.matching.proofs.PatternLaws.Least.{true-stable}
@@ -65,7 +65,7 @@ unfolding or
 implies-at true b e h = e
 implies-at false b e h = absurd (false≢true h)
 
-module _ (t : Tables) (sets card : List ℕ) (C : Card t sets card) (assignment : List ℕ) where
+module _ (t : Tables) (sets problem : List ℕ) (C : Problem t sets problem) (assignment : List ℕ) where
   wf : WellFormed t
   wf = wellFormed t (C .passed)
 
@@ -94,8 +94,8 @@ module _ (t : Tables) (sets card : List ℕ) (C : Card t sets card) (assignment 
   below-column : (i j : ℕ) → FreeId t i → FreeId t j → Below i j → onLine sets (lineAt true j) i ≡ true
   below-column i j f g s = C .below i j f g .1 (subsumed-ground t assignment (nothing t) i j (f .ground) (g .ground) s)
 
-  inner-of : (e r x : ℕ) → FreeId t e → node (t .concepts) e ≡ existsAt r x → innerAt card e ≡ x
-  inner-of e r x f n = exists-node card e r x (C .rows e (f .known) ∙ n) .2
+  inner-of : (e r x : ℕ) → FreeId t e → node (t .concepts) e ≡ existsAt r x → innerAt problem e ≡ x
+  inner-of e r x f n = exists-node problem e r x (C .rows e (f .known) ∙ n) .2
 
   -- ---- values by their bits
   pub exact-same : (j : ℕ) (f g : ℕ → Bool) → ((c : ℕ) → c < 192 → f c ≡ g c) → Exact t assignment j f → Exact t assignment j g
@@ -133,11 +133,11 @@ module _ (t : Tables) (sets card : List ℕ) (C : Card t sets card) (assignment 
 
   pub read-value :
       (right : Bool) (values : List ℕ) (i : ℕ) (w : Words) → i < countOf (t .concepts)
-      → (hasVariable (tree (t .concepts) i) ≡ true → ValueOf right t assignment i (onLine values (i * 3))) → ValueRead sets card values right i w
+      → (hasVariable (tree (t .concepts) i) ≡ true → ValueOf right t assignment i (onLine values (i * 3))) → ValueRead sets problem values right i w
       → ValueOf right t assignment i (inWords w)
-  read-value right values i w l made R = go (heldAt card i) refl R
+  read-value right values i w l made R = go (heldAt problem i) refl R
     where
-      go : (b : Bool) → heldAt card i ≡ b → ReadBy b sets values right i w → ValueOf right t assignment i (inWords w)
+      go : (b : Bool) → heldAt problem i ≡ b → ReadBy b sets values right i w → ValueOf right t assignment i (inWords w)
       go true e S = value-same right i (onLine values (i * 3)) (inWords w) (λ c m. sym (S c m)) (made (sym (C .held i l) ∙ e))
       go false e S =
           value-same right i (onLine sets (lineAt right i)) (inWords w) (λ c m. sym (S c m))
@@ -183,7 +183,7 @@ module _ (t : Tables) (sets card : List ℕ) (C : Card t sets card) (assignment 
   -- ---- "some"
   module _ (j r x : ℕ) (l : j < countOf (t .concepts)) (has : hasVariable (tree (t .concepts) j) ≡ true)
       (n : node (t .concepts) j ≡ existsAt r x) (own w : Words) where
-    held : heldAt card j ≡ true
+    held : heldAt problem j ≡ true
     held = C .held j l ∙ has
 
     fitting : (right : Bool) (e : ℕ) → e < 192 → onLine sets (fitAt right j) e ≡ true → Fitting t right j e
@@ -192,10 +192,10 @@ module _ (t : Tables) (sets card : List ℕ) (C : Card t sets card) (assignment 
     fitted : (right : Bool) (e : ℕ) → Fitting t right j e → onLine sets (fitAt right j) e ≡ true
     fitted right e F = C .fits right j e l (free-low e (F .free)) held .1 F
 
-    pub exists-exact : Exact t assignment x (inWords own) → Linked sets card own true j w → Exact t assignment j (inWords w)
+    pub exists-exact : Exact t assignment x (inWords own) → Linked sets problem own true j w → Exact t assignment j (inWords w)
     exists-exact E L c f = (λ u. to (L c (free-low c f) .0 u), from)
       where
-        to : LinkOf sets card own true j c → Below c j
+        to : LinkOf sets problem own true j c → Below c j
         to k =
             let F = fitting true (k .by) (k .low) (k .fits) in
             let inward = free-inward t wf .inner (k .by) (F .role) (F .inner) (F .row) (F .free) in
@@ -245,8 +245,8 @@ module _ (t : Tables) (sets card : List ℕ) (C : Card t sets card) (assignment 
     -- the inner set holds what is above the inner id and asked for
     pub exists-generates :
         ((c : ℕ) → FreeId t c → inWords own c ≡ true → Below x c)
-        → ((e : ℕ) → e < 192 → onLine sets (fitAt false j) e ≡ true → FreeId t (innerAt card e) → Below x (innerAt card e) → inWords own (innerAt card e) ≡ true)
-        → Linked sets card own false j w → Generates t assignment j (inWords w)
+        → ((e : ℕ) → e < 192 → onLine sets (fitAt false j) e ≡ true → FreeId t (innerAt problem e) → Below x (innerAt problem e) → inWords own (innerAt problem e) ≡ true)
+        → Linked sets problem own false j w → Generates t assignment j (inWords w)
     exists-generates E K L =
         record {
           sound = λ c f u. sound c f (L c (free-low c f) .0 u);
@@ -257,7 +257,7 @@ module _ (t : Tables) (sets card : List ℕ) (C : Card t sets card) (assignment 
               (λ a s d f m v b. h a f (L a (free-low a f) .1 (link a s d f m v b)));
         }
       where
-        sound : (c : ℕ) → FreeId t c → LinkOf sets card own false j c → Below j c
+        sound : (c : ℕ) → FreeId t c → LinkOf sets problem own false j c → Below j c
         sound c f k =
             let F = fitting false (k .by) (k .low) (k .fits) in
             let inward = free-inward t wf .inner (k .by) (F .role) (F .inner) (F .row) (F .free) in
@@ -268,7 +268,7 @@ module _ (t : Tables) (sets card : List ℕ) (C : Card t sets card) (assignment 
             (subst (λ (z : ℕ). inWords own z ≡ true) (inner-of (k .by) (F .role) (F .inner) (F .free) (F .row)) (k .inside))))
             (row-above (k .by) c (F .free) f (k .here))
 
-        on : (c d : ℕ) → FreeId t c → FreeId t d → Below c d → LinkOf sets card own false j c → LinkOf sets card own false j d
+        on : (c d : ℕ) → FreeId t c → FreeId t d → Below c d → LinkOf sets problem own false j c → LinkOf sets problem own false j d
         on c d f g s k =
             let F = fitting false (k .by) (k .low) (k .fits) in
             record {
@@ -280,7 +280,7 @@ module _ (t : Tables) (sets card : List ℕ) (C : Card t sets card) (assignment 
             }
 
         link :
-            (a s d : ℕ) → FreeId t a → node (t .concepts) a ≡ existsAt s d → wider (t .roles) r s ≡ true → Below x d → LinkOf sets card own false j a
+            (a s d : ℕ) → FreeId t a → node (t .concepts) a ≡ existsAt s d → wider (t .roles) r s ≡ true → Below x d → LinkOf sets problem own false j a
         link a s d f m v b =
             let u = inner-of a s d f m in
             let o = fitted false a (record { free = f; own-role = r; own-inner = x; role = s; inner = d; own = n; row = m; counts = v }) in
@@ -294,14 +294,14 @@ module _ (t : Tables) (sets card : List ℕ) (C : Card t sets card) (assignment 
 
   -- ---- closing up
   module _ (m i : ℕ) (x w : Words) (asked : m < pairsOf (t .questions)) (l : i < countOf (t .concepts))
-      (G : Generates t assignment i (inWords x)) (U : ClosedUp sets card (closersAt m) x w) where
-    abbrev K : Closers sets card (countOf (t .concepts)) m
+      (G : Generates t assignment i (inWords x)) (U : ClosedUp sets problem (closersAt m) x w) where
+    abbrev K : Closers sets problem (countOf (t .concepts)) m
     K = C .closers m asked
 
     closer : (e : ℕ) → e < 192 → onLine sets (closersAt m) e ≡ true → FreeId t e
     closer e h u = let (known, free) = K .only e h u in record { ground = sym (C .held e known) ∙ free; known = known }
 
-    follows-above : {c : ℕ} → FreeId t c → Follows sets card (closersAt m) x c → Below i c
+    follows-above : {c : ℕ} → FreeId t c → Follows sets problem (closersAt m) x c → Below i c
     follows-above f (by-set c h e) = G .sound c f e
     follows-above f (by-top e c h o n k r) =
         let g = closer e h o in
@@ -316,11 +316,11 @@ module _ (t : Tables) (sets card : List ℕ) (C : Card t sets card) (assignment 
     pub closed-sound : (c : ℕ) → FreeId t c → inWords w c ≡ true → Below i c
     closed-sound c f u = follows-above f (U .followed .least c (free-low c f) u)
 
-    members-top : (e : ℕ) → node card e ≡ topAt → MembersOf (λ c. inWords w c ≡ true) (node card e)
+    members-top : (e : ℕ) → node problem e ≡ topAt → MembersOf (λ c. inWords w c ≡ true) (node problem e)
     members-top e n = subst (MembersOf (λ c. inWords w c ≡ true)) (sym n) tt
 
     members-and :
-        (e a b : ℕ) → node card e ≡ andAt a b → inWords w a ≡ true → inWords w b ≡ true → MembersOf (λ c. inWords w c ≡ true) (node card e)
+        (e a b : ℕ) → node problem e ≡ andAt a b → inWords w a ≡ true → inWords w b ≡ true → MembersOf (λ c. inWords w c ≡ true) (node problem e)
     members-and e a b n p q = subst (MembersOf (λ c. inWords w c ≡ true)) (sym n) (p, q)
 
     -- each wanted id above c is in the closed set
@@ -406,7 +406,7 @@ module _ (t : Tables) (sets card : List ℕ) (C : Card t sets card) (assignment 
         (λ d g u. reaches-in d g (λ e h _ v. U .followed .kept e (free-low e h) (G .upward d e g h v u))) c f s) c f want (same c)
 
 -- ---- a variable
-module _ (t : Tables) (sets card : List ℕ) (C : Card t sets card) (choice : List ℕ)
+module _ (t : Tables) (sets problem : List ℕ) (C : Problem t sets problem) (choice : List ℕ)
     (accepted : assignmentFault t (take (t .variables) choice) ≡ Done) where
   abbrev α : List ℕ
   α = take (t .variables) choice
@@ -415,7 +415,7 @@ module _ (t : Tables) (sets card : List ℕ) (C : Card t sets card) (choice : Li
     place : ℕ
     low : place < 64
     taken : bit (getD choice k 0) place ≡ true
-    here : atomAt card place ≡ p
+    here : atomAt problem place ≡ p
 
   place-of : (k p : ℕ) → k < t .variables → List·Memᴰ p (chosen t α k) → Place k p
   unfolding chosen
@@ -428,18 +428,18 @@ module _ (t : Tables) (sets card : List ℕ) (C : Card t sets card) (choice : Li
         here = C .atom (P .place) (P .known) ∙ P .here;
       }
 
-  chosen-at : (k q : ℕ) → k < t .variables → bit (getD choice k 0) q ≡ true → List·Memᴰ (atomAt card q) (chosen t α k)
+  chosen-at : (k q : ℕ) → k < t .variables → bit (getD choice k 0) q ≡ true → List·Memᴰ (atomAt problem q) (chosen t α k)
   unfolding chosen
   chosen-at k q l e =
       let taken : bit (getD α k 0) q ≡ true = ap (λ (z : ℕ). bit z q) (getD-take (t .variables) choice k 0 l) ∙ e in
       let known : q < length (atoms t) = accepted-bits t α accepted k q taken .1 in
-      pick-intro (atoms t) (getD α k 0) (atomAt card q) (record { place = q; known = known; chosen = taken; here = sym (C .atom q known) })
+      pick-intro (atoms t) (getD α k 0) (atomAt problem q) (record { place = q; known = known; chosen = taken; here = sym (C .atom q known) })
 
   module _ (j k : ℕ) (l : j < countOf (t .concepts)) (n : node (t .concepts) j ≡ varAt k) (w : Words) where
     number : k < t .variables
     number = wellFormed t (C .passed) .numbered j k n
 
-    pub var-exact : BelowAll sets card (getD choice k 0) w → Exact t α j (inWords w)
+    pub var-exact : BelowAll sets problem (getD choice k 0) w → Exact t α j (inWords w)
     var-exact B c f = (λ u. rule .1 (to u), from)
       where
         rule : Subsumed t α c j ↔ ((p : ℕ) → List·Memᴰ p (chosen t α k) → Subsumed t α c p)
@@ -448,17 +448,17 @@ module _ (t : Tables) (sets card : List ℕ) (C : Card t sets card) (choice : Li
         to : inWords w c ≡ true → (p : ℕ) → List·Memᴰ p (chosen t α k) → Subsumed t α c p
         to u p m =
             let P = place-of k p number m in
-            column-below t sets card C α c p f (free-chosen t (wellFormed t (C .passed)) α k p m)
-            (subst (λ (z : ℕ). onLine sets (lineAt true z) c ≡ true) (P .here) (B c (free-low t sets card C α c f) .0 u (P .place) (P .low) (P .taken)))
+            column-below t sets problem C α c p f (free-chosen t (wellFormed t (C .passed)) α k p m)
+            (subst (λ (z : ℕ). onLine sets (lineAt true z) c ≡ true) (P .here) (B c (free-low t sets problem C α c f) .0 u (P .place) (P .low) (P .taken)))
 
         from : Subsumed t α c j → inWords w c ≡ true
         from s =
-            B c (free-low t sets card C α c f) .1
+            B c (free-low t sets problem C α c f) .1
             (λ q h b.
             let m = chosen-at k q number b in
-            below-column t sets card C α c (atomAt card q) f (free-chosen t (wellFormed t (C .passed)) α k _ m) (rule .0 s (atomAt card q) m))
+            below-column t sets problem C α c (atomAt problem q) f (free-chosen t (wellFormed t (C .passed)) α k _ m) (rule .0 s (atomAt problem q) m))
 
-    pub var-generates : AboveSome sets card (getD choice k 0) w → Generates t α j (inWords w)
+    pub var-generates : AboveSome sets problem (getD choice k 0) w → Generates t α j (inWords w)
     var-generates A =
         record {
           sound = λ c f u. sound c f (A c (low c f) .0 u);
@@ -470,20 +470,20 @@ module _ (t : Tables) (sets card : List ℕ) (C : Card t sets card) (choice : Li
         }
       where
         low : (c : ℕ) → FreeId t c → c < 192
-        low = free-low t sets card C α
+        low = free-low t sets problem C α
 
-        free : (q : ℕ) → bit (getD choice k 0) q ≡ true → FreeId t (atomAt card q)
+        free : (q : ℕ) → bit (getD choice k 0) q ≡ true → FreeId t (atomAt problem q)
         free q b = free-chosen t (wellFormed t (C .passed)) α k _ (chosen-at k q number b)
 
-        sound : (c : ℕ) → FreeId t c → ChosenAbove sets card (getD choice k 0) c → Subsumed t α j c
+        sound : (c : ℕ) → FreeId t c → ChosenAbove sets problem (getD choice k 0) c → Subsumed t α j c
         sound c f a =
-            subsumed-trans t (assigned t α) j (atomAt card (a .place)) c
-            (above-var t α (wellFormed t (C .passed)) j k (atomAt card (a .place)) l n (chosen-at k (a .place) number (a .chosen)))
-            (row-above t sets card C α (atomAt card (a .place)) c (free (a .place) (a .chosen)) f (a .here))
+            subsumed-trans t (assigned t α) j (atomAt problem (a .place)) c
+            (above-var t α (wellFormed t (C .passed)) j k (atomAt problem (a .place)) l n (chosen-at k (a .place) number (a .chosen)))
+            (row-above t sets problem C α (atomAt problem (a .place)) c (free (a .place) (a .chosen)) f (a .here))
 
         on :
-            (c d : ℕ) → FreeId t c → FreeId t d → Subsumed t α c d → ChosenAbove sets card (getD choice k 0) c
-            → ChosenAbove sets card (getD choice k 0) d
+            (c d : ℕ) → FreeId t c → FreeId t d → Subsumed t α c d → ChosenAbove sets problem (getD choice k 0) c
+            → ChosenAbove sets problem (getD choice k 0) d
         on c d f g s a =
             let e = free (a .place) (a .chosen) in
             record {
@@ -491,12 +491,12 @@ module _ (t : Tables) (sets card : List ℕ) (C : Card t sets card) (choice : Li
               low = a .low;
               chosen = a .chosen;
               here =
-                  above-row t sets card C α (atomAt card (a .place)) d e g
-                  (subsumed-trans t (assigned t α) (atomAt card (a .place)) c d
-                  (row-above t sets card C α (atomAt card (a .place)) c e f (a .here)) s);
+                  above-row t sets problem C α (atomAt problem (a .place)) d e g
+                  (subsumed-trans t (assigned t α) (atomAt problem (a .place)) c d
+                  (row-above t sets problem C α (atomAt problem (a .place)) c e f (a .here)) s);
             }
 
-        own : (p : ℕ) → FreeId t p → List·Memᴰ p (chosen t α k) → ChosenAbove sets card (getD choice k 0) p
+        own : (p : ℕ) → FreeId t p → List·Memᴰ p (chosen t α k) → ChosenAbove sets problem (getD choice k 0) p
         own p f m =
             let P = place-of k p number m in
             record {
@@ -505,5 +505,5 @@ module _ (t : Tables) (sets card : List ℕ) (C : Card t sets card) (choice : Li
               chosen = P .taken;
               here =
                   subst (λ (z : ℕ). onLine sets (lineAt false z) p ≡ true) (sym (P .here))
-                  (above-row t sets card C α p p f f (subsumed-same t (assigned t α) p));
+                  (above-row t sets problem C α p p f f (subsumed-same t (assigned t α) p));
             }

@@ -69,17 +69,17 @@ module _ (t : Tables) (h : tableFault t ≡ Done) (full choice target mix : List
       (front-within (t .variables) mix full mix-ordered)
 
 -- ---- the question still fails
-module _ (sets card : List ℕ) (m : ℕ) (choice target : List ℕ) where
-  pub still-none : StillFails sets card m choice target choice
+module _ (sets problem : List ℕ) (m : ℕ) (choice target : List ℕ) where
+  pub still-none : StillFails sets problem m choice target choice
   still-none t k l full i j n = n
 
-  module _ (mix : List ℕ) (x : Mixed choice target mix) (b : Bool) (d : Tested sets card m mix b) (e : b ≡ false) where
+  module _ (mix : List ℕ) (x : Mixed choice target mix) (b : Bool) (d : Tested sets problem m mix b) (e : b ≡ false) where
     -- a mix under which a test fails
-    pub still-tested : StillFails sets card m choice target mix
+    pub still-tested : StillFails sets problem m choice target mix
     still-tested t k l full i j n =
         subst (Decided (HoldsAt t (take (t .variables) mix) m)) e (d t k (mix-accepted t (k .passed) full choice target mix i j x) l)
 
     -- what is carried on from there
-    pub still-through : (failing : List ℕ) → StillFails sets card m mix target failing → StillFails sets card m choice target failing
+    pub still-through : (failing : List ℕ) → StillFails sets problem m mix target failing → StillFails sets problem m choice target failing
     still-through failing s t k l full i j n =
         s t k l full (mix-interval t (k .passed) full choice target mix i j x) j (still-tested t k l full i j n)

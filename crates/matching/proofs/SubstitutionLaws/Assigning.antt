@@ -108,7 +108,7 @@ module _ (count variables : ℕ) (f : ℕ → ℕ → Bool) where
   pub assignmentTo-bit : (k q : ℕ) → k < variables → q < count → bit (getD (assignmentTo count variables f) k 0) q ≡ f k q
   assignmentTo-bit k q l u = ap (λ (z : ℕ). bit z q) (at k l) ∙ coded-bit (f k) count q u
 
--- The same over a card's own atoms.
+-- The same over a problem's own atoms.
 abbrev pub assignmentOf : Tables → (ℕ → ℕ → Bool) → List ℕ
 assignmentOf t f = assignmentTo (length (atoms t)) (t .variables) f
 

@@ -1,5 +1,4 @@
 -- What the parts of the search share: assignments between two others, and those of them that solve.
-pub mod Card
 pub mod Interval
 pub mod Lent
 pub mod Making
@@ -9,6 +8,7 @@ pub mod Nogoods
 pub mod Order
 pub mod Pairs
 pub mod Patterns
+pub mod Problem
 pub mod Sets
 pub mod Solve
 pub mod Widen
@@ -24,7 +24,7 @@ use Rattle.subsumption.specs.Check.{assignmentFault}
 use Rattle.settings.specs.Settings.{size}
 use Rattle.matching.specs.Solving.{takes}
 use Rattle.matching.specs.Among.{SolvesAmong}
-use Rattle.matching.specs.Inner.Search.Card.{mostAt, AskedAt}
+use Rattle.matching.specs.Inner.Search.Problem.{mostAt, AskedAt}
 
 -- A truth value tells whether a statement holds.
 abbrev pub Decided : Type 0 → Bool → Type 0
@@ -44,18 +44,18 @@ pub record Between (low high assignment : List ℕ) : Type 0 where
   pub above : Within low assignment
   pub below : Within assignment high
 
--- What is asked of an assignment: it makes the questions hold that the card asks, and takes for no variable more atoms than the card says.
-pub record Meets (t : Tables) (card assignment : List ℕ) : Type 0 where
-  pub solves : SolvesAmong (AskedAt card) t assignment
-  pub few : (k : ℕ) → size (getD assignment k 0) ≤ mostAt card k
+-- What is asked of an assignment: it makes the questions hold that the problem asks, and takes for no variable more atoms than the problem says.
+pub record Meets (t : Tables) (problem assignment : List ℕ) : Type 0 where
+  pub solves : SolvesAmong (AskedAt problem) t assignment
+  pub few : (k : ℕ) → size (getD assignment k 0) ≤ mostAt problem k
 
 -- A solution between the two sides.
-pub record SolutionIn (t : Tables) (card low high choice : List ℕ) : Type 0 where
+pub record SolutionIn (t : Tables) (problem low high choice : List ℕ) : Type 0 where
   pub long : length choice ≡ 8
   pub between : Between low high choice
-  pub meets : Meets t card (take (t .variables) choice)
+  pub meets : Meets t problem (take (t .variables) choice)
 
 -- No accepted assignment between the two sides is a solution.
 abbrev pub NoSolution : Tables → List ℕ → List ℕ → List ℕ → Type 0
-NoSolution t card low high =
-    (other : List ℕ) → assignmentFault t other ≡ Done → Between (take (t .variables) low) (take (t .variables) high) other → Meets t card other → ⊥
+NoSolution t problem low high =
+    (other : List ℕ) → assignmentFault t other ≡ Done → Between (take (t .variables) low) (take (t .variables) high) other → Meets t problem other → ⊥

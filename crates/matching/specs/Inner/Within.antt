@@ -17,36 +17,36 @@ use Rattle.matching.specs.Solving.{takes, Earlier}
 use Rattle.matching.specs.Within.{withinFault}
 use Rattle.matching.specs.Among.{FirstAmong, NoneAmong, FilledAmong, UnfilledAmong}
 use Rattle.matching.specs.Inner.Search.{Within, Meets}
-use Rattle.matching.specs.Inner.Search.Card.{Card, AskedAt}
+use Rattle.matching.specs.Inner.Search.Problem.{Problem, AskedAt}
 
--- The counts are written into a card.
+-- The counts are written into a problem.
 pub record Counting (largest before after : List ℕ) : Type 0 where
   pub size : length after ≡ length before
   pub front : (p : ℕ) → p < 931 → getD after p 0 ≡ getD before p 0
   pub counts : (k : ℕ) → k < length largest → getD after (931 + k) 0 ≡ getD largest k 0
 
 -- The first solution that takes permitted atoms only, or there is none.
-pub record Found (t : Tables) (card permitted choice : List ℕ) : Type 0 where
+pub record Found (t : Tables) (problem permitted choice : List ℕ) : Type 0 where
   pub long : length choice ≡ 8
   pub accepted : assignmentFault t (take (t .variables) choice) ≡ Done
   pub inside : Within (take (t .variables) choice) (take (t .variables) permitted)
-  pub meets : Meets t card (take (t .variables) choice)
+  pub meets : Meets t problem (take (t .variables) choice)
   pub first :
-      (other : List ℕ) → assignmentFault t other ≡ Done → Within other (take (t .variables) permitted) → Meets t card other
+      (other : List ℕ) → assignmentFault t other ≡ Done → Within other (take (t .variables) permitted) → Meets t problem other
       → (other ≡ take (t .variables) choice) ⊎ Earlier (take (t .variables) choice) other
 
 abbrev pub FoundBy : Tables → List ℕ → List ℕ → Bool → List ℕ → Type 0
-FoundBy t card permitted true choice = Found t card permitted choice
-FoundBy t card permitted false choice =
-    (other : List ℕ) → assignmentFault t other ≡ Done → Within other (take (t .variables) permitted) → Meets t card other → ⊥
+FoundBy t problem permitted true choice = Found t problem permitted choice
+FoundBy t problem permitted false choice =
+    (other : List ℕ) → assignmentFault t other ≡ Done → Within other (take (t .variables) permitted) → Meets t problem other → ⊥
 
 -- The same of whatever tables the sets and numbers are.
 abbrev pub FoundIn : List ℕ → List ℕ → List ℕ → Bool → List ℕ → Type 0
-FoundIn sets card permitted found choice =
-    (t : Tables) → Card t sets card → assignmentFault t (take (t .variables) permitted) ≡ Done
-    → ((k q : ℕ) → t .variables ≤ k → takes permitted k q ≡ true → ⊥) → FoundBy t card permitted found choice
+FoundIn sets problem permitted found choice =
+    (t : Tables) → Problem t sets problem → assignmentFault t (take (t .variables) permitted) ≡ Done
+    → ((k q : ℕ) → t .variables ≤ k → takes permitted k q ≡ true → ⊥) → FoundBy t problem permitted found choice
 
--- The asked questions are written into a card.
+-- The asked questions are written into a problem.
 pub record Asking (wanted : ℕ) (before after : List ℕ) : Type 0 where
   pub size : length after ≡ length before
   pub front : (p : ℕ) → p < 939 → getD after p 0 ≡ getD before p 0

@@ -13,24 +13,24 @@ ghost use mathlib.Core.Path.{_≡_};
 ghost use mathlib.Core.Bool.{true};
 ghost use Prim.Native.Nat.{_<_};
 ghost use lib.ListN.{length};
-ghost use Rattle.matching.specs.Inner.Search.Card.{Shaped, heldAt, rightAt, questionCount, AskedAt};
+ghost use Rattle.matching.specs.Inner.Search.Problem.{Shaped, heldAt, rightAt, questionCount, AskedAt};
 ghost use Rattle.matching.specs.Inner.Search.Narrow.{Narrowed};
 
 // By one question and variable.
 fn narrow_variable(
     sets: &[u64],
-    card: &[u16],
+    problem: &[u16],
     scratch: &mut [u64],
     m: usize,
     k: usize,
     full: [u64; 8],
 ) -> [u64; 8]
-    requires { ⌜ Shaped (now sets) (now card) ⌝ }
+    requires { ⌜ Shaped (now sets) (now problem) ⌝ }
     requires { ⌜ (length (now scratch) ≡ 16977) × (length full ≡ 8) ⌝ }
-    requires { ⌜ (m < questionCount (now card)) × (k < 8) ⌝ }
-    requires { ⌜ AskedAt (now card) m × (heldAt (now card) (rightAt (now card) m) ≡ true) ⌝ }
+    requires { ⌜ (m < questionCount (now problem)) × (k < 8) ⌝ }
+    requires { ⌜ AskedAt (now problem) m × (heldAt (now problem) (rightAt (now problem) m) ≡ true) ⌝ }
     ensures { λ r. ⌜ length r ≡ 8 ⌝ }
-    ensures { λ r. ⌜ Narrowed (now (sets .entry)) (now (card .entry)) full r ⌝ }
+    ensures { λ r. ⌜ Narrowed (now (sets .entry)) (now (problem .entry)) full r ⌝ }
 {
     let none = [0u64; 8];
     let mut high = full;
@@ -39,7 +39,7 @@ fn narrow_variable(
         let at = q;
         q = next_bit(full[k], at + 1);
         let alone = with_pair(none, k, at);
-        if question_holds(sets, card, scratch, m, alone) {
+        if question_holds(sets, problem, scratch, m, alone) {
             continue;
         }
         let fewer = without_pair(high, k, at);
@@ -51,25 +51,25 @@ fn narrow_variable(
 // By one question.
 fn narrow_question(
     sets: &[u64],
-    card: &[u16],
+    problem: &[u16],
     scratch: &mut [u64],
     m: usize,
     full: [u64; 8],
 ) -> [u64; 8]
-    requires { ⌜ Shaped (now sets) (now card) ⌝ }
+    requires { ⌜ Shaped (now sets) (now problem) ⌝ }
     requires { ⌜ (length (now scratch) ≡ 16977) × (length full ≡ 8) ⌝ }
-    requires { ⌜ m < questionCount (now card) ⌝ }
+    requires { ⌜ m < questionCount (now problem) ⌝ }
     ensures { λ r. ⌜ length r ≡ 8 ⌝ }
-    ensures { λ r. ⌜ Narrowed (now (sets .entry)) (now (card .entry)) full r ⌝ }
+    ensures { λ r. ⌜ Narrowed (now (sets .entry)) (now (problem .entry)) full r ⌝ }
 {
-    if card[ASKED + m] != 1 {
+    if problem[ASKED + m] != 1 {
         return full;
     }
-    let right = card[SIDES + m * 2 + 1] as usize;
-    if card[HELD + right] != 1 {
+    let right = problem[SIDES + m * 2 + 1] as usize;
+    if problem[HELD + right] != 1 {
         return full;
     }
-    let held = card[HOLDS + m];
+    let held = problem[HOLDS + m];
     let mut high = full;
     let mut k: usize = 0;
     while k < 8 {
@@ -78,23 +78,23 @@ fn narrow_question(
         if (held >> v) % 2 == 0 {
             continue;
         }
-        let fewer = narrow_variable(sets, card, scratch, m, v, high);
+        let fewer = narrow_variable(sets, problem, scratch, m, v, high);
         high = fewer;
     }
     high
 }
 
-pub fn narrow(sets: &[u64], card: &[u16], scratch: &mut [u64], full: [u64; 8]) -> [u64; 8]
-    requires { ⌜ Shaped (now sets) (now card) ⌝ }
+pub fn narrow(sets: &[u64], problem: &[u16], scratch: &mut [u64], full: [u64; 8]) -> [u64; 8]
+    requires { ⌜ Shaped (now sets) (now problem) ⌝ }
     requires { ⌜ (length (now scratch) ≡ 16977) × (length full ≡ 8) ⌝ }
     ensures { λ r. ⌜ length r ≡ 8 ⌝ }
-    ensures { λ r. ⌜ Narrowed (now (sets .entry)) (now (card .entry)) full r ⌝ }
+    ensures { λ r. ⌜ Narrowed (now (sets .entry)) (now (problem .entry)) full r ⌝ }
 {
-    let count = card[QUESTION_COUNT] as usize;
+    let count = problem[QUESTION_COUNT] as usize;
     let mut high = full;
     let mut m: usize = 0;
     while m < count {
-        let fewer = narrow_question(sets, card, scratch, m, high);
+        let fewer = narrow_question(sets, problem, scratch, m, high);
         high = fewer;
         m += 1;
     }

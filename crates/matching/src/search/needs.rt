@@ -67,16 +67,22 @@ pub struct Wanted {
 }
 
 // Of variable k.
-fn count_needs(card: &[u16], store: &[u64], full: [u64; 8], interval: Interval, k: usize) -> Wanted
-    requires { ⌜ length (now card) ≡ 971 ⌝ }
+fn count_needs(
+    problem: &[u16],
+    store: &[u64],
+    full: [u64; 8],
+    interval: Interval,
+    k: usize,
+) -> Wanted
+    requires { ⌜ length (now problem) ≡ 971 ⌝ }
     requires { ⌜ Room (now store) ⌝ }
     requires { ⌜ (length full ≡ 8) × (length (interval .low) ≡ 8) × (length (interval .high) ≡ 8) × (k < 8) ⌝ }
     ensures { λ r. ⌜ (length (r .low) ≡ 8) × (length (r .high) ≡ 8) ⌝ }
-    ensures { λ r. ⌜ WantedOver (now (card .entry)) (now (store .entry)) full (interval .low) (interval .high) (r .over) (r .low) (r .high) ⌝ }
+    ensures { λ r. ⌜ WantedOver (now (problem .entry)) (now (store .entry)) full (interval .low) (interval .high) (r .over) (r .low) (r .high) ⌝ }
 {
     let low = interval.low;
     let high = interval.high;
-    let most = card[MOST + k] as u32;
+    let most = problem[MOST + k] as u32;
     let count = store[0] as usize;
     let mut about = [0u64; 8];
     about[k] = low[k];
@@ -122,12 +128,12 @@ fn is_counted(most: u16, low: u64, high: u64) -> bool {
 }
 
 // Of the first variable of which more is wanted.
-pub fn count_all(card: &[u16], store: &[u64], full: [u64; 8], interval: Interval) -> Wanted
-    requires { ⌜ length (now card) ≡ 971 ⌝ }
+pub fn count_all(problem: &[u16], store: &[u64], full: [u64; 8], interval: Interval) -> Wanted
+    requires { ⌜ length (now problem) ≡ 971 ⌝ }
     requires { ⌜ Room (now store) ⌝ }
     requires { ⌜ (length full ≡ 8) × (length (interval .low) ≡ 8) × (length (interval .high) ≡ 8) ⌝ }
     ensures { λ r. ⌜ (length (r .low) ≡ 8) × (length (r .high) ≡ 8) ⌝ }
-    ensures { λ r. ⌜ WantedOver (now (card .entry)) (now (store .entry)) full (interval .low) (interval .high) (r .over) (r .low) (r .high) ⌝ }
+    ensures { λ r. ⌜ WantedOver (now (problem .entry)) (now (store .entry)) full (interval .low) (interval .high) (r .over) (r .low) (r .high) ⌝ }
 {
     let low = interval.low;
     let high = interval.high;
@@ -135,10 +141,10 @@ pub fn count_all(card: &[u16], store: &[u64], full: [u64; 8], interval: Interval
     while k < 8 {
         let v = k;
         k += 1;
-        if !is_counted(card[MOST + v], low[v], high[v]) {
+        if !is_counted(problem[MOST + v], low[v], high[v]) {
             continue;
         }
-        let wanted = count_needs(card, store, full, interval, v);
+        let wanted = count_needs(problem, store, full, interval, v);
         if wanted.over {
             return wanted;
         }

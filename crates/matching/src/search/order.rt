@@ -12,15 +12,15 @@ ghost use Rattle.matching.specs.Inner.Search.Order.{FirstOf};
 // `known` is any solution; the last one found is kept, so that a pair it leaves out costs nothing.
 pub fn first_solution(
     sets: &[u64],
-    card: &[u16],
+    problem: &[u16],
     store: &mut [u64],
     scratch: &mut [u64],
     start: Interval,
     known: [u64; 8],
 ) -> [u64; 8]
-    requires { ⌜ Lent (now sets) (now card) (now store) (now scratch) ⌝ }
+    requires { ⌜ Lent (now sets) (now problem) (now store) (now scratch) ⌝ }
     requires { ⌜ (length (start .low) ≡ 8) × (length (start .high) ≡ 8) × (length known ≡ 8) ⌝ }
-    ensures { λ r. ⌜ FirstOf (now (sets .entry)) (now (card .entry)) (start .low) (start .high) (now (store .entry)) known r ⌝ }
+    ensures { λ r. ⌜ FirstOf (now (sets .entry)) (now (problem .entry)) (start .low) (start .high) (now (store .entry)) known r ⌝ }
 {
     let full = start.high;
     let mut interval = start;
@@ -37,7 +37,7 @@ pub fn first_solution(
             interval = without;
             continue;
         }
-        let s = some_solution(sets, card, store, scratch, full, without);
+        let s = some_solution(sets, problem, store, scratch, full, without);
         if s.found {
             let choice = s.low;
             interval = without;

@@ -23,7 +23,7 @@ ghost use mathlib.Core.Path.{_≡_};
 ghost use mathlib.Core.Bool.{true, false};
 ghost use Prim.Native.Nat.{_*_, _+_, _<_, _≤_};
 ghost use lib.ListN.{length};
-ghost use Rattle.matching.specs.Inner.Search.Card.{Numbers, Shaped, lineAt};
+ghost use Rattle.matching.specs.Inner.Search.Problem.{Numbers, Shaped, lineAt};
 ghost use Rattle.matching.specs.Inner.Search.Patterns.{ValueRead, BelowAll, AboveSome, Linked, Members, ClosedOnce, ClosedUp, Valued, ValuedIn, AllValued, Tested};
 
 const ALL: u64 = 18446744073709551615;
@@ -40,21 +40,21 @@ fn line_at(right: bool, id: usize) -> usize
 }
 
 // The value of an id: what was made for one with a variable, else its line.
-fn value_of(sets: &[u64], card: &[u16], values: &[u64], right: bool, id: usize) -> Words
-    requires { ⌜ Shaped (now sets) (now card) ⌝ }
+fn value_of(sets: &[u64], problem: &[u16], values: &[u64], right: bool, id: usize) -> Words
+    requires { ⌜ Shaped (now sets) (now problem) ⌝ }
     requires { ⌜ (576 ≤ length (now values)) × (id < 192) ⌝ }
-    ensures { λ r. ⌜ ValueRead (now (sets .entry)) (now (card .entry)) (now (values .entry)) right id r ⌝ }
+    ensures { λ r. ⌜ ValueRead (now (sets .entry)) (now (problem .entry)) (now (values .entry)) right id r ⌝ }
 {
-    if card[HELD + id] == 1 {
+    if problem[HELD + id] == 1 {
         return words_at(values, id * 3);
     }
     words_at(sets, line_at(right, id))
 }
 
 // What is below every chosen atom.
-fn below_all(sets: &[u64], card: &[u16], choice: u64) -> Words
-    requires { ⌜ Shaped (now sets) (now card) ⌝ }
-    ensures { λ r. ⌜ BelowAll (now (sets .entry)) (now (card .entry)) choice r ⌝ }
+fn below_all(sets: &[u64], problem: &[u16], choice: u64) -> Words
+    requires { ⌜ Shaped (now sets) (now problem) ⌝ }
+    ensures { λ r. ⌜ BelowAll (now (sets .entry)) (now (problem .entry)) choice r ⌝ }
 {
     let mut common = Words {
         first: ALL,
@@ -63,7 +63,7 @@ fn below_all(sets: &[u64], card: &[u16], choice: u64) -> Words
     };
     let mut q = next_bit(choice, 0);
     while q < 64 {
-        let atom = card[ATOM_IDS + q] as usize;
+        let atom = problem[ATOM_IDS + q] as usize;
         common = meet(common, words_at(sets, COLUMNS + atom * 3));
         q = next_bit(choice, q + 1);
     }
@@ -71,9 +71,9 @@ fn below_all(sets: &[u64], card: &[u16], choice: u64) -> Words
 }
 
 // What is above some chosen atom.
-fn above_some(sets: &[u64], card: &[u16], choice: u64) -> Words
-    requires { ⌜ Shaped (now sets) (now card) ⌝ }
-    ensures { λ r. ⌜ AboveSome (now (sets .entry)) (now (card .entry)) choice r ⌝ }
+fn above_some(sets: &[u64], problem: &[u16], choice: u64) -> Words
+    requires { ⌜ Shaped (now sets) (now problem) ⌝ }
+    ensures { λ r. ⌜ AboveSome (now (sets .entry)) (now (problem .entry)) choice r ⌝ }
 {
     let mut sum = Words {
         first: 0,
@@ -82,7 +82,7 @@ fn above_some(sets: &[u64], card: &[u16], choice: u64) -> Words
     };
     let mut q = next_bit(choice, 0);
     while q < 64 {
-        let atom = card[ATOM_IDS + q] as usize;
+        let atom = problem[ATOM_IDS + q] as usize;
         sum = join(sum, words_at(sets, atom * 3));
         q = next_bit(choice, q + 1);
     }
@@ -90,10 +90,10 @@ fn above_some(sets: &[u64], card: &[u16], choice: u64) -> Words
 }
 
 // The lines of the existentials that fit the existential j and whose inner id is in the set.
-fn linked(sets: &[u64], card: &[u16], inner: Words, right: bool, j: usize) -> Words
-    requires { ⌜ Shaped (now sets) (now card) ⌝ }
+fn linked(sets: &[u64], problem: &[u16], inner: Words, right: bool, j: usize) -> Words
+    requires { ⌜ Shaped (now sets) (now problem) ⌝ }
     requires { ⌜ j < 192 ⌝ }
-    ensures { λ r. ⌜ Linked (now (sets .entry)) (now (card .entry)) inner right j r ⌝ }
+    ensures { λ r. ⌜ Linked (now (sets .entry)) (now (problem .entry)) inner right j r ⌝ }
 {
     let fits = fit_at(right, j);
     let mut sum = Words {
@@ -105,7 +105,7 @@ fn linked(sets: &[u64], card: &[u16], inner: Words, right: bool, j: usize) -> Wo
     while e < 192 {
         let f = e;
         e = next_in(sets, fits, f + 1);
-        if is_in(inner, card[f * 3 + 2] as usize) {
+        if is_in(inner, problem[f * 3 + 2] as usize) {
             sum = join(sum, words_at(sets, line_at(right, f)));
             continue;
         }
@@ -114,35 +114,35 @@ fn linked(sets: &[u64], card: &[u16], inner: Words, right: bool, j: usize) -> Wo
 }
 
 // The id is top, or a conjunction of ids in the set.
-fn has_members(card: &[u16], x: Words, e: usize) -> bool
-    requires { ⌜ Numbers (now card) ⌝ }
+fn has_members(problem: &[u16], x: Words, e: usize) -> bool
+    requires { ⌜ Numbers (now problem) ⌝ }
     requires { ⌜ e < 192 ⌝ }
-    ensures { λ r. ⌜ Members (now (card .entry)) x e r ⌝ }
+    ensures { λ r. ⌜ Members (now (problem .entry)) x e r ⌝ }
 {
-    let kind = card[e * 3];
+    let kind = problem[e * 3];
     if kind == 0 {
         return true;
     }
     if kind == 3 {
-        if is_in(x, card[e * 3 + 1] as usize) {
-            return is_in(x, card[e * 3 + 2] as usize);
+        if is_in(x, problem[e * 3 + 1] as usize) {
+            return is_in(x, problem[e * 3 + 2] as usize);
         }
     }
     false
 }
 
 // One walk through the tops and conjunctions that stand at a word.
-fn close_once(sets: &[u64], card: &[u16], at: usize, x: Words) -> Words
-    requires { ⌜ Shaped (now sets) (now card) ⌝ }
+fn close_once(sets: &[u64], problem: &[u16], at: usize, x: Words) -> Words
+    requires { ⌜ Shaped (now sets) (now problem) ⌝ }
     requires { ⌜ at + 3 ≤ 2496 ⌝ }
-    ensures { λ r. ⌜ ClosedOnce (now (sets .entry)) (now (card .entry)) at x r ⌝ }
+    ensures { λ r. ⌜ ClosedOnce (now (sets .entry)) (now (problem .entry)) at x r ⌝ }
 {
     let mut sum = x;
     let mut e = next_in(sets, at, 0);
     while e < 192 {
         let f = e;
         e = next_in(sets, at, f + 1);
-        if has_members(card, sum, f) {
+        if has_members(problem, sum, f) {
             sum = join(sum, words_at(sets, f * 3));
             continue;
         }
@@ -151,14 +151,14 @@ fn close_once(sets: &[u64], card: &[u16], at: usize, x: Words) -> Words
 }
 
 // What follows from a set of variable-free ids by the tops and conjunctions that stand at a word.
-fn close_up(sets: &[u64], card: &[u16], at: usize, x: Words) -> Words
-    requires { ⌜ Shaped (now sets) (now card) ⌝ }
+fn close_up(sets: &[u64], problem: &[u16], at: usize, x: Words) -> Words
+    requires { ⌜ Shaped (now sets) (now problem) ⌝ }
     requires { ⌜ at + 3 ≤ 2496 ⌝ }
-    ensures { λ r. ⌜ ClosedUp (now (sets .entry)) (now (card .entry)) at x r ⌝ }
+    ensures { λ r. ⌜ ClosedUp (now (sets .entry)) (now (problem .entry)) at x r ⌝ }
 {
     let mut sum = x;
     loop {
-        let more = close_once(sets, card, at, sum);
+        let more = close_once(sets, problem, at, sum);
         if is_same(more, sum) {
             return sum;
         }
@@ -167,67 +167,67 @@ fn close_up(sets: &[u64], card: &[u16], at: usize, x: Words) -> Words
 }
 
 // The value of an id with a variable on the right side: the variable-free ids below it.
-fn right_value(sets: &[u64], card: &[u16], values: &[u64], choice: [u64; 8], j: usize) -> Words
-    requires { ⌜ Shaped (now sets) (now card) ⌝ }
+fn right_value(sets: &[u64], problem: &[u16], values: &[u64], choice: [u64; 8], j: usize) -> Words
+    requires { ⌜ Shaped (now sets) (now problem) ⌝ }
     requires { ⌜ (576 ≤ length (now values)) × (j < 192) ⌝ }
-    ensures { λ r. ⌜ Valued (now (sets .entry)) (now (card .entry)) (now (values .entry)) choice true j r ⌝ }
+    ensures { λ r. ⌜ Valued (now (sets .entry)) (now (problem .entry)) (now (values .entry)) choice true j r ⌝ }
 {
-    let kind = card[j * 3];
-    let inner = card[j * 3 + 2] as usize;
+    let kind = problem[j * 3];
+    let inner = problem[j * 3 + 2] as usize;
     if kind == 4 {
-        let k = card[j * 3 + 1] as usize;
-        return below_all(sets, card, choice[k]);
+        let k = problem[j * 3 + 1] as usize;
+        return below_all(sets, problem, choice[k]);
     }
     if kind == 3 {
-        let a = value_of(sets, card, values, true, card[j * 3 + 1] as usize);
-        let b = value_of(sets, card, values, true, inner);
+        let a = value_of(sets, problem, values, true, problem[j * 3 + 1] as usize);
+        let b = value_of(sets, problem, values, true, inner);
         return meet(a, b);
     }
     let own = words_at(values, inner * 3);
-    linked(sets, card, own, true, j)
+    linked(sets, problem, own, true, j)
 }
 
 // The value of an id with a variable on the left side: variable-free ids above it, from which the others follow. Only under an existential
 // and at the end what follows is wanted.
 fn left_value(
     sets: &[u64],
-    card: &[u16],
+    problem: &[u16],
     values: &[u64],
     choice: [u64; 8],
     m: usize,
     j: usize,
 ) -> Words
-    requires { ⌜ Shaped (now sets) (now card) ⌝ }
+    requires { ⌜ Shaped (now sets) (now problem) ⌝ }
     requires { ⌜ (576 ≤ length (now values)) × (j < 192) × (m < 32) ⌝ }
-    ensures { λ r. ⌜ ValuedIn (now (sets .entry)) (now (card .entry)) (now (values .entry)) choice m false j r ⌝ }
+    ensures { λ r. ⌜ ValuedIn (now (sets .entry)) (now (problem .entry)) (now (values .entry)) choice m false j r ⌝ }
 {
-    let kind = card[j * 3];
-    let inner = card[j * 3 + 2] as usize;
+    let kind = problem[j * 3];
+    let inner = problem[j * 3 + 2] as usize;
     if kind == 4 {
-        let k = card[j * 3 + 1] as usize;
-        return above_some(sets, card, choice[k]);
+        let k = problem[j * 3 + 1] as usize;
+        return above_some(sets, problem, choice[k]);
     }
     if kind == 3 {
-        let a = value_of(sets, card, values, false, card[j * 3 + 1] as usize);
-        let b = value_of(sets, card, values, false, inner);
+        let a = value_of(sets, problem, values, false, problem[j * 3 + 1] as usize);
+        let b = value_of(sets, problem, values, false, inner);
         return join(a, b);
     }
-    let own = close_up(sets, card, CLOSERS + m * 3, words_at(values, inner * 3));
-    linked(sets, card, own, false, j)
+    let own = close_up(sets, problem, CLOSERS + m * 3, words_at(values, inner * 3));
+    linked(sets, problem, own, false, j)
 }
 
 // The values of the cone of question m.
 fn make_values(
     sets: &[u64],
-    card: &[u16],
+    problem: &[u16],
     values: &mut [u64],
     choice: [u64; 8],
     m: usize,
     right: bool,
 )
-    requires { ⌜ Shaped (now sets) (now card) ⌝ }
+    requires { ⌜ Shaped (now sets) (now problem) ⌝ }
     requires { ⌜ (576 ≤ length (now values)) × (m < 32) ⌝ }
-    ensures { λ _. ⌜ AllValued (now (sets .entry)) (now (card .entry)) (now (values .exit)) choice m right ⌝ }
+    ensures { λ _. ⌜ AllValued (now (sets .entry)) (now (problem .entry)) (now (values .exit)) choice m right ⌝ }
 {
     let cone = CONES + m * 3;
     let mut j = next_in(sets, cone, 0);
@@ -235,11 +235,11 @@ fn make_values(
         let i = j;
         j = next_in(sets, cone, i + 1);
         if right {
-            let a = right_value(sets, card, values, choice, i);
+            let a = right_value(sets, problem, values, choice, i);
             put_words(values, i * 3, a);
             continue;
         }
-        let b = left_value(sets, card, values, choice, m, i);
+        let b = left_value(sets, problem, values, choice, m, i);
         put_words(values, i * 3, b);
     }
 }
@@ -247,24 +247,24 @@ fn make_values(
 // Whether question m holds under the choice.
 pub fn question_holds(
     sets: &[u64],
-    card: &[u16],
+    problem: &[u16],
     values: &mut [u64],
     m: usize,
     choice: [u64; 8],
 ) -> bool
-    requires { ⌜ Shaped (now sets) (now card) ⌝ }
+    requires { ⌜ Shaped (now sets) (now problem) ⌝ }
     requires { ⌜ (576 ≤ length (now values)) × (m < 32) ⌝ }
-    ensures { λ r. ⌜ Tested (now (sets .entry)) (now (card .entry)) m choice r ⌝ }
+    ensures { λ r. ⌜ Tested (now (sets .entry)) (now (problem .entry)) m choice r ⌝ }
 {
-    let left = card[SIDES + m * 2] as usize;
-    let right = card[SIDES + m * 2 + 1] as usize;
-    if card[HELD + right] == 1 {
-        make_values(sets, card, values, choice, m, true);
+    let left = problem[SIDES + m * 2] as usize;
+    let right = problem[SIDES + m * 2 + 1] as usize;
+    if problem[HELD + right] == 1 {
+        make_values(sets, problem, values, choice, m, true);
         return has(values, right * 3, left);
     }
-    if card[HELD + left] == 1 {
-        make_values(sets, card, values, choice, m, false);
-        let all = close_up(sets, card, CLOSERS + m * 3, words_at(values, left * 3));
+    if problem[HELD + left] == 1 {
+        make_values(sets, problem, values, choice, m, false);
+        let all = close_up(sets, problem, CLOSERS + m * 3, words_at(values, left * 3));
         return is_in(all, right);
     }
     has(sets, left * 3, right)

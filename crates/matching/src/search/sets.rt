@@ -5,7 +5,7 @@ ghost use mathlib.Core.Path.{_≡_};
 ghost use Prim.Native.Nat.{ℕ, _+_, _<_, _≤_};
 ghost use lib.ListN.{length};
 ghost use Rattle.subsumption.specs.Tables.{both};
-ghost use Rattle.matching.specs.Inner.Search.Card.{fitAt};
+ghost use Rattle.matching.specs.Inner.Search.Problem.{fitAt};
 ghost use Rattle.matching.specs.Inner.Search.Sets.{inWords, NextBit, NextIn, Same, Joined, Compared, PutAt};
 
 pub struct Words {

@@ -36,7 +36,7 @@ ghost use mathlib.Core.Bool.{true, false};
 ghost use Prim.Native.Nat.{_<_};
 ghost use lib.ListN.{length};
 ghost use Rattle.matching.specs.Solving.{takes};
-ghost use Rattle.matching.specs.Inner.Search.Card.{Shaped, questionCount};
+ghost use Rattle.matching.specs.Inner.Search.Problem.{Shaped, questionCount};
 ghost use Rattle.matching.specs.Inner.Search.Interval.{undecided};
 ghost use Rattle.matching.specs.Inner.Search.Lent.{Lent};
 ghost use Rattle.matching.specs.Inner.Search.Nogoods.{Room};
@@ -61,28 +61,28 @@ pub struct Answer {
 // The first asked question that does not hold, of those whose right side holds a variable just where `right` says so; the number of all if they hold.
 pub fn failing_of(
     sets: &[u64],
-    card: &[u16],
+    problem: &[u16],
     scratch: &mut [u64],
     choice: [u64; 8],
     right: bool,
 ) -> usize
-    requires { ⌜ Shaped (now sets) (now card) ⌝ }
+    requires { ⌜ Shaped (now sets) (now problem) ⌝ }
     requires { ⌜ length (now scratch) ≡ 16977 ⌝ }
-    ensures { λ r. ⌜ FailingOf (now (sets .entry)) (now (card .entry)) choice right r ⌝ }
+    ensures { λ r. ⌜ FailingOf (now (sets .entry)) (now (problem .entry)) choice right r ⌝ }
 {
-    let count = card[QUESTION_COUNT] as usize;
+    let count = problem[QUESTION_COUNT] as usize;
     let mut m: usize = 0;
     while m < count {
         let at = m;
         m += 1;
-        if card[ASKED + at] != 1 {
+        if problem[ASKED + at] != 1 {
             continue;
         }
-        let side = card[SIDES + at * 2 + 1] as usize;
-        if (card[HELD + side] == 1) != right {
+        let side = problem[SIDES + at * 2 + 1] as usize;
+        if (problem[HELD + side] == 1) != right {
             continue;
         }
-        if question_holds(sets, card, scratch, at, choice) {
+        if question_holds(sets, problem, scratch, at, choice) {
             continue;
         }
         return at;
@@ -91,43 +91,43 @@ pub fn failing_of(
 }
 
 // An asked question that does not hold, or the number of all.
-fn failing(sets: &[u64], card: &[u16], scratch: &mut [u64], choice: [u64; 8]) -> usize
-    requires { ⌜ Shaped (now sets) (now card) ⌝ }
+fn failing(sets: &[u64], problem: &[u16], scratch: &mut [u64], choice: [u64; 8]) -> usize
+    requires { ⌜ Shaped (now sets) (now problem) ⌝ }
     requires { ⌜ length (now scratch) ≡ 16977 ⌝ }
-    ensures { λ r. ⌜ Failing (now (sets .entry)) (now (card .entry)) choice r ⌝ }
+    ensures { λ r. ⌜ Failing (now (sets .entry)) (now (problem .entry)) choice r ⌝ }
 {
-    let first = failing_of(sets, card, scratch, choice, true);
-    if first < card[QUESTION_COUNT] as usize {
+    let first = failing_of(sets, problem, scratch, choice, true);
+    if first < problem[QUESTION_COUNT] as usize {
         return first;
     }
-    failing_of(sets, card, scratch, choice, false)
+    failing_of(sets, problem, scratch, choice, false)
 }
 
 // A nogood around the low side, where question m fails.
 fn refute(
     sets: &[u64],
-    card: &[u16],
+    problem: &[u16],
     scratch: &mut [u64],
     full: [u64; 8],
     low: [u64; 8],
     m: usize,
 ) -> Interval
-    requires { ⌜ Shaped (now sets) (now card) ⌝ }
-    requires { ⌜ (length (now scratch) ≡ 16977) × (m < questionCount (now card)) ⌝ }
+    requires { ⌜ Shaped (now sets) (now problem) ⌝ }
+    requires { ⌜ (length (now scratch) ≡ 16977) × (m < questionCount (now problem)) ⌝ }
     requires { ⌜ (length full ≡ 8) × (length low ≡ 8) ⌝ }
     ensures { λ r. ⌜ (length (r .low) ≡ 8) × (length (r .high) ≡ 8) ⌝ }
-    ensures { λ r. ⌜ RefutedBy (now (sets .entry)) (now (card .entry)) full low m (r .low) (r .high) ⌝ }
+    ensures { λ r. ⌜ RefutedBy (now (sets .entry)) (now (problem .entry)) full low m (r .low) (r .high) ⌝ }
 {
     let empty = [0u64; 8];
-    let side = card[SIDES + m * 2 + 1] as usize;
-    if card[HELD + side] == 1 {
-        let core = widen(sets, card, scratch, m, low, empty);
+    let side = problem[SIDES + m * 2 + 1] as usize;
+    if problem[HELD + side] == 1 {
+        let core = widen(sets, problem, scratch, m, low, empty);
         return Interval {
             low: core,
             high: full,
         };
     }
-    let rest = widen(sets, card, scratch, m, low, full);
+    let rest = widen(sets, problem, scratch, m, low, full);
     Interval {
         low: empty,
         high: rest,
@@ -137,28 +137,28 @@ fn refute(
 // The low side by itself: a solution, or a nogood around it, which is kept.
 fn try_low(
     sets: &[u64],
-    card: &[u16],
+    problem: &[u16],
     store: &mut [u64],
     scratch: &mut [u64],
     full: [u64; 8],
     low: [u64; 8],
 ) -> Answer
-    requires { ⌜ Lent (now sets) (now card) (now store) (now scratch) ⌝ }
+    requires { ⌜ Lent (now sets) (now problem) (now store) (now scratch) ⌝ }
     requires { ⌜ (length full ≡ 8) × (length low ≡ 8) ⌝ }
     ensures { λ r. ⌜ (length (r .low) ≡ 8) × (length (r .high) ≡ 8) ⌝ }
     ensures { λ _. ⌜ Room (now (store .exit)) ⌝ }
-    ensures { λ r. ⌜ Searched (now (sets .entry)) (now (card .entry)) full low low (now (store .entry)) (now (store .exit)) (λ t. Answers t (now (card .entry)) low low (r .found) (r .low) (r .high)) ⌝ }
+    ensures { λ r. ⌜ Searched (now (sets .entry)) (now (problem .entry)) full low low (now (store .entry)) (now (store .exit)) (λ t. Answers t (now (problem .entry)) low low (r .found) (r .low) (r .high)) ⌝ }
 {
-    if !is_few(&card[MOST..ASKED], low) {
+    if !is_few(&problem[MOST..ASKED], low) {
         return Answer {
             found: false,
             low,
             high: full,
         };
     }
-    let m = failing(sets, card, scratch, low);
-    if m < card[QUESTION_COUNT] as usize {
-        let nogood = refute(sets, card, scratch, full, low, m);
+    let m = failing(sets, problem, scratch, low);
+    if m < problem[QUESTION_COUNT] as usize {
+        let nogood = refute(sets, problem, scratch, full, low, m);
         let below = nogood.low;
         let above = nogood.high;
         add(store, scratch, TESTED, full, nogood);
@@ -231,22 +231,22 @@ fn splitting(interval: Interval, pair: usize, place: usize, spare: bool) -> Step
 // By testing the low side.
 fn step_by_test(
     sets: &[u64],
-    card: &[u16],
+    problem: &[u16],
     store: &mut [u64],
     scratch: &mut [u64],
     full: [u64; 8],
     interval: Interval,
 ) -> Step
-    requires { ⌜ Lent (now sets) (now card) (now store) (now scratch) ⌝ }
+    requires { ⌜ Lent (now sets) (now problem) (now store) (now scratch) ⌝ }
     requires { ⌜ (length full ≡ 8) × (length (interval .low) ≡ 8) × (length (interval .high) ≡ 8) ⌝ }
     ensures { λ r. ⌜ (length (r .low) ≡ 8) × (length (r .high) ≡ 8) ⌝ }
     ensures { λ _. ⌜ Room (now (store .exit)) ⌝ }
     ensures { λ r. ⌜ (r .done ≡ false → (r .pair < 512) × (undecided (interval .low) (interval .high) (r .pair) ≡ true)) ⌝ }
-    ensures { λ r. ⌜ Searched (now (sets .entry)) (now (card .entry)) full (interval .low) (interval .high) (now (store .entry)) (now (store .exit)) (λ t. r .done ≡ true → Answers t (now (card .entry)) (interval .low) (interval .high) (r .found) (r .low) (r .high)) ⌝ }
+    ensures { λ r. ⌜ Searched (now (sets .entry)) (now (problem .entry)) full (interval .low) (interval .high) (now (store .entry)) (now (store .exit)) (λ t. r .done ≡ true → Answers t (now (problem .entry)) (interval .low) (interval .high) (r .found) (r .low) (r .high)) ⌝ }
 {
     let low = interval.low;
     let high = interval.high;
-    let tried = try_low(sets, card, store, scratch, full, low);
+    let tried = try_low(sets, problem, store, scratch, full, low);
     let found = tried.found;
     let below = tried.low;
     let above = tried.high;
@@ -305,18 +305,18 @@ fn can_split(interval: Interval, pair: usize) -> bool
 // By a nogood that the look-up finds, if one helps, else by testing the low side.
 fn step_by_choice(
     sets: &[u64],
-    card: &[u16],
+    problem: &[u16],
     store: &mut [u64],
     scratch: &mut [u64],
     full: [u64; 8],
     interval: Interval,
 ) -> Step
-    requires { ⌜ Lent (now sets) (now card) (now store) (now scratch) ⌝ }
+    requires { ⌜ Lent (now sets) (now problem) (now store) (now scratch) ⌝ }
     requires { ⌜ (length full ≡ 8) × (length (interval .low) ≡ 8) × (length (interval .high) ≡ 8) ⌝ }
     ensures { λ r. ⌜ (length (r .low) ≡ 8) × (length (r .high) ≡ 8) ⌝ }
     ensures { λ _. ⌜ Room (now (store .exit)) ⌝ }
     ensures { λ r. ⌜ (r .done ≡ false → (r .pair < 512) × (undecided (interval .low) (interval .high) (r .pair) ≡ true)) ⌝ }
-    ensures { λ r. ⌜ Searched (now (sets .entry)) (now (card .entry)) full (interval .low) (interval .high) (now (store .entry)) (now (store .exit)) (λ t. r .done ≡ true → Answers t (now (card .entry)) (interval .low) (interval .high) (r .found) (r .low) (r .high)) ⌝ }
+    ensures { λ r. ⌜ Searched (now (sets .entry)) (now (problem .entry)) full (interval .low) (interval .high) (now (store .entry)) (now (store .exit)) (λ t. r .done ≡ true → Answers t (now (problem .entry)) (interval .low) (interval .high) (r .found) (r .low) (r .high)) ⌝ }
 {
     let hint = choose(store, scratch, interval);
     let known = look_up(store, hint.place, interval);
@@ -329,24 +329,24 @@ fn step_by_choice(
     if can_split(interval, pair) {
         return splitting(interval, pair, hint.place, hint.spare);
     }
-    step_by_test(sets, card, store, scratch, full, interval)
+    step_by_test(sets, problem, store, scratch, full, interval)
 }
 
 // By the nogood that proposed the last split, if it shuts the interval.
 fn step_by_hint(
     sets: &[u64],
-    card: &[u16],
+    problem: &[u16],
     store: &mut [u64],
     scratch: &mut [u64],
     full: [u64; 8],
     interval: Interval,
 ) -> Step
-    requires { ⌜ Lent (now sets) (now card) (now store) (now scratch) ⌝ }
+    requires { ⌜ Lent (now sets) (now problem) (now store) (now scratch) ⌝ }
     requires { ⌜ (length full ≡ 8) × (length (interval .low) ≡ 8) × (length (interval .high) ≡ 8) ⌝ }
     ensures { λ r. ⌜ (length (r .low) ≡ 8) × (length (r .high) ≡ 8) ⌝ }
     ensures { λ _. ⌜ Room (now (store .exit)) ⌝ }
     ensures { λ r. ⌜ (r .done ≡ false → (r .pair < 512) × (undecided (interval .low) (interval .high) (r .pair) ≡ true)) ⌝ }
-    ensures { λ r. ⌜ Searched (now (sets .entry)) (now (card .entry)) full (interval .low) (interval .high) (now (store .entry)) (now (store .exit)) (λ t. r .done ≡ true → Answers t (now (card .entry)) (interval .low) (interval .high) (r .found) (r .low) (r .high)) ⌝ }
+    ensures { λ r. ⌜ Searched (now (sets .entry)) (now (problem .entry)) full (interval .low) (interval .high) (now (store .entry)) (now (store .exit)) (λ t. r .done ≡ true → Answers t (now (problem .entry)) (interval .low) (interval .high) (r .found) (r .low) (r .high)) ⌝ }
 {
     let known = look_up(store, scratch[HINT] as usize, interval);
     let low = known.low;
@@ -354,31 +354,31 @@ fn step_by_hint(
     if known.shut {
         return answered(false, low, high);
     }
-    step_by_choice(sets, card, store, scratch, full, interval)
+    step_by_choice(sets, problem, store, scratch, full, interval)
 }
 
 // At the clamped interval, its nogood as one of the whole.
 fn step_by_clamp(
     sets: &[u64],
-    card: &[u16],
+    problem: &[u16],
     store: &mut [u64],
     scratch: &mut [u64],
     full: [u64; 8],
     interval: Interval,
 ) -> Step
-    requires { ⌜ Lent (now sets) (now card) (now store) (now scratch) ⌝ }
+    requires { ⌜ Lent (now sets) (now problem) (now store) (now scratch) ⌝ }
     requires { ⌜ (length full ≡ 8) × (length (interval .low) ≡ 8) × (length (interval .high) ≡ 8) ⌝ }
     ensures { λ r. ⌜ (length (r .low) ≡ 8) × (length (r .high) ≡ 8) ⌝ }
     ensures { λ _. ⌜ Room (now (store .exit)) ⌝ }
     ensures { λ r. ⌜ (r .done ≡ false → (r .pair < 512) × (undecided (interval .low) (interval .high) (r .pair) ≡ true)) ⌝ }
-    ensures { λ r. ⌜ Searched (now (sets .entry)) (now (card .entry)) full (interval .low) (interval .high) (now (store .entry)) (now (store .exit)) (λ t. r .done ≡ true → Answers t (now (card .entry)) (interval .low) (interval .high) (r .found) (r .low) (r .high)) ⌝ }
+    ensures { λ r. ⌜ Searched (now (sets .entry)) (now (problem .entry)) full (interval .low) (interval .high) (now (store .entry)) (now (store .exit)) (λ t. r .done ≡ true → Answers t (now (problem .entry)) (interval .low) (interval .high) (r .found) (r .low) (r .high)) ⌝ }
 {
     let low = interval.low;
     let high = interval.high;
-    let inner = clamp(&card[MOST..ASKED], low, high);
+    let inner = clamp(&problem[MOST..ASKED], low, high);
     let step = step_by_hint(
         sets,
-        card,
+        problem,
         store,
         scratch,
         full,
@@ -400,12 +400,12 @@ fn step_by_clamp(
 }
 
 // A largest count may stop a variable that has something to take. A hint only.
-fn is_bounded(card: &[u16], full: [u64; 8]) -> bool
-    requires { ⌜ length (now card) ≡ 971 ⌝ }
+fn is_bounded(problem: &[u16], full: [u64; 8]) -> bool
+    requires { ⌜ length (now problem) ≡ 971 ⌝ }
 {
     let mut k: usize = 0;
     while k < 8 {
-        if (full[k] != 0) & (card[MOST + k] < 64) {
+        if (full[k] != 0) & (problem[MOST + k] < 64) {
             return true;
         }
         k += 1;
@@ -416,29 +416,29 @@ fn is_bounded(card: &[u16], full: [u64; 8]) -> bool
 // By counting needs, if more is wanted than a largest count; without such counts there is nothing to clamp.
 fn next_step(
     sets: &[u64],
-    card: &[u16],
+    problem: &[u16],
     store: &mut [u64],
     scratch: &mut [u64],
     full: [u64; 8],
     interval: Interval,
 ) -> Step
-    requires { ⌜ Lent (now sets) (now card) (now store) (now scratch) ⌝ }
+    requires { ⌜ Lent (now sets) (now problem) (now store) (now scratch) ⌝ }
     requires { ⌜ (length full ≡ 8) × (length (interval .low) ≡ 8) × (length (interval .high) ≡ 8) ⌝ }
     ensures { λ r. ⌜ (length (r .low) ≡ 8) × (length (r .high) ≡ 8) ⌝ }
     ensures { λ _. ⌜ Room (now (store .exit)) ⌝ }
     ensures { λ r. ⌜ (r .done ≡ false → (r .pair < 512) × (undecided (interval .low) (interval .high) (r .pair) ≡ true)) ⌝ }
-    ensures { λ r. ⌜ Searched (now (sets .entry)) (now (card .entry)) full (interval .low) (interval .high) (now (store .entry)) (now (store .exit)) (λ t. r .done ≡ true → Answers t (now (card .entry)) (interval .low) (interval .high) (r .found) (r .low) (r .high)) ⌝ }
+    ensures { λ r. ⌜ Searched (now (sets .entry)) (now (problem .entry)) full (interval .low) (interval .high) (now (store .entry)) (now (store .exit)) (λ t. r .done ≡ true → Answers t (now (problem .entry)) (interval .low) (interval .high) (r .found) (r .low) (r .high)) ⌝ }
 {
-    if !is_bounded(card, full) {
-        return step_by_hint(sets, card, store, scratch, full, interval);
+    if !is_bounded(problem, full) {
+        return step_by_hint(sets, problem, store, scratch, full, interval);
     }
-    let wanted = count_all(card, store, full, interval);
+    let wanted = count_all(problem, store, full, interval);
     let low = wanted.low;
     let high = wanted.high;
     if wanted.over {
         return answered(false, low, high);
     }
-    step_by_clamp(sets, card, store, scratch, full, interval)
+    step_by_clamp(sets, problem, store, scratch, full, interval)
 }
 
 // The next step looks at this nogood first.
@@ -471,19 +471,19 @@ fn merge(with: Answer, without: Answer, k: usize, q: usize) -> Interval
 // kept unless the pair was the last open one of a known nogood: then it says little more than that one.
 pub fn some_solution(
     sets: &[u64],
-    card: &[u16],
+    problem: &[u16],
     store: &mut [u64],
     scratch: &mut [u64],
     full: [u64; 8],
     interval: Interval,
 ) -> Answer
-    requires { ⌜ Lent (now sets) (now card) (now store) (now scratch) ⌝ }
+    requires { ⌜ Lent (now sets) (now problem) (now store) (now scratch) ⌝ }
     requires { ⌜ (length full ≡ 8) × (length (interval .low) ≡ 8) × (length (interval .high) ≡ 8) ⌝ }
     ensures { λ r. ⌜ (length (r .low) ≡ 8) × (length (r .high) ≡ 8) ⌝ }
     ensures { λ _. ⌜ Room (now (store .exit)) ⌝ }
-    ensures { λ r. ⌜ Searched (now (sets .entry)) (now (card .entry)) full (interval .low) (interval .high) (now (store .entry)) (now (store .exit)) (λ t. Answers t (now (card .entry)) (interval .low) (interval .high) (r .found) (r .low) (r .high)) ⌝ }
+    ensures { λ r. ⌜ Searched (now (sets .entry)) (now (problem .entry)) full (interval .low) (interval .high) (now (store .entry)) (now (store .exit)) (λ t. Answers t (now (problem .entry)) (interval .low) (interval .high) (r .found) (r .low) (r .high)) ⌝ }
 {
-    let step = next_step(sets, card, store, scratch, full, interval);
+    let step = next_step(sets, problem, store, scratch, full, interval);
     if step.done {
         let found = step.found;
         let low = step.low;
@@ -495,14 +495,14 @@ pub fn some_solution(
     let place = step.place;
     note_hint(scratch, place);
     let taken = interval.take(k, q);
-    let with = some_solution(sets, card, store, scratch, full, taken);
+    let with = some_solution(sets, problem, store, scratch, full, taken);
     let needs = with.low;
     if with.found | !has_bit(needs[k], q) {
         return with;
     }
     note_hint(scratch, place);
     let left = interval.leave(k, q);
-    let without = some_solution(sets, card, store, scratch, full, left);
+    let without = some_solution(sets, problem, store, scratch, full, left);
     let allows = without.high;
     if without.found | has_bit(allows[k], q) {
         return without;

@@ -8,7 +8,7 @@ use subsumption::limits::ATOMS;
 ghost use mathlib.Core.Path.{_≡_};
 ghost use Prim.Native.Nat.{_≤_, _<_};
 ghost use lib.ListN.{length};
-ghost use Rattle.matching.specs.Inner.Search.Card.{Shaped};
+ghost use Rattle.matching.specs.Inner.Search.Problem.{Shaped};
 ghost use Rattle.matching.specs.Inner.Search.Widen.{Mixed, StillFails};
 
 const ALL: u64 = 18446744073709551615;
@@ -107,17 +107,17 @@ fn with_others(choice: [u64; 8], target: [u64; 8], held: u16) -> [u64; 8]
 // are left to be what a failure is about.
 fn widen_runs(
     sets: &[u64],
-    card: &[u16],
+    problem: &[u16],
     scratch: &mut [u64],
     m: usize,
     choice: [u64; 8],
     target: [u64; 8],
 ) -> [u64; 8]
-    requires { ⌜ Shaped (now sets) (now card) ⌝ }
+    requires { ⌜ Shaped (now sets) (now problem) ⌝ }
     requires { ⌜ (length (now scratch) ≡ 16977) × (m < 32) ⌝ }
     requires { ⌜ (length choice ≡ 8) × (length target ≡ 8) ⌝ }
     ensures { λ r. ⌜ Mixed choice target r ⌝ }
-    ensures { λ r. ⌜ StillFails (now (sets .entry)) (now (card .entry)) m choice target r ⌝ }
+    ensures { λ r. ⌜ StillFails (now (sets .entry)) (now (problem .entry)) m choice target r ⌝ }
 {
     let mut failing = choice;
     let mut from: usize = 0;
@@ -131,7 +131,7 @@ fn widen_runs(
             size = twice(size);
             continue;
         }
-        if !question_holds(sets, card, scratch, m, next) {
+        if !question_holds(sets, problem, scratch, m, next) {
             failing = next;
             from += size;
             size = twice(size);
@@ -148,21 +148,21 @@ fn widen_runs(
 
 pub fn widen(
     sets: &[u64],
-    card: &[u16],
+    problem: &[u16],
     scratch: &mut [u64],
     m: usize,
     choice: [u64; 8],
     target: [u64; 8],
 ) -> [u64; 8]
-    requires { ⌜ Shaped (now sets) (now card) ⌝ }
+    requires { ⌜ Shaped (now sets) (now problem) ⌝ }
     requires { ⌜ (length (now scratch) ≡ 16977) × (m < 32) ⌝ }
     requires { ⌜ (length choice ≡ 8) × (length target ≡ 8) ⌝ }
     ensures { λ r. ⌜ Mixed choice target r ⌝ }
-    ensures { λ r. ⌜ StillFails (now (sets .entry)) (now (card .entry)) m choice target r ⌝ }
+    ensures { λ r. ⌜ StillFails (now (sets .entry)) (now (problem .entry)) m choice target r ⌝ }
 {
-    let own = with_others(choice, target, card[HOLDS + m]);
-    if question_holds(sets, card, scratch, m, own) {
-        return widen_runs(sets, card, scratch, m, choice, target);
+    let own = with_others(choice, target, problem[HOLDS + m]);
+    if question_holds(sets, problem, scratch, m, own) {
+        return widen_runs(sets, problem, scratch, m, choice, target);
     }
-    widen_runs(sets, card, scratch, m, own, target)
+    widen_runs(sets, problem, scratch, m, own, target)
 }

@@ -10,12 +10,12 @@ use Rattle.allowance.proofs.walk.walk.Statement.{statement}
 use Rattle.allowance.proofs.walk.walk.Tie as tie
 
 abbrev Inv-loop : tie.InvT-loop
-Inv-loop sets card permitted count pairs allowance scratch₀ kept₀ place₀ met₀ scratch kept place met =
+Inv-loop sets problem permitted count pairs allowance scratch₀ kept₀ place₀ met₀ scratch kept place met =
     Standing count pairs permitted (place .low) (place .high) (place .settled) × (met ≤ allowance) × (length scratch ≡ 16977) × (length kept ≡ 516)
-    × Goes sets card permitted count pairs kept (place .low) (place .settled) met
+    × Goes sets problem permitted count pairs kept (place .low) (place .settled) met
 
 abbrev μ-loop : tie.MeasureT-loop
-μ-loop sets card permitted count pairs allowance scratch₀ kept₀ place₀ met₀ scratch kept place met =
+μ-loop sets problem permitted count pairs allowance scratch₀ kept₀ place₀ met₀ scratch kept place met =
     ahead (pairs - place .settled) (readOff count (place .low) (place .settled))
 
 loop-holds : tie.Need-loop-holds Inv-loop μ-loop

@@ -15,7 +15,7 @@ use Rattle.square.specs.Inner.Square.{onLine}
 use Rattle.square.specs.Inner.Sets.{Inserted}
 use Rattle.matching.specs.declared.search.sets.Words.{Words}
 use Rattle.matching.specs.Inner.Search.Sets.{inWords, NextIn, Same, Joined}
-use Rattle.matching.specs.Inner.Search.Card.{lineAt, fitAt, coneAt, closersAt, heldAt, rightAt, innerAt, questionCount, Numbers, closes, inMembers, Covered, Closers}
+use Rattle.matching.specs.Inner.Search.Problem.{lineAt, fitAt, coneAt, closersAt, heldAt, rightAt, innerAt, questionCount, Numbers, closes, inMembers, Covered, Closers}
 use Rattle.matching.specs.Inner.Search.Making.{kindAt, firstAt, Outside, isCloser, Grew, WantsInner, AskedFor, NewAt, NextNew, Kept, KeptAll, ClosersNoted, NoClosers, AllClosers}
 use Rattle.matching.proofs.SearchLaws.Sets.{none-in}
 use Rattle.matching.proofs.SearchLaws.Walks.{passed-cases, passed-none, members-low}
@@ -60,27 +60,27 @@ module _ (sets : List ℕ) (at : ℕ) (P : ℕ → List ℕ → Type 0) (before 
       }
 
 abbrev pub InnerIn : List ℕ → ℕ → List ℕ → Type 0
-InnerIn card f wanted = onLine wanted 0 (innerAt card f) ≡ true
+InnerIn problem f wanted = onLine wanted 0 (innerAt problem f) ≡ true
 
-module _ (sets card before : List ℕ) where
+module _ (sets problem before : List ℕ) where
   pub inner-more :
-      (j f next : ℕ) (mid after : List ℕ) → WantTo sets (fitAt false j) (InnerIn card) before f mid → NextIn sets (fitAt false j) (f + 1) next
-      → Inserted mid after 0 (innerAt card f) → WantTo sets (fitAt false j) (InnerIn card) before next after
+      (j f next : ℕ) (mid after : List ℕ) → WantTo sets (fitAt false j) (InnerIn problem) before f mid → NextIn sets (fitAt false j) (f + 1) next
+      → Inserted mid after 0 (innerAt problem f) → WantTo sets (fitAt false j) (InnerIn problem) before next after
   inner-more j f next mid after W N I =
-      want-more sets (fitAt false j) (InnerIn card) before f next mid after (λ k u. I .kept 0 _ u) W N (grew-one mid after _ I) (I .taken)
+      want-more sets (fitAt false j) (InnerIn problem) before f next mid after (λ k u. I .kept 0 _ u) W N (grew-one mid after _ I) (I .taken)
 
-  pub inner-done : (j e : ℕ) (wanted : List ℕ) → 192 ≤ e → WantTo sets (fitAt false j) (InnerIn card) before e wanted → WantsInner sets card j wanted
+  pub inner-done : (j e : ℕ) (wanted : List ℕ) → 192 ≤ e → WantTo sets (fitAt false j) (InnerIn problem) before e wanted → WantsInner sets problem j wanted
   inner-done j e wanted h W f l o = W .done f (omega arith) o
 
   pub asked-more :
-      (m f next : ℕ) (mid after : List ℕ) → WantTo sets (coneAt m) (WantsInner sets card) before f mid → NextIn sets (coneAt m) (f + 1) next
-      → Grew mid after → WantsInner sets card f after → WantTo sets (coneAt m) (WantsInner sets card) before next after
+      (m f next : ℕ) (mid after : List ℕ) → WantTo sets (coneAt m) (WantsInner sets problem) before f mid → NextIn sets (coneAt m) (f + 1) next
+      → Grew mid after → WantsInner sets problem f after → WantTo sets (coneAt m) (WantsInner sets problem) before next after
   asked-more m f next mid after W N g w =
-      want-more sets (coneAt m) (WantsInner sets card) before f next mid after (λ k u e l o. g .kept _ (u e l o)) W N g w
+      want-more sets (coneAt m) (WantsInner sets problem) before f next mid after (λ k u e l o. g .kept _ (u e l o)) W N g w
 
   pub asked-done :
-      (m e : ℕ) (start wanted : List ℕ) → length start ≡ 3 → Inserted start before 0 (rightAt card m) → 192 ≤ e
-      → WantTo sets (coneAt m) (WantsInner sets card) before e wanted → AskedFor sets card m wanted
+      (m e : ℕ) (start wanted : List ℕ) → length start ≡ 3 → Inserted start before 0 (rightAt problem m) → 192 ≤ e
+      → WantTo sets (coneAt m) (WantsInner sets problem) before e wanted → AskedFor sets problem m wanted
   asked-done m e start wanted long I h W =
       record {
         long = W .grew .long ∙ I .long ∙ long;
@@ -89,28 +89,28 @@ module _ (sets card before : List ℕ) where
       }
 
 -- ---- what brings nothing
-module _ (sets card wanted : List ℕ) (e : ℕ) (row want asked : Words) (R : Same row sets (e * 3)) (W : Same want wanted 0)
+module _ (sets problem wanted : List ℕ) (e : ℕ) (row want asked : Words) (R : Same row sets (e * 3)) (W : Same want wanted 0)
     (M : (c : ℕ) → c < 192 → inWords asked c ≡ both (inWords row c) (inWords want c)) where
   in-asked : (d : ℕ) → d < 192 → onLine sets (lineAt false e) d ≡ true → onLine wanted 0 d ≡ true → inWords asked d ≡ true
   in-asked d l r u = M d l ∙ both-intro _ _ (R d l ∙ r) (W d l ∙ u)
 
   pub covered-and :
-      (a b own sum : Words) (answer : Bool) → kindAt card e ≡ 3 → Same a sets (firstAt card e * 3) → Same b sets (innerAt card e * 3) → Joined a b own
-      → Joined own asked sum → (answer ≡ true → sum ≡ own) → answer ≡ true → Covered sets card (onLine wanted 0) e
+      (a b own sum : Words) (answer : Bool) → kindAt problem e ≡ 3 → Same a sets (firstAt problem e * 3) → Same b sets (innerAt problem e * 3) → Joined a b own
+      → Joined own asked sum → (answer ≡ true → sum ≡ own) → answer ≡ true → Covered sets problem (onLine wanted 0) e
   unfolding inMembers
   covered-and a b own sum answer k A B J S same t d l r u =
       let x : inWords sum d ≡ true = S .bits d l ∙ or-second _ _ (in-asked d l r u) in
       let y : inWords own d ≡ true = subst (λ (z : Words). inWords z d ≡ true) (same t) x in
-      subst (λ (n : Node). inMembers sets n d ≡ true) (sym (node-and card e k)) (sym (ap₂ or (A d l) (B d l)) ∙ sym (J .bits d l) ∙ y)
+      subst (λ (n : Node). inMembers sets n d ≡ true) (sym (node-and problem e k)) (sym (ap₂ or (A d l) (B d l)) ∙ sym (J .bits d l) ∙ y)
 
   pub covered-none :
-      (answer : Bool) → (answer ≡ true → asked ≡ record { first = 0; second = 0; third = 0 }) → answer ≡ true → Covered sets card (onLine wanted 0) e
+      (answer : Bool) → (answer ≡ true → asked ≡ record { first = 0; second = 0; third = 0 }) → answer ≡ true → Covered sets problem (onLine wanted 0) e
   covered-none answer same t d l r u =
       absurd (none-in d l (subst (λ (z : Words). inWords z d ≡ true) (same t) (in-asked d l r u)))
 
 -- ---- what is new
-module _ (sets card : List ℕ) (at : ℕ) (wanted : List ℕ) (e : ℕ) where
-  pub new-kept : onLine sets at e ≡ true → NewAt sets card at wanted e false
+module _ (sets problem : List ℕ) (at : ℕ) (wanted : List ℕ) (e : ℕ) where
+  pub new-kept : onLine sets at e ≡ true → NewAt sets problem at wanted e false
   new-kept h =
       record {
         closer = λ u. absurd (false≢true u);
@@ -118,7 +118,7 @@ module _ (sets card : List ℕ) (at : ℕ) (wanted : List ℕ) (e : ℕ) where
         quiet = λ _ _ o. absurd (true≢false (sym h ∙ o));
       }
 
-  pub new-other : isCloser card e ≡ false → NewAt sets card at wanted e false
+  pub new-other : isCloser problem e ≡ false → NewAt sets problem at wanted e false
   new-other h =
       record {
         closer = λ u. absurd (false≢true u);
@@ -126,22 +126,22 @@ module _ (sets card : List ℕ) (at : ℕ) (wanted : List ℕ) (e : ℕ) where
         quiet = λ _ c _. absurd (true≢false (sym c ∙ h));
       }
 
-  pub new-covered : Covered sets card (onLine wanted 0) e → NewAt sets card at wanted e false
+  pub new-covered : Covered sets problem (onLine wanted 0) e → NewAt sets problem at wanted e false
   new-covered h = record { closer = λ u. absurd (false≢true u); fresh = λ u. absurd (false≢true u); quiet = λ _ _ _. h }
 
-  pub new-here : isCloser card e ≡ true → onLine sets at e ≡ false → NewAt sets card at wanted e true
+  pub new-here : isCloser problem e ≡ true → onLine sets at e ≡ false → NewAt sets problem at wanted e true
   new-here c f = record { closer = λ _. c; fresh = λ _. f; quiet = λ u. absurd (true≢false u) }
 
-module _ (sets card : List ℕ) (count at : ℕ) (wanted : List ℕ) (from : ℕ) where
+module _ (sets problem : List ℕ) (count at : ℕ) (wanted : List ℕ) (from : ℕ) where
   pub record NextTo (e : ℕ) : Type 0 where
     pub after : from ≤ e
     pub within : e ≤ count
-    pub quiet : (k : ℕ) → from ≤ k → k < e → isCloser card k ≡ true → onLine sets at k ≡ false → Covered sets card (onLine wanted 0) k
+    pub quiet : (k : ℕ) → from ≤ k → k < e → isCloser problem k ≡ true → onLine sets at k ≡ false → Covered sets problem (onLine wanted 0) k
 
   pub next-first : from ≤ count → NextTo from
   next-first h = record { after = omega arith; within = h; quiet = λ k l u. absurd (omega arith) }
 
-  module _ (e : ℕ) (answer : Bool) (T : NextTo e) (low : e < count) (N : NewAt sets card at wanted e answer) where
+  module _ (e : ℕ) (answer : Bool) (T : NextTo e) (low : e < count) (N : NewAt sets problem at wanted e answer) where
     pub next-more : answer ≡ false → NextTo (e + 1)
     next-more h =
         record {
@@ -151,16 +151,16 @@ module _ (sets card : List ℕ) (count at : ℕ) (wanted : List ℕ) (from : ℕ
               λ k l u c f.
               ⊎-elim
               (λ (v : k ≡ e).
-              subst (Covered sets card (onLine wanted 0)) (sym v)
-              (N .quiet h (subst (λ (z : ℕ). isCloser card z ≡ true) v c) (subst (λ (z : ℕ). onLine sets at z ≡ false) v f)))
+              subst (Covered sets problem (onLine wanted 0)) (sym v)
+              (N .quiet h (subst (λ (z : ℕ). isCloser problem z ≡ true) v c) (subst (λ (z : ℕ). onLine sets at z ≡ false) v f)))
               (λ v. T .quiet k l v c f) (last-cases k e (omega arith));
         }
 
-    pub next-found : answer ≡ true → NextNew sets card count at wanted from e
+    pub next-found : answer ≡ true → NextNew sets problem count at wanted from e
     next-found h =
         record { after = T .after; within = T .within; closer = λ _. N .closer h; fresh = λ _. N .fresh h; quiet = T .quiet }
 
-  pub next-none : (e : ℕ) → NextTo e → count ≤ e → NextNew sets card count at wanted from count
+  pub next-none : (e : ℕ) → NextTo e → count ≤ e → NextNew sets problem count at wanted from count
   next-none e T h =
       record {
         after = omega (arith, T .after, T .within);
@@ -171,26 +171,26 @@ module _ (sets card : List ℕ) (count at : ℕ) (wanted : List ℕ) (from : ℕ
       }
 
 -- ---- keeping one
-module _ (card : List ℕ) (at e : ℕ) (before after wanted : List ℕ) (I : Inserted before after at e) where
+module _ (problem : List ℕ) (at e : ℕ) (before after wanted : List ℕ) (I : Inserted before after at e) where
   pub kept-and :
-      (mid more : List ℕ) → kindAt card e ≡ 3 → Inserted wanted mid 0 (firstAt card e) → Inserted mid more 0 (innerAt card e)
-      → Kept card at e before after wanted more
+      (mid more : List ℕ) → kindAt problem e ≡ 3 → Inserted wanted mid 0 (firstAt problem e) → Inserted mid more 0 (innerAt problem e)
+      → Kept problem at e before after wanted more
   kept-and mid more k J L =
       record {
         filled = filled-one at e before after I;
         grew = grew-then wanted mid more (grew-one wanted mid _ J) (grew-one mid more _ L);
         members =
             λ i j n.
-            let (_, p, q) = and-node card e i j n in
+            let (_, p, q) = and-node problem e i j n in
             (subst (λ (z : ℕ). onLine more 0 z ≡ true) p (L .kept 0 _ (J .taken)), subst (λ (z : ℕ). onLine more 0 z ≡ true) q (L .taken));
       }
 
-  pub kept-other : (kindAt card e ≡ 3 → ⊥) → Kept card at e before after wanted wanted
+  pub kept-other : (kindAt problem e ≡ 3 → ⊥) → Kept problem at e before after wanted wanted
   kept-other h =
       record {
         filled = filled-one at e before after I;
         grew = grew-none wanted;
-        members = λ i j n. absurd (h (and-node card e i j n .0));
+        members = λ i j n. absurd (h (and-node problem e i j n .0));
       }
 
 -- ---- how many are not kept
@@ -244,15 +244,15 @@ unfolding weight walking
 again-less sets at from h = let u = walking-one from h in omega arith
 
 -- ---- keeping all
-module _ (card : List ℕ) (count at : ℕ) (before wanted : List ℕ) where
+module _ (problem : List ℕ) (count at : ℕ) (before wanted : List ℕ) where
   pub record KeepTo (from : ℕ) (sets more : List ℕ) : Type 0 where
     pub low : from ≤ count
     pub long : length sets ≡ length before
     pub there : Outside at (at + 3) before sets
     pub grew : Grew wanted more
-    pub only : (e : ℕ) → e < 192 → onLine sets at e ≡ true → (e < count) × (isCloser card e ≡ true)
+    pub only : (e : ℕ) → e < 192 → onLine sets at e ≡ true → (e < count) × (isCloser problem e ≡ true)
     pub members :
-        (e i j : ℕ) → e < 192 → onLine sets at e ≡ true → node card e ≡ andAt i j → (onLine more 0 i ≡ true) × (onLine more 0 j ≡ true)
+        (e i j : ℕ) → e < 192 → onLine sets at e ≡ true → node problem e ≡ andAt i j → (onLine more 0 i ≡ true) × (onLine more 0 j ≡ true)
 
   pub keep-first : ((q : ℕ) → q < 192 → onLine before at q ≡ false) → KeepTo 0 before wanted
   keep-first empty =
@@ -269,8 +269,8 @@ module _ (card : List ℕ) (count at : ℕ) (before wanted : List ℕ) where
   keep-again from sets more K =
       record { low = omega arith; long = K .long; there = K .there; grew = K .grew; only = K .only; members = K .members }
 
-  module _ (from e : ℕ) (sets more : List ℕ) (few : count ≤ 192) (K : KeepTo from sets more) (N : NextNew sets card count at more from e) where
-    module _ (after most : List ℕ) (l : e < count) (S : Kept card at e sets after more most) where
+  module _ (from e : ℕ) (sets more : List ℕ) (few : count ≤ 192) (K : KeepTo from sets more) (N : NextNew sets problem count at more from e) where
+    module _ (after most : List ℕ) (l : e < count) (S : Kept problem at e sets after more most) where
       pub keep-more : KeepTo (e + 1) after most
       keep-more =
           record {
@@ -283,11 +283,11 @@ module _ (card : List ℕ) (count at : ℕ) (before wanted : List ℕ) where
                 ⊎-elim
                 (λ u.
                 let v = eqb-true k e u in
-                (omega arith, subst (λ (z : ℕ). isCloser card z ≡ true) (sym v) (N .closer l)))
+                (omega arith, subst (λ (z : ℕ). isCloser problem z ≡ true) (sym v) (N .closer l)))
                 (λ u. K .only k h u) (or-cases _ _ (sym (S .filled .here k h) ∙ o));
             members =
                 λ k i j h o n.
-                ⊎-elim (λ u. S .members i j (subst (λ (z : ℕ). node card z ≡ andAt i j) (eqb-true k e u) n))
+                ⊎-elim (λ u. S .members i j (subst (λ (z : ℕ). node problem z ≡ andAt i j) (eqb-true k e u) n))
                 (λ u. let (p, q) = K .members k i j h u n in (S .grew .kept _ p, S .grew .kept _ q)) (or-cases _ _ (sym (S .filled .here k h) ∙ o));
           }
 
@@ -298,7 +298,7 @@ module _ (card : List ℕ) (count at : ℕ) (before wanted : List ℕ) where
           unset-less (onLine sets at) (onLine after at) e 192 (omega arith) (N .fresh l) (λ q h. S .filled .here q h) in
           omega (arith, walking-low (e + 1))
 
-    pub keep-done : count ≤ e → from ≡ 0 → KeptAll card count at before sets wanted more
+    pub keep-done : count ≤ e → from ≡ 0 → KeptAll problem count at before sets wanted more
     keep-done h z =
         record {
           long = K .long;
@@ -319,31 +319,31 @@ top-decoded (suc (suc (suc zero))) a b l e = let z : _≡_ {A = ℕ} 0 1 = cc in
 top-decoded (suc (suc (suc (suc zero)))) a b l e = let z : _≡_ {A = ℕ} 0 1 = cc in absurd (omega arith)
 top-decoded (suc (suc (suc (suc (suc k))))) a b l e = absurd (omega arith)
 
-top-kind : (card : List ℕ) (i : ℕ) → kindAt card i < 5 → node card i ≡ topAt → kindAt card i ≡ 0
+top-kind : (problem : List ℕ) (i : ℕ) → kindAt problem i < 5 → node problem i ≡ topAt → kindAt problem i ≡ 0
 unfolding node
-top-kind card i l e = top-decoded _ _ _ l e
+top-kind problem i l e = top-decoded _ _ _ l e
 
-module _ (card : List ℕ) (numbers : Numbers card) (e : ℕ) (low : e < 192) where
-  closer-kind : (n : Node) → node card e ≡ n → closes n ≡ true → or (eqb (kindAt card e) 0) (eqb (kindAt card e) 3) ≡ true
+module _ (problem : List ℕ) (numbers : Numbers problem) (e : ℕ) (low : e < 192) where
+  closer-kind : (n : Node) → node problem e ≡ n → closes n ≡ true → or (eqb (kindAt problem e) 0) (eqb (kindAt problem e) 3) ≡ true
   unfolding closes
-  closer-kind topAt q h = or-first _ _ (eq-eqb _ 0 (top-kind card e (numbers .kind-low e low) q))
+  closer-kind topAt q h = or-first _ _ (eq-eqb _ 0 (top-kind problem e (numbers .kind-low e low) q))
   closer-kind (nameAt n) q h = absurd (false≢true h)
   closer-kind (existsAt r j) q h = absurd (false≢true h)
-  closer-kind (andAt i j) q h = or-second _ _ (eq-eqb _ 3 (and-node card e i j q .0))
+  closer-kind (andAt i j) q h = or-second _ _ (eq-eqb _ 3 (and-node problem e i j q .0))
   closer-kind (varAt k) q h = absurd (false≢true h)
 
-  closer-from : heldAt card e ≡ false → closes (node card e) ≡ true → isCloser card e ≡ true
+  closer-from : heldAt problem e ≡ false → closes (node problem e) ≡ true → isCloser problem e ≡ true
   unfolding isCloser
-  closer-from h k = both-intro _ _ (ap not h) (closer-kind (node card e) refl k)
+  closer-from h k = both-intro _ _ (ap not h) (closer-kind (node problem e) refl k)
 
-  closer-free : isCloser card e ≡ true → heldAt card e ≡ false
+  closer-free : isCloser problem e ≡ true → heldAt problem e ≡ false
   unfolding isCloser
   closer-free h = not-true _ (both-true _ _ h .0)
 
-module _ (card : List ℕ) (numbers : Numbers card) (count m : ℕ) (few : count ≤ 192) (asked : m < 32) where
+module _ (problem : List ℕ) (numbers : Numbers problem) (count m : ℕ) (few : count ≤ 192) (asked : m < 32) where
   pub closers-noted :
-      (before after wanted more : List ℕ) → AskedFor before card m wanted → KeptAll card count (closersAt m) before after wanted more
-      → ClosersNoted card count m before after
+      (before after wanted more : List ℕ) → AskedFor before problem m wanted → KeptAll problem count (closersAt m) before after wanted more
+      → ClosersNoted problem count m before after
   closers-noted before after wanted more A K =
       record {
         long = K .long;
@@ -356,26 +356,26 @@ module _ (card : List ℕ) (numbers : Numbers card) (count m : ℕ) (few : count
                   λ j e l h c f.
                   K .grew .kept _
                   (A .inner j l (sym (K .there (coneAt m) j l (inl (omega arith))) ∙ c) e h (sym (K .there (fitAt false j) e h (inl (omega arith))) ∙ f));
-              only = λ e l o. let (b, c) = K .only e l o in (b, closer-free card numbers e l c);
+              only = λ e l o. let (b, c) = K .only e l o in (b, closer-free problem numbers e l c);
               members = K .members;
-              quiet = λ e l h k o. K .quiet e l (closer-from card numbers e (omega arith) h k) o;
+              quiet = λ e l h k o. K .quiet e l (closer-from problem numbers e (omega arith) h k) o;
             };
       }
 
   -- the same lines have the same closers
   module _ (a b : List ℕ) (front : (at q : ℕ) → q < 192 → at + 3 ≤ 2400 → onLine b at q ≡ onLine a at q)
       (own : (q : ℕ) → q < 192 → onLine b (closersAt m) q ≡ onLine a (closersAt m) q) where
-    members-same : (e d : ℕ) (n : Node) → e < 192 → d < 192 → node card e ≡ n → inMembers a n d ≡ true → inMembers b n d ≡ true
+    members-same : (e d : ℕ) (n : Node) → e < 192 → d < 192 → node problem e ≡ n → inMembers a n d ≡ true → inMembers b n d ≡ true
     unfolding inMembers
     members-same e d topAt l h u i = i
     members-same e d (nameAt n) l h u i = i
     members-same e d (existsAt r j) l h u i = i
     members-same e d (andAt j k) l h u i =
-        let (p, q) = members-low card numbers e l j k u in
+        let (p, q) = members-low problem numbers e l j k u in
         ap₂ or (front (lineAt false j) d h (omega arith)) (front (lineAt false k) d h (omega arith)) ∙ i
     members-same e d (varAt k) l h u i = i
 
-    pub closers-same : Closers a card count m → Closers b card count m
+    pub closers-same : Closers a problem count m → Closers b problem count m
     closers-same K =
         record {
           wanted = K .wanted;
@@ -387,16 +387,16 @@ module _ (card : List ℕ) (numbers : Numbers card) (count m : ℕ) (few : count
           members = λ e i j l o n. K .members e i j l (sym (own e l) ∙ o) n;
           quiet =
               λ e l h k o d ld r u.
-              members-same e d (node card e) (omega arith) ld refl
+              members-same e d (node problem e) (omega arith) ld refl
               (K .quiet e l h k (sym (own e (omega arith)) ∙ o) d ld (sym (front (lineAt false e) d ld (omega arith)) ∙ r) u);
         }
 
 -- ---- of all questions
-module _ (card : List ℕ) (count : ℕ) (before : List ℕ) where
+module _ (problem : List ℕ) (count : ℕ) (before : List ℕ) where
   pub record ClosersTo (k : ℕ) (sets : List ℕ) : Type 0 where
-    pub within : k ≤ questionCount card
+    pub within : k ≤ questionCount problem
     pub long : length sets ≡ length before
-    pub done : (m : ℕ) → m < k → Closers sets card count m
+    pub done : (m : ℕ) → m < k → Closers sets problem count m
     pub rest : (m q : ℕ) → k ≤ m → m < 32 → q < 192 → onLine sets (closersAt m) q ≡ false
     pub there : Outside (closersAt 0) (closersAt 32) before sets
 
@@ -411,7 +411,7 @@ module _ (card : List ℕ) (count : ℕ) (before : List ℕ) where
       }
 
   pub closers-more :
-      (k : ℕ) (mid after : List ℕ) → Numbers card → count ≤ 192 → k < questionCount card → ClosersTo k mid → ClosersNoted card count k mid after
+      (k : ℕ) (mid after : List ℕ) → Numbers problem → count ≤ 192 → k < questionCount problem → ClosersTo k mid → ClosersNoted problem count k mid after
       → ClosersTo (k + 1) after
   closers-more k mid after numbers few asked C N =
       record {
@@ -419,9 +419,9 @@ module _ (card : List ℕ) (count : ℕ) (before : List ℕ) where
         long = N .long ∙ C .long;
         done =
             λ m l.
-            ⊎-elim (λ (u : m ≡ k). subst (Closers after card count) (sym u) (N .closers))
+            ⊎-elim (λ (u : m ≡ k). subst (Closers after problem count) (sym u) (N .closers))
             (λ (u : m ≡ k → ⊥).
-            closers-same card numbers count m few (omega (arith, numbers .few)) mid after (λ at q h o. N .there at q h (inl (omega arith)))
+            closers-same problem numbers count m few (omega (arith, numbers .few)) mid after (λ at q h o. N .there at q h (inl (omega arith)))
             (λ q h. N .there (closersAt m) q h (inl (omega arith))) (C .done m (omega arith)))
             (eq-or-ne m k);
         rest = λ m q l h u. N .there (closersAt m) q u (inr (omega arith)) ∙ C .rest m q (omega arith) h u;
@@ -430,5 +430,5 @@ module _ (card : List ℕ) (count : ℕ) (before : List ℕ) where
             N .there x q l (⊎-elim (λ (u : x + 3 ≤ 2400). inl (omega arith)) (λ (u : 2496 ≤ x). inr (omega (arith, numbers .few))) o) ∙ C .there x q l o;
       }
 
-  pub closers-done : (k : ℕ) (sets : List ℕ) → questionCount card ≤ k → ClosersTo k sets → AllClosers card count before sets
+  pub closers-done : (k : ℕ) (sets : List ℕ) → questionCount problem ≤ k → ClosersTo k sets → AllClosers problem count before sets
   closers-done k sets h C = record { long = C .long; closers = λ m l. C .done m (omega arith); there = C .there }

@@ -13,7 +13,7 @@ use Rattle.subsumption.specs.Inner.Roles.{inSet}
 use Rattle.subsumption.proofs.Bools.{or-first, or-second, or-skip, or-cases, both-none, both-skip, both-second, both-intro, same-bool, le-or-lt, eq-or-ne}
 use Rattle.square.specs.Inner.Square.{onLine}
 use Rattle.square.specs.Inner.Sets.{Inserted}
-use Rattle.matching.specs.Inner.Search.Card.{fitAt, counting}
+use Rattle.matching.specs.Inner.Search.Problem.{fitAt, counting}
 use Rattle.matching.specs.Inner.Search.Making.{kindAt, firstAt, Outside, Filled, fitsBy, isOpen, fitsIn, FitsNoted, isCloser}
 
 -- ---- one line
@@ -91,34 +91,34 @@ module _ (at : ℕ) (test : ℕ → Bool) where
   walk-done e count a b h l F = let u : e ≡ count = omega arith in subst (λ (z : ℕ). Filled at (upTo test z) a b) u F
 
 -- ---- the tests
-module _ (card : List ℕ) (e : ℕ) where
-  pub closer-held : getD card (576 + e) 0 ≡ 1 → false ≡ isCloser card e
+module _ (problem : List ℕ) (e : ℕ) where
+  pub closer-held : getD problem (576 + e) 0 ≡ 1 → false ≡ isCloser problem e
   unfolding isCloser
   closer-held h = sym (both-none _ _ (ap not (eq-eqb _ 1 h)))
 
-  pub closer-top : (getD card (576 + e) 0 ≡ 1 → ⊥) → kindAt card e ≡ 0 → true ≡ isCloser card e
+  pub closer-top : (getD problem (576 + e) 0 ≡ 1 → ⊥) → kindAt problem e ≡ 0 → true ≡ isCloser problem e
   unfolding isCloser
   closer-top n h = sym (both-intro _ _ (ap not (ne-eqb _ 1 n)) (or-first _ _ (eq-eqb _ 0 h)))
 
-  pub closer-and : (getD card (576 + e) 0 ≡ 1 → ⊥) → (kindAt card e ≡ 0 → ⊥) → eqb (kindAt card e) 3 ≡ isCloser card e
+  pub closer-and : (getD problem (576 + e) 0 ≡ 1 → ⊥) → (kindAt problem e ≡ 0 → ⊥) → eqb (kindAt problem e) 3 ≡ isCloser problem e
   unfolding isCloser
   closer-and n h = sym (both-skip _ _ (ap not (ne-eqb _ 1 n)) ∙ or-skip _ _ (ne-eqb _ 0 h))
 
   module _ (into : List ℕ) (right : Bool) (j : ℕ) where
-    pub fit-other : (kindAt card e ≡ 2 → ⊥) → false ≡ fitsBy card into right j e
+    pub fit-other : (kindAt problem e ≡ 2 → ⊥) → false ≡ fitsBy problem into right j e
     unfolding fitsBy
     fit-other n = sym (both-none _ _ (ne-eqb _ 2 n))
 
-    pub fit-held : getD card (576 + e) 0 ≡ 1 → false ≡ fitsBy card into right j e
+    pub fit-held : getD problem (576 + e) 0 ≡ 1 → false ≡ fitsBy problem into right j e
     unfolding fitsBy
-    fit-held h = sym (both-second (eqb (kindAt card e) 2) _ (both-none _ _ (ap not (eq-eqb _ 1 h))))
+    fit-held h = sym (both-second (eqb (kindAt problem e) 2) _ (both-none _ _ (ap not (eq-eqb _ 1 h))))
 
     pub fit-counts :
-        kindAt card e ≡ 2 → (getD card (576 + e) 0 ≡ 1 → ⊥) → (side r : Bool) → right ≡ side
-        → r ≡ counting side (inSet into) (firstAt card j) (firstAt card e) → r ≡ fitsBy card into right j e
+        kindAt problem e ≡ 2 → (getD problem (576 + e) 0 ≡ 1 → ⊥) → (side r : Bool) → right ≡ side
+        → r ≡ counting side (inSet into) (firstAt problem j) (firstAt problem e) → r ≡ fitsBy problem into right j e
     unfolding fitsBy
     fit-counts h n side r s u =
-        u ∙ ap (λ (z : Bool). counting z (inSet into) (firstAt card j) (firstAt card e)) (sym s)
+        u ∙ ap (λ (z : Bool). counting z (inSet into) (firstAt problem j) (firstAt problem e)) (sym s)
         ∙ sym (both-skip _ _ (eq-eqb _ 2 h) ∙ both-skip _ _ (ap not (ne-eqb _ 1 n)))
 
 -- ---- the lines of the existentials that fit
@@ -134,12 +134,12 @@ fits-inside : (right : Bool) (k : ℕ) → k < 192 → (fitAt right 0 ≤ fitAt 
 fits-inside true k l = (omega arith, omega arith)
 fits-inside false k l = (omega arith, omega arith)
 
-module _ (card into : List ℕ) (count : ℕ) (right : Bool) (before : List ℕ) where
+module _ (problem into : List ℕ) (count : ℕ) (right : Bool) (before : List ℕ) where
   pub record FitsTo (k : ℕ) (after : List ℕ) : Type 0 where
     pub within : k ≤ count
     pub long : length after ≡ length before
     pub done :
-        (j q : ℕ) → j < k → q < 192 → onLine after (fitAt right j) q ≡ or (fitsIn card into count right j q) (onLine before (fitAt right j) q)
+        (j q : ℕ) → j < k → q < 192 → onLine after (fitAt right j) q ≡ or (fitsIn problem into count right j q) (onLine before (fitAt right j) q)
     pub rest : (j q : ℕ) → k ≤ j → j < 192 → q < 192 → onLine after (fitAt right j) q ≡ onLine before (fitAt right j) q
     pub there : Outside (fitAt right 0) (fitAt right 192) before after
 
@@ -154,7 +154,7 @@ module _ (card into : List ℕ) (count : ℕ) (right : Bool) (before : List ℕ)
       }
 
   module _ (k : ℕ) (mid : List ℕ) (few : count ≤ 192) (F : FitsTo k mid) (low : k < count) where
-    pub fits-skip : isOpen card k ≡ false → FitsTo (k + 1) mid
+    pub fits-skip : isOpen problem k ≡ false → FitsTo (k + 1) mid
     unfolding fitsIn
     fits-skip n =
         record {
@@ -165,17 +165,17 @@ module _ (card into : List ℕ) (count : ℕ) (right : Bool) (before : List ℕ)
               ⊎-elim
               (λ (u : j ≡ k).
               F .rest j q (omega arith) (omega arith) h
-              ∙ sym (or-skip _ _ (both-none _ _ (subst (λ (z : ℕ). isOpen card z ≡ false) (sym u) n))))
+              ∙ sym (or-skip _ _ (both-none _ _ (subst (λ (z : ℕ). isOpen problem z ≡ false) (sym u) n))))
               (λ (u : j ≡ k → ⊥). F .done j q (omega arith) h) (eq-or-ne j k);
           rest = λ j q l h m. F .rest j q (omega arith) h m;
           there = F .there;
         }
 
-    module _ (after : List ℕ) (G : Filled (fitAt right k) (upTo (fitsBy card into right k) count) mid after) (open-one : isOpen card k ≡ true) where
-      own : (q : ℕ) → q < 192 → onLine after (fitAt right k) q ≡ or (fitsIn card into count right k q) (onLine before (fitAt right k) q)
+    module _ (after : List ℕ) (G : Filled (fitAt right k) (upTo (fitsBy problem into right k) count) mid after) (open-one : isOpen problem k ≡ true) where
+      own : (q : ℕ) → q < 192 → onLine after (fitAt right k) q ≡ or (fitsIn problem into count right k q) (onLine before (fitAt right k) q)
       unfolding fitsIn
       own q l =
-          G .here q l ∙ ap (or (upTo (fitsBy card into right k) count q)) (F .rest k q (omega arith) (omega arith) l)
+          G .here q l ∙ ap (or (upTo (fitsBy problem into right k) count q)) (F .rest k q (omega arith) (omega arith) l)
           ∙ ap (λ (z : Bool). or z (onLine before (fitAt right k) q)) (sym (both-skip _ _ open-one))
 
       pub fits-more : FitsTo (k + 1) after
@@ -187,7 +187,7 @@ module _ (card into : List ℕ) (count : ℕ) (right : Bool) (before : List ℕ)
                 λ j q l h.
                 ⊎-elim
                 (λ (u : j ≡ k).
-                subst (λ (z : ℕ). onLine after (fitAt right z) q ≡ or (fitsIn card into count right z q) (onLine before (fitAt right z) q)) (sym u) (own q h))
+                subst (λ (z : ℕ). onLine after (fitAt right z) q ≡ or (fitsIn problem into count right z q) (onLine before (fitAt right z) q)) (sym u) (own q h))
                 (λ (u : j ≡ k → ⊥). G .there (fitAt right j) q h (inl (fits-apart right j k (omega arith))) ∙ F .done j q (omega arith) h)
                 (eq-or-ne j k);
             rest =
@@ -200,17 +200,17 @@ module _ (card into : List ℕ) (count : ℕ) (right : Bool) (before : List ℕ)
                 ∙ F .there x q l o;
           }
 
-  pub fits-done : (k : ℕ) (after : List ℕ) → count ≤ k → FitsTo k after → FitsNoted card into count right before after
+  pub fits-done : (k : ℕ) (after : List ℕ) → count ≤ k → FitsTo k after → FitsNoted problem into count right before after
   fits-done k after h F = record { long = F .long; here = λ j q l m. F .done j q (omega arith) m; there = F .there }
 
-pub open-held : (card : List ℕ) (j : ℕ) → kindAt card j ≡ 2 → getD card (576 + j) 0 ≡ 1 → isOpen card j ≡ true
+pub open-held : (problem : List ℕ) (j : ℕ) → kindAt problem j ≡ 2 → getD problem (576 + j) 0 ≡ 1 → isOpen problem j ≡ true
 unfolding isOpen
-open-held card j h e = both-intro _ _ (eq-eqb _ 2 h) (eq-eqb _ 1 e)
+open-held problem j h e = both-intro _ _ (eq-eqb _ 2 h) (eq-eqb _ 1 e)
 
-pub open-other : (card : List ℕ) (j : ℕ) → (kindAt card j ≡ 2 → ⊥) → isOpen card j ≡ false
+pub open-other : (problem : List ℕ) (j : ℕ) → (kindAt problem j ≡ 2 → ⊥) → isOpen problem j ≡ false
 unfolding isOpen
-open-other card j n = both-none _ _ (ne-eqb _ 2 n)
+open-other problem j n = both-none _ _ (ne-eqb _ 2 n)
 
-pub open-free : (card : List ℕ) (j : ℕ) → (getD card (576 + j) 0 ≡ 1 → ⊥) → isOpen card j ≡ false
+pub open-free : (problem : List ℕ) (j : ℕ) → (getD problem (576 + j) 0 ≡ 1 → ⊥) → isOpen problem j ≡ false
 unfolding isOpen
-open-free card j n = both-second (eqb (kindAt card j) 2) _ (ne-eqb _ 1 n)
+open-free problem j n = both-second (eqb (kindAt problem j) 2) _ (ne-eqb _ 1 n)

@@ -22,7 +22,7 @@ use Rattle.subsumption.proofs.Refusals.{no-fault, both-done, done-le}
 use Rattle.subsumption.proofs.Accepted.{wellFormed, right-count}
 use Rattle.square.specs.Inner.Square.{inRow, inColumn}
 use Rattle.square.specs.Inner.Loading.{known, Loaded}
-use Rattle.matching.specs.Inner.Search.Card.{nothing}
+use Rattle.matching.specs.Inner.Search.Problem.{nothing}
 use Rattle.matching.specs.Inner.Search.Making.{LinesOf}
 
 -- ---- the assignment that chooses nothing

@@ -1,4 +1,4 @@
--- The numbers of a card: copies, which ids hold a variable, and what accepted tables make of them.
+-- The numbers of a problem: copies, which ids hold a variable, and what accepted tables make of them.
 use Prim.Native.Nat.{ℕ, zero, suc, _+_, _*_, _/_, _<_, _≤_}
 use mathlib.Core.Path.{_≡_, refl, sym, ap, _∙_, subst}
 use mathlib.Core.List.{List, List·Memᴰ}
@@ -23,7 +23,7 @@ use Rattle.subsumption.proofs.WellFormed.{WellFormed}
 use Rattle.subsumption.proofs.Accepted.{wellFormed, table-concepts, concepts-layered}
 use Rattle.subsumption.proofs.AtomLaws.{atom-known}
 use Rattle.subsumption.proofs.Chosen.{getD-member}
-use Rattle.matching.specs.Inner.Search.Card.{heldAt, atomAt, leftAt, rightAt, innerAt, Numbers}
+use Rattle.matching.specs.Inner.Search.Problem.{heldAt, atomAt, leftAt, rightAt, innerAt, Numbers}
 use Rattle.matching.specs.Inner.Search.Making.{CopiedAt, HeldNoted, HintsNoted, NumbersOf, kindAt, firstAt, Readable}
 
 -- ---- a copy
@@ -114,8 +114,8 @@ module _ (marks : List Bool) (before : List ℕ) where
       }
 
 -- ---- the hints stand behind all that is read
-pub hints-none : (card : List ℕ) → HintsNoted card card
-hints-none card = record { long = refl; front = λ p l. refl }
+pub hints-none : (problem : List ℕ) → HintsNoted problem problem
+hints-none problem = record { long = refl; front = λ p l. refl }
 
 pub hints-more : (before after : List ℕ) (at value : ℕ) → HintsNoted before after → HintsNoted before (set after (899 + at) value)
 hints-more before after at value H =
@@ -177,8 +177,8 @@ few-asked t ids A = omega (arith, wellFormed t (A .passed) .even-questions, well
 pub few-listed : (t : Tables) (ids : List ℕ) → Accepted t ids → length ids ≤ 64
 few-listed t ids A = subst (λ (z : List ℕ). length z ≤ 64) (sym (A .listed)) (wellFormed t (A .passed) .few-atoms)
 
-pub card-long : (card : List ℕ) → card ≡ replicate 971 0 → length card ≡ 971
-card-long card e = ap length e
+pub problem-long : (problem : List ℕ) → problem ≡ replicate 971 0 → length problem ≡ 971
+problem-long problem e = ap length e
 
 -- ---- rows of accepted tables
 kind-bound : (v k a b : ℕ) → malformedRow v k a b ≡ false → k < 5
@@ -199,7 +199,7 @@ second-bound v i (suc (suc (suc zero))) a b h r l = omega (arith, r .1)
 second-bound v i (suc (suc (suc (suc zero)))) a b h r l = omega (arith, eqb-true b 0 (not-false _ (or-false _ _ h .1)))
 second-bound v i (suc (suc (suc (suc (suc k))))) a b h r l = absurd (true≢false h)
 
-module _ (t : Tables) (ids card : List ℕ) (A : Accepted t ids) (N : NumbersOf (t .concepts) (t .questions) ids card) where
+module _ (t : Tables) (ids problem : List ℕ) (A : Accepted t ids) (N : NumbersOf (t .concepts) (t .questions) ids problem) where
   abbrev count : ℕ
   count = countOf (t .concepts)
 
@@ -211,49 +211,49 @@ module _ (t : Tables) (ids card : List ℕ) (A : Accepted t ids) (N : NumbersOf 
   row-passed i l =
       passed-at _ (malformed (t .concepts) (t .variables)) 0 _ (passed-first _ _ (passed-second _ _ (table-concepts t (A .passed)))) i (omega arith) (omega arith)
 
-  number : (i k : ℕ) → i < count → k < 3 → getD card (i * 3 + k) 0 ≡ getD (t .concepts) (i * 3 + k) 0
+  number : (i k : ℕ) → i < count → k < 3 → getD problem (i * 3 + k) 0 ≡ getD (t .concepts) (i * 3 + k) 0
   number i k l h = N .rows (i * 3 + k) (omega (arith, formed .whole))
 
-  kind-same : (i : ℕ) → i < count → kindAt card i ≡ getD (t .concepts) (i * 3) 0
+  kind-same : (i : ℕ) → i < count → kindAt problem i ≡ getD (t .concepts) (i * 3) 0
   kind-same i l = N .rows (i * 3) (omega (arith, formed .whole))
 
-  pub same-node : (i : ℕ) → i < count → node card i ≡ node (t .concepts) i
+  pub same-node : (i : ℕ) → i < count → node problem i ≡ node (t .concepts) i
   unfolding node
   same-node i l =
-      ap (λ (z : ℕ). decode z (getD card (i * 3 + 1) 0) (getD card (i * 3 + 2) 0)) (kind-same i l)
-      ∙ ap (λ (z : ℕ). decode (getD (t .concepts) (i * 3) 0) z (getD card (i * 3 + 2) 0)) (number i 1 l (omega arith))
+      ap (λ (z : ℕ). decode z (getD problem (i * 3 + 1) 0) (getD problem (i * 3 + 2) 0)) (kind-same i l)
+      ∙ ap (λ (z : ℕ). decode (getD (t .concepts) (i * 3) 0) z (getD problem (i * 3 + 2) 0)) (number i 1 l (omega arith))
       ∙ ap (λ (z : ℕ). decode (getD (t .concepts) (i * 3) 0) (getD (t .concepts) (i * 3 + 1) 0) z) (number i 2 l (omega arith))
 
-  past-kind : (i : ℕ) → count ≤ i → i < 192 → kindAt card i ≡ 0
+  past-kind : (i : ℕ) → count ≤ i → i < 192 → kindAt problem i ≡ 0
   past-kind i h l = N .no-rows (i * 3) (omega (arith, formed .whole)) (omega arith)
 
-  past-inner : (i : ℕ) → count ≤ i → i < 192 → innerAt card i ≡ 0
+  past-inner : (i : ℕ) → count ≤ i → i < 192 → innerAt problem i ≡ 0
   past-inner i h l = N .no-rows (i * 3 + 2) (omega (arith, formed .whole)) (omega arith)
 
-  rising : (i : ℕ) → i < count → Rising i (node card i)
+  rising : (i : ℕ) → i < count → Rising i (node problem i)
   rising i l = subst (Rising i) (sym (same-node i l)) (formed .rising i)
 
-  kind-low : (i : ℕ) → i < 192 → kindAt card i < 5
+  kind-low : (i : ℕ) → i < 192 → kindAt problem i < 5
   kind-low i l =
       ⊎-elim (λ h. omega (arith, past-kind i h l)) (λ h. omega (arith, kind-same i h, kind-bound _ _ _ _ (row-passed i h))) (le-or-lt count i)
 
-  inner-low : (i : ℕ) → i < 192 → innerAt card i < 192
+  inner-low : (i : ℕ) → i < 192 → innerAt problem i < 192
   unfolding node
   inner-low i l =
       ⊎-elim (λ h. omega (arith, past-inner i h l))
       (λ h. omega (arith, number i 2 h (omega arith), second-bound _ i _ _ _ (row-passed i h) (formed .rising i) l)) (le-or-lt count i)
 
-  first-low : (i : ℕ) → i < 192 → kindAt card i ≡ 3 → firstAt card i < 192
+  first-low : (i : ℕ) → i < 192 → kindAt problem i ≡ 3 → firstAt problem i < 192
   first-low i l e =
       ⊎-elim (λ h. absurd (omega (arith, past-kind i h l)))
-      (λ h. let u : (firstAt card i < i) × (innerAt card i < i) = subst (Rising i) (node-and card i e) (rising i h) in omega (arith, u .0)) (le-or-lt count i)
+      (λ h. let u : (firstAt problem i < i) × (innerAt problem i < i) = subst (Rising i) (node-and problem i e) (rising i h) in omega (arith, u .0)) (le-or-lt count i)
 
-  variable-low : (i : ℕ) → i < 192 → kindAt card i ≡ 4 → firstAt card i < 8
+  variable-low : (i : ℕ) → i < 192 → kindAt problem i ≡ 4 → firstAt problem i < 8
   variable-low i l e =
       ⊎-elim (λ h. absurd (omega (arith, past-kind i h l)))
-      (λ h. omega (arith, formed .numbered i (firstAt card i) (sym (same-node i h) ∙ node-var card i e), formed .few-variables)) (le-or-lt count i)
+      (λ h. omega (arith, formed .numbered i (firstAt problem i) (sym (same-node i h) ∙ node-var problem i e), formed .few-variables)) (le-or-lt count i)
 
-  atoms-low : (q : ℕ) → q < 64 → atomAt card q < 192
+  atoms-low : (q : ℕ) → q < 64 → atomAt problem q < 192
   atoms-low q l =
       ⊎-elim (λ h. omega (arith, N .no-atoms q h l))
       (λ h.
@@ -261,26 +261,26 @@ module _ (t : Tables) (ids card : List ℕ) (A : Accepted t ids) (N : NumbersOf 
       omega (arith, N .atoms q h, formed .few))
       (le-or-lt (length ids) q)
 
-  pub left-same : (m : ℕ) → m < pairsOf (t .questions) → leftAt card m ≡ leftOf (t .questions) m
+  pub left-same : (m : ℕ) → m < pairsOf (t .questions) → leftAt problem m ≡ leftOf (t .questions) m
   left-same m l = N .sides (m * 2) (omega (arith, formed .even-questions))
 
-  pub right-same : (m : ℕ) → m < pairsOf (t .questions) → rightAt card m ≡ rightOf (t .questions) m
-  right-same m l = ap (λ (z : ℕ). getD card z 0) (omega arith) ∙ N .sides (m * 2 + 1) (omega (arith, formed .even-questions))
+  pub right-same : (m : ℕ) → m < pairsOf (t .questions) → rightAt problem m ≡ rightOf (t .questions) m
+  right-same m l = ap (λ (z : ℕ). getD problem z 0) (omega arith) ∙ N .sides (m * 2 + 1) (omega (arith, formed .even-questions))
 
-  left-low : (m : ℕ) → m < 32 → leftAt card m < 192
+  left-low : (m : ℕ) → m < 32 → leftAt problem m < 192
   left-low m l =
       ⊎-elim (λ h. omega (arith, N .no-sides (m * 2) (omega (arith, formed .even-questions)) (omega arith)))
       (λ h. omega (arith, left-same m h, formed .question-left m h, formed .few)) (le-or-lt (pairsOf (t .questions)) m)
 
-  right-low : (m : ℕ) → m < 32 → rightAt card m < 192
+  right-low : (m : ℕ) → m < 32 → rightAt problem m < 192
   right-low m l =
       ⊎-elim
       (λ h.
-      let u : rightAt card m ≡ 0 = ap (λ (z : ℕ). getD card z 0) (omega arith) ∙ N .no-sides (m * 2 + 1) (omega (arith, formed .even-questions)) (omega arith) in
+      let u : rightAt problem m ≡ 0 = ap (λ (z : ℕ). getD problem z 0) (omega arith) ∙ N .no-sides (m * 2 + 1) (omega (arith, formed .even-questions)) (omega arith) in
       omega arith)
       (λ h. omega (arith, right-same m h, formed .question-right m h, formed .few)) (le-or-lt (pairsOf (t .questions)) m)
 
-  pub numbers : Numbers card
+  pub numbers : Numbers problem
   numbers =
       record {
         long = N .long;
@@ -294,13 +294,13 @@ module _ (t : Tables) (ids card : List ℕ) (A : Accepted t ids) (N : NumbersOf 
         few = omega (arith, N .count, formed .few-questions);
       }
 
-  pub readable : Readable card count
+  pub readable : Readable problem count
   readable =
       record {
         long = N .long;
         few = formed .few;
         rising = rising;
-        low-roles = λ i l e. formed .low-roles i (firstAt card i) (innerAt card i) (sym (same-node i l) ∙ node-exists card i e);
+        low-roles = λ i l e. formed .low-roles i (firstAt problem i) (innerAt problem i) (sym (same-node i l) ∙ node-exists problem i e);
         few-questions = omega (arith, N .count, formed .few-questions);
         left-known = λ m l. omega (arith, left-same m (omega (arith, N .count)), formed .question-left m (omega (arith, N .count)));
         right-known = λ m l. omega (arith, right-same m (omega (arith, N .count)), formed .question-right m (omega (arith, N .count)));

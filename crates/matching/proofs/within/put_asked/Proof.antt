@@ -5,28 +5,28 @@ use Rattle.matching.proofs.within.put_asked.Statement.{statement}
 use Rattle.matching.proofs.within.put_asked.Tie as tie
 
 abbrev Inv-loop : tie.InvT-loop
-Inv-loop card₀ wanted m₀ card m = WrittenTo 939 (λ i. wanted / 2 ^ i % 2) card₀ card m
+Inv-loop problem₀ wanted m₀ problem m = WrittenTo 939 (λ i. wanted / 2 ^ i % 2) problem₀ problem m
 
 abbrev μ-loop : tie.MeasureT-loop
-μ-loop card₀ wanted m₀ card m = 32 - m
+μ-loop problem₀ wanted m₀ problem m = 32 - m
 
 loop-holds : tie.Need-loop-holds Inv-loop μ-loop
 loop-holds c = written-none _ _ _
 
-shr-card : tie.Need-shr-card Inv-loop μ-loop
-shr-card c = omega arith
+shr-problem : tie.Need-shr-problem Inv-loop μ-loop
+shr-problem c = omega arith
 
-cast-card : tie.Need-cast-card Inv-loop μ-loop
-cast-card c = omega arith
+cast-problem : tie.Need-cast-problem Inv-loop μ-loop
+cast-problem c = omega arith
 
-add-card : tie.Need-add-card Inv-loop μ-loop
-add-card c = omega arith
+add-problem : tie.Need-add-problem Inv-loop μ-loop
+add-problem c = omega arith
 
-mul-card : tie.Need-mul-card Inv-loop μ-loop
-mul-card c = omega arith
+mul-problem : tie.Need-mul-problem Inv-loop μ-loop
+mul-problem c = omega arith
 
-slice-write-card : tie.Need-slice-write-card Inv-loop μ-loop
-slice-write-card c = omega (arith, c .before .loop .inv .size)
+slice-write-problem : tie.Need-slice-write-problem Inv-loop μ-loop
+slice-write-problem c = omega (arith, c .before .loop .inv .size)
 
 add-m : tie.Need-add-m Inv-loop μ-loop
 add-m c = omega arith
@@ -50,11 +50,11 @@ put-asked-spec =
     Inv-loop
     μ-loop
     loop-holds
-    shr-card
-    cast-card
-    add-card
-    mul-card
-    slice-write-card
+    shr-problem
+    cast-problem
+    add-problem
+    mul-problem
+    slice-write-problem
     add-m
     loop-less
     loop-again

@@ -6,28 +6,28 @@ use Rattle.matching.proofs.within.put_counts.Statement.{statement}
 use Rattle.matching.proofs.within.put_counts.Tie as tie
 
 abbrev Inv-loop : tie.InvT-loop
-Inv-loop card₀ largest k₀ card k = WrittenTo 931 (λ i. getD largest i 0) card₀ card k
+Inv-loop problem₀ largest k₀ problem k = WrittenTo 931 (λ i. getD largest i 0) problem₀ problem k
 
 abbrev μ-loop : tie.MeasureT-loop
-μ-loop card₀ largest k₀ card k = length largest - k
+μ-loop problem₀ largest k₀ problem k = length largest - k
 
 loop-holds : tie.Need-loop-holds Inv-loop μ-loop
 loop-holds c = written-none _ _ _
 
-mul-card : tie.Need-mul-card Inv-loop μ-loop
-mul-card c = omega arith
+mul-problem : tie.Need-mul-problem Inv-loop μ-loop
+mul-problem c = omega arith
 
-shared-slice-read-card : tie.Need-shared-slice-read-card Inv-loop μ-loop
-shared-slice-read-card c = omega arith
+shared-slice-read-problem : tie.Need-shared-slice-read-problem Inv-loop μ-loop
+shared-slice-read-problem c = omega arith
 
-add-card : tie.Need-add-card Inv-loop μ-loop
-add-card c = omega arith
+add-problem : tie.Need-add-problem Inv-loop μ-loop
+add-problem c = omega arith
 
-mul-card-2 : tie.Need-mul-card-2 Inv-loop μ-loop
-mul-card-2 c = omega arith
+mul-problem-2 : tie.Need-mul-problem-2 Inv-loop μ-loop
+mul-problem-2 c = omega arith
 
-slice-write-card : tie.Need-slice-write-card Inv-loop μ-loop
-slice-write-card c = omega arith
+slice-write-problem : tie.Need-slice-write-problem Inv-loop μ-loop
+slice-write-problem c = omega arith
 
 add-k : tie.Need-add-k Inv-loop μ-loop
 add-k c = omega arith
@@ -51,11 +51,11 @@ put-counts-spec =
     Inv-loop
     μ-loop
     loop-holds
-    mul-card
-    shared-slice-read-card
-    add-card
-    mul-card-2
-    slice-write-card
+    mul-problem
+    shared-slice-read-problem
+    add-problem
+    mul-problem-2
+    slice-write-problem
     add-k
     loop-less
     loop-again

@@ -29,6 +29,6 @@ pub record Kept (allowed above high fewer : List ℕ) : Type 0 where
 
 -- Where more is wanted than the largest count, the interval around holds no solution.
 abbrev pub WantedOver : List ℕ → List ℕ → List ℕ → List ℕ → List ℕ → Bool → List ℕ → List ℕ → Type 0
-WantedOver card store full low high true low₁ high₁ =
-    (t : Tables) → IntervalOf t low high → IntervalOf t high full → Nogoods t card store → Refuted t card low high low₁ high₁
-WantedOver card store full low high false low₁ high₁ = Unit {0}
+WantedOver problem store full low high true low₁ high₁ =
+    (t : Tables) → IntervalOf t low high → IntervalOf t high full → Nogoods t problem store → Refuted t problem low high low₁ high₁
+WantedOver problem store full low high false low₁ high₁ = Unit {0}

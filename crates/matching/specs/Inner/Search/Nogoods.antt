@@ -24,9 +24,9 @@ pub record Room (store : List ℕ) : Type 0 where
   pub long : length store ≡ 16385
   pub few : used store ≤ 1024
 
-pub record Nogoods (t : Tables) (card store : List ℕ) : Type 0 where
+pub record Nogoods (t : Tables) (problem store : List ℕ) : Type 0 where
   pub room : Room store
-  pub each : (c : ℕ) → c < used store → NoSolution t card (lowAt store c) (highAt store c)
+  pub each : (c : ℕ) → c < used store → NoSolution t problem (lowAt store c) (highAt store c)
 
 -- Eight numbers are written at a place.
 pub record Put (at : ℕ) (set before after : List ℕ) : Type 0 where

@@ -8,7 +8,7 @@ use Rattle.subsumption.specs.declared.refusal.Outcome.the-variants.{Done}
 use Rattle.subsumption.specs.Tables.{Tables, pairsOf, rightOf, tree, hasVariable}
 use Rattle.subsumption.specs.Check.{assignmentFault}
 use Rattle.matching.specs.Inner.Search.{HoldsAt, Within, SolutionIn, NoSolution}
-use Rattle.matching.specs.Inner.Search.Card.{Card, AskedAt}
+use Rattle.matching.specs.Inner.Search.Problem.{Problem, AskedAt}
 use Rattle.matching.specs.Inner.Search.Pairs.{Changed, Joined, Met}
 use Rattle.matching.specs.Inner.Search.Interval.{IntervalOf, undecided}
 use Rattle.matching.specs.Inner.Search.Nogoods.{used, lowAt, highAt, Nogoods}
@@ -21,40 +21,40 @@ pub record FailingFor (t : Tables) (assignment : List ℕ) (kind : ℕ → Type 
 
 -- An asked question whose right side holds a variable, or not.
 abbrev pub AskedOf : Tables → List ℕ → Bool → ℕ → Type 0
-AskedOf t card right n = AskedAt card n × (hasVariable (tree (t .concepts) (rightOf (t .questions) n)) ≡ right)
+AskedOf t problem right n = AskedAt problem n × (hasVariable (tree (t .concepts) (rightOf (t .questions) n)) ≡ right)
 
 abbrev pub FailingOf : List ℕ → List ℕ → List ℕ → Bool → ℕ → Type 0
-FailingOf sets card choice right m =
-    (t : Tables) → Card t sets card → assignmentFault t (take (t .variables) choice) ≡ Done
-    → FailingFor t (take (t .variables) choice) (AskedOf t card right) m
+FailingOf sets problem choice right m =
+    (t : Tables) → Problem t sets problem → assignmentFault t (take (t .variables) choice) ≡ Done
+    → FailingFor t (take (t .variables) choice) (AskedOf t problem right) m
 
 abbrev pub Failing : List ℕ → List ℕ → List ℕ → ℕ → Type 0
-Failing sets card choice m =
-    (t : Tables) → Card t sets card → assignmentFault t (take (t .variables) choice) ≡ Done → FailingFor t (take (t .variables) choice) (AskedAt card) m
+Failing sets problem choice m =
+    (t : Tables) → Problem t sets problem → assignmentFault t (take (t .variables) choice) ≡ Done → FailingFor t (take (t .variables) choice) (AskedAt problem) m
 
 -- An interval around another that holds no solution.
-pub record Refuted (t : Tables) (card low high low₁ high₁ : List ℕ) : Type 0 where
+pub record Refuted (t : Tables) (problem low high low₁ high₁ : List ℕ) : Type 0 where
   pub low-long : length low₁ ≡ 8
   pub high-long : length high₁ ≡ 8
   pub above : Within low₁ low
   pub below : Within high high₁
-  pub none : NoSolution t card low₁ high₁
+  pub none : NoSolution t problem low₁ high₁
 
 -- An asked question that fails at the low side gives an interval around it.
 abbrev pub RefutedBy : List ℕ → List ℕ → List ℕ → List ℕ → ℕ → List ℕ → List ℕ → Type 0
-RefutedBy sets card full low m low₁ high₁ =
-    (t : Tables) → Card t sets card → m < pairsOf (t .questions) → AskedAt card m → IntervalOf t low full → (HoldsAt t (take (t .variables) low) m → ⊥)
-    → Refuted t card low low low₁ high₁
+RefutedBy sets problem full low m low₁ high₁ =
+    (t : Tables) → Problem t sets problem → m < pairsOf (t .questions) → AskedAt problem m → IntervalOf t low full → (HoldsAt t (take (t .variables) low) m → ⊥)
+    → Refuted t problem low low low₁ high₁
 
 -- A search's answer names no order: a solution between, or an interval around that holds none.
 abbrev pub Answers : Tables → List ℕ → List ℕ → List ℕ → Bool → List ℕ → List ℕ → Type 0
-Answers t card low high true choice rest = SolutionIn t card low high choice
-Answers t card low high false low₁ high₁ = Refuted t card low high low₁ high₁
+Answers t problem low high true choice rest = SolutionIn t problem low high choice
+Answers t problem low high false low₁ high₁ = Refuted t problem low high low₁ high₁
 
 -- What a search in an interval gives of whatever tables the sets and numbers are: nogoods stay nogoods.
 abbrev pub Searched : List ℕ → List ℕ → List ℕ → List ℕ → List ℕ → List ℕ → List ℕ → (Tables → Type 0) → Type 0
-Searched sets card full low high before after Given =
-    (t : Tables) → Card t sets card → IntervalOf t low high → IntervalOf t high full → Nogoods t card before → Given t × Nogoods t card after
+Searched sets problem full low high before after Given =
+    (t : Tables) → Problem t sets problem → IntervalOf t low high → IntervalOf t high full → Nogoods t problem before → Given t × Nogoods t problem after
 
 abbrev pub CanSplit : List ℕ → List ℕ → ℕ → Bool → Type 0
 CanSplit low high pair true = (pair < 512) × (undecided low high pair ≡ true)

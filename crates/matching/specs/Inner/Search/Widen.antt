@@ -8,7 +8,7 @@ use lib.ListN.{length, take}
 use Rattle.subsumption.specs.Tables.{Tables, pairsOf}
 use Rattle.matching.specs.Solving.{takes}
 use Rattle.matching.specs.Inner.Search.{HoldsAt}
-use Rattle.matching.specs.Inner.Search.Card.{Card}
+use Rattle.matching.specs.Inner.Search.Problem.{Problem}
 use Rattle.matching.specs.Inner.Search.Interval.{IntervalOf}
 
 -- Every pair is as in one of the two.
@@ -19,6 +19,6 @@ pub record Mixed (a b mix : List ℕ) : Type 0 where
 
 -- A question that fails at the choice fails there too.
 abbrev pub StillFails : List ℕ → List ℕ → ℕ → List ℕ → List ℕ → List ℕ → Type 0
-StillFails sets card m choice target failing =
-    (t : Tables) → Card t sets card → m < pairsOf (t .questions) → (full : List ℕ) → IntervalOf t choice full → IntervalOf t target full
+StillFails sets problem m choice target failing =
+    (t : Tables) → Problem t sets problem → m < pairsOf (t .questions) → (full : List ℕ) → IntervalOf t choice full → IntervalOf t target full
     → (HoldsAt t (take (t .variables) choice) m → ⊥) → HoldsAt t (take (t .variables) failing) m → ⊥

@@ -8,10 +8,10 @@ use Rattle.matching.proofs.search.narrow.narrow.Statement.{statement}
 use Rattle.matching.proofs.search.narrow.narrow.Tie as tie
 
 abbrev Inv-loop : tie.InvT-loop
-Inv-loop sets card scratch₀ count high₀ m₀ scratch high m = (length scratch ≡ 16977) × (length high ≡ 8) × Narrowed sets card high₀ high
+Inv-loop sets problem scratch₀ count high₀ m₀ scratch high m = (length scratch ≡ 16977) × (length high ≡ 8) × Narrowed sets problem high₀ high
 
 abbrev μ-loop : tie.MeasureT-loop
-μ-loop sets card scratch₀ count high₀ m₀ scratch high m = count - m
+μ-loop sets problem scratch₀ count high₀ m₀ scratch high m = count - m
 
 shared-slice-read-count : tie.Need-shared-slice-read-count Inv-loop μ-loop
 shared-slice-read-count c = omega (arith, c .before .before .before .before .pre .0 .numbers .long)

@@ -9,10 +9,10 @@ use Rattle.matching.proofs.search.narrow.narrow_question.Statement.{sta
 use Rattle.matching.proofs.search.narrow.narrow_question.Tie as tie
 
 abbrev Inv-loop : tie.InvT-loop
-Inv-loop sets card scratch₀ m right held high₀ k₀ scratch high k = (length scratch ≡ 16977) × (length high ≡ 8) × Narrowed sets card high₀ high
+Inv-loop sets problem scratch₀ m right held high₀ k₀ scratch high k = (length scratch ≡ 16977) × (length high ≡ 8) × Narrowed sets problem high₀ high
 
 abbrev μ-loop : tie.MeasureT-loop
-μ-loop sets card scratch₀ m right held high₀ k₀ scratch high k = 8 - k
+μ-loop sets problem scratch₀ m right held high₀ k₀ scratch high k = 8 - k
 
 add-if1 : tie.Need-add-if1 Inv-loop μ-loop
 add-if1 c = omega (arith, c .before .before .before .pre .0 .numbers .few, c .before .before .before .pre .0 .numbers .long)

@@ -8,10 +8,10 @@ use Rattle.matching.proofs.search.narrow.narrow_variable.Statement.{sta
 use Rattle.matching.proofs.search.narrow.narrow_variable.Tie as tie
 
 abbrev Inv-loop : tie.InvT-loop
-Inv-loop sets card scratch₀ m k full none high₀ q₀ scratch high q = (length scratch ≡ 16977) × Narrowing sets card full high k q
+Inv-loop sets problem scratch₀ m k full none high₀ q₀ scratch high q = (length scratch ≡ 16977) × Narrowing sets problem full high k q
 
 abbrev μ-loop : tie.MeasureT-loop
-μ-loop sets card scratch₀ m k full none high₀ q₀ scratch high q = 64 - q
+μ-loop sets problem scratch₀ m k full none high₀ q₀ scratch high q = 64 - q
 
 mul-next-bit : tie.Need-mul-next-bit Inv-loop μ-loop
 mul-next-bit c = omega arith

@@ -4,10 +4,10 @@ use Rattle.matching.proofs.search.needs.count_all.Statement.{statement}
 use Rattle.matching.proofs.search.needs.count_all.Tie as tie
 
 abbrev Inv-loop : tie.InvT-loop
-Inv-loop card store full interval low high k₀ k = Unit {0}
+Inv-loop problem store full interval low high k₀ k = Unit {0}
 
 abbrev μ-loop : tie.MeasureT-loop
-μ-loop card store full interval low high k₀ k = 8 - k
+μ-loop problem store full interval low high k₀ k = 8 - k
 
 loop-holds : tie.Need-loop-holds Inv-loop μ-loop
 loop-holds c = tt

@@ -6,10 +6,10 @@ use Rattle.matching.proofs.search.needs.count_needs.Statement.{statemen
 use Rattle.matching.proofs.search.needs.count_needs.Tie as tie
 
 abbrev Inv-loop : tie.InvT-loop
-Inv-loop card store k low high most count about₀ allowed₀ met₀ sum₀ c₀ about allowed met sum c = Wanting card store allowed₀ low high k about allowed met sum c
+Inv-loop problem store k low high most count about₀ allowed₀ met₀ sum₀ c₀ about allowed met sum c = Wanting problem store allowed₀ low high k about allowed met sum c
 
 abbrev μ-loop : tie.MeasureT-loop
-μ-loop card store k low high most count about₀ allowed₀ met₀ sum₀ c₀ about allowed met sum c = count - c
+μ-loop problem store k low high most count about₀ allowed₀ met₀ sum₀ c₀ about allowed met sum c = count - c
 
 add-most : tie.Need-add-most Inv-loop μ-loop
 add-most c = omega arith

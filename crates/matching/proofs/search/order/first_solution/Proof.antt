@@ -9,10 +9,10 @@ use Rattle.matching.proofs.search.order.first_solution.Statement.{state
 use Rattle.matching.proofs.search.order.first_solution.Tie as tie
 
 abbrev Inv-loop : tie.InvT-loop
-Inv-loop sets card store₀ scratch₀ full interval₀ witness₀ p₀ store scratch interval witness p = Walking sets card (interval₀ .low) (interval₀ .high) store₀ witness₀ (interval .low) (interval .high) witness store p × (length scratch ≡ 16977)
+Inv-loop sets problem store₀ scratch₀ full interval₀ witness₀ p₀ store scratch interval witness p = Walking sets problem (interval₀ .low) (interval₀ .high) store₀ witness₀ (interval .low) (interval .high) witness store p × (length scratch ≡ 16977)
 
 abbrev μ-loop : tie.MeasureT-loop
-μ-loop sets card store₀ scratch₀ full interval₀ witness₀ p₀ store scratch interval witness p = 512 - p
+μ-loop sets problem store₀ scratch₀ full interval₀ witness₀ p₀ store scratch interval witness p = 512 - p
 
 loop-holds : tie.Need-loop-holds Inv-loop μ-loop
 loop-holds c = (walking-start _ _ _ _ _ _ (c .before .before .before .before .before .pre .1) (c .before .before .before .before .before .pre .0 .room), c .before .before .before .before .before .pre .0 .scratch-long)

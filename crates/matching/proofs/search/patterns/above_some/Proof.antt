@@ -5,10 +5,10 @@ use Rattle.matching.proofs.search.patterns.above_some.Statement.{statem
 use Rattle.matching.proofs.search.patterns.above_some.Tie as tie
 
 abbrev Inv-loop : tie.InvT-loop
-Inv-loop sets card choice sum₀ q₀ sum q = AboveTo sets card choice q sum
+Inv-loop sets problem choice sum₀ q₀ sum q = AboveTo sets problem choice q sum
 
 abbrev μ-loop : tie.MeasureT-loop
-μ-loop sets card choice sum₀ q₀ sum q = 64 - q
+μ-loop sets problem choice sum₀ q₀ sum q = 64 - q
 
 next-bit-requires : tie.Need-next-bit-requires Inv-loop μ-loop
 next-bit-requires c κs = omega arith

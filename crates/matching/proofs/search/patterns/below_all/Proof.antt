@@ -5,10 +5,10 @@ use Rattle.matching.proofs.search.patterns.below_all.Statement.{stateme
 use Rattle.matching.proofs.search.patterns.below_all.Tie as tie
 
 abbrev Inv-loop : tie.InvT-loop
-Inv-loop sets card choice common₀ q₀ common q = BelowTo sets card choice q common
+Inv-loop sets problem choice common₀ q₀ common q = BelowTo sets problem choice q common
 
 abbrev μ-loop : tie.MeasureT-loop
-μ-loop sets card choice common₀ q₀ common q = 64 - q
+μ-loop sets problem choice common₀ q₀ common q = 64 - q
 
 next-bit-requires : tie.Need-next-bit-requires Inv-loop μ-loop
 next-bit-requires c κs = omega arith

@@ -5,10 +5,10 @@ use Rattle.matching.proofs.search.patterns.close_once.Statement.{statem
 use Rattle.matching.proofs.search.patterns.close_once.Tie as tie
 
 abbrev Inv-loop : tie.InvT-loop
-Inv-loop sets card at sum₀ e₀ sum e = ClosingTo sets card at sum₀ e sum
+Inv-loop sets problem at sum₀ e₀ sum e = ClosingTo sets problem at sum₀ e sum
 
 abbrev μ-loop : tie.MeasureT-loop
-μ-loop sets card at sum₀ e₀ sum e = 192 - e
+μ-loop sets problem at sum₀ e₀ sum e = 192 - e
 
 next-in-requires : tie.Need-next-in-requires Inv-loop μ-loop
 next-in-requires c κs = (omega arith, omega arith)

@@ -6,10 +6,10 @@ use Rattle.matching.proofs.search.patterns.close_up.Statement.{statemen
 use Rattle.matching.proofs.search.patterns.close_up.Tie as tie
 
 abbrev Inv-loop : tie.InvT-loop
-Inv-loop sets card at sum₀ sum = Followed sets card at sum₀ sum
+Inv-loop sets problem at sum₀ sum = Followed sets problem at sum₀ sum
 
 abbrev μ-loop : tie.MeasureT-loop
-μ-loop sets card at sum₀ sum = 55340232221128654848 - (sum .first + sum .second + sum .third)
+μ-loop sets problem at sum₀ sum = 55340232221128654848 - (sum .first + sum .second + sum .third)
 
 loop-holds : tie.Need-loop-holds Inv-loop μ-loop
 loop-holds c = followed-first _ _ _ _

@@ -53,7 +53,7 @@ above-some-requires : tie.Need-above-some-requires
 above-some-requires c κs = search needs
 
 returns : tie.Need-returns
-returns c = valued-in _ _ _ _ _ _ _ _ (omega arith) (left-by-var (c .before .before .before .before .before .before .before .before .args .sets .now) (c .before .before .before .before .before .before .before .before .args .card .now) (c .before .before .before .before .before .before .before .before .args .values .now) (c .before .before .before .before .before .before .before .before .args .t4) (c .before .before .before .before .before .before .before .before .args .j) _ (c .before .before .if1 .taken) (c .above-some .ensures))
+returns c = valued-in _ _ _ _ _ _ _ _ (omega arith) (left-by-var (c .before .before .before .before .before .before .before .before .args .sets .now) (c .before .before .before .before .before .before .before .before .args .problem .now) (c .before .before .before .before .before .before .before .before .args .values .now) (c .before .before .before .before .before .before .before .before .args .t4) (c .before .before .before .before .before .before .before .before .args .j) _ (c .before .before .if1 .taken) (c .above-some .ensures))
 
 mul-value-of : tie.Need-mul-value-of
 mul-value-of c = search needs
@@ -80,7 +80,7 @@ join-requires : tie.Need-join-requires
 join-requires c κs = search needs
 
 returns-2 : tie.Need-returns-2
-returns-2 c = valued-in _ _ _ _ _ _ _ _ (omega arith) (left-by-and (c .before .before .before .before .before .before .before .before .before .before .before .args .sets .now) (c .before .before .before .before .before .before .before .before .before .before .before .args .card .now) (c .before .before .before .before .before .before .before .before .before .before .before .args .values .now) (c .before .before .before .before .before .before .before .before .before .before .before .args .t4) (c .before .before .before .before .before .before .before .before .before .before .before .args .j) _ _ _ (c .before .before .before .before .if2 .taken) (c .before .before .value-of .ensures) (c .before .value-of2 .ensures) (c .join .ensures))
+returns-2 c = valued-in _ _ _ _ _ _ _ _ (omega arith) (left-by-and (c .before .before .before .before .before .before .before .before .before .before .before .args .sets .now) (c .before .before .before .before .before .before .before .before .before .before .before .args .problem .now) (c .before .before .before .before .before .before .before .before .before .before .before .args .values .now) (c .before .before .before .before .before .before .before .before .before .before .before .args .t4) (c .before .before .before .before .before .before .before .before .before .before .before .args .j) _ _ _ (c .before .before .before .before .if2 .taken) (c .before .before .value-of .ensures) (c .before .value-of2 .ensures) (c .join .ensures))
 
 mul-words-at : tie.Need-mul-words-at
 mul-words-at c = omega (arith, c .before .before .before .before .before .before .before .pre .0 .numbers .inner-low (c .before .before .before .before .before .before .before .args .j) (c .before .before .before .before .before .before .before .pre .1 .1))
@@ -101,7 +101,7 @@ linked-requires : tie.Need-linked-requires
 linked-requires c κs = search needs
 
 returns-3 : tie.Need-returns-3
-returns-3 c = left-by-exists (c .before .before .before .before .before .before .before .before .before .before .args .sets .now) (c .before .before .before .before .before .before .before .before .before .before .args .card .now) (c .before .before .before .before .before .before .before .before .before .before .args .values .now) (c .before .before .before .before .before .before .before .before .before .before .args .t4) (c .before .before .before .before .before .before .before .before .before .before .args .j) _ (c .before .before .before .before .if1 .left) (c .before .before .before .if2 .left) _ _ _ (omega arith) (c .before .before .words-at .ensures) (c .before .close-up .ensures) (c .linked .ensures)
+returns-3 c = left-by-exists (c .before .before .before .before .before .before .before .before .before .before .args .sets .now) (c .before .before .before .before .before .before .before .before .before .before .args .problem .now) (c .before .before .before .before .before .before .before .before .before .before .args .values .now) (c .before .before .before .before .before .before .before .before .before .before .args .t4) (c .before .before .before .before .before .before .before .before .before .before .args .j) _ (c .before .before .before .before .if1 .left) (c .before .before .before .if2 .left) _ _ _ (omega arith) (c .before .before .words-at .ensures) (c .before .close-up .ensures) (c .linked .ensures)
 
 pub left-value-spec : {M : Type 1} → statement M
 left-value-spec =

@@ -7,10 +7,10 @@ use Rattle.matching.proofs.search.patterns.linked.Statement.{statement}
 use Rattle.matching.proofs.search.patterns.linked.Tie as tie
 
 abbrev Inv-loop : tie.InvT-loop
-Inv-loop sets card inner right j fits sum₀ e₀ sum e = LinkedTo sets card inner right j e sum
+Inv-loop sets problem inner right j fits sum₀ e₀ sum e = LinkedTo sets problem inner right j e sum
 
 abbrev μ-loop : tie.MeasureT-loop
-μ-loop sets card inner right j fits sum₀ e₀ sum e = 192 - e
+μ-loop sets problem inner right j fits sum₀ e₀ sum e = 192 - e
 
 fit-at-requires : tie.Need-fit-at-requires Inv-loop μ-loop
 fit-at-requires c κs = omega arith

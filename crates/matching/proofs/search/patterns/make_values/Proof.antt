@@ -8,10 +8,10 @@ use Rattle.matching.proofs.search.patterns.make_values.Statement.{state
 use Rattle.matching.proofs.search.patterns.make_values.Tie as tie
 
 abbrev Inv-loop : tie.InvT-loop
-Inv-loop sets card values₀ choice m right cone j₀ values j = (length values ≡ length values₀) × ValuedTo sets card values choice m right j
+Inv-loop sets problem values₀ choice m right cone j₀ values j = (length values ≡ length values₀) × ValuedTo sets problem values choice m right j
 
 abbrev μ-loop : tie.MeasureT-loop
-μ-loop sets card values₀ choice m right cone j₀ values j = 192 - j
+μ-loop sets problem values₀ choice m right cone j₀ values j = 192 - j
 
 mul-cone : tie.Need-mul-cone Inv-loop μ-loop
 mul-cone c = omega arith
@@ -44,7 +44,7 @@ loop-less : tie.Need-loop-less Inv-loop μ-loop
 loop-less c = omega (arith, c .before .before .before .before .before .before .before .next-in2 .ensures .after)
 
 loop-again : tie.Need-loop-again Inv-loop μ-loop
-loop-again c = (c .before .before .put-words .ensures .long ∙ c .before .before .before .before .before .before .before .before .before .loop .inv .0, valued-more (c .before .before .before .before .before .before .before .before .before .before .before .before .before .before .args .sets .now) (c .before .before .before .before .before .before .before .before .before .before .before .before .before .before .args .card .now) (c .before .before .before .before .before .before .before .before .before .before .before .before .before .before .args .choice) (c .before .before .before .before .before .before .before .before .before .before .before .before .before .before .args .m) (c .before .before .before .before .before .before .before .before .before .before .before .before .before .before .args .right) _ _ _ _ _ (omega arith) (c .before .before .before .before .before .before .before .before .before .loop .inv .1) (valued-at _ _ _ _ _ _ true _ _ (c .before .before .before .before .before .before .if1 .taken) (valued-in _ _ _ _ _ _ _ _ (omega arith) (c .before .before .before .before .right-value .ensures))) (c .before .before .put-words .ensures) (c .before .before .before .before .before .before .before .next-in2 .ensures))
+loop-again c = (c .before .before .put-words .ensures .long ∙ c .before .before .before .before .before .before .before .before .before .loop .inv .0, valued-more (c .before .before .before .before .before .before .before .before .before .before .before .before .before .before .args .sets .now) (c .before .before .before .before .before .before .before .before .before .before .before .before .before .before .args .problem .now) (c .before .before .before .before .before .before .before .before .before .before .before .before .before .before .args .choice) (c .before .before .before .before .before .before .before .before .before .before .before .before .before .before .args .m) (c .before .before .before .before .before .before .before .before .before .before .before .before .before .before .args .right) _ _ _ _ _ (omega arith) (c .before .before .before .before .before .before .before .before .before .loop .inv .1) (valued-at _ _ _ _ _ _ true _ _ (c .before .before .before .before .before .before .if1 .taken) (valued-in _ _ _ _ _ _ _ _ (omega arith) (c .before .before .before .before .right-value .ensures))) (c .before .before .put-words .ensures) (c .before .before .before .before .before .before .before .next-in2 .ensures))
 
 left-value-requires : tie.Need-left-value-requires Inv-loop μ-loop
 left-value-requires c κs = (c .before .before .before .before .before .before .before .before .before .pre .0, (c .before .before .before .before .loop .inv .1 .long, omega arith, c .before .before .before .before .before .before .before .before .before .pre .1 .1))
@@ -59,7 +59,7 @@ loop-less-2 : tie.Need-loop-less-2 Inv-loop μ-loop
 loop-less-2 c = omega (arith, c .before .before .before .before .before .before .before .next-in2 .ensures .after)
 
 loop-again-2 : tie.Need-loop-again-2 Inv-loop μ-loop
-loop-again-2 c = (c .before .before .put-words2 .ensures .long ∙ c .before .before .before .before .before .before .before .before .before .loop .inv .0, valued-more (c .before .before .before .before .before .before .before .before .before .before .before .before .before .before .args .sets .now) (c .before .before .before .before .before .before .before .before .before .before .before .before .before .before .args .card .now) (c .before .before .before .before .before .before .before .before .before .before .before .before .before .before .args .choice) (c .before .before .before .before .before .before .before .before .before .before .before .before .before .before .args .m) (c .before .before .before .before .before .before .before .before .before .before .before .before .before .before .args .right) _ _ _ _ _ (omega arith) (c .before .before .before .before .before .before .before .before .before .loop .inv .1) (valued-at _ _ _ _ _ _ false _ _ (c .before .before .before .before .before .before .if1 .left) (c .before .before .before .before .left-value .ensures)) (c .before .before .put-words2 .ensures) (c .before .before .before .before .before .before .before .next-in2 .ensures))
+loop-again-2 c = (c .before .before .put-words2 .ensures .long ∙ c .before .before .before .before .before .before .before .before .before .loop .inv .0, valued-more (c .before .before .before .before .before .before .before .before .before .before .before .before .before .before .args .sets .now) (c .before .before .before .before .before .before .before .before .before .before .before .before .before .before .args .problem .now) (c .before .before .before .before .before .before .before .before .before .before .before .before .before .before .args .choice) (c .before .before .before .before .before .before .before .before .before .before .before .before .before .before .args .m) (c .before .before .before .before .before .before .before .before .before .before .before .before .before .before .args .right) _ _ _ _ _ (omega arith) (c .before .before .before .before .before .before .before .before .before .loop .inv .1) (valued-at _ _ _ _ _ _ false _ _ (c .before .before .before .before .before .before .if1 .left) (c .before .before .before .before .left-value .ensures)) (c .before .before .put-words2 .ensures) (c .before .before .before .before .before .before .before .next-in2 .ensures))
 
 same-length : tie.Need-same-length Inv-loop μ-loop
 same-length c = c .before .loop .inv .0

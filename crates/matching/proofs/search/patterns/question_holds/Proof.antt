@@ -59,7 +59,7 @@ same-length : tie.Need-same-length
 same-length c = search needs
 
 returns : tie.Need-returns
-returns c = tested-right (c .before .before .before .before .before .before .before .before .before .before .before .before .before .args .sets .now) (c .before .before .before .before .before .before .before .before .before .before .before .before .before .args .card .now) (c .before .before .before .before .before .before .before .before .before .before .before .before .before .args .choice) (c .before .before .before .before .before .before .before .before .before .before .before .before .before .args .m) _ _ (c .before .before .before .before .before .before .if1 .taken) (c .before .before .before .before .make-values .ensures) (c .has .ensures)
+returns c = tested-right (c .before .before .before .before .before .before .before .before .before .before .before .before .before .args .sets .now) (c .before .before .before .before .before .before .before .before .before .before .before .before .before .args .problem .now) (c .before .before .before .before .before .before .before .before .before .before .before .before .before .args .choice) (c .before .before .before .before .before .before .before .before .before .before .before .before .before .args .m) _ _ (c .before .before .before .before .before .before .if1 .taken) (c .before .before .before .before .make-values .ensures) (c .has .ensures)
 
 add-if2 : tie.Need-add-if2
 add-if2 c = omega (arith, c .before .before .before .before .before .before .before .pre .0 .numbers .left-low (c .before .before .before .before .before .before .before .args .m) (c .before .before .before .before .before .before .before .pre .1 .1))
@@ -95,7 +95,7 @@ same-length-2 : tie.Need-same-length-2
 same-length-2 c = search needs
 
 returns-2 : tie.Need-returns-2
-returns-2 c = tested-left (c .before .before .before .before .before .before .before .before .before .before .before .before .before .before .before .before .before .args .sets .now) (c .before .before .before .before .before .before .before .before .before .before .before .before .before .before .before .before .before .args .card .now) (c .before .before .before .before .before .before .before .before .before .before .before .before .before .before .before .before .before .args .choice) (c .before .before .before .before .before .before .before .before .before .before .before .before .before .before .before .before .before .args .m) _ _ _ _ (c .before .before .before .before .before .before .before .before .before .before .if1 .left) (c .before .before .before .before .before .before .before .before .if2 .taken) (c .before .before .before .before .before .before .make-values2 .ensures) (c .before .before .words-at .ensures) (c .before .close-up .ensures) (c .is-in .ensures)
+returns-2 c = tested-left (c .before .before .before .before .before .before .before .before .before .before .before .before .before .before .before .before .before .args .sets .now) (c .before .before .before .before .before .before .before .before .before .before .before .before .before .before .before .before .before .args .problem .now) (c .before .before .before .before .before .before .before .before .before .before .before .before .before .before .before .before .before .args .choice) (c .before .before .before .before .before .before .before .before .before .before .before .before .before .before .before .before .before .args .m) _ _ _ _ (c .before .before .before .before .before .before .before .before .before .before .if1 .left) (c .before .before .before .before .before .before .before .before .if2 .taken) (c .before .before .before .before .before .before .make-values2 .ensures) (c .before .before .words-at .ensures) (c .before .close-up .ensures) (c .is-in .ensures)
 
 mul-has-2 : tie.Need-mul-has-2
 mul-has-2 c = omega (arith, c .before .before .before .before .before .before .before .before .before .pre .0 .numbers .left-low (c .before .before .before .before .before .before .before .before .before .args .m) (c .before .before .before .before .before .before .before .before .before .pre .1 .1))
@@ -104,7 +104,7 @@ has-requires-2 : tie.Need-has-requires-2
 has-requires-2 c κs = (c .before .before .before .before .before .before .before .before .before .pre .0 .numbers .right-low (c .before .before .before .before .before .before .before .before .before .args .m) (c .before .before .before .before .before .before .before .before .before .pre .1 .1), omega (arith, c .before .before .before .before .before .before .before .before .before .pre .0 .numbers .left-low (c .before .before .before .before .before .before .before .before .before .args .m) (c .before .before .before .before .before .before .before .before .before .pre .1 .1)))
 
 returns-3 : tie.Need-returns-3
-returns-3 c = tested-free (c .before .before .before .before .before .before .before .before .before .before .args .sets .now) (c .before .before .before .before .before .before .before .before .before .before .args .card .now) (c .before .before .before .before .before .before .before .before .before .before .args .choice) (c .before .before .before .before .before .before .before .before .before .before .args .m) _ (c .before .before .before .if1 .left) (c .before .if2 .left) (c .has2 .ensures)
+returns-3 c = tested-free (c .before .before .before .before .before .before .before .before .before .before .args .sets .now) (c .before .before .before .before .before .before .before .before .before .before .args .problem .now) (c .before .before .before .before .before .before .before .before .before .before .args .choice) (c .before .before .before .before .before .before .before .before .before .before .args .m) _ (c .before .before .before .if1 .left) (c .before .if2 .left) (c .has2 .ensures)
 
 pub question-holds-spec : {M : Type 1} → statement M
 question-holds-spec =

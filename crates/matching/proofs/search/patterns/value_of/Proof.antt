@@ -21,7 +21,7 @@ words-at-requires : tie.Need-words-at-requires
 words-at-requires c κs = search needs
 
 returns : tie.Need-returns
-returns c = read-made (c .before .before .before .before .before .before .args .sets .now) (c .before .before .before .before .before .before .args .card .now) (c .before .before .before .before .before .before .args .values .now) (c .before .before .before .before .before .before .args .right) (c .before .before .before .before .before .before .args .id) _ (c .before .if1 .taken) (c .words-at .ensures)
+returns c = read-made (c .before .before .before .before .before .before .args .sets .now) (c .before .before .before .before .before .before .args .problem .now) (c .before .before .before .before .before .before .args .values .now) (c .before .before .before .before .before .before .args .right) (c .before .before .before .before .before .before .args .id) _ (c .before .if1 .taken) (c .words-at .ensures)
 
 line-at-requires : tie.Need-line-at-requires
 line-at-requires c κs = search needs
@@ -30,7 +30,7 @@ words-at-requires-2 : tie.Need-words-at-requires-2
 words-at-requires-2 c κs = omega (arith, c .line-at .ensures, line-low (c .before .before .before .before .before .before .args .right) (c .before .before .before .before .before .before .args .id) (omega arith))
 
 returns-2 : tie.Need-returns-2
-returns-2 c = read-line (c .before .before .before .before .before .before .before .args .sets .now) (c .before .before .before .before .before .before .before .args .card .now) (c .before .before .before .before .before .before .before .args .values .now) (c .before .before .before .before .before .before .before .args .right) (c .before .before .before .before .before .before .before .args .id) _ _ (c .before .before .if1 .left) (c .before .line-at .ensures) (c .words-at2 .ensures)
+returns-2 c = read-line (c .before .before .before .before .before .before .before .args .sets .now) (c .before .before .before .before .before .before .before .args .problem .now) (c .before .before .before .before .before .before .before .args .values .now) (c .before .before .before .before .before .before .before .args .right) (c .before .before .before .before .before .before .before .args .id) _ _ (c .before .before .if1 .left) (c .before .line-at .ensures) (c .words-at2 .ensures)
 
 pub value-of-spec : {M : Type 1} → statement M
 value-of-spec =

@@ -7,10 +7,10 @@ use Rattle.matching.proofs.search.solve.failing_of.Statement.{statement
 use Rattle.matching.proofs.search.solve.failing_of.Tie as tie
 
 abbrev Inv-loop : tie.InvT-loop
-Inv-loop sets card scratch₀ choice right count m₀ scratch m = HoldTo sets card choice right m × (length scratch ≡ 16977)
+Inv-loop sets problem scratch₀ choice right count m₀ scratch m = HoldTo sets problem choice right m × (length scratch ≡ 16977)
 
 abbrev μ-loop : tie.MeasureT-loop
-μ-loop sets card scratch₀ choice right count m₀ scratch m = count - m
+μ-loop sets problem scratch₀ choice right count m₀ scratch m = count - m
 
 shared-slice-read-count : tie.Need-shared-slice-read-count Inv-loop μ-loop
 shared-slice-read-count c = omega (arith, c .before .before .before .before .pre .0 .numbers .long)

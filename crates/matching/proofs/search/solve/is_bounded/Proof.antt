@@ -4,10 +4,10 @@ use Rattle.matching.proofs.search.solve.is_bounded.Statement.{statement
 use Rattle.matching.proofs.search.solve.is_bounded.Tie as tie
 
 abbrev Inv-loop : tie.InvT-loop
-Inv-loop card full k₀ k = Unit {0}
+Inv-loop problem full k₀ k = Unit {0}
 
 abbrev μ-loop : tie.MeasureT-loop
-μ-loop card full k₀ k = 8 - k
+μ-loop problem full k₀ k = 8 - k
 
 loop-holds : tie.Need-loop-holds Inv-loop μ-loop
 loop-holds c = tt

@@ -14,7 +14,7 @@ part-clamp-end : tie.Need-part-clamp-end
 part-clamp-end c = omega (arith, c .before .before .before .before .before .before .pre .0 .shaped .numbers .long)
 
 clamp-requires : tie.Need-clamp-requires
-clamp-requires c κs = (counts-long (c .before .before .before .before .before .before .before .args .card .now) (c .before .before .before .before .before .before .before .pre .0 .shaped .numbers .long), c .before .before .before .before .before .before .before .pre .1 .1, c .before .before .before .before .before .before .before .pre .1 .2)
+clamp-requires c κs = (counts-long (c .before .before .before .before .before .before .before .args .problem .now) (c .before .before .before .before .before .before .before .pre .0 .shaped .numbers .long), c .before .before .before .before .before .before .before .pre .1 .1, c .before .before .before .before .before .before .before .pre .1 .2)
 
 step-by-hint-requires : tie.Need-step-by-hint-requires
 step-by-hint-requires c κs = (c .before .before .before .before .before .before .before .before .before .before .pre .0, (c .before .before .before .before .before .before .before .before .before .before .pre .1 .0, c .before .before .before .before .before .before .before .before .before .before .pre .1 .1, c .before .before .clamp .ensures .long))

@@ -13,7 +13,7 @@ part-is-few-end : tie.Need-part-is-few-end
 part-is-few-end c = omega (arith, c .before .before .before .before .pre .0 .shaped .numbers .long)
 
 is-few-requires : tie.Need-is-few-requires
-is-few-requires c κs = (counts-long (c .before .before .before .before .before .args .card .now) (c .before .before .before .before .before .pre .0 .shaped .numbers .long), c .before .before .before .before .before .pre .1 .1)
+is-few-requires c κs = (counts-long (c .before .before .before .before .before .args .problem .now) (c .before .before .before .before .before .pre .0 .shaped .numbers .long), c .before .before .before .before .before .pre .1 .1)
 
 returns : tie.Need-returns
 returns c = ((c .before .before .before .before .before .before .before .pre .1 .1, c .before .before .before .before .before .before .before .pre .1 .0), (c .before .before .before .before .before .before .before .pre .0 .room, tried-over _ _ _ _ _ (c .before .is-few .result) (c .before .is-few .ensures) (c .if1 .taken)))

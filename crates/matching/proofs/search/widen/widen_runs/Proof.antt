@@ -10,10 +10,10 @@ use Rattle.matching.proofs.search.widen.widen_runs.Statement.{statement
 use Rattle.matching.proofs.search.widen.widen_runs.Tie as tie
 
 abbrev Inv-loop : tie.InvT-loop
-Inv-loop sets card scratch₀ m target failing₀ from₀ size₀ scratch failing from size = (length scratch ≡ 16977) × Mixed failing₀ target failing × StillFails sets card m failing₀ target failing × (1 ≤ size) × (size ≤ 512)
+Inv-loop sets problem scratch₀ m target failing₀ from₀ size₀ scratch failing from size = (length scratch ≡ 16977) × Mixed failing₀ target failing × StillFails sets problem m failing₀ target failing × (1 ≤ size) × (size ≤ 512)
 
 abbrev μ-loop : tie.MeasureT-loop
-μ-loop sets card scratch₀ m target failing₀ from₀ size₀ scratch failing from size = (512 - from) * 1024 + size
+μ-loop sets problem scratch₀ m target failing₀ from₀ size₀ scratch failing from size = (512 - from) * 1024 + size
 
 loop-holds : tie.Need-loop-holds Inv-loop μ-loop
 loop-holds c = (omega arith, mixed-same _ _ (c .before .before .before .pre .1 .1 .0), still-none _ _ _ _ _, omega arith, omega arith)
