@@ -1,4 +1,4 @@
-//! 01's sample cards A to G, K and L.
+//! 01's sample cards A to G, K and L, and M to O of the requests.
 
 use hermitcasket_tests::capi::{self, Answer};
 use hermitcasket_tests::compare;
@@ -76,4 +76,29 @@ fn k_0_is_below_2_without_unrolling() {
 #[test]
 fn l_1_is_not_below_0() {
     expect(false, loop_problem(), &[], 1, 0);
+}
+
+/// Entries 0 and 2 are twins, and only 2 stands in an inclusion.
+#[test]
+fn m_parts_are_0_1() {
+    let tables = Tables::new(&[[1, 5, 0], [1, 7, 0], [1, 5, 0]], &[[1, 2]], &[], 0);
+    let mut out = [0xabcd; ATOM_ROOM];
+    assert_eq!(capi::atoms(tables.lend(), &mut out), Answer::done(2));
+    assert_eq!(out[..2], [0, 1]);
+}
+
+/// "Some" by role 3 and by role 4, which is wider.
+fn role_problem() -> Tables {
+    let tables = Tables::new(&[[1, 5, 0], [2, 3, 0], [2, 4, 0]], &[], &[], 0);
+    Tables { roles: vec![3, 4], ..tables }
+}
+
+#[test]
+fn n_1_is_below_2() {
+    expect(true, role_problem(), &[], 1, 2);
+}
+
+#[test]
+fn o_2_is_not_below_1() {
+    expect(false, role_problem(), &[], 2, 1);
 }

@@ -1,4 +1,4 @@
--- The sample cards A to L (01, "Sample cards, proved"), as one table of sentences on the definitions.
+-- The sample cards A to L (01, "Sample cards, proved") and M to O of the requests (02), as one table of sentences on the definitions.
 use Prim.Native.Nat.{ℕ}
 use mathlib.Core.Path.{_≡_}
 use mathlib.Core.List.{List, [], _∷_}
@@ -32,7 +32,7 @@ Says t noFilling = (σ : Substitution t) → SolvesBy t σ → ⊥
 
 -- The cards' letters.
 pub data Letter : Type 0 where
-  A B C D E F G H I J K L : Letter
+  A B C D E F G H I J K L M N O : Letter
 
 pub record Card : Type 0 where
   pub letter : Letter
@@ -53,6 +53,14 @@ house questions = tables entries (2 ∷ 3 ∷ []) questions [] 1
 -- The tables of cards K and L.
 unfoldable pub looped : Tables
 looped = tables (1 ∷ 1 ∷ 0 ∷ 2 ∷ 0 ∷ 0 ∷ 2 ∷ 0 ∷ 1 ∷ []) (0 ∷ 1 ∷ []) [] [] 0
+
+-- Twins (02, A.2): 0 is a copy of 2, and stands in no inclusion itself.
+unfoldable pub copied : Tables
+copied = tables (1 ∷ 5 ∷ 0 ∷ 1 ∷ 7 ∷ 0 ∷ 1 ∷ 5 ∷ 0 ∷ []) (1 ∷ 2 ∷ []) [] [] 0
+
+-- Roles (02, A.6): 1 and 2 are "some" of 0, by a narrow role and by the wide one above it.
+unfoldable pub narrowed : Tables
+narrowed = tables (1 ∷ 5 ∷ 0 ∷ 2 ∷ 3 ∷ 0 ∷ 2 ∷ 4 ∷ 0 ∷ []) [] [] (3 ∷ 4 ∷ []) 0
 
 unfoldable pub questions : List ℕ
 questions = 5 ∷ 3 ∷ 2 ∷ 4 ∷ []
@@ -75,6 +83,9 @@ cards =
     ∷ card J (house []) (filling (0 ∷ []))
     ∷ card K looped (alwaysBelow 0 2)
     ∷ card L looped (neverBelow 1 0)
+    ∷ card M copied (parts (0 ∷ 1 ∷ []))
+    ∷ card N narrowed (alwaysBelow 1 2)
+    ∷ card O narrowed (neverBelow 2 1)
     ∷ []
 
 -- Settings of the sample problem that permit every atom, and 64 of them (02, A.4: its count is 4).
