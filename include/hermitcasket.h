@@ -49,8 +49,8 @@
  * At most 192 entries, 96 inclusions, 32 questions, 32 role pairs, 8 blanks, 64 parts; names to
  * 999, roles to 99.
  *
- * One entry is below another when this is so in every stock that obeys the inclusions and the role
- * pairs.
+ * One entry is below another when in every stock that obeys the inclusions and the role pairs all that
+ * belongs to the one belongs to the other.
  *
  * The parts come from the ids of kinds 1 and 2 that stand, at any depth, in an inclusion or in a
  * blank-free right side of a question. Entries that are built alike (same kind, same name, role or
@@ -123,6 +123,8 @@
  *           byte of the class that takes them past 192
  *   2       unknown kind, number out of range, unused field    id
  *           not 0
+ *           a blank given alone is none (hc_chosen; tested     0
+ *           right after 1)
  *           of a stock: a row of another form, or with a       row
  *           thing that the stock lacks
  *   3       inner id not smaller                               id
@@ -190,9 +192,10 @@ extern "C" {
 #define HC_MAX_TEXT 8192        /* bytes of a catalogue in OWL functional syntax */
 #define HC_MAX_DEPTH 32         /* of a class in it */
 
-/* What output buffers want, however little is written: a filling one number a blank; the others this.
- * How many numbers the rows of a stock are depends on the tables: hc_show tells it as the place of
- * refusal 8. */
+/* What output buffers want, however little is written: a filling one number a blank, the fillings of
+ * several question tables so many for each, renumbered tables as many numbers as the tables; the
+ * others this. How many numbers the rows of a stock are depends on the tables: hc_show tells it as
+ * the place of refusal 8. */
 #define HC_PARTS_ROOM 64                                           /* numbers, hc_atoms */
 #define HC_CHOSEN_ROOM 64                                          /* numbers, hc_chosen */
 #define HC_ROW_BYTES 24                                            /* bytes of a row of the below table */
@@ -231,8 +234,8 @@ enum hc_refusal {
     HC_FORWARD_IN_ORDER = 22
 };
 
-/* number 0: done, and place is 0. Otherwise the refusal, and value is 0, but for the count that
- * hc_match_counted gives. */
+/* number 0: done, and place is 0. Otherwise the refusal, and value is 0, but for hc_match_counted: the
+ * count with 10, the allowance with 14. */
 typedef struct {
     uint16_t number;
     uint64_t place;
@@ -352,7 +355,7 @@ hc_answer hc_match_counted(const uint16_t *entries, size_t entries_len,
  * no filling within the settings makes the group's questions hold and, with all parts permitted and
  * 64 everywhere, that no replacement does. A place that is no question is refusal 4, place 0. The
  * groups' fillings put together, bit by bit, are the filling of hc_match_within, which has none
- * exactly when some group has none. */
+ * exactly when some group has none. value: 0. */
 hc_answer hc_match_group(const uint16_t *entries, size_t entries_len,
                          const uint16_t *inclusions, size_t inclusions_len,
                          const uint16_t *questions, size_t questions_len,

@@ -100,7 +100,7 @@ fn wrong_lines_are_refused() {
             "other",
             "1 3 3 0\n",
             ["5", "3"],
-            "refusal 12: after 1 lines the last one is another pair",
+            "refusal 12: the last line is another pair (lines: 1)",
         ),
         ("never", "6 3 2 0\n", ["3", "2"], "refusal 12: line 0 does not follow by its rule"),
     ] {

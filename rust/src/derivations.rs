@@ -4,8 +4,19 @@ use crate::raw;
 use crate::refusal::{Asked, Beside};
 use crate::{limits, Result, Tables};
 
-/// Lines of four numbers: a rule (1 to 8), the left id, the right id and one number more, as
-/// include/hermitcasket.h and docs/FORMATS.md have them. The premises of a line stand before it.
+/// Lines of four numbers: a rule, the left id, the right id and one number more. The premises of a line stand
+/// before it. By the rules the left is subsumed by the right, since
+///
+/// 1. they are equal, or both are the same name;
+/// 2. the right is top;
+/// 3. the left is a conjunction, and its first (0) or second (1) member is subsumed by the right;
+/// 4. the right is a conjunction, and the left is subsumed by both members;
+/// 5. both are existentials, by one role or the left one by a narrower role, and inner is subsumed by inner;
+/// 6. the left is subsumed by the left of an inclusion (its place), and its right by the right;
+/// 7. the left is a variable, and an atom chosen for it (its id) is subsumed by the right;
+/// 8. the right is a variable, and the left is subsumed by each atom chosen for it.
+///
+/// The number more is what stands in brackets, else 0.
 pub type Derivation = Vec<[u16; 4]>;
 
 /// Rows of four out of a list whose length is a multiple of it.

@@ -51,7 +51,8 @@ impl Counted {
 
 impl Tables<'_> {
     /// The first assignment, in the order of assignments, that makes every question hold; or `None`, exactly
-    /// when no substitution of concepts of any size, names and roles for the variables does.
+    /// when no substitution of concepts of any size, names and roles for the variables does. In that order, where
+    /// two assignments first differ (variable 0 first, bits rising), the one that leaves the atom out is earlier.
     ///
     /// ```
     /// # use hermitcasket::Tables;
@@ -97,8 +98,9 @@ impl Tables<'_> {
         self.found(answer, out, Asked::Nothing)
     }
 
-    /// The same on an allowance of decisions. The count belongs to the tables and settings, not to the
-    /// machine; a larger allowance alters no `Found` and no `None`.
+    /// The same on an allowance of decisions. Pairs of a variable and an atom are settled one by one in the order
+    /// of assignments, and a decision is a partial choice with which all questions can still hold. The count belongs
+    /// to the tables and settings, not to the machine; a larger allowance alters no `Found` and no `None`.
     ///
     /// ```
     /// # use hermitcasket::{Counted, Tables};
@@ -146,7 +148,7 @@ impl Tables<'_> {
     }
 
     /// Up to eight question tables, which lie one after another in `questions`, of so many numbers each. Each
-    /// has its share of decisions and what those before it left over.
+    /// has its share of decisions and what those before it left over. Every atom is permitted, and 64 of them.
     ///
     /// ```
     /// # use hermitcasket::{Counted, Tables};

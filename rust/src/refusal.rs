@@ -170,7 +170,7 @@ fn words(reason: Reason, place: u64, beside: Beside) -> &'static str {
         Reason::BadSyntax => bad_syntax(place, beside.length),
         Reason::TooDeep => "the class at byte {} begins over 32 deep",
         Reason::BadSettings if place == u64::from(beside.variables) => {
-            "each list of settings must have {} numbers, one a variable"
+            "each list of settings must have a number for each variable, {} in all"
         }
         Reason::BadSettings => "variable {} is permitted a bit past the atoms, or over 64 of them",
         Reason::BadBatch if place == 8 => {
@@ -208,7 +208,7 @@ fn bad_assignment(place: u64, beside: Beside) -> &'static str {
     if beside.asked == Asked::Told {
         "told pair {} has a variable or an atom that is none"
     } else if place == u64::from(beside.variables) {
-        "the assignment must have {} numbers, one a variable"
+        "the assignment must have a number for each variable, {} in all"
     } else {
         "variable {} is assigned a bit past the atoms"
     }
@@ -218,7 +218,7 @@ fn bad_derivation(place: u64, lines: usize) -> &'static str {
     if lines == 0 {
         "the derivation has no lines"
     } else if place == lines as u64 {
-        "after {} lines the last one is another pair"
+        "the last line is another pair (lines: {})"
     } else {
         "line {} does not follow by its rule"
     }

@@ -58,7 +58,9 @@ impl Tables<'_> {
         self.value(raw::check(*self), Asked::Nothing).map(drop)
     }
 
-    /// The ids of the atoms (parts), rising. The bits of a choice stand for the places in this list.
+    /// The ids of the atoms (parts), rising: the names and existentials that stand, at any depth, in an inclusion
+    /// or in a right side of a question without variables; of those that are built alike the lowest. The bits of a
+    /// choice stand for the places in this list.
     ///
     /// ```
     /// # use hermitcasket::Tables;

@@ -102,7 +102,7 @@ fn assignments_are_found() {
     assert_eq!(SAMPLE.chosen(&[4], 0), Ok(vec![3]));
     assert_eq!(SAMPLE.chosen(&[5], 0), Ok(vec![0, 3]));
     assert_eq!(refused(SAMPLE.chosen(&[4], 1)), due(2, 0, "the asked variable is none"));
-    let numbers = "the assignment must have 1 numbers, one a variable";
+    let numbers = "the assignment must have a number for each variable, 1 in all";
     assert_eq!(refused(SAMPLE.chosen(&[], 0)), due(9, 1, numbers));
     assert_eq!(
         refused(SAMPLE.chosen(&[8], 0)),
@@ -129,7 +129,7 @@ fn settings_are_heeded() {
     let short = Settings { largest: vec![], ..all };
     assert_eq!(
         refused(SAMPLE.find_group(&short, 0)),
-        due(19, 1, "each list of settings must have 1 numbers, one a variable")
+        due(19, 1, "each list of settings must have a number for each variable, 1 in all")
     );
     // no atoms and all 64 of them
     let empty = Tables { variables: 2, ..Tables::default() };
@@ -187,7 +187,7 @@ fn derivations_are_written_and_checked() {
     assert_eq!(SAMPLE.check_derivation(&[4], 5, 3, &lines), Ok(()));
     let words = "the pair is not subsumed, so there is no derivation of it";
     assert_eq!(refused(SAMPLE.derivation(&[4], 3, 5)), due(11, 0, words));
-    let words = "after 3 lines the last one is another pair";
+    let words = "the last line is another pair (lines: 3)";
     assert_eq!(refused(SAMPLE.check_derivation(&[4], 3, 5, &lines)), due(12, 3, words));
     let words = "line 0 does not follow by its rule";
     assert_eq!(refused(SAMPLE.check_derivation(&[4], 5, 3, &lines[1..])), due(12, 0, words));
