@@ -12,9 +12,9 @@ use Rattle.subsumption.specs.Tables.{Tables}
 use Rattle.subsumption.specs.Check.{tableFault}
 use Rattle.subsumption.proofs.Bools.{last-cases, le-or-lt}
 use Rattle.subsumption.proofs.Accepted.{wellFormed}
+use Rattle.matching.specs.Inner.Search.{Decided, Within}
 use Rattle.matching.specs.Inner.Search.Problem.{questionCount}
 use Rattle.matching.specs.Inner.Search.Nogoods.{words, Put}
-use Rattle.matching.specs.Inner.Search.Pairs.{Contained}
 use Rattle.matching.specs.Inner.Search.Solve.{FailingOf}
 use Rattle.matching.proofs.SearchLaws.Monotone.{monotone, antitone, left-free}
 use Rattle.matching.proofs.SearchLaws.Fronts.{front-within}
@@ -144,7 +144,7 @@ module _ (t : Tables) (h : tableFault t ≡ Done) where
   told-follows right false choice other f x = λ s. x (asked-easier right other choice f s)
 
 pub follows-alike :
-    (b right passed : Bool) (choice other : List ℕ) → Bool·beq right passed ≡ true → Contained choice other b → FollowsIf b right passed choice other
+    (b right passed : Bool) (choice other : List ℕ) → Bool·beq right passed ≡ true → Decided (Within choice other) b → FollowsIf b right passed choice other
 follows-alike true true true choice other e w = w
 follows-alike true false false choice other e w = w
 follows-alike true true false choice other e w = absurd (false≢true e)
@@ -152,7 +152,7 @@ follows-alike true false true choice other e w = absurd (false≢true e)
 follows-alike false right passed choice other e w = tt
 
 pub follows-unlike :
-    (b right passed : Bool) (choice other : List ℕ) → Bool·beq right passed ≡ false → Contained other choice b → FollowsIf b right passed choice other
+    (b right passed : Bool) (choice other : List ℕ) → Bool·beq right passed ≡ false → Decided (Within other choice) b → FollowsIf b right passed choice other
 follows-unlike true true false choice other e w = w
 follows-unlike true false true choice other e w = w
 follows-unlike true true true choice other e w = absurd (true≢false e)

@@ -6,15 +6,14 @@ use mathlib.Core.Bool.{Bool, true, false, true≢false}
 use mathlib.Core.Logic.{⊎-elim}
 use native.Mathlib.Omega.{arith}
 use native.Mathlib.Nat.{mul-le-mul-right}
-use lib.Bits.{bitOr}
 use lib.ListN.{length, getD, take, drop, replicate, length-take, getD-replicate, List·getD-eq-default}
 use lib.Seq.{getD-take, length-take-le}
 use Rattle.subsumption.specs.declared.refusal.Outcome.the-variants.{Done}
 use Rattle.subsumption.specs.Tables.{Tables}
 use Rattle.subsumption.specs.Atoms.{bit}
 use Rattle.subsumption.specs.Check.{tableFault, assignmentFault}
-use Rattle.subsumption.proofs.Bools.{same-bool, le-or-lt}
-use Rattle.subsumption.proofs.Bits.{bit-of-zero, bit-or-cases, bit-or-right}
+use Rattle.subsumption.proofs.Bools.{le-or-lt}
+use Rattle.subsumption.proofs.Bits.{bit-of-zero}
 use Rattle.subsumption.proofs.Accepted.{wellFormed}
 use Rattle.settings.specs.Settings.{Settings, Heeds, size}
 use Rattle.settings.specs.Inner.Counts.{Over, Counted}
@@ -24,7 +23,6 @@ use Rattle.matching.specs.Solving.{takes}
 use Rattle.matching.specs.Inner.Search.{Decided, Within}
 use Rattle.matching.specs.Inner.Search.Interval.{IntervalOf}
 use Rattle.matching.specs.Inner.Search.Pairs.{Changed}
-use Rattle.matching.proofs.SearchLaws.Choices.{same-bits}
 use Rattle.matching.proofs.SearchLaws.Counts.{counts-same, few-front}
 use Rattle.matching.proofs.SearchLaws.Interval.{decided-true, decided-false, low-accepted}
 use Rattle.matching.proofs.SearchLaws.Fronts.{below-bits, front-known, front-takes, accepted-bits, accept}
@@ -41,13 +39,6 @@ use Rattle.allowance.proofs.PlaceLaws.{words-none, words-leave}
 not-that : (b : Bool) → (b ≡ true → ⊥) → b ≡ false
 not-that true h = absurd (h refl)
 not-that false h = refl
-
--- words that differ from their union with others are not within these
-pub word-outside : (a b : List ℕ) (k : ℕ) → (bitOr (getD a k 0) (getD b k 0) ≡ getD b k 0 → ⊥) → Within a b → ⊥
-word-outside a b k n w =
-    n
-    (same-bits _ _
-    (λ q. same-bool _ _ (λ e. ⊎-elim (λ x. w k q x) (λ x. x) (bit-or-cases (getD a k 0) (getD b k 0) q e)) (λ e. bit-or-right (getD a k 0) (getD b k 0) q e)))
 
 module _ (t : Tables) (settings : Settings) (sets problem permitted : List ℕ) (count : ℕ) (lent : Lent t settings sets problem permitted count) where
   few-variables : t .variables ≤ 8

@@ -7,11 +7,11 @@ use crate::place::next_sibling;
 use matching::helpers::ASKED;
 use matching::helpers::MOST;
 use matching::helpers::SCRATCH;
+use matching::helpers::is_within;
 use settings::helpers::is_few;
 ghost use mathlib.Core.Path.{_≡_};
 ghost use Prim.Native.Nat.{_*_, _≤_};
 ghost use lib.ListN.{length};
-ghost use Rattle.matching.specs.Inner.Search.{Decided, Within};
 ghost use Rattle.matching.specs.Inner.Search.Problem.{Shaped};
 ghost use Rattle.allowance.specs.Inner.Walk.{OpenedBy, Walked};
 
@@ -21,21 +21,6 @@ pub struct Trail {
     pub spent: bool,
     pub choice: [u64; 8],
     pub met: u32,
-}
-
-// Whether the one takes only what the other does, or not: matching's `is_within` promises nothing with a no.
-fn is_permitted(low: [u64; 8], permitted: [u64; 8]) -> bool
-    requires { ⌜ (length low ≡ 8) × (length permitted ≡ 8) ⌝ }
-    ensures { λ r. ⌜ Decided (Within low permitted) r ⌝ }
-{
-    let mut k: usize = 0;
-    while k < 8 {
-        if (low[k] | permitted[k]) != permitted[k] {
-            return false;
-        }
-        k += 1;
-    }
-    true
 }
 
 fn is_open(
@@ -54,7 +39,7 @@ fn is_open(
 {
     let low = place.low;
     let high = place.high;
-    if !is_permitted(low, permitted) {
+    if !is_within(low, permitted) {
         return false;
     }
     if !is_few(&problem[MOST..ASKED], low) {

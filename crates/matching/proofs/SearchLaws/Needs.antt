@@ -20,9 +20,9 @@ use Rattle.square.proofs.BitLaws.{lacking}
 use Rattle.settings.specs.Settings.{size}
 use Rattle.settings.proofs.SizeLaws.{size-most}
 use Rattle.matching.specs.Solving.{takes}
-use Rattle.matching.specs.Inner.Search.{Within, Between, Meets}
+use Rattle.matching.specs.Inner.Search.{Decided, Within, Between, Meets}
 use Rattle.matching.specs.Inner.Search.Problem.{mostAt}
-use Rattle.matching.specs.Inner.Search.Pairs.{Joined, Met, Contained}
+use Rattle.matching.specs.Inner.Search.Pairs.{Joined, Met}
 use Rattle.matching.specs.Inner.Search.Interval.{IntervalOf}
 use Rattle.matching.specs.Inner.Search.Nogoods.{used, lowAt, highAt, Nogoods}
 use Rattle.matching.specs.Inner.Search.Needs.{Need, NeedAt, Kept, WantedOver}
@@ -56,7 +56,7 @@ module _ (store : List ℕ) (c : ℕ) (high low : List ℕ) (k met : ℕ) where
             go false f = f
 
     pub need-found :
-        (below above : List ℕ) (a b : Bool) → below ≡ lowAt store c → above ≡ highAt store c → Contained below low a → Contained (set high k 0) above b
+        (below above : List ℕ) (a b : Bool) → below ≡ lowAt store c → above ≡ highAt store c → Decided (Within below low) a → Decided (Within (set high k 0) above) b
         → (a && b) ≡ true → NeedAt store c high low k met outside
     need-found below above true true e f x y z =
         inr (found (subst (λ (w : List ℕ). Within w low) e x) (subst (Within (set high k 0)) f y))

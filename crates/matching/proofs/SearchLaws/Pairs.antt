@@ -10,12 +10,13 @@ use lib.ListN.{length, getD, set, length-set, List·getD-eq-default}
 use lib.Seq.{getD-set-same, getD-set-other}
 use Rattle.subsumption.specs.Tables.{or, both}
 use Rattle.subsumption.specs.Atoms.{bit}
-use Rattle.subsumption.proofs.Bools.{last-cases, le-or-lt, both-true, both-intro}
-use Rattle.subsumption.proofs.Bits.{bit-or, bit-and, bit-or-left, bit-or-cases, bit-of-zero}
+use Rattle.subsumption.proofs.Bools.{last-cases, le-or-lt, same-bool, both-true, both-intro}
+use Rattle.subsumption.proofs.Bits.{bit-or, bit-and, bit-or-left, bit-or-right, bit-or-cases, bit-of-zero}
 use Rattle.matching.specs.Solving.{takes}
 use Rattle.matching.specs.Inner.Search.{Within}
 use Rattle.matching.specs.Inner.Search.Pairs.{Joined, Met}
 use Rattle.matching.specs.Inner.Search.Widen.{Mixed}
+use Rattle.matching.proofs.SearchLaws.Choices.{same-bits}
 
 -- past the eight numbers nothing is taken
 pub past-none : (a : List ℕ) (k q : ℕ) → length a ≡ 8 → 8 ≤ k → getD a k 0 ≡ 0
@@ -93,6 +94,13 @@ pub within-all : (a b : List ℕ) (n : ℕ) → length a ≡ 8 → 8 ≤ n → W
 unfolding WithinTo
 within-all a b n e h w k q x =
     ⊎-elim (λ (l : 8 ≤ k). absurd (bit-of-zero q (sym (ap (λ (z : ℕ). bit z q) (past-none a k q e l)) ∙ x))) (λ l. w k q (omega arith) x) (le-or-lt 8 k)
+
+-- a number that differs from its union with the other is not within it
+pub within-not : (a b : List ℕ) (n : ℕ) → (bitOr (getD a n 0) (getD b n 0) ≡ getD b n 0 → ⊥) → Within a b → ⊥
+within-not a b n o w =
+    o
+    (same-bits _ _
+    (λ q. same-bool _ _ (λ e. ⊎-elim (λ x. w n q x) (λ x. x) (bit-or-cases (getD a n 0) (getD b n 0) q e)) (λ e. bit-or-right (getD a n 0) (getD b n 0) q e)))
 
 -- ---- mixing
 abbrev pub mixWord : ℕ → ℕ → ℕ → ℕ → ℕ

@@ -17,9 +17,9 @@ use Rattle.subsumption.proofs.Accepted.{wellFormed}
 use Rattle.subsumption.proofs.Columns.{any-false}
 use Rattle.settings.specs.Inner.Counts.{Counted, Clamped, Unclamped}
 use Rattle.matching.specs.Solving.{takes}
-use Rattle.matching.specs.Inner.Search.{HoldsAt, Within, SolutionIn, NoSolution}
+use Rattle.matching.specs.Inner.Search.{Decided, HoldsAt, Within, SolutionIn, NoSolution}
 use Rattle.matching.specs.Inner.Search.Problem.{Problem, heldAt, rightAt, questionCount, AskedAt}
-use Rattle.matching.specs.Inner.Search.Pairs.{Changed, Contained}
+use Rattle.matching.specs.Inner.Search.Pairs.{Changed}
 use Rattle.matching.specs.Inner.Search.Interval.{IntervalOf, undecided, Picked}
 use Rattle.matching.specs.declared.search.interval.Pick.{Pick}
 use Rattle.matching.specs.declared.search.interval.Pick.the-variants.{Nothing}
@@ -230,12 +230,9 @@ refuted-none t problem low high low₁ high₁ r other a b s =
     })
     s
 
-pub contained : (a b : List ℕ) (w : Bool) → Contained a b w → w ≡ true → Within a b
-contained a b w c e = subst (Contained a b) e c
-
 module _ (t : Tables) (problem : List ℕ) (h : tableFault t ≡ Done) (low high : List ℕ) (i : IntervalOf t low high) (low₁ high₁ : List ℕ) where
   pub tried-done :
-      (b w : Bool) → Answers t problem low low b low₁ high₁ → Contained high high₁ w → (b || w) ≡ true → Answers t problem low high b low₁ high₁
+      (b w : Bool) → Answers t problem low low b low₁ high₁ → Decided (Within high high₁) w → (b || w) ≡ true → Answers t problem low high b low₁ high₁
   tried-done true w s c e =
       record {
         long = s .long;
@@ -243,7 +240,7 @@ module _ (t : Tables) (problem : List ℕ) (h : tableFault t ≡ Done) (low high
         meets = s .meets;
       }
   tried-done false w r c e =
-      record { low-long = r .low-long; high-long = r .high-long; above = r .above; below = contained high high₁ w c e; none = r .none }
+      record { low-long = r .low-long; high-long = r .high-long; above = r .above; below = decided-true _ w c e; none = r .none }
 
   pub tried-all : (b w : Bool) → Answers t problem low low b low₁ high₁ → (b || w) ≡ false → (r : Pick) → Picked low high r → r ≡ Nothing → Refuted t problem low high low high
   tried-all b w s e r p f =
@@ -257,7 +254,7 @@ module _ (t : Tables) (problem : List ℕ) (h : tableFault t ≡ Done) (low high
 
 pub recalled-known :
     (store low high : List ℕ) (place : ℕ) (low₁ high₁ : List ℕ) (a b : Bool) → place < used store → low₁ ≡ lowAt store place → high₁ ≡ highAt store place
-    → Contained low₁ low a → Contained high high₁ b → Recalled store low high (a && b) low₁ high₁
+    → Decided (Within low₁ low) a → Decided (Within high high₁) b → Recalled store low high (a && b) low₁ high₁
 recalled-known store low high place low₁ high₁ true true l e f x y =
     record { place = place; kept = l; low-here = e; high-here = f; above = x; below = y }
 recalled-known store low high place low₁ high₁ true false l e f x y = tt
@@ -459,7 +456,7 @@ module _ (sets problem full low high before after : List ℕ) (b : Bool) (l h : 
       s t c (record { low-long = i .low-long; high-long = i .low-long; accepted = low-accepted t (c .passed) low high i; ordered = λ k q e. e; idle = λ k q l x. i .idle k q l (i .ordered k q x) })
       (through t low high full i j) n
 
-  pub by-test : (w : Bool) → Contained high h w → (b || w) ≡ true → Searched sets problem full low high before after (λ t. Answers t problem low high b l h)
+  pub by-test : (w : Bool) → Decided (Within high h) w → (b || w) ≡ true → Searched sets problem full low high before after (λ t. Answers t problem low high b l h)
   by-test w x e t c i j n = let (y, m) = at-low t c i j n in (tried-done t problem (c .passed) low high i l h b w y x e, m)
 
   pub by-decided :

@@ -4,7 +4,8 @@ ghost use mathlib.Core.Bool.{true, false};
 ghost use Prim.Native.Nat.{_<_};
 ghost use lib.ListN.{length};
 ghost use Rattle.matching.specs.Solving.{takes};
-ghost use Rattle.matching.specs.Inner.Search.Pairs.{Changed, Joined, Met, Contained};
+ghost use Rattle.matching.specs.Inner.Search.{Decided, Within};
+ghost use Rattle.matching.specs.Inner.Search.Pairs.{Changed, Joined, Met};
 
 pub fn with_pair(set: [u64; 8], k: usize, q: usize) -> [u64; 8]
     requires { ⌜ length set ≡ 8 ⌝ }
@@ -56,7 +57,7 @@ pub fn meet(a: [u64; 8], b: [u64; 8]) -> [u64; 8]
 // Whether every pair of the one is in the other.
 pub fn is_within(a: [u64; 8], b: [u64; 8]) -> bool
     requires { ⌜ (length a ≡ 8) × (length b ≡ 8) ⌝ }
-    ensures { λ r. ⌜ Contained a b r ⌝ }
+    ensures { λ r. ⌜ Decided (Within a b) r ⌝ }
 {
     let mut k: usize = 0;
     while k < 8 {

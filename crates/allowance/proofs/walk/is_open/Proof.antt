@@ -6,11 +6,11 @@ use borrow.Author.Needs.{needs}
 use Rattle.allowance.proofs.walk.is_open.Statement.{statement}
 use Rattle.allowance.proofs.walk.is_open.Tie as tie
 
-is-permitted-requires : tie.Need-is-permitted-requires
-is-permitted-requires c κs = omega arith
+is-within-requires : tie.Need-is-within-requires
+is-within-requires c κs = omega arith
 
 returns : tie.Need-returns
-returns c = (c .before .before .before .before .before .before .before .before .pre .1 .0 .1, outside-shut _ _ _ _ _ _ (c .before .is-permitted .result) (c .before .is-permitted .ensures) (not-true _ (c .if1 .taken)))
+returns c = (c .before .before .before .before .before .before .before .before .pre .1 .0 .1, outside-shut _ _ _ _ _ _ (c .before .is-within .result) (c .before .is-within .ensures) (not-true _ (c .if1 .taken)))
 
 sub-is-few : tie.Need-sub-is-few
 sub-is-few c = omega arith
@@ -37,7 +37,7 @@ same-length-2 : tie.Need-same-length-2
 same-length-2 c = omega arith
 
 returns-3 : tie.Need-returns-3
-returns-3 c = (omega arith, fewer-shut _ _ _ _ _ _ _ (c .before .before .before .before .before .before .before .before .before .before .before .before .is-permitted .result) (c .before .before .before .before .before .before .before .before .before .before .before .before .is-permitted .ensures) (not-false _ (c .before .before .before .before .before .before .before .before .before .before .before .if1 .left)) (c .before .before .before .before .before .holds .result) (c .before .before .before .before .before .holds .ensures) (not-true _ (c .if3 .taken)))
+returns-3 c = (omega arith, fewer-shut _ _ _ _ _ _ _ (c .before .before .before .before .before .before .before .before .before .before .before .before .is-within .result) (c .before .before .before .before .before .before .before .before .before .before .before .before .is-within .ensures) (not-false _ (c .before .before .before .before .before .before .before .before .before .before .before .if1 .left)) (c .before .before .before .before .before .holds .result) (c .before .before .before .before .before .holds .ensures) (not-true _ (c .if3 .taken)))
 
 holds-requires-2 : tie.Need-holds-requires-2
 holds-requires-2 c κs = (c .before .before .before .before .before .before .before .before .before .before .before .before .before .before .before .before .before .before .before .before .before .pre .0, ((omega arith, omega arith), c .before .before .before .before .before .before .before .before .before .before .before .before .before .before .before .before .before .before .before .before .before .pre .1 .1 .2))
@@ -49,13 +49,13 @@ same-length-4 : tie.Need-same-length-4
 same-length-4 c = omega arith
 
 returns-4 : tie.Need-returns-4
-returns-4 c = (omega arith, more-decides _ _ _ _ _ _ _ (c .before .before .before .before .before .before .before .before .before .before .before .before .before .before .before .before .before .before .before .is-permitted .result) (c .before .before .before .before .before .before .before .before .before .before .before .before .before .before .before .before .before .before .before .is-permitted .ensures) (not-false _ (c .before .before .before .before .before .before .before .before .before .before .before .before .before .before .before .before .before .before .if1 .left)) _ refl (c .before .before .before .before .before .before .before .before .before .before .before .before .before .before .before .before .is-few .result) (c .before .before .before .before .before .before .before .before .before .before .before .before .before .before .before .before .is-few .ensures) (not-false _ (c .before .before .before .before .before .before .before .before .before .before .before .before .before .before .before .if2 .left)) _ (c .before .before .before .before .before .before .before .before .before .before .before .before .holds .result) (c .before .before .before .before .before .before .before .before .before .before .before .before .holds .ensures) (not-false _ (c .before .before .before .before .before .before .before .if3 .left)) (c .before .before .before .before .holds2 .result) (c .before .before .before .before .holds2 .ensures))
+returns-4 c = (omega arith, more-decides _ _ _ _ _ _ _ (c .before .before .before .before .before .before .before .before .before .before .before .before .before .before .before .before .before .before .before .is-within .result) (c .before .before .before .before .before .before .before .before .before .before .before .before .before .before .before .before .before .before .before .is-within .ensures) (not-false _ (c .before .before .before .before .before .before .before .before .before .before .before .before .before .before .before .before .before .before .if1 .left)) _ refl (c .before .before .before .before .before .before .before .before .before .before .before .before .before .before .before .before .is-few .result) (c .before .before .before .before .before .before .before .before .before .before .before .before .before .before .before .before .is-few .ensures) (not-false _ (c .before .before .before .before .before .before .before .before .before .before .before .before .before .before .before .if2 .left)) _ (c .before .before .before .before .before .before .before .before .before .before .before .before .holds .result) (c .before .before .before .before .before .before .before .before .before .before .before .before .holds .ensures) (not-false _ (c .before .before .before .before .before .before .before .if3 .left)) (c .before .before .before .before .holds2 .result) (c .before .before .before .before .holds2 .ensures))
 
 pub is-open-spec : {M : Type 1} → statement M
 is-open-spec =
     tie.close
     (tie.spec
-    is-permitted-requires
+    is-within-requires
     returns
     sub-is-few
     part-is-few-start

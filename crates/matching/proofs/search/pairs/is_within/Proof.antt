@@ -1,6 +1,6 @@
 use Prim.Native.Nat.{_-_}
 use native.Mathlib.Omega.{arith}
-use Rattle.matching.proofs.SearchLaws.Pairs.{WithinTo, within-none, within-more, within-all}
+use Rattle.matching.proofs.SearchLaws.Pairs.{WithinTo, within-none, within-more, within-all, within-not}
 use Rattle.matching.proofs.search.pairs.is_within.Statement.{statement}
 use Rattle.matching.proofs.search.pairs.is_within.Tie as tie
 
@@ -32,7 +32,7 @@ array-read-if1-3 : tie.Need-array-read-if1-3 Inv-loop μ-loop
 array-read-if1-3 c = omega arith
 
 returns : tie.Need-returns Inv-loop μ-loop
-returns c = tt
+returns c = within-not (c .before .before .before .args .t1) (c .before .before .before .args .t2) (c .before .before .loop .k) (c .if1 .taken)
 
 add-k : tie.Need-add-k Inv-loop μ-loop
 add-k c = omega arith
