@@ -200,7 +200,7 @@ kept-noted t before after choice right passed k x n =
 module _ (sets problem choice : List ℕ) (right : Bool) (m : ℕ) (f : FailingOf sets problem choice right m) (before after : List ℕ) where
   pub tried-passes : questionCount problem ≤ m → Noted before after choice right true → Tried sets problem choice right before after true
   tried-passes l n t c all a k =
-      let holds : Asked t right (take (t .variables) choice) = λ o x e. f t c a .hold (omega (arith, c .questions)) o x (all o x, e) in
+      let holds : Asked t right (take (t .variables) choice) = λ o x e. f t c a .before o (omega (arith, c .questions)) (all o x, e) in
       (holds, kept-noted t before after choice right true k holds n)
 
   pub tried-fails : m < questionCount problem → Noted before after choice right false → Tried sets problem choice right before after false

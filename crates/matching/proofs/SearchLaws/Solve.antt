@@ -96,40 +96,50 @@ module _ (sets problem choice : List ℕ) (right : Bool) where
 
     pub failing-here :
         b ≡ false → m < questionCount problem → getD problem (939 + m) 0 ≡ 1 → not (Bool·beq (heldAt problem (rightAt problem m)) right) ≡ false
-        → FailingOf sets problem choice right m
-    failing-here e l w o t c a =
+        → HoldTo sets problem choice right m → FailingOf sets problem choice right m
+    failing-here e l w o h t c a =
+        let here = is-question t sets problem c m l in
         record {
-          fails = λ x. decided-false _ b (d t c a x) e;
+          low = omega arith;
           of-kind = λ x. (eq-eqb _ 1 w, sym (right-held t sets problem c m x) ∙ alike _ _ o);
-          hold = λ x. absurd (omega (arith, is-question t sets problem c m l));
+          fails = λ x. decided-false _ b (d t c a x) e;
+          before = λ n y. h t c a n y (omega arith);
         }
 
   pub failing-none : (m : ℕ) → HoldTo sets problem choice right m → questionCount problem ≤ m → FailingOf sets problem choice right (questionCount problem)
   failing-none m h l t c a =
       record {
-        fails = λ x. absurd (omega (arith, c .questions));
+        low = omega (arith, c .questions);
         of-kind = λ x. absurd (omega (arith, c .questions));
-        hold = λ x n y. h t c a n (omega (arith, c .questions)) y;
+        fails = λ x. absurd (omega (arith, c .questions));
+        before = λ n y. h t c a n (omega arith) (omega (arith, c .questions));
       }
 
 module _ (sets problem choice : List ℕ) (m : ℕ) where
   pub failing-first : FailingOf sets problem choice true m → m < questionCount problem → Failing sets problem choice m
-  failing-first f l t c a = record { fails = f t c a .fails; of-kind = λ x. f t c a .of-kind x .0; hold = λ x. absurd (omega (arith, c .questions)) }
+  failing-first f l t c a =
+      record {
+        low = f t c a .low;
+        asked = λ x. f t c a .of-kind x .0;
+        fails = f t c a .fails;
+        hold = λ x. absurd (omega (arith, c .questions));
+      }
 
   -- none with a variable on the right, then the others
   pub failing-second : (n : ℕ) → FailingOf sets problem choice true n → questionCount problem ≤ n → FailingOf sets problem choice false m → Failing sets problem choice m
   failing-second n f l g t c a =
       record {
+        low = g t c a .low;
+        asked = λ x. g t c a .of-kind x .0;
         fails = g t c a .fails;
-        of-kind = λ x. g t c a .of-kind x .0;
         hold = λ x o y z. go x o y z (hasVariable (tree (t .concepts) (rightOf (t .questions) o))) refl;
       }
     where
       go :
           pairsOf (t .questions) ≤ m → (o : ℕ) → o < pairsOf (t .questions) → AskedAt problem o → (b : Bool)
           → hasVariable (tree (t .concepts) (rightOf (t .questions) o)) ≡ b → HoldsAt t (take (t .variables) choice) o
-      go x o y z true e = f t c a .hold (omega (arith, c .questions)) o y (z, e)
-      go x o y z false e = g t c a .hold x o y (z, e)
+      go x o y z true e = f t c a .before o (omega (arith, c .questions)) (z, e)
+      go x o y z false e = g t c a .before o (omega arith) (z, e)
 
 -- ---- the low side by itself
 module _ (t : Tables) (low full : List ℕ) (i : IntervalOf t low full) where
@@ -186,7 +196,7 @@ module _ (sets problem full low before : List ℕ) (m : ℕ) (f : Failing sets p
       → Searched sets problem full low low before after (λ t. Answers t problem low low false low₁ high₁)
   tried-refuted low₁ high₁ after l r a t c i j n =
       let x = is-question t sets problem c m l in
-      let y = r t c x (f t c (i .accepted) .of-kind x) j (f t c (i .accepted) .fails x) in
+      let y = r t c x (f t c (i .accepted) .asked x) j (f t c (i .accepted) .fails x) in
       (y, nogoods-added t problem low₁ high₁ before after n (y .none) a)
 
   pub tried-solves :

@@ -58,7 +58,7 @@ pub struct Answer {
     pub high: [u64; 8],
 }
 
-// The first asked question that does not hold, of those whose right side holds a variable just where `right` says so; the number of all if they hold.
+// The first asked question that does not hold, of those whose right side holds a variable just where `right` says so, or the number of all.
 pub fn failing_of(
     sets: &[u64],
     problem: &[u16],

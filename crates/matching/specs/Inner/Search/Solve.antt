@@ -7,17 +7,19 @@ use lib.ListN.{length, take}
 use Rattle.subsumption.specs.declared.refusal.Outcome.the-variants.{Done}
 use Rattle.subsumption.specs.Tables.{Tables, pairsOf, rightOf, tree, hasVariable}
 use Rattle.subsumption.specs.Check.{assignmentFault}
+use Rattle.matching.specs.Among.{SolvesAmong}
 use Rattle.matching.specs.Inner.Search.{HoldsAt, Within, SolutionIn, NoSolution}
 use Rattle.matching.specs.Inner.Search.Problem.{Problem, AskedAt}
 use Rattle.matching.specs.Inner.Search.Pairs.{Changed, Joined, Met}
 use Rattle.matching.specs.Inner.Search.Interval.{IntervalOf, undecided}
 use Rattle.matching.specs.Inner.Search.Nogoods.{used, lowAt, highAt, Nogoods}
 
--- A question that fails under the choice, or the number of questions if all of the kind hold.
-pub record FailingFor (t : Tables) (assignment : List ℕ) (kind : ℕ → Type 0) (m : ℕ) : Type 0 where
-  pub fails : m < pairsOf (t .questions) → HoldsAt t assignment m → ⊥
+-- The first question of a kind that fails under the assignment, or the number of questions if all of the kind hold.
+pub record FirstFailing (t : Tables) (assignment : List ℕ) (kind : ℕ → Type 0) (m : ℕ) : Type 0 where
+  pub low : m ≤ pairsOf (t .questions)
   pub of-kind : m < pairsOf (t .questions) → kind m
-  pub hold : pairsOf (t .questions) ≤ m → (n : ℕ) → n < pairsOf (t .questions) → kind n → HoldsAt t assignment n
+  pub fails : m < pairsOf (t .questions) → HoldsAt t assignment m → ⊥
+  pub before : (n : ℕ) → n < m → kind n → HoldsAt t assignment n
 
 -- An asked question whose right side holds a variable, or not.
 abbrev pub AskedOf : Tables → List ℕ → Bool → ℕ → Type 0
@@ -26,11 +28,18 @@ AskedOf t problem right n = AskedAt problem n × (hasVariable (tree (t .concepts
 abbrev pub FailingOf : List ℕ → List ℕ → List ℕ → Bool → ℕ → Type 0
 FailingOf sets problem choice right m =
     (t : Tables) → Problem t sets problem → assignmentFault t (take (t .variables) choice) ≡ Done
-    → FailingFor t (take (t .variables) choice) (AskedOf t problem right) m
+    → FirstFailing t (take (t .variables) choice) (AskedOf t problem right) m
+
+-- An asked question that fails under the assignment, or the number of questions if all that are asked hold.
+pub record SomeFailing (t : Tables) (problem assignment : List ℕ) (m : ℕ) : Type 0 where
+  pub low : m ≤ pairsOf (t .questions)
+  pub asked : m < pairsOf (t .questions) → AskedAt problem m
+  pub fails : m < pairsOf (t .questions) → HoldsAt t assignment m → ⊥
+  pub hold : pairsOf (t .questions) ≤ m → SolvesAmong (AskedAt problem) t assignment
 
 abbrev pub Failing : List ℕ → List ℕ → List ℕ → ℕ → Type 0
 Failing sets problem choice m =
-    (t : Tables) → Problem t sets problem → assignmentFault t (take (t .variables) choice) ≡ Done → FailingFor t (take (t .variables) choice) (AskedAt problem) m
+    (t : Tables) → Problem t sets problem → assignmentFault t (take (t .variables) choice) ≡ Done → SomeFailing t problem (take (t .variables) choice) m
 
 -- An interval around another that holds no solution.
 pub record Refuted (t : Tables) (problem low high low₁ high₁ : List ℕ) : Type 0 where
