@@ -29,7 +29,7 @@ use Rattle.matching.proofs.SearchLaws.Problem.{problem-kept}
 use Rattle.matching.proofs.SearchLaws.Fronts.{below-bits, front-known, accept}
 use Rattle.matching.proofs.FindLaws.{all-asked}
 use Rattle.matching.proofs.SubstitutionLaws.Locality.{none-by-substitution}
-use Rattle.matching.proofs.WithinLaws.{written-front, written-most, heeds-all, front-copied, rest-kept}
+use Rattle.matching.proofs.WithinLaws.{asked-bit, written-front, written-most, heeds-all, front-copied, rest-kept}
 use Rattle.allowance.specs.Partial.{Completed}
 use Rattle.allowance.specs.Count.{CountOf, answered, unanswered}
 use Rattle.allowance.specs.Find.{replyCounted, FindsCountedAfter, FindsCounted}
@@ -53,7 +53,7 @@ pub lent :
 lent t s ids sets before counted problem permitted a ok c counting asking loaded =
     record {
       problem-of = problem-kept before problem (written-front (s .largest) before counted problem _ counting asking) t sets c;
-      all-asked = λ m l. asking .asked m (omega (arith, wellFormed t (a .passed) .few-questions)) .1 (all-asked t (a .passed) m l);
+      all-asked = λ m l. asked-bit _ counted problem asking m (omega (arith, wellFormed t (a .passed) .few-questions)) .1 (all-asked t (a .passed) m l);
       set = ok;
       loaded = loaded;
       counts =

@@ -3,7 +3,7 @@ use Prim.Native.Nat.{ℕ, _+_, _-_, _/_, _%_, _^_, _<_, _≤_}
 use mathlib.Core.Path.{_≡_, refl, sym, ap, _∙_, subst}
 use mathlib.Core.List.{List}
 use mathlib.Core.Bool.{Bool, true, false}
-use mathlib.Core.Logic.{_↔_, inl, inr, ⊎-elim}
+use mathlib.Core.Logic.{_⊎_, _↔_, inl, inr, ⊎-elim}
 use native.Mathlib.Omega.{arith}
 use lib.Dec.{eqb}
 use lib.ListN.{length, getD, take, drop, set, length-set, length-drop, List·getD-eq-default}
@@ -61,58 +61,61 @@ copied-more choice before after k h s =
 pub copied-all : (count k : ℕ) (choice before after : List ℕ) → k ≤ count → count ≤ k → Copied k choice before after → Copied count choice before after
 copied-all count k choice before after h l s = let e : k ≡ count = omega arith in subst (λ (z : ℕ). Copied z choice before after) e s
 
--- ---- writing into a problem: the counts, and which questions are asked
-pub record WrittenTo (start : ℕ) (number : ℕ → ℕ) (before after : List ℕ) (n : ℕ) : Type 0 where
-  pub size : length after ≡ length before
-  pub front : (p : ℕ) → p < start → getD after p 0 ≡ getD before p 0
-  pub numbers : (k : ℕ) → k < n → getD after (start + k) 0 ≡ number k
+-- ---- which questions are asked, written into a problem
+module _ (wanted : ℕ) (before : List ℕ) where
+  pub record AskedTo (after : List ℕ) (n : ℕ) : Type 0 where
+    pub within : n ≤ 32
+    pub long : length after ≡ length before
+    pub here : (m : ℕ) → m < n → getD after (939 + m) 0 ≡ wanted / 2 ^ m % 2
+    pub there : (p : ℕ) → (p < 939) ⊎ (939 + n ≤ p) → getD after p 0 ≡ getD before p 0
 
-module _ (start : ℕ) (number : ℕ → ℕ) (before : List ℕ) where
-  pub written-none : WrittenTo start number before before 0
-  written-none = record { size = refl; front = λ p l. refl; numbers = λ k l. absurd (omega arith) }
+  pub asked-none : AskedTo before 0
+  asked-none = record { within = omega arith; long = refl; here = λ m l. absurd (omega arith); there = λ p o. refl }
 
-  pub written-more :
-      (after : List ℕ) (n : ℕ) → start + n < length before → WrittenTo start number before after n
-      → WrittenTo start number before (set after (start + n) (number n)) (n + 1)
-  written-more after n h s =
+  pub asked-more :
+      (after : List ℕ) (n : ℕ) → length before ≡ 971 → n < 32 → AskedTo after n → AskedTo (set after (939 + n) (wanted / 2 ^ n % 2)) (n + 1)
+  asked-more after n h l s =
       record {
-        size = length-set after (start + n) _ ∙ s .size;
-        front = λ p l. getD-set-other after (start + n) p _ 0 (λ e. omega arith) ∙ s .front p l;
-        numbers =
-            λ k l.
+        within = omega arith;
+        long = length-set after (939 + n) _ ∙ s .long;
+        here =
+            λ m i.
             ⊎-elim
-            (λ (m : k ≡ n).
-            ap (λ (z : ℕ). getD (set after (start + n) (number n)) (start + z) 0) m ∙ getD-set-same after (start + n) _ 0 (omega (arith, s .size))
-            ∙ ap number (sym m))
-            (λ m. getD-set-other after (start + n) (start + k) _ 0 (λ e. omega arith) ∙ s .numbers k m) (last-cases k n (omega arith));
+            (λ (e : m ≡ n).
+            ap (λ (z : ℕ). getD (set after (939 + n) (wanted / 2 ^ n % 2)) (939 + z) 0) e ∙ getD-set-same after (939 + n) _ 0 (omega (arith, s .long))
+            ∙ ap (λ (z : ℕ). wanted / 2 ^ z % 2) (sym e))
+            (λ j. getD-set-other after (939 + n) (939 + m) _ 0 (λ e. omega arith) ∙ s .here m j) (last-cases m n (omega arith));
+        there =
+            λ p o.
+            ⊎-elim (λ (u : p < 939). getD-set-other after (939 + n) p _ 0 (λ e. omega arith) ∙ s .there p (inl u))
+            (λ (u : 939 + (n + 1) ≤ p). getD-set-other after (939 + n) p _ 0 (λ e. omega arith) ∙ s .there p (inr (omega arith))) o;
       }
 
-pub counts-all :
-    (largest before after : List ℕ) (n : ℕ) → length largest ≤ n → WrittenTo 931 (λ k. getD largest k 0) before after n → Counting largest before after
-counts-all largest before after n h s = record { size = s .size; front = s .front; counts = λ k l. s .numbers k (omega arith) }
+  pub asked-all : (after : List ℕ) (n : ℕ) → 32 ≤ n → AskedTo after n → Asking wanted before after
+  asked-all after n h s =
+      record {
+        long = s .long;
+        here = λ m l. s .here m (omega arith);
+        there = λ p o. s .there p (⊎-elim (λ u. inl u) (λ (u : 971 ≤ p). inr (omega (arith, s .within))) o);
+      }
 
-pub asked-all : (wanted : ℕ) (before after : List ℕ) (n : ℕ) → 32 ≤ n → WrittenTo 939 (λ m. wanted / 2 ^ m % 2) before after n → Asking wanted before after
-unfolding bit
-asked-all wanted before after n h s =
-    record {
-      size = s .size;
-      front = s .front;
-      asked =
-          λ m l.
-          let e : eqb (getD after (939 + m) 0) 1 ≡ bit wanted m = ap (λ (z : ℕ). eqb z 1) (s .numbers m (omega arith)) in
-          (λ x. sym e ∙ x, λ x. e ∙ x);
-    }
+  -- the asked ones are those whose bit is set
+  pub asked-bit : (after : List ℕ) → Asking wanted before after → (m : ℕ) → m < 32 → AskedAt after m ↔ (bit wanted m ≡ true)
+  unfolding bit
+  asked-bit after asking m l =
+      let e : eqb (getD after (939 + m) 0) 1 ≡ bit wanted m = ap (λ (z : ℕ). eqb z 1) (asking .here m l) in
+      (λ x. sym e ∙ x, λ x. e ∙ x)
 
--- one after the other
+-- the counts, and then which questions are asked
 module _ (largest before counted problem : List ℕ) (wanted : ℕ) (counting : Counting largest before counted) (asking : Asking wanted counted problem) where
-  pub written-size : length problem ≡ length before
-  written-size = asking .size ∙ counting .size
+  pub written-long : length problem ≡ length before
+  written-long = asking .long ∙ counting .long
 
   pub written-front : (p : ℕ) → p < 931 → getD problem p 0 ≡ getD before p 0
-  written-front p l = asking .front p (omega arith) ∙ counting .front p l
+  written-front p l = asking .there p (inl (omega arith)) ∙ counting .there p (inl l)
 
   pub written-most : (k : ℕ) → k < length largest → k < 8 → mostAt problem k ≡ getD largest k 0
-  written-most k l m = asking .front (931 + k) (omega arith) ∙ counting .counts k l
+  written-most k l m = asking .there (931 + k) (inl (omega arith)) ∙ counting .here k l
 
 -- ---- the interval of all permitted assignments: every solution that takes permitted atoms only is between nothing and the narrowed high side
 module _ (t : Tables) (h : tableFault t ≡ Done) (problem low permitted high : List ℕ) (zeros : (k : ℕ) → getD low k 0 ≡ 0) (long : length low ≡ 8)
@@ -220,7 +223,7 @@ module _ (t : Tables) (s : Settings) (ok : settingsFault t s ≡ Done) (permitte
         (omega (arith, wellFormed t h .few-variables))
 
     asked-of : (m : ℕ) → m < pairsOf (t .questions) → AskedAt problem m ↔ (bit wanted m ≡ true)
-    asked-of m l = asking .asked m (omega (arith, wellFormed t h .few-questions))
+    asked-of m l = asked-bit wanted counted problem asking m (omega (arith, wellFormed t h .few-questions))
 
     module _ (other : List ℕ) (a : assignmentFault t other ≡ Done) where
       heeds-inside : Heeds s other → Within other (take (t .variables) permitted)

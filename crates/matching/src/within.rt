@@ -9,6 +9,7 @@ use crate::limits::STORE;
 use crate::search::interval::Interval;
 use crate::search::narrow::narrow;
 use crate::search::order::first_solution;
+use crate::search::problem::copy_at;
 use crate::search::problem::make_problem;
 use crate::search::solve::some_solution;
 use settings::helpers::check_settings;
@@ -72,11 +73,7 @@ pub fn put_counts(problem: &mut [u16], largest: &[u16])
     requires { ⌜ (length (now problem) ≡ 971) × (length (now largest) ≤ 8) ⌝ }
     ensures { λ _. ⌜ Counting (now (largest .entry)) (now (problem .entry)) (now (problem .exit)) ⌝ }
 {
-    let mut k: usize = 0;
-    while k < largest.len() {
-        problem[MOST + k] = largest[k];
-        k += 1;
-    }
+    copy_at(largest, problem, MOST);
 }
 
 // Writes into the problem which questions are asked: those whose bit is set.

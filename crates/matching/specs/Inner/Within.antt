@@ -1,15 +1,14 @@
 -- What the parts of finding an assignment within settings promise.
-use Prim.Native.Nat.{ℕ, _+_, _<_, _≤_}
+use Prim.Native.Nat.{ℕ, _+_, _/_, _%_, _^_, _<_, _≤_}
 use mathlib.Core.Path.{_≡_}
 use mathlib.Core.List.{List}
 use mathlib.Core.Bool.{Bool, true, false}
-use mathlib.Core.Logic.{_⊎_, _↔_}
+use mathlib.Core.Logic.{_⊎_}
 use lib.ListN.{length, take, getD}
 use Rattle.subsumption.specs.declared.refusal.Refusal.the-variants.{NoAssignment}
 use Rattle.subsumption.specs.declared.refusal.Outcome.{Outcome}
 use Rattle.subsumption.specs.declared.refusal.Outcome.the-variants.{Done, Refused}
 use Rattle.subsumption.specs.Tables.{Tables}
-use Rattle.subsumption.specs.Atoms.{bit}
 use Rattle.subsumption.specs.Refusal.{Reply, replyDone, replyRefused}
 use Rattle.subsumption.specs.Check.{assignmentFault}
 use Rattle.settings.specs.Settings.{Settings}
@@ -17,13 +16,18 @@ use Rattle.matching.specs.Solving.{takes, Earlier}
 use Rattle.matching.specs.Within.{withinFault}
 use Rattle.matching.specs.Among.{FirstAmong, NoneAmong, FilledAmong, UnfilledAmong}
 use Rattle.matching.specs.Inner.Search.{Within, Meets}
-use Rattle.matching.specs.Inner.Search.Problem.{Problem, AskedAt}
+use Rattle.matching.specs.Inner.Search.Problem.{Problem}
+use Rattle.matching.specs.Inner.Search.Making.{CopiedAt}
 
--- The counts are written into a problem.
-pub record Counting (largest before after : List ℕ) : Type 0 where
-  pub size : length after ≡ length before
-  pub front : (p : ℕ) → p < 931 → getD after p 0 ≡ getD before p 0
-  pub counts : (k : ℕ) → k < length largest → getD after (931 + k) 0 ≡ getD largest k 0
+-- The largest counts stand in the problem, and the rest is as before.
+abbrev pub Counting : List ℕ → List ℕ → List ℕ → Type 0
+Counting largest before after = CopiedAt largest 931 before after
+
+-- The asked questions stand in the problem, a 1 for each whose bit is set and a 0 for each other, and the rest is as before.
+pub record Asking (wanted : ℕ) (before after : List ℕ) : Type 0 where
+  pub long : length after ≡ length before
+  pub here : (m : ℕ) → m < 32 → getD after (939 + m) 0 ≡ wanted / 2 ^ m % 2
+  pub there : (p : ℕ) → (p < 939) ⊎ (971 ≤ p) → getD after p 0 ≡ getD before p 0
 
 -- The first solution that takes permitted atoms only, or there is none.
 pub record Found (t : Tables) (problem permitted choice : List ℕ) : Type 0 where
@@ -45,12 +49,6 @@ abbrev pub FoundIn : List ℕ → List ℕ → List ℕ → Bool → List ℕ �
 FoundIn sets problem permitted found choice =
     (t : Tables) → Problem t sets problem → assignmentFault t (take (t .variables) permitted) ≡ Done
     → ((k q : ℕ) → t .variables ≤ k → takes permitted k q ≡ true → ⊥) → FoundBy t problem permitted found choice
-
--- The asked questions are written into a problem.
-pub record Asking (wanted : ℕ) (before after : List ℕ) : Type 0 where
-  pub size : length after ≡ length before
-  pub front : (p : ℕ) → p < 939 → getD after p 0 ≡ getD before p 0
-  pub asked : (m : ℕ) → m < 32 → AskedAt after m ↔ (bit wanted m ≡ true)
 
 -- The first assignment within the settings that makes the asked questions hold, or there is none.
 pub record FirstFound (asked : ℕ → Type 0) (t : Tables) (s : Settings) (choice : List ℕ) : Type 0 where

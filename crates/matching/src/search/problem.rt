@@ -43,7 +43,7 @@ ghost use Rattle.matching.specs.Inner.Search.Problem.{fitAt, coneAt, clo
 ghost use Rattle.matching.specs.Inner.Search.Making.{CopiedAt, HeldNoted, HintsNoted, NumbersOf, LinesOf, Readable, kindAt, fitsBy, isCloser, heldId, heldInside, Filled, FitsNoted, ConeNoted, NoCones, ConesNoted, Grew, WantsInner, AskedFor, NewAt, NextNew, Kept, KeptAll, ClosersNoted, NoClosers, AllClosers};
 
 // ---- the numbers
-fn copy_at(from: &[u16], to: &mut [u16], at: usize)
+pub fn copy_at(from: &[u16], to: &mut [u16], at: usize)
     requires { ⌜ at + length (now from) ≤ length (now to) ⌝ }
     ensures { λ _. ⌜ CopiedAt (now (from .entry)) at (now (to .entry)) (now (to .exit)) ⌝ }
 {

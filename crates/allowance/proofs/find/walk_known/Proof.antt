@@ -3,7 +3,7 @@ use native.Mathlib.Omega.{arith}
 use Rattle.subsumption.proofs.Accepted.{wellFormed}
 use Rattle.settings.proofs.SettingsLaws.{settings-long}
 use Rattle.matching.proofs.SearchLaws.Problem.{shaped-kept}
-use Rattle.matching.proofs.WithinLaws.{written-size, written-front}
+use Rattle.matching.proofs.WithinLaws.{written-long, written-front}
 use Rattle.allowance.proofs.AnswerLaws.{ids-few, pairs-few, lent, walked-by}
 use Rattle.allowance.proofs.find.walk_known.Statement.{statement}
 use Rattle.allowance.proofs.find.walk_known.Tie as tie
@@ -27,7 +27,7 @@ slice-aggregate-put-asked : tie.Need-slice-aggregate-put-asked
 slice-aggregate-put-asked c = omega arith
 
 put-asked-requires : tie.Need-put-asked-requires
-put-asked-requires c κs = c .before .before .put-counts .ensures .size ∙ c .before .before .before .before .before .before .make-problem .ensures .0 .numbers .long
+put-asked-requires c κs = c .before .before .put-counts .ensures .long ∙ c .before .before .before .before .before .before .make-problem .ensures .0 .numbers .long
 
 load-permitted-requires : tie.Need-load-permitted-requires
 load-permitted-requires c κs = omega (arith, settings-long _ _ (c .before .before .before .before .before .before .before .before .before .before .before .before .before .before .before .before .before .before .pre .1) .0, wellFormed _ (c .before .before .before .before .before .before .before .before .before .before .before .before .before .before .before .before .before .before .pre .0 .passed) .few-variables)
@@ -42,7 +42,7 @@ slice-aggregate-walk-2 : tie.Need-slice-aggregate-walk-2
 slice-aggregate-walk-2 c = omega arith
 
 walk-requires : tie.Need-walk-requires
-walk-requires c κs = (shaped-kept _ _ (written-front _ _ _ _ _ (c .before .before .before .before .before .before .before .put-counts .ensures) (c .before .before .before .before .put-asked .ensures)) _ (written-size _ _ _ _ _ (c .before .before .before .before .before .before .before .put-counts .ensures) (c .before .before .before .before .put-asked .ensures)) (c .before .before .before .before .before .before .before .before .before .before .before .make-problem .ensures .0), (c .before .before .load-permitted .ensures .long, ids-few _ _ (c .before .before .before .before .before .before .before .before .before .before .before .before .before .before .before .before .before .before .before .before .before .pre .0), pairs-few _ _ (c .before .before .before .before .before .before .before .before .before .before .before .before .before .before .before .before .before .before .before .before .before .pre .0)))
+walk-requires c κs = (shaped-kept _ _ (written-front _ _ _ _ _ (c .before .before .before .before .before .before .before .put-counts .ensures) (c .before .before .before .before .put-asked .ensures)) _ (written-long _ _ _ _ _ (c .before .before .before .before .before .before .before .put-counts .ensures) (c .before .before .before .before .put-asked .ensures)) (c .before .before .before .before .before .before .before .before .before .before .before .make-problem .ensures .0), (c .before .before .load-permitted .ensures .long, ids-few _ _ (c .before .before .before .before .before .before .before .before .before .before .before .before .before .before .before .before .before .before .before .before .before .pre .0), pairs-few _ _ (c .before .before .before .before .before .before .before .before .before .before .before .before .before .before .before .before .before .before .before .before .before .pre .0)))
 
 returns : tie.Need-returns
 returns c = let lends = lent _ _ _ _ _ _ _ _ (c .before .before .before .before .before .before .before .before .before .before .before .before .before .before .before .before .before .before .before .before .before .before .pre .0) (c .before .before .before .before .before .before .before .before .before .before .before .before .before .before .before .before .before .before .before .before .before .before .pre .1) (c .before .before .before .before .before .before .before .before .before .before .before .before .make-problem .ensures .1) (c .before .before .before .before .before .before .before .before .put-counts .ensures) (c .before .before .before .before .before .put-asked .ensures) (c .before .before .before .load-permitted .ensures) in walked-by _ _ _ _ _ _ _ lends (c .walk .result .found) (c .walk .result .spent) _ _ (c .walk .ensures _ _ lends refl)

@@ -3,7 +3,7 @@ use mathlib.Core.Path.{refl, _∙_}
 use Rattle.subsumption.proofs.Accepted.{wellFormed}
 use Rattle.settings.proofs.SettingsLaws.{settings-long}
 use Rattle.matching.proofs.SearchLaws.Problem.{shaped-kept, problem-kept}
-use Rattle.matching.proofs.WithinLaws.{written-size, written-front, loaded-accepted, loaded-idle, found-among}
+use Rattle.matching.proofs.WithinLaws.{written-long, written-front, loaded-accepted, loaded-idle, found-among}
 use Rattle.matching.proofs.within.find_first.Statement.{statement}
 use Rattle.matching.proofs.within.find_first.Tie as tie
 
@@ -26,7 +26,7 @@ slice-aggregate-put-asked : tie.Need-slice-aggregate-put-asked
 slice-aggregate-put-asked c = omega arith
 
 put-asked-requires : tie.Need-put-asked-requires
-put-asked-requires c κs = c .before .before .put-counts .ensures .size ∙ c .before .before .before .before .before .before .make-problem .ensures .0 .numbers .long
+put-asked-requires c κs = c .before .before .put-counts .ensures .long ∙ c .before .before .before .before .before .before .make-problem .ensures .0 .numbers .long
 
 load-permitted-requires : tie.Need-load-permitted-requires
 load-permitted-requires c κs = omega (arith, settings-long _ _ (c .before .before .before .before .before .before .before .before .before .before .before .before .before .before .before .before .before .before .pre .1) .0, wellFormed _ (c .before .before .before .before .before .before .before .before .before .before .before .before .before .before .before .before .before .before .pre .0 .passed) .few-variables)
@@ -38,7 +38,7 @@ slice-aggregate-search-2 : tie.Need-slice-aggregate-search-2
 slice-aggregate-search-2 c = omega arith
 
 search-requires : tie.Need-search-requires
-search-requires c κs = (shaped-kept _ _ (written-front _ _ _ _ _ (c .before .before .before .before .before .before .before .put-counts .ensures) (c .before .before .before .before .put-asked .ensures)) _ (written-size _ _ _ _ _ (c .before .before .before .before .before .before .before .put-counts .ensures) (c .before .before .before .before .put-asked .ensures)) (c .before .before .before .before .before .before .before .before .before .before .before .make-problem .ensures .0), c .before .before .load-permitted .ensures .long)
+search-requires c κs = (shaped-kept _ _ (written-front _ _ _ _ _ (c .before .before .before .before .before .before .before .put-counts .ensures) (c .before .before .before .before .put-asked .ensures)) _ (written-long _ _ _ _ _ (c .before .before .before .before .before .before .before .put-counts .ensures) (c .before .before .before .before .put-asked .ensures)) (c .before .before .before .before .before .before .before .before .before .before .before .make-problem .ensures .0), c .before .before .load-permitted .ensures .long)
 
 returns : tie.Need-returns
 returns c = found-among _ _ (c .before .before .before .before .before .before .before .before .before .before .before .before .before .before .before .before .before .before .before .before .before .before .pre .1) _ (c .before .before .before .load-permitted .ensures) (c .before .before .before .before .before .before .before .before .before .before .before .before .before .before .before .before .before .before .before .before .before .before .pre .0 .passed) _ _ _ _ (c .before .before .before .before .before .before .before .before .put-counts .ensures) (c .before .before .before .before .before .put-asked .ensures) (c .search .result .found) _ (c .search .ensures _ (problem-kept _ _ (written-front _ _ _ _ _ (c .before .before .before .before .before .before .before .before .put-counts .ensures) (c .before .before .before .before .before .put-asked .ensures)) _ _ (c .before .before .before .before .before .before .before .before .before .before .before .before .make-problem .ensures .1)) (loaded-accepted _ _ (c .before .before .before .before .before .before .before .before .before .before .before .before .before .before .before .before .before .before .before .before .before .before .pre .1) _ (c .before .before .before .load-permitted .ensures) (c .before .before .before .before .before .before .before .before .before .before .before .before .before .before .before .before .before .before .before .before .before .before .pre .0 .passed)) (loaded-idle _ _ (c .before .before .before .before .before .before .before .before .before .before .before .before .before .before .before .before .before .before .before .before .before .before .pre .1) _ (c .before .before .before .load-permitted .ensures)))
