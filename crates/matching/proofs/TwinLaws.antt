@@ -115,7 +115,7 @@ pub twins-count-once : (t : Tables) → TwinsCountOnce t
 unfolding chosenBefore chosen assignmentFault
 twins-count-once t =
     record {
-      now =
+      after =
           λ before f.
           let long = accepted-length _ _ before (f .accepted) in
           let c : Corresponds t before (told t (copies t) (atoms t) (copies-lowered t) before long)

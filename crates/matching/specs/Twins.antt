@@ -33,13 +33,13 @@ abbrev pub ConceptsIn : Tables → List ℕ → List ℕ → Type 0
 ConceptsIn t ids others = (p : ℕ) → List·Memᴰ p ids → (q : ℕ) × List·Memᴰ q others × (tree (t .concepts) p ≡ tree (t .concepts) q)
 
 -- For each variable the two choose the same concepts.
-pub record Corresponds (t : Tables) (before now : List ℕ) : Type 0 where
-  pub lowered : (k : ℕ) → ConceptsIn t (chosenBefore t before k) (chosen t now k)
-  pub copied : (k : ℕ) → ConceptsIn t (chosen t now k) (chosenBefore t before k)
+pub record Corresponds (t : Tables) (before after : List ℕ) : Type 0 where
+  pub lowered : (k : ℕ) → ConceptsIn t (chosenBefore t before k) (chosen t after k)
+  pub copied : (k : ℕ) → ConceptsIn t (chosen t after k) (chosenBefore t before k)
 
 -- Each assignment over the one list has a corresponding one over the other, and corresponding ones fill alike.
 pub record TwinsCountOnce (t : Tables) : Type 0 where
-  pub now : (before : List ℕ) → FilledBefore t before → (after : List ℕ) × FilledNow t after × Corresponds t before after
+  pub after : (before : List ℕ) → FilledBefore t before → (after : List ℕ) × FilledNow t after × Corresponds t before after
   pub before : (after : List ℕ) → FilledNow t after → (before : List ℕ) × FilledBefore t before × Corresponds t before after
   pub alike :
       (before after : List ℕ) → assignmentFaultAt (length (copies t)) (t .variables) before ≡ Done → assignmentFault t after ≡ Done
