@@ -8,3 +8,4 @@ pub mod WalkLaws
 pub mod FindLaws
 pub mod AnswerLaws
 pub mod AllowanceLaws
+pub mod CaseLaws

@@ -34,7 +34,7 @@ use Rattle.edits.specs.Edits.{MoreInclusions}
 use Rattle.edits.specs.Inclusions.{KeptBy, IdsCanBeKept, YesStays, DecidedYesStays, BarsNothing, FilledStays, FoundStays, CountedStays}
 use Rattle.edits.proofs.CarriedLaws.{by-inclusions, obeys-fewer, subsumed-still}
 use Rattle.edits.proofs.SizeLaws.{fewer-chosen}
-use Rattle.edits.proofs.AnswerLaws.{found-some, filled-first, counted-first, passes, found-cases, within-cases, counted-cases}
+use Rattle.allowance.proofs.CaseLaws.{found-some, filled-first, counted-first, passes, found-cases, within-cases, counted-cases}
 
 module _ (t : Tables) (inclusions₀ : List ℕ) (M : MoreInclusions (withOthers t inclusions₀ (t .questions)) t) where
   abbrev t₀ : Tables

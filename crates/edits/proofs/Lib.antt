@@ -1,6 +1,5 @@
 -- The sentences on small edits, shown.
 pub mod CarriedLaws
 pub mod SizeLaws
-pub mod AnswerLaws
 pub mod InclusionLaws
 pub mod QuestionLaws

@@ -17,7 +17,7 @@ use Rattle.incremental.specs.Fresh.{withOthers, PairsAmong, SameChoices}
 use Rattle.edits.specs.Edits.{MoreQuestions}
 use Rattle.edits.specs.Questions.{StaysOrLater, FirstMovesLater, WithinMovesLater, FoundMovesLater, CountedMovesLater}
 use Rattle.edits.proofs.CarriedLaws.{by-questions, obeys-fewer, subsumed-still}
-use Rattle.edits.proofs.AnswerLaws.{found-cases, within-cases, counted-cases}
+use Rattle.allowance.proofs.CaseLaws.{found-cases, within-cases, counted-cases}
 
 module _ (t : Tables) (questions : List ℕ) (M : MoreQuestions t (withOthers t (t .inclusions) questions)) where
   abbrev t′ : Tables

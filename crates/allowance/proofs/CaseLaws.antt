@@ -60,7 +60,7 @@ module _ (t : Tables) (before after : List ℕ) (reply : Reply) (ok : tableFault
   found-cases = subst (λ (z : Outcome). FindsAfter z t before after reply) (passes _ _ ok room-passes)
 
   module _ (s : Settings) (set : settingsFault t s ≡ Done) where
-    checks-pass : withinFault t s (length before) ≡ Done
+    pub checks-pass : withinFault t s (length before) ≡ Done
     unfolding withinFault
     checks-pass = passes _ _ ok (passes _ _ set room-passes)
 
