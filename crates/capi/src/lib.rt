@@ -1,15 +1,7 @@
-// The operations for C and Rust. No logic of its own: each export calls one operation and gives its answer in numbers.
-use allowance::Counted;
+// The operations for C and Rust. No logic of its own: each export passes on the answer in numbers that the crates of answers give.
 use answers::Answer;
-use answers::answer_of;
-use answers::decided;
 use batches::Batch;
-use countermodel::Shown;
-use matching::Match;
-use matching_answers::matched;
-use owl::Catalogue;
-use subsumption::refusal::Outcome;
-use subsumption::refusal::code_of;
+use catalogue_answers::CatalogueAnswer;
 ghost use mathlib.Core.Path.{_≡_};
 ghost use lib.ListN.{length};
 ghost use Rattle.subsumption.specs.Tables.{tables, tree, variablesOf};
@@ -25,25 +17,16 @@ ghost use Rattle.matching.specs.Find.{Finds};
 ghost use Rattle.matching.specs.Within.{FindsWithin};
 ghost use Rattle.matching.specs.Chosen.{choosingFault, chosenIn};
 ghost use Rattle.matching.specs.Writer.{Derives};
-ghost use Rattle.allowance.specs.Find.{countedReply, FindsCounted};
+ghost use Rattle.allowance.specs.Find.{FindsCounted};
 ghost use Rattle.groups.specs.Find.{FindsGroup};
 ghost use Rattle.batches.specs.Find.{FindsBatch};
 ghost use Rattle.countermodel.specs.Show.{Shows};
 ghost use Rattle.countermodel.specs.Membership.{DecidesMember};
 ghost use Rattle.incremental.specs.Update.{Updates};
 ghost use Rattle.renumbering.specs.Renumber.{Renumbers};
-ghost use Rattle.owl.specs.Read.{catalogueReply, ReadsCatalogue};
+ghost use Rattle.owl.specs.Read.{ReadsCatalogue};
 ghost use Rattle.answers.specs.Answer.{replied};
-ghost use Rattle.capi.specs.Answer.{repliedTables};
-
-// number 0: so many entries and inclusions were read; else the refusal's number, with its place and zeros.
-#[repr(C)]
-pub struct CatalogueAnswer {
-    pub number: u16,
-    pub place: u64,
-    pub entries: u64,
-    pub inclusions: u64,
-}
+ghost use Rattle.catalogue_answers.specs.Answer.{repliedTables};
 
 // Checks the tables.
 #[no_mangle]
@@ -181,31 +164,6 @@ pub extern "C" fn hc_match_within(
     )
 }
 
-// What the finder with an allowance answered: the count is told with 10 and 14 too.
-fn counted_of(counted: Counted) -> Answer
-    ensures { λ a. ⌜ replied a ≡ countedReply counted ⌝ }
-{
-    let value = counted.count as u64;
-    let answer = counted.answer;
-    match answer {
-        Match::Filled => Answer {
-            number: 0,
-            place: 0,
-            value,
-        },
-        Match::Rejected(r) => {
-            let code = code_of(r);
-            let number = code.number;
-            let place = code.place as u64;
-            Answer {
-                number,
-                place,
-                value,
-            }
-        }
-    }
-}
-
 // The same on an allowance of decisions; value: their count, with 10 and 14 too; refusal 14: the count is over the allowance.
 #[no_mangle]
 pub extern "C" fn hc_match_counted(
@@ -221,7 +179,7 @@ pub extern "C" fn hc_match_counted(
 ) -> Answer
     ensures { λ a. ⌜ FindsCounted (tables (now (concepts .entry)) (now (inclusions .entry)) (now (questions .entry)) (now (roles .entry)) variables) (settings (now (permitted .entry)) (now (largest .entry))) allowance (now (out .entry)) (now (out .exit)) (replied a) ⌝ }
 {
-    let counted = allowance::find_counted(
+    finder_answers::find_counted(
         concepts,
         inclusions,
         questions,
@@ -231,8 +189,7 @@ pub extern "C" fn hc_match_counted(
         largest,
         allowance,
         out,
-    );
-    counted_of(counted)
+    )
 }
 
 // The same of the group of one question, without an allowance; refusal 10: no assignment within the settings makes the group's questions hold.
@@ -250,7 +207,7 @@ pub extern "C" fn hc_match_group(
 ) -> Answer
     ensures { λ a. ⌜ FindsGroup (tables (now (concepts .entry)) (now (inclusions .entry)) (now (questions .entry)) (now (roles .entry)) variables) (settings (now (permitted .entry)) (now (largest .entry))) question (now (out .entry)) (now (out .exit)) (replied a) ⌝ }
 {
-    let answer = groups::find_group(
+    finder_answers::find_group(
         concepts,
         inclusions,
         questions,
@@ -260,8 +217,7 @@ pub extern "C" fn hc_match_group(
         largest,
         question,
         out,
-    );
-    matched(answer)
+    )
 }
 
 // The same for each of several question tables, which lie one after another, on its share and what the ones before it left over.
@@ -388,7 +344,7 @@ pub extern "C" fn hc_show(
 ) -> Answer
     ensures { λ a. ⌜ Shows (tables (now (concepts .entry)) (now (inclusions .entry)) (now (questions .entry)) (now (roles .entry)) variables) (now (assignment .entry)) left right (now (out .entry)) (now (out .exit)) (replied a) ⌝ }
 {
-    let answer = countermodel::show_countermodel(
+    countermodel_answers::show(
         concepts,
         inclusions,
         questions,
@@ -398,11 +354,7 @@ pub extern "C" fn hc_show(
         left,
         right,
         out,
-    );
-    match answer {
-        Shown::Rejected(r) => answer_of(Outcome::Refused(r), 0),
-        Shown::Rows(n) => answer_of(Outcome::Done, n as u64),
-    }
+    )
 }
 
 // Tells whether an element of a given interpretation is a member of a concept under an assignment; value: 1 for yes, 0 for no.
@@ -421,7 +373,7 @@ pub extern "C" fn hc_belongs(
 ) -> Answer
     ensures { λ a. ⌜ DecidesMember (tables (now (concepts .entry)) (now (inclusions .entry)) (now (questions .entry)) (now (roles .entry)) variables) (now (assignment .entry)) size (now (rows .entry)) concept element (replied a) ⌝ }
 {
-    let answer = countermodel::decide_member(
+    countermodel_answers::belongs(
         concepts,
         inclusions,
         questions,
@@ -432,8 +384,7 @@ pub extern "C" fn hc_belongs(
         rows,
         concept,
         element,
-    );
-    decided(answer)
+    )
 }
 
 // Closes a held table under the rules, with the assignment told as pairs.
@@ -449,7 +400,7 @@ pub extern "C" fn hc_update_table(
 ) -> Answer
     ensures { λ a. ⌜ Updates (tables (now (concepts .entry)) (now (inclusions .entry)) (now (questions .entry)) (now (roles .entry)) variables) (now (told .entry)) (now (table .entry)) (now (table .exit)) (replied a) ⌝ }
 {
-    let updated = incremental::update_table(
+    catalogue_answers::update_table(
         concepts,
         inclusions,
         questions,
@@ -457,8 +408,7 @@ pub extern "C" fn hc_update_table(
         variables,
         told,
         table,
-    );
-    answer_of(updated, 0)
+    )
 }
 
 // Gives each concept the new id that the list says, in a second set of buffers.
@@ -476,7 +426,7 @@ pub extern "C" fn hc_renumber(
 ) -> Answer
     ensures { λ a. ⌜ Renumbers (tables (now (concepts .entry)) (now (inclusions .entry)) (now (questions .entry)) (now (roles .entry)) variables) (now (order .entry)) (now («concepts_out» .entry)) (now («concepts_out» .exit)) (now («inclusions_out» .entry)) (now («inclusions_out» .exit)) (now («questions_out» .entry)) (now («questions_out» .exit)) (replied a) ⌝ }
 {
-    let renumbered = renumbering::renumber_tables(
+    catalogue_answers::renumber(
         concepts,
         inclusions,
         questions,
@@ -486,33 +436,7 @@ pub extern "C" fn hc_renumber(
         concepts_out,
         inclusions_out,
         questions_out,
-    );
-    answer_of(renumbered, 0)
-}
-
-// What was read, in the header's numbers.
-fn catalogue_of(catalogue: Catalogue) -> CatalogueAnswer
-    ensures { λ a. ⌜ repliedTables a ≡ catalogueReply catalogue ⌝ }
-{
-    match catalogue {
-        Catalogue::Tables(entries, inclusions) => CatalogueAnswer {
-            number: 0,
-            place: 0,
-            entries: entries as u64,
-            inclusions: inclusions as u64,
-        },
-        Catalogue::Rejected(r) => {
-            let code = code_of(r);
-            let number = code.number;
-            let place = code.place as u64;
-            CatalogueAnswer {
-                number,
-                place,
-                entries: 0,
-                inclusions: 0,
-            }
-        }
-    }
+    )
 }
 
 // Reads a catalogue in OWL functional syntax.
@@ -524,6 +448,5 @@ pub extern "C" fn hc_read_owl(
 ) -> CatalogueAnswer
     ensures { λ a. ⌜ ReadsCatalogue (now (text .entry)) (now (concepts .entry)) (now (concepts .exit)) (now (inclusions .entry)) (now (inclusions .exit)) (repliedTables a) ⌝ }
 {
-    let read = owl::read_catalogue(text, concepts, inclusions);
-    catalogue_of(read)
+    catalogue_answers::read_owl(text, concepts, inclusions)
 }

@@ -1,0 +1,71 @@
+// Answers in the numbers of the C interface: those of the operations of `countermodel`.
+use answers::Answer;
+use answers::answer_of;
+use answers::decided;
+use countermodel::Shown;
+use subsumption::refusal::Outcome;
+ghost use Rattle.subsumption.specs.Tables.{tables};
+ghost use Rattle.countermodel.specs.Show.{Shows};
+ghost use Rattle.countermodel.specs.Membership.{DecidesMember};
+ghost use Rattle.answers.specs.Answer.{replied};
+
+// Shows an interpretation where one pair fails under an assignment; value: how many rows. Its elements are the concepts.
+pub fn show(
+    concepts: &[u16],
+    inclusions: &[u16],
+    questions: &[u16],
+    roles: &[u16],
+    variables: u16,
+    assignment: &[u64],
+    left: u16,
+    right: u16,
+    out: &mut [u16],
+) -> Answer
+    ensures { λ a. ⌜ Shows (tables (now (concepts .entry)) (now (inclusions .entry)) (now (questions .entry)) (now (roles .entry)) variables) (now (assignment .entry)) left right (now (out .entry)) (now (out .exit)) (replied a) ⌝ }
+{
+    let answer = countermodel::show_countermodel(
+        concepts,
+        inclusions,
+        questions,
+        roles,
+        variables,
+        assignment,
+        left,
+        right,
+        out,
+    );
+    match answer {
+        Shown::Rejected(r) => answer_of(Outcome::Refused(r), 0),
+        Shown::Rows(n) => answer_of(Outcome::Done, n as u64),
+    }
+}
+
+// Tells whether an element of a given interpretation is a member of a concept under an assignment; value: 1 for yes, 0 for no.
+pub fn belongs(
+    concepts: &[u16],
+    inclusions: &[u16],
+    questions: &[u16],
+    roles: &[u16],
+    variables: u16,
+    assignment: &[u64],
+    size: u16,
+    rows: &[u16],
+    concept: u16,
+    element: u16,
+) -> Answer
+    ensures { λ a. ⌜ DecidesMember (tables (now (concepts .entry)) (now (inclusions .entry)) (now (questions .entry)) (now (roles .entry)) variables) (now (assignment .entry)) size (now (rows .entry)) concept element (replied a) ⌝ }
+{
+    let answer = countermodel::decide_member(
+        concepts,
+        inclusions,
+        questions,
+        roles,
+        variables,
+        assignment,
+        size,
+        rows,
+        concept,
+        element,
+    );
+    decided(answer)
+}
