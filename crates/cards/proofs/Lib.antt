@@ -1,5 +1,10 @@
--- The cards hold, and so every written table shows cards K and L; the count of the sample problem.
+-- The cards hold, and with them what every table, every finder's answer and every check must be.
 pub mod SampleLaws
 pub mod SampleCards
-pub mod ShownTables
 pub mod SampleCount
+pub mod AmongLaws
+pub mod JudgedCards
+pub mod FoundLaws
+pub mod FoundCards
+pub mod ShownTables
+pub mod ShownPairs

@@ -26,7 +26,7 @@ card-g : Holds (card G (house questions) (parts (0 ∷ 2 ∷ 3 ∷ [])))
 unfolding cards
 card-g = every-card _ (List·Memᴰ·tail (List·Memᴰ·tail (List·Memᴰ·tail (List·Memᴰ·tail (List·Memᴰ·tail (List·Memᴰ·tail (List·Memᴰ·head refl)))))))
 
-card-h : Holds (card H (house questions) (filling (4 ∷ [])))
+pub card-h : Holds (card H (house questions) (filling (4 ∷ [])))
 unfolding cards
 card-h = every-card _ (List·Memᴰ·tail (List·Memᴰ·tail (List·Memᴰ·tail (List·Memᴰ·tail (List·Memᴰ·tail (List·Memᴰ·tail (List·Memᴰ·tail (List·Memᴰ·head refl))))))))
 
@@ -34,7 +34,7 @@ three : pairs (house questions) ≡ 3
 unfolding house
 three = ap (λ (z : List ℕ). 1 * length z) (card-g .1)
 
-unrestricted : Unrestricted (house questions) free
+pub unrestricted : Unrestricted (house questions) free
 unfolding house allBelow both bit
 unrestricted =
     record {

@@ -41,7 +41,7 @@ allBelow-at (suc n) test h m l =
     let (p, q) = both-true _ _ h in
     ⊎-elim (λ (e : m ≡ n). subst (λ (z : ℕ). test z ≡ true) (sym e) p) (λ k. allBelow-at n test q m k) (last-cases m n l)
 
-allBelow-intro : (n : ℕ) (test : ℕ → Bool) → ((m : ℕ) → m < n → test m ≡ true) → allBelow n test ≡ true
+pub allBelow-intro : (n : ℕ) (test : ℕ → Bool) → ((m : ℕ) → m < n → test m ≡ true) → allBelow n test ≡ true
 unfolding allBelow
 allBelow-intro zero test h = refl
 allBelow-intro (suc n) test h = both-intro _ _ (h n (omega arith)) (allBelow-intro n test (λ m l. h m (omega arith)))
@@ -88,7 +88,7 @@ module _ (t : Tables) (α : List ℕ) where
   closedTest ls marks = allBelow (countOf (t .concepts)) (λ i. allBelow (countOf (t .concepts)) (λ j. or (markAt marks i j) (not (some ls marks i j))))
 
   module _ (wf : WellFormed t) where
-    rounds-sound :
+    pub rounds-sound :
         (ls : List Line) (n i j : ℕ) → i < countOf (t .concepts) → j < countOf (t .concepts) → markAt (rounds ls n) i j ≡ true → Subsumed t α i j
     unfolding rounds round some markAt
     rounds-sound ls zero i j l k h = absurd (false≢true h)
@@ -124,7 +124,7 @@ module _ (t : Tables) (α : List ℕ) where
           later : {x : Line} → List·Memᴰ x (gather (λ m. line 6 m ∷ []) (pairsOf (t .inclusions)) ++ gather (λ p. line 7 p ∷ []) (countOf (t .concepts))) → List·Memᴰ x (lines t)
           later m = List·Memᴰ·tail (List·Memᴰ·tail (List·Memᴰ·tail (List·Memᴰ·tail (List·Memᴰ·tail (List·Memᴰ·tail (List·Memᴰ·tail m))))))
 
-      closed-complete : (i j : ℕ) → i < countOf (t .concepts) → j < countOf (t .concepts) → Subsumed t α i j → markAt marks i j ≡ true
+      pub closed-complete : (i j : ℕ) → i < countOf (t .concepts) → j < countOf (t .concepts) → Subsumed t α i j → markAt marks i j ≡ true
       closed-complete = rules-complete t α wf (markAt marks) closed-rules
 
 -- ---- lists
@@ -134,7 +134,7 @@ sameList [] (y ∷ ys) = false
 sameList (x ∷ xs) [] = false
 sameList (x ∷ xs) (y ∷ ys) = both (eqb x y) (sameList xs ys)
 
-same-list : (xs ys : List ℕ) → sameList xs ys ≡ true → xs ≡ ys
+pub same-list : (xs ys : List ℕ) → sameList xs ys ≡ true → xs ≡ ys
 unfolding sameList
 same-list [] [] h = refl
 same-list [] (y ∷ ys) h = absurd (false≢true h)
@@ -176,7 +176,7 @@ all-listed n (suc v) (x ∷ list) e h =
 unfoldable pub assignments : Tables → List (List ℕ)
 assignments t = allLists (2 ^ length (atoms t)) (t .variables)
 
-all-assignments : (t : Tables) (α : List ℕ) → assignmentFault t α ≡ Done → List·Memᴰ α (assignments t)
+pub all-assignments : (t : Tables) (α : List ℕ) → assignmentFault t α ≡ Done → List·Memᴰ α (assignments t)
 unfolding assignments assignmentFault
 all-assignments t α h =
     all-listed _ _ α (choices-length (length (atoms t)) (t .variables) α h) (λ k l. choices-low (length (atoms t)) (t .variables) α k h l)
@@ -197,7 +197,7 @@ earlierTest v n a b =
     (λ k. both (allBelow k (λ m. eqb (getD a m 0) (getD b m 0)))
     (anyBelow n (λ q. both (not (takes a k q)) (both (takes b k q) (allBelow q (λ p. sameBool (takes a k p) (takes b k p)))))))
 
-test-earlier : (v n : ℕ) (a b : List ℕ) → earlierTest v n a b ≡ true → Earlier a b
+pub test-earlier : (v n : ℕ) (a b : List ℕ) → earlierTest v n a b ≡ true → Earlier a b
 unfolding earlierTest
 test-earlier v n a b h =
     let (k, _, e) = anyBelow-elim v _ h in
@@ -219,7 +219,7 @@ unfoldable pub isDone : Outcome → Bool
 isDone Done = true
 isDone (Refused r) = false
 
-is-done : (o : Outcome) → isDone o ≡ true → o ≡ Done
+pub is-done : (o : Outcome) → isDone o ≡ true → o ≡ Done
 unfolding isDone
 is-done Done h = refl
 is-done (Refused r) h = absurd (false≢true h)
@@ -277,7 +277,7 @@ module _ (t : Tables) (n : ℕ) (ok : tableFault t ≡ Done) where
       let (c, m) = both-true _ _ h in
       true≢false (sym (closed-complete t α (wellFormed t ok) _ c i j l k s) ∙ not-true _ m)
 
-  test-says : (s : Saying) → saysTest t n s ≡ true → Says t s
+  pub test-says : (s : Saying) → saysTest t n s ≡ true → Says t s
   unfolding saysTest solvedBy
   test-says (alwaysBelow i j) h = let (l, k, m) = ids-pass i j _ h in λ α a. marks-below α i j l k (allIn-at _ (all-assignments t α a) m)
   test-says (neverBelow i j) h = let (l, k, m) = ids-pass i j _ h in λ α a. misses-not α i j l k (allIn-at _ (all-assignments t α a) m)
