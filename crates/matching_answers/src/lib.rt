@@ -36,8 +36,8 @@ pub fn find(
 ) -> Answer
     ensures { λ a. ⌜ Finds (tables (now (concepts .entry)) (now (inclusions .entry)) (now (questions .entry)) (now (roles .entry)) variables) (now (out .entry)) (now (out .exit)) (replied a) ⌝ }
 {
-    let answer = matching::find_assignment(concepts, inclusions, questions, roles, variables, out);
-    matched(answer)
+    let found = matching::find_assignment(concepts, inclusions, questions, roles, variables, out);
+    matched(found)
 }
 
 // The same within settings; refusal 10: no assignment within them does.
