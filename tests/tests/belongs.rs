@@ -10,7 +10,7 @@ use hermitcasket_tests::faults::{base, every_set, membership_faults};
 use hermitcasket_tests::generate;
 use hermitcasket_tests::limits::MAX_ELEMENTS;
 use hermitcasket_tests::nested::{self, APART, FIRST_ROLE, NAME};
-use hermitcasket_tests::random::{cases, full_run, seed, Random, Size};
+use hermitcasket_tests::random::{cases, seed, Random, Size};
 use hermitcasket_tests::reference;
 use hermitcasket_tests::tables::{Case, Stock, Tables};
 use hermitcasket_tests::tally::Tally;
@@ -455,10 +455,12 @@ fn every_set_of_faults() {
 #[test]
 fn calls_do_not_touch_each_other() {
     let seed = seed("belongs, in a row");
-    let mut moved = 0;
+    let mut tally = Tally::new("belongs, in a row");
     for k in 0..cases(Size::Medium) {
         let mut random = Random::for_case(seed, k);
         let tables = generate::valid(&mut random, Size::Small);
+        tally.case();
+        tally.note("no entries", tables.concept_count() == 0);
         if tables.concept_count() == 0 {
             continue;
         }
@@ -475,9 +477,9 @@ fn calls_do_not_touch_each_other() {
             }
         }
         assert_eq!(answers[..2], answers[6..], "{}", tables);
-        moved += usize::from(answers[..2] != answers[2..4]);
+        tally.note("other answers", answers[..2] != answers[2..4]);
     }
-    assert!(moved > 0 || !full_run(), "no interpretation changed anything");
+    tally.finish(&[("no entries", 0..=10), ("other answers", 1..=100)]);
     let good = base();
     assert_eq!(compare::belongs(&good), Answer::done(1));
 }

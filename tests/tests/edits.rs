@@ -120,7 +120,10 @@ fn an_inclusion_turns_no_yes_into_a_no() {
         for k in 0..(cases(size) / share).max(1) {
             let mut random = Random::for_case(seed, k);
             let older = generate::valid(&mut random, size);
-            let newer = match more_inclusions(&mut random, &older) {
+            let newer = more_inclusions(&mut random, &older);
+            tally.case();
+            tally.note("left out", newer.is_none());
+            let newer = match newer {
                 Some(newer) => newer,
                 None => continue,
             };
@@ -135,12 +138,11 @@ fn an_inclusion_turns_no_yes_into_a_no() {
             let pair = (one.0 as u16, one.1 as u16);
             let now = capi::subsumed(newer.lend(), &kept, pair);
             assert_eq!(now, Answer::done(u64::from(is[one.0][one.1])));
-            tally.case();
             tally.note("more yes", was != is);
             tally.note("positions moved", assignment != kept);
         }
     }
-    tally.finish(&[("more yes", 10..=90), ("positions moved", 2..=60)]);
+    tally.finish(&[("left out", 0..=30), ("more yes", 10..=90), ("positions moved", 1..=60)]);
 }
 
 /// A filled card stays filled where no part is barred and the largest counts stay: with both finders,
@@ -153,7 +155,10 @@ fn an_inclusion_leaves_a_filled_card_filled() {
         for k in 0..(cases(size) / share).max(1) {
             let mut random = Random::for_case(seed, k);
             let older = card(&mut random, size);
-            let newer = match more_inclusions(&mut random, &older) {
+            let newer = more_inclusions(&mut random, &older);
+            tally.case();
+            tally.note("left out", newer.is_none());
+            let newer = match newer {
                 Some(newer) => newer,
                 None => continue,
             };
@@ -166,15 +171,20 @@ fn an_inclusion_leaves_a_filled_card_filled() {
             if was.is_some() && size == Size::Small {
                 let on_allowance = counted(&newer, &settings);
                 assert_ne!(on_allowance, Some(None), "{} for\n{}\n{}", settings, older, newer);
+                tally.note("allowance spent", on_allowance.is_none());
             }
             let (free, then) = (any(&older), any(&newer));
             assert!(free.is_none() || then.is_some(), "for\n{}\n{}", older, newer);
-            tally.case();
             tally.note("filled", was.is_some());
             tally.note("none becomes filled", free.is_none() && then.is_some());
         }
     }
-    tally.finish(&[("filled", 10..=80), ("none becomes filled", 1..=50)]);
+    tally.finish(&[
+        ("left out", 0..=30),
+        ("allowance spent", 0..=1),
+        ("filled", 10..=80),
+        ("none becomes filled", 1..=50),
+    ]);
 }
 
 /// A question that brings no part leaves the filling, moves it later, or takes it away; a none stays.
@@ -186,7 +196,10 @@ fn a_question_moves_the_filling_later() {
         for k in 0..(cases(size) / share).max(1) {
             let mut random = Random::for_case(seed, k);
             let older = card(&mut random, size);
-            let newer = match more_questions(&mut random, &older) {
+            let newer = more_questions(&mut random, &older);
+            tally.case();
+            tally.note("left out", newer.is_none());
+            let newer = match newer {
                 Some(newer) => newer,
                 None => continue,
             };
@@ -207,9 +220,9 @@ fn a_question_moves_the_filling_later() {
                 let (was, is) = (counted(&older, &settings), counted(&newer, &settings));
                 assert!(was.is_none() || was == Some(answers[1].0.clone()));
                 assert!(is.is_none() || is == Some(answers[1].1.clone()));
+                tally.note("allowance spent", was.is_none() || is.is_none());
             }
             let (was, is) = &answers[0];
-            tally.case();
             tally.note("stays", was.is_some() && was == is);
             tally.note("moves later", was.is_some() && is.is_some() && was != is);
             tally.note("is gone", was.is_some() && is.is_none());
@@ -217,6 +230,8 @@ fn a_question_moves_the_filling_later() {
         }
     }
     tally.finish(&[
+        ("left out", 0..=50),
+        ("allowance spent", 0..=1),
         ("stays", 5..=80),
         ("moves later", 1..=60),
         ("is gone", 2..=60),

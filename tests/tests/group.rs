@@ -190,9 +190,13 @@ fn chains_in_any_order() {
 fn one_unsolvable_group() {
     let seed = seed("group, unsolvable");
     let mut tally = Tally::new("group, unsolvable");
+    let mut rooms = Tally::new("group, room for an easy card");
     let hard = [hard::puzzles(seed), hard::with_harmless(60), hard::at_the_limits(seed)];
     for (tables, known) in hard.iter().flatten().map(|hard| (&hard.tables, &hard.known)) {
-        let (card, easy) = match hard::with_easy_card(tables) {
+        let with_easy = hard::with_easy_card(tables);
+        rooms.case();
+        rooms.note("left out", with_easy.is_none());
+        let (card, easy) = match with_easy {
             Some(with) => with,
             None => continue,
         };
@@ -209,6 +213,7 @@ fn one_unsolvable_group() {
             assert!(none > 0, "for\n{}", card);
         }
     }
+    rooms.finish(&[("left out", 0..=50)]);
     tally.finish(&[("several groups", 100..=100), ("none, and some group filled", 20..=90)]);
 }
 

@@ -275,12 +275,13 @@ fn the_tables_mean_the_axioms() {
     let mut tally = Tally::new("owl, meaning");
     each_catalogue("owl, meaning", 12, |axioms, mut random| {
         let text = spaced(&mut random, &tokens(&axioms));
+        tally.case();
+        tally.note("too long", text.len() > MAX_TEXT);
         if text.len() > MAX_TEXT {
             return;
         }
         let tables = read(&text);
         let (other, ids) = shared(&axioms);
-        tally.case();
         let held = below(&tables);
         tally.note("over 64 parts", held.is_none());
         let held = match held {
@@ -309,6 +310,7 @@ fn the_tables_mean_the_axioms() {
         tally.note("more than a tenth", 10 * marks > pairs);
     });
     tally.finish(&[
+        ("too long", 0..=5),
         ("over 64 parts", 0..=5),
         ("under a third of the pairs", 20..=100),
         ("more than a tenth", 20..=100),

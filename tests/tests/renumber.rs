@@ -699,12 +699,17 @@ fn agree_on_filling(tables: &Tables, order: &[u16], tally: &mut Tally) {
 #[test]
 fn a_filling_exactly_when_there_was_one() {
     let mut tally = Tally::new("renumber, fillings");
+    let mut asked = Tally::new("renumber, fillings asked");
     each_accepted("renumber, fillings", 4, |tables, mut random| {
-        if tables.variables > 0 && !tables.questions.is_empty() {
+        let is_asked = tables.variables > 0 && !tables.questions.is_empty();
+        asked.case();
+        asked.note("left out", !is_asked);
+        if is_asked {
             let order = rising(&mut random, &tables);
             agree_on_filling(&tables, &order, &mut tally);
         }
     });
+    asked.finish(&[("left out", 0..=60)]);
     tally.finish(&[
         ("filled", 20..=80),
         ("none", 20..=80),

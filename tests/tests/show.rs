@@ -336,14 +336,20 @@ fn families_are_shown_and_given_back() {
 /// Questions are checked and not solved: they change nothing but the parts.
 #[test]
 fn questions_are_not_used() {
+    let mut tally = Tally::new("show, questions");
     for (tables, _, _, mut random) in accepted("show, questions", [8, 8, 8]) {
         let nothing = vec![0; usize::from(tables.variables)];
         let unasked = Tables { questions: Vec::new(), ..tables.clone() };
-        if let Some(pair) = failing_pair(&mut random, &tables, &nothing) {
+        let pair = failing_pair(&mut random, &tables, &nothing);
+        tally.case();
+        tally.note("all pairs hold", pair.is_none());
+        tally.note("questions", pair.is_some() && !tables.questions.is_empty());
+        if let Some(pair) = pair {
             let with = shown(&tables, &nothing, pair);
             assert_eq!(with, shown(&unasked, &nothing, pair), "{:?} of\n{}", pair, tables);
         }
     }
+    tally.finish(&[("all pairs hold", 0..=50), ("questions", 40..=100)]);
 }
 
 /// Every row of the largest interpretations: 192 things, each with 33 links to 190 or 191 others.
