@@ -3,6 +3,7 @@
 
 pub mod believed;
 pub mod builder;
+pub mod cited;
 pub mod compare;
 pub mod damage;
 pub mod families;

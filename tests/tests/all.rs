@@ -6,6 +6,7 @@ mod believed;
 mod belongs;
 mod check;
 mod chosen;
+mod cited;
 mod counted;
 mod decide;
 mod derivation;
