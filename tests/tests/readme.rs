@@ -6,6 +6,7 @@ use std::path::{Path, PathBuf};
 use std::process::{Command, Output};
 
 use hermitcasket_tests::capi::{self, Answer};
+use hermitcasket_tests::cited::documents;
 use hermitcasket_tests::tables::Tables;
 
 fn root() -> PathBuf {
@@ -241,18 +242,18 @@ fn the_commands_print_what_is_shown() {
     legend("brioche.txt", section(&readme, "A card, answered"));
 }
 
-/// What README and the other documents lead to is there.
+/// What README and all other documents lead to is there.
 #[test]
 fn links_lead_somewhere() {
     let mut count = 0;
-    for document in
-        ["README.md", "examples/README.md", "docs/GUIDE.md", "docs/FORMATS.md", "docs/LAYOUT.md"]
-    {
-        let text = read(document);
-        let folder = root().join(Path::new(document).parent().expect("a folder"));
+    let others = ["examples/README.md", "tests/README.md", "bench/README.md"];
+    let documents = documents().into_iter().map(|document| document.name);
+    for document in documents.chain(others.map(String::from)) {
+        let text = read(&document);
+        let folder = root().join(Path::new(&document).parent().expect("a folder"));
         for target in text.split("](").skip(1).filter_map(|rest| rest.split(')').next()) {
             let (path, heading) = target.split_once('#').unwrap_or((target, ""));
-            let file = if path.is_empty() { root().join(document) } else { folder.join(path) };
+            let file = if path.is_empty() { root().join(&document) } else { folder.join(path) };
             assert!(file.exists(), "{} leads to {}", document, target);
             if !heading.is_empty() {
                 let there = fs::read_to_string(&file).expect("a document");
@@ -266,7 +267,7 @@ fn links_lead_somewhere() {
             count += 1;
         }
     }
-    assert!(count > 30, "{} links", count);
+    assert!(count >= 50, "{} links", count);
 }
 
 /// The supplier's catalogue stands in the guide as it is in its file, and the command prints what stands
