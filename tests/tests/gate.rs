@@ -14,13 +14,26 @@ struct Tools {
     library_end: u8,
     tests: &'static str,
     tests_end: u8,
+    /// What the prover says of each must-fail edit.
+    edits: [&'static str; 3],
 }
 
 const PROOFS: &str = "rt: ok, 2 crates proved, 3 must-fail edits refused\n5 passed, 0 failed\n";
 const TESTS: &str = "test result: ok. 4 passed; 0 failed; 0 ignored; 0 measured; 0 filtered out\n\
                      test result: ok. 3 passed; 0 failed; 0 ignored; 0 measured; 0 filtered out\n";
-const GOOD: Tools =
-    Tools { proofs: PROOFS, proofs_end: 0, library_end: 0, tests: TESTS, tests_end: 0 };
+const RETURNS: &str = "/w/target/must-fail/a/A/proofs/f/Proof.antt:9:2: error: `returns-2`: the two types differ\n\
+                       /w/target/must-fail/a/A/proofs/f/Proof.antt:12:5: error: `f-spec`: it has no field `args`\n";
+const LAW: &str = "note: 1 of them has no atom in common\n\
+                   /w/target/must-fail/a/B/proofs/Laws.antt:3:4: error: `every-card`: expected type `a`,\n  found `b`\n";
+const SEARCH: &str = "fn a::f: no proof: expected `f-spec` in ./proofs/f/Proof.antt; `search` does not close `returns`\n";
+const GOOD: Tools = Tools {
+    proofs: PROOFS,
+    proofs_end: 0,
+    library_end: 0,
+    tests: TESTS,
+    tests_end: 0,
+    edits: [RETURNS, LAW, SEARCH],
+};
 
 fn write_tool(path: &Path, script: String) {
     fs::write(path, script).expect("a tool");
@@ -32,8 +45,18 @@ fn folder(label: &str, expected: &str, tools: &Tools) -> PathBuf {
     let folder = PathBuf::from(env!("CARGO_TARGET_TMPDIR")).join("gate").join(label);
     fs::create_dir_all(folder.join("tests")).expect("a folder");
     fs::create_dir_all(folder.join("bin")).expect("a folder");
-    let script = Path::new(env!("CARGO_MANIFEST_DIR")).join("run");
-    fs::copy(script, folder.join("tests/run")).expect("tests/run");
+    for script in ["run", "facts"] {
+        let from = Path::new(env!("CARGO_MANIFEST_DIR")).join(script);
+        fs::copy(from, folder.join("tests").join(script)).expect("a script of tests/");
+    }
+    for (edit, said) in ["A", "B", "C"].iter().zip(tools.edits) {
+        let log = folder.join("target/must-fail/a").join(edit);
+        fs::create_dir_all(&log).expect("a folder");
+        fs::write(log.join(".log"), said).expect("a log");
+        let edits = folder.join("crates/a/must-fail");
+        fs::create_dir_all(&edits).expect("a folder");
+        fs::write(edits.join(format!("{}.edit", edit)), "").expect("an edit");
+    }
     fs::write(folder.join("tests/expected"), expected).expect("tests/expected");
     let rt = format!(
         "#!/bin/sh\n[ \"$1\" = ci ] || exit {}\ncat <<'END'\n{}END\nexit {}\n",
@@ -83,6 +106,36 @@ fn no_variable_gets_through() {
     assert!(printed.contains("\nPATH="), "{}", printed);
     assert!(!printed.contains("HC_CASES"), "{}", printed);
     assert!(!printed.contains("RUSTFLAGS"), "{}", printed);
+}
+
+/// The fact that each edit fails on is told, a line an edit.
+#[test]
+fn facts_are_told() {
+    let (printed, _) = run("facts", "tests=7\nedits=3\n", &GOOD);
+    for fact in ["a/A: returns-2 of proofs/f/Proof.antt: ", "a/B: every-card of proofs/Laws.antt: ", "a/C: returns of "] {
+        assert!(printed.lines().any(|line| line.starts_with(fact)), "{}:\n{}", fact, printed);
+    }
+}
+
+/// An edit whose first error is about form shows nothing, and the gate says so.
+#[test]
+fn an_edit_on_form_fails() {
+    let said = [
+        "/w/target/must-fail/a/A/proofs/f/Proof.antt:9:2: error: `returns`: record `After`\n  has no field `args`\n",
+        "/w/target/must-fail/a/A/proofs/f/Proof.antt:9:2: error: `next`: module `Tie` has no `Need-next` that can be named from here\n",
+        "/w/target/must-fail/a/A/proofs/f/Proof.antt:9:2: error: `f-spec`: expected type `tie.Need-a`, but this has type `tie.Need-b`\n",
+        "/w/target/must-fail/a/A/proofs/f/Proof.antt:9:2: error: `cast-value`: the goal does not follow\n",
+        "/w/target/must-fail/a/A/proofs/f/Proof.antt:9:2: error: `add-sum`: the goal does not follow\n",
+        "/w/target/must-fail/a/A/specs/Tables.antt:9:2: error: `tables`: expected type `a`, but this has type `b`\n",
+        "/w/target/must-fail/a/A/proofs/Laws.antt:9:2: error: `every-card`: `tells` is not in scope\n",
+        "logic=not-proved\n",
+    ];
+    for (k, said) in said.into_iter().enumerate() {
+        let tools = Tools { edits: [said, LAW, SEARCH], ..GOOD };
+        let (printed, well) = run(&format!("form {}", k), "tests=7\nedits=3\n", &tools);
+        assert!(!well && printed.contains("tests/facts: a/A fails on form"), "{}:\n{}", said, printed);
+        assert!(!last_line(&printed).ends_with(" 0 failed"), "{}", printed);
+    }
 }
 
 #[test]

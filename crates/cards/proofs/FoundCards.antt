@@ -1,7 +1,7 @@
 -- Every finder's answer on the sample cards: what is first, and that there is none, passes by computation.
 use Prim.Native.Nat.{ℕ, zero, suc, _<_}
 use mathlib.Core.Path.{_≡_, refl, sym, subst}
-use mathlib.Core.List.{List, [], _∷_}
+use mathlib.Core.List.{List, [], _∷_, List·Memᴰ·head, List·Memᴰ·tail}
 use mathlib.Core.Bool.{Bool, true, false, true≢false}
 use mathlib.Core.Logic.{inl, inr, ⊎-elim, _↔_}
 use native.Mathlib.Omega.{arith}
@@ -17,21 +17,25 @@ use Rattle.subsumption.specs.Variables.{standsIn}
 use Rattle.subsumption.specs.Table.{one, counted}
 use Rattle.subsumption.specs.Atoms.{inside, occursTo, occurs, isAtomic, inInclusion, inQuestion, stands, holds as holdsAtom, twin, isLowest, isAtom, keep, atoms, bit, pick, chosen}
 use Rattle.subsumption.specs.Rules.{every, contains, sameName, isTop, onPicked, onBoth, onInner, onVariable, byRule, follows}
+use Rattle.subsumption.specs.Subsumption.{Interpretation, Reading, assigned, SubsumedBy}
 use Rattle.subsumption.specs.Refusal.{orElse, refuseIf, firstAt}
 use Rattle.subsumption.specs.Check.{unfit, limitFault, rolesFault, malformedRow, malformed, malformedFault, forward, forwardFault, noConcept, pairsFault, inclusionFault, sidesFault, atomsFault, conceptFault, idFault, useFault, tableFault, assignmentFaultAt, assignmentFault}
-use Rattle.subsumption.proofs.Bools.{both-true}
+use Rattle.subsumption.proofs.Accepted.{wellFormed}
+use Rattle.subsumption.proofs.Membership.{subsumed-by-ground}
 use Rattle.subsumption.proofs.ModelRows.{gather}
 use Rattle.settings.specs.Settings.{Settings, settings, size, faultyAt, settingsFaultAt, settingsFault}
 use Rattle.matching.specs.Within.{FirstWithin}
-use Rattle.matching.specs.Among.{FirstAmong, NoneAmong}
+use Rattle.matching.specs.Among.{FirstAmong}
 use Rattle.matching.proofs.SubstitutionLaws.Members.{anyIn}
+use Rattle.matching.proofs.SubstitutionLaws.Conjoined.{some-solves}
 use Rattle.matching.proofs.WithinLaws.{heeds-all}
 use Rattle.allowance.specs.Find.{FindsCountedAfter}
 use Rattle.groups.specs.Group.{holds, Chain, Joined, InGroup}
-use Rattle.groups.proofs.FindLaws.{first-among-same, none-among-same}
-use Rattle.cards.specs.Samples.{Holds, card, I, J, noFilling, filling, entries, house, looped, copied, narrowed, questions, cards, free}
+use Rattle.groups.proofs.FindLaws.{first-among-same}
+use Rattle.cards.specs.Samples.{Holds, card, I, J, notBelow, noFilling, filling, entries, house, looped, copied, narrowed, questions, cards, free}
 use Rattle.cards.specs.Found.{opposed, grouped, Found, FoundWithin, FoundCounted, FoundGroup}
 use Rattle.cards.proofs.SampleLaws.{allBelow, built, markAt, lines, some, round, rounds, closedTest, sameList, allIn, before, allLists, assignments, sameBool, earlierTest, isDone, is-done, solvedBy, refuted, onIds, marks, misses, saysTest, test-says, cardTest, test-holds}
+use Rattle.cards.proofs.SampleCards.{every-card}
 use Rattle.cards.proofs.SampleCount.{card-h, unrestricted, sample-count}
 use Rattle.cards.proofs.AmongLaws.{heedsTest, askedTest, outTest, firstTest, first-passes, noneTest, none-passes}
 use Rattle.cards.proofs.JudgedCards.{nine-refused}
@@ -46,9 +50,7 @@ few = settings (7 ∷ []) (0 ∷ [])
 
 record Computed : Type 0 where
   grouped-passes : isDone (tableFault grouped) ≡ true
-  opposed-none : cardTest 4 (card I opposed noFilling) ≡ true
-  bare-first : cardTest 4 (card J (house []) (filling (0 ∷ []))) ≡ true
-  grouped-none : saysTest grouped 4 noFilling ≡ true
+  third-fails : saysTest grouped 4 (notBelow (0 ∷ []) 0 3) ≡ true
   barred-set : isDone (settingsFault (house questions) barred) ≡ true
   few-set : isDone (settingsFault (house questions) few) ≡ true
   free-set : isDone (settingsFault (house questions) free) ≡ true
@@ -57,17 +59,13 @@ record Computed : Type 0 where
   barred-first : firstTest (house questions) barred (λ m. true) 4 (2 ∷ []) ≡ true
   few-none : noneTest (house questions) few (λ m. true) 4 ≡ true
   joined-first : firstTest grouped free (λ m. ltb m 2) 4 (4 ∷ []) ≡ true
-  ground-none : noneTest grouped free (λ m. eqb m 2) 4 ≡ true
-  others-none : noneTest opposed free (λ m. ltb m 2) 4 ≡ true
 
 computed : Computed
 unfolding or both anyBelow decode node shape treeTo tree variablesOf hasVariable inside occursTo occurs isAtomic inInclusion inQuestion stands holdsAtom twin isLowest isAtom keep atoms bit pick chosen every contains sameName isTop onPicked onBoth onInner onVariable byRule follows orElse refuseIf firstAt unfit limitFault rolesFault wider widerTo malformedRow malformed malformedFault forward forwardFault noConcept pairsFault inclusionFault sidesFault atomsFault conceptFault idFault useFault tableFault assignmentFaultAt assignmentFault gather entries house looped copied narrowed questions cards anyIn allBelow built markAt lines some round rounds closedTest sameList allIn before allLists assignments sameBool earlierTest isDone solvedBy refuted onIds marks misses saysTest cardTest ℕ-discrete faultyAt settingsFaultAt settingsFault size counted one heedsTest askedTest outTest firstTest noneTest opposed grouped barred few
 computed =
     record {
       grouped-passes = refl;
-      opposed-none = refl;
-      bare-first = refl;
-      grouped-none = refl;
+      third-fails = refl;
       barred-set = refl;
       few-set = refl;
       free-set = refl;
@@ -76,17 +74,11 @@ computed =
       barred-first = refl;
       few-none = refl;
       joined-first = refl;
-      ground-none = refl;
-      others-none = refl;
     }
 
 -- ---- groups
 abbrev HoldsSome : Tables → ℕ → Type 0
 HoldsSome t m = (k : ℕ) × (holds t m k ≡ true)
-
-chain-start : (t : Tables) (m : ℕ) (others : List ℕ) (n : ℕ) → Chain t m others n → HoldsSome t m
-chain-start t m [] n c = (c .variable, c .first)
-chain-start t m (o ∷ others) n c = (c .1 .variable, c .1 .first)
 
 chain-end : (t : Tables) (m : ℕ) (others : List ℕ) (n : ℕ) → Chain t m others n → HoldsSome t n
 chain-end t m [] n c = (c .variable, c .second)
@@ -97,6 +89,7 @@ ask-both :
     (t : Tables) (n : ℕ) → holds t 0 0 ≡ true → holds t n 0 ≡ true → InGroup t 0 n
 ask-both t n e f = inl (record { others = []; chain = record { variable = 0; first = e; second = f } })
 
+
 joined-with : (n : ℕ) → n < pairsOf (grouped .questions) → (ltb n 2 ≡ true) ↔ InGroup grouped 0 n
 unfolding holds standsIn tree treeTo shape node decode or house entries questions grouped
 joined-with zero l = ((λ e. ask-both grouped 0 refl refl), (λ g. refl))
@@ -104,29 +97,16 @@ joined-with (suc zero) l = ((λ e. ask-both grouped 1 refl refl), (λ g. refl))
 joined-with (suc (suc zero)) l = (
   (λ e. absurd (true≢false (sym e))),
   λ g.
-      absurd
-      (⊎-elim (λ (j : Joined grouped 0 2). true≢false (sym (chain-end grouped 0 (j .others) 2 (j .chain) .1)))
-      (λ h. true≢false (h .0 0)) g),
+  absurd
+  (⊎-elim (λ (j : Joined grouped 0 2). true≢false (sym (chain-end grouped 0 (j .others) 2 (j .chain) .1)))
+  (λ h. true≢false (h .0 0)) g),
 )
 joined-with (suc (suc (suc n))) l = absurd (omega arith)
 
-ground-with : (n : ℕ) → n < pairsOf (grouped .questions) → (eqb n 2 ≡ true) ↔ InGroup grouped 2 n
-unfolding holds standsIn tree treeTo shape node decode or house entries questions grouped
-ground-with n l = ((λ e. subst (λ (z : ℕ). InGroup grouped 2 z) (sym (eqb-true n 2 e)) (inr ((λ k. refl), (λ k. refl)))), (λ g. only n l g))
-  where
-    from-ground : (m : ℕ) → Joined grouped 2 m → ⊥
-    from-ground m j = true≢false (sym (chain-start grouped 2 (j .others) m (j .chain) .1))
-
-    only : (m : ℕ) → m < pairsOf (grouped .questions) → InGroup grouped 2 m → eqb m 2 ≡ true
-    only zero l g = absurd (⊎-elim (from-ground 0) (λ h. true≢false (h .1 0)) g)
-    only (suc zero) l g = absurd (⊎-elim (from-ground 1) (λ h. true≢false (h .1 0)) g)
-    only (suc (suc zero)) l g = refl
-    only (suc (suc (suc m))) l g = absurd (omega arith)
-
-opposed-with : (n : ℕ) → n < pairsOf (opposed .questions) → (ltb n 2 ≡ true) ↔ InGroup opposed 0 n
+opposed-with : (n : ℕ) → n < pairsOf (opposed .questions) → InGroup opposed 0 n
 unfolding holds standsIn tree treeTo shape node decode or house entries questions opposed
-opposed-with zero l = ((λ e. ask-both opposed 0 refl refl), (λ g. refl))
-opposed-with (suc zero) l = ((λ e. ask-both opposed 1 refl refl), (λ g. refl))
+opposed-with zero l = ask-both opposed 0 refl refl
+opposed-with (suc zero) l = ask-both opposed 1 refl refl
 opposed-with (suc (suc n)) l = absurd (omega arith)
 
 -- ---- the answers
@@ -148,17 +128,21 @@ free-first =
       first = λ other e h x. card-h .1 .first other e x;
     }
 
+card-i : Holds (card I opposed noFilling)
+unfolding cards opposed
+card-i = every-card _ (List·Memᴰ·tail (List·Memᴰ·tail (List·Memᴰ·tail (List·Memᴰ·tail (List·Memᴰ·tail (List·Memᴰ·tail (List·Memᴰ·tail (List·Memᴰ·tail (List·Memᴰ·head refl)))))))))
+
+card-j : Holds (card J (house []) (filling (0 ∷ [])))
+unfolding cards
+card-j = every-card _ (List·Memᴰ·tail (List·Memᴰ·tail (List·Memᴰ·tail (List·Memᴰ·tail (List·Memᴰ·tail (List·Memᴰ·tail (List·Memᴰ·tail (List·Memᴰ·tail (List·Memᴰ·tail (List·Memᴰ·head refl))))))))))
+
 pub found : Found
 unfolding house opposed
 found =
     record {
       card-H = λ before after told room. finds-first (house questions) refl before after told (card-h .0) room 4 (card-h .1);
-      card-I = λ before after told room.
-          let h = test-holds 4 (card I opposed noFilling) (computed .opposed-none) in
-          finds-none opposed refl before after told (h .0) room (h .1);
-      card-J = λ before after told room.
-          let h = test-holds 4 (card J (house []) (filling (0 ∷ []))) (computed .bare-first) in
-          finds-first (house []) refl before after told (h .0) room 0 (h .1);
+      card-I = λ before after told room. finds-none opposed refl before after told (card-i .0) room (card-i .1);
+      card-J = λ before after told room. finds-first (house []) refl before after told (card-j .0) room 0 (card-j .1);
     }
 
 pub found-within : FoundWithin
@@ -195,15 +179,19 @@ found-group =
           (first-among-same grouped free _ _ joined-with _ (first-passes grouped free (λ m. ltb m 2) 4 ok (4 ∷ []) (computed .joined-first)));
       ground = λ before after told room x.
           group-none grouped refl before after told ok room free (is-done _ (computed .grouped-set)) 2 (lit< tt) x
-          (none-among-same grouped free _ _ ground-with (none-passes grouped free (λ m. eqb m 2) 4 ok (computed .ground-none)));
-      whole = λ before after told room. finds-none grouped refl before after told ok room (test-says grouped 4 ok noFilling (computed .grouped-none));
+          (λ other e h y. third-fails _ (y 2 (lit< tt) (inr ((λ k. refl), (λ k. refl)))));
+      whole = λ before after told room. finds-none grouped refl before after told ok room (λ σ y. third-fails _ (y 2 (lit< tt)));
       others = λ before after told room x.
-          group-none opposed refl before after told (held .0) room free (is-done _ (computed .opposed-set)) 0 (lit< tt) x
-          (none-among-same opposed free _ _ opposed-with (none-passes opposed free (λ m. ltb m 2) 4 (held .0) (computed .others-none)));
+          group-none opposed refl before after told (card-i .0) room free (is-done _ (computed .opposed-set)) 0 (lit< tt) x
+          (λ other e h y.
+          let s = some-solves opposed (wellFormed opposed (card-i .0)) other (λ m l. y m l (opposed-with m l)) in
+          card-i .1 (s .substitution) (s .solves));
     }
   where
     ok : tableFault grouped ≡ Done
     ok = is-done _ (computed .grouped-passes)
-
-    held : Holds (card I opposed noFilling)
-    held = test-holds 4 (card I opposed noFilling) (computed .opposed-none)
+    -- the third question holds no variable, so it fails under every reading
+    third-fails : (reading : Interpretation → Reading) → SubsumedBy grouped reading 0 3 → ⊥
+    third-fails reading h =
+        test-says grouped 4 ok (notBelow (0 ∷ []) 0 3) (computed .third-fails) .1
+        (subsumed-by-ground grouped reading (assigned grouped (0 ∷ [])) 0 3 refl refl h)
