@@ -50,6 +50,8 @@ few = settings (7 ∷ []) (0 ∷ [])
 
 record Computed : Type 0 where
   grouped-passes : isDone (tableFault grouped) ≡ true
+  left-ground : hasVariable (tree (grouped .concepts) 0) ≡ false
+  right-ground : hasVariable (tree (grouped .concepts) 3) ≡ false
   third-fails : saysTest grouped 4 (notBelow (0 ∷ []) 0 3) ≡ true
   barred-set : isDone (settingsFault (house questions) barred) ≡ true
   few-set : isDone (settingsFault (house questions) few) ≡ true
@@ -65,6 +67,8 @@ unfolding or both anyBelow decode node shape treeTo tree variablesOf hasVariable
 computed =
     record {
       grouped-passes = refl;
+      left-ground = refl;
+      right-ground = refl;
       third-fails = refl;
       barred-set = refl;
       few-set = refl;
@@ -89,7 +93,6 @@ ask-both :
     (t : Tables) (n : ℕ) → holds t 0 0 ≡ true → holds t n 0 ≡ true → InGroup t 0 n
 ask-both t n e f = inl (record { others = []; chain = record { variable = 0; first = e; second = f } })
 
-
 joined-with : (n : ℕ) → n < pairsOf (grouped .questions) → (ltb n 2 ≡ true) ↔ InGroup grouped 0 n
 unfolding holds standsIn tree treeTo shape node decode or house entries questions grouped
 joined-with zero l = ((λ e. ask-both grouped 0 refl refl), (λ g. refl))
@@ -97,11 +100,15 @@ joined-with (suc zero) l = ((λ e. ask-both grouped 1 refl refl), (λ g. refl))
 joined-with (suc (suc zero)) l = (
   (λ e. absurd (true≢false (sym e))),
   λ g.
-  absurd
-  (⊎-elim (λ (j : Joined grouped 0 2). true≢false (sym (chain-end grouped 0 (j .others) 2 (j .chain) .1)))
-  (λ h. true≢false (h .0 0)) g),
+      absurd
+      (⊎-elim (λ (j : Joined grouped 0 2). true≢false (sym (chain-end grouped 0 (j .others) 2 (j .chain) .1)))
+      (λ h. true≢false (h .0 0)) g),
 )
 joined-with (suc (suc (suc n))) l = absurd (omega arith)
+
+third-ground : (k : ℕ) → holds grouped 2 k ≡ false
+unfolding holds standsIn tree treeTo shape node decode or house entries questions grouped
+third-ground k = refl
 
 opposed-with : (n : ℕ) → n < pairsOf (opposed .questions) → InGroup opposed 0 n
 unfolding holds standsIn tree treeTo shape node decode or house entries questions opposed
@@ -179,7 +186,7 @@ found-group =
           (first-among-same grouped free _ _ joined-with _ (first-passes grouped free (λ m. ltb m 2) 4 ok (4 ∷ []) (computed .joined-first)));
       ground = λ before after told room x.
           group-none grouped refl before after told ok room free (is-done _ (computed .grouped-set)) 2 (lit< tt) x
-          (λ other e h y. third-fails _ (y 2 (lit< tt) (inr ((λ k. refl), (λ k. refl)))));
+          (λ other e h y. third-fails _ (y 2 (lit< tt) (inr (third-ground, third-ground))));
       whole = λ before after told room. finds-none grouped refl before after told ok room (λ σ y. third-fails _ (y 2 (lit< tt)));
       others = λ before after told room x.
           group-none opposed refl before after told (card-i .0) room free (is-done _ (computed .opposed-set)) 0 (lit< tt) x
@@ -190,8 +197,9 @@ found-group =
   where
     ok : tableFault grouped ≡ Done
     ok = is-done _ (computed .grouped-passes)
+
     -- the third question holds no variable, so it fails under every reading
     third-fails : (reading : Interpretation → Reading) → SubsumedBy grouped reading 0 3 → ⊥
     third-fails reading h =
         test-says grouped 4 ok (notBelow (0 ∷ []) 0 3) (computed .third-fails) .1
-        (subsumed-by-ground grouped reading (assigned grouped (0 ∷ [])) 0 3 refl refl h)
+        (subsumed-by-ground grouped reading (assigned grouped (0 ∷ [])) 0 3 (computed .left-ground) (computed .right-ground) h)
