@@ -1,5 +1,5 @@
 -- Every finder's answer on the sample cards: what is first, and that there is none, passes by computation.
-use Prim.Native.Nat.{ℕ, zero, suc, _<_}
+use Prim.Native.Nat.{ℕ, zero, suc, _<_, _≤_}
 use mathlib.Core.Path.{_≡_, refl, sym, subst}
 use mathlib.Core.List.{List, [], _∷_, List·Memᴰ·head, List·Memᴰ·tail}
 use mathlib.Core.Bool.{Bool, true, false, true≢false}
@@ -29,11 +29,11 @@ use Rattle.matching.specs.Among.{FirstAmong}
 use Rattle.matching.proofs.SubstitutionLaws.Members.{anyIn}
 use Rattle.matching.proofs.SubstitutionLaws.Conjoined.{some-solves}
 use Rattle.matching.proofs.WithinLaws.{heeds-all}
-use Rattle.allowance.specs.Find.{FindsCountedAfter}
+use Rattle.allowance.specs.Find.{FindsCountedAfter, FindsCounted}
 use Rattle.groups.specs.Group.{holds, Chain, Joined, InGroup}
 use Rattle.groups.proofs.FindLaws.{first-among-same}
 use Rattle.cards.specs.Samples.{Holds, card, I, J, notBelow, noFilling, filling, entries, house, looped, copied, narrowed, questions, cards, free}
-use Rattle.cards.specs.Found.{opposed, grouped, Found, FoundWithin, FoundCounted, FoundGroup}
+use Rattle.cards.specs.Found.{tells, fills, Always, opposed, grouped, Found, FoundWithin, FoundCounted, FoundGroup}
 use Rattle.cards.proofs.SampleLaws.{allBelow, built, markAt, lines, some, round, rounds, closedTest, sameList, allIn, before, allLists, assignments, sameBool, earlierTest, isDone, is-done, solvedBy, refuted, onIds, marks, misses, saysTest, test-says, cardTest, test-holds}
 use Rattle.cards.proofs.SampleCards.{every-card}
 use Rattle.cards.proofs.SampleCount.{card-h, unrestricted, sample-count}
@@ -164,13 +164,17 @@ found-within =
           (λ other e h x. none-passes (house questions) few (λ m. true) 4 (card-h .0) (computed .few-none) other e h (λ m l u. x m l));
     }
 
+pub sample-counted : (allowance : ℕ) → 4 ≤ allowance → Always (FindsCounted (house questions) free allowance) (tells 0 0 4) (fills 4)
+unfolding house
+sample-counted allowance l before after told room x =
+    counted-first (house questions) refl before after told (card-h .0) room free (is-done _ (computed .free-set)) allowance 4 sample-count x 4
+    free-first l
+
 pub found-counted : FoundCounted
 unfolding house
 found-counted =
     record {
-      enough = λ before after told room x.
-          counted-first (house questions) refl before after told (card-h .0) room free (is-done _ (computed .free-set)) 4 4 sample-count x 4 free-first
-          (omega arith);
+      enough = sample-counted 4 (omega arith);
       spent = λ before after told room x.
           counted-spent (house questions) refl before after told (card-h .0) room free (is-done _ (computed .free-set)) 3 4 sample-count x (omega arith);
       refused = λ before after told room x.

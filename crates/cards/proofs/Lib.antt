@@ -6,5 +6,6 @@ pub mod AmongLaws
 pub mod JudgedCards
 pub mod FoundLaws
 pub mod FoundCards
+pub mod FoundBatches
 pub mod ShownTables
 pub mod ShownPairs

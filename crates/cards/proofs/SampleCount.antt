@@ -22,7 +22,7 @@ card-d : Holds (card D (house questions) (notBelow (0 ∷ []) 5 3))
 unfolding cards
 card-d = every-card _ (List·Memᴰ·tail (List·Memᴰ·tail (List·Memᴰ·tail (List·Memᴰ·head refl))))
 
-card-g : Holds (card G (house questions) (parts (0 ∷ 2 ∷ 3 ∷ [])))
+pub card-g : Holds (card G (house questions) (parts (0 ∷ 2 ∷ 3 ∷ [])))
 unfolding cards
 card-g = every-card _ (List·Memᴰ·tail (List·Memᴰ·tail (List·Memᴰ·tail (List·Memᴰ·tail (List·Memᴰ·tail (List·Memᴰ·tail (List·Memᴰ·head refl)))))))
 

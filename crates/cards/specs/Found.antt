@@ -11,6 +11,8 @@ use Rattle.matching.specs.Find.{Finds}
 use Rattle.matching.specs.Within.{FindsWithin}
 use Rattle.allowance.specs.Find.{FindsCounted}
 use Rattle.groups.specs.Find.{FindsGroup}
+use Rattle.batches.specs.declared.find.Batch.{Batch}
+use Rattle.batches.specs.Find.{replyAt, FindsBatch}
 use Rattle.cards.specs.Samples.{house, questions, free}
 
 -- A reply: number, place and value.
@@ -60,3 +62,19 @@ pub record FoundGroup : Type 0 where
   pub ground : Always (FindsGroup grouped free 2) (tells 10 0 0) keeps
   pub whole : Always (Finds grouped) (tells 10 0 0) keeps
   pub others : Always (FindsGroup opposed free 0) (tells 10 0 0) keeps
+
+-- Batches (02, A.11): card H's questions twice, with shares of 5 and 3. The first leaves one over, so the second has the four that it needs.
+unfoldable pub twice : Tables
+twice = house (5 ∷ 3 ∷ 2 ∷ 4 ∷ 5 ∷ 3 ∷ 2 ∷ 4 ∷ [])
+
+pub record FoundBatch (before after : List ℕ) (batch : Batch) : Type 0 where
+  pub ran : (batch .number ≡ 0) × (batch .place ≡ 0)
+  pub first : replyAt batch 0 ≡ tells 0 0 4
+  pub second : replyAt batch 1 ≡ tells 0 0 4
+  pub left : batch .left ≡ 0
+  pub written : after ≡ 4 ∷ 4 ∷ drop 2 before
+
+abbrev pub EveryBatch : Type 0
+EveryBatch =
+    (before after : List ℕ) (batch : Batch) → 2 ≤ length before → FindsBatch twice (4 ∷ 4 ∷ []) (5 ∷ 3 ∷ []) before after batch
+    → FoundBatch before after batch
