@@ -37,7 +37,18 @@ pub const SENTENCES: &[Sentence] = &[
     Sentence { of: "matching", file: "DerivationLaws/Few", law: "lines-few" },
     Sentence { of: "matching", file: "TwinLaws", law: "twins-count-once" },
     Sentence { of: "cards", file: "SampleCards", law: "every-card" },
+    Sentence { of: "cards", file: "FoundCards", law: "found" },
+    Sentence { of: "cards", file: "FoundCards", law: "found-within" },
+    Sentence { of: "cards", file: "FoundCards", law: "found-counted" },
+    Sentence { of: "cards", file: "FoundCards", law: "found-group" },
+    Sentence { of: "cards", file: "FoundBatches", law: "every-batch" },
     Sentence { of: "cards", file: "ShownTables", law: "every-table" },
+    Sentence { of: "cards", file: "ShownTables", law: "empty-table" },
+    Sentence { of: "cards", file: "ShownTables", law: "every-update" },
+    Sentence { of: "cards", file: "ShownPairs", law: "nothing-shown" },
+    Sentence { of: "cards", file: "JudgedCards", law: "examples" },
+    Sentence { of: "cards", file: "JudgedCards", law: "in-order" },
+    Sentence { of: "cards", file: "JudgedCards", law: "derived" },
     Sentence { of: "countermodel", file: "RisingLaws", law: "shown-rising" },
     Sentence { of: "countermodel", file: "ShownChecks", law: "shown-answers" },
     Sentence { of: "incremental", file: "FreshLaws", law: "update-fresh" },
@@ -295,7 +306,7 @@ fn cited_by_operations() -> BTreeSet<Name> {
     found
 }
 
-/// What the sentences cite: a law's signature runs to the line that starts its proof.
+/// What the sentences cite: a law's signature runs to the line that starts its proof, or to what that unfolds.
 fn cited_by_sentences() -> BTreeSet<Name> {
     let mut found = BTreeSet::new();
     for sentence in SENTENCES {
@@ -303,11 +314,12 @@ fn cited_by_sentences() -> BTreeSet<Name> {
         let text = read(&path);
         // a law may stand in a module, indented
         let start = format!("pub {} :", sentence.law);
+        let ends = [format!("{} ", sentence.law), "unfolding ".to_string()];
         let signature: Vec<&str> = text
             .lines()
             .map(str::trim_start)
             .skip_while(|line| !line.starts_with(&start))
-            .take_while(|line| !line.starts_with(&format!("{} ", sentence.law)))
+            .take_while(|line| !ends.iter().any(|end| line.starts_with(end)))
             .collect();
         assert!(!signature.is_empty(), "no law {} in {}", sentence.law, path.display());
         found.extend(resolve(&signature.join("\n"), &imports(&text)));
@@ -315,11 +327,11 @@ fn cited_by_sentences() -> BTreeSet<Name> {
     found
 }
 
+/// All crates: one may have operations and no definitions, as `capi`, or definitions and no code, as `cards`.
 pub fn crate_names() -> Vec<String> {
     let mut found: Vec<String> = fs::read_dir(crates_dir())
         .expect("the folder crates")
         .map(|entry| entry.expect("a crate").file_name().into_string().expect("a crate's name"))
-        .filter(|name| crates_dir().join(name).join("specs").is_dir())
         .collect();
     found.sort();
     found
