@@ -92,23 +92,23 @@ pub const SENTENCES: &[Sentence] = &[
 const PROGRAM: &[(&str, &str, &str)] =
     &[("hermitcasket", "answer", "answer"), ("hermitcasket", "parts", "put_part"), ("hermitcasket_owl", "answer", "answer")];
 
-type Imports = BTreeMap<String, Name>;
+pub type Imports = BTreeMap<String, Name>;
 
-struct Item {
-    names: Vec<String>,
-    text: String,
+pub struct Item {
+    pub names: Vec<String>,
+    pub text: String,
 }
 
-fn crates_dir() -> PathBuf {
+pub fn crates_dir() -> PathBuf {
     Path::new(env!("CARGO_MANIFEST_DIR")).join("../crates")
 }
 
-fn read(path: &Path) -> String {
+pub fn read(path: &Path) -> String {
     fs::read_to_string(path).unwrap_or_else(|error| panic!("{}: {}", path.display(), error))
 }
 
 /// The files below a folder with an extension, with their paths from there.
-fn files(folder: &Path, extension: &str) -> Vec<PathBuf> {
+pub fn files(folder: &Path, extension: &str) -> Vec<PathBuf> {
     let mut found = Vec::new();
     let mut open = vec![folder.to_path_buf()];
     while let Some(at) = open.pop() {
@@ -159,7 +159,7 @@ fn spec_module(path: &str) -> Option<(String, String)> {
 }
 
 /// The names that the `use` lines of a file bring from `specs/`.
-fn imports(text: &str) -> Imports {
+pub fn imports(text: &str) -> Imports {
     let mut found = Imports::new();
     for line in text.lines() {
         let line = line.trim_start_matches("ghost ").trim_end_matches(';');
@@ -200,7 +200,7 @@ fn constructors(line: &str) -> Vec<String> {
 }
 
 /// The definitions of a file of `specs/`, each with what its section binds.
-fn items(text: &str) -> Vec<Item> {
+pub fn items(text: &str) -> Vec<Item> {
     let mut found: Vec<Item> = Vec::new();
     let mut section = String::new();
     let mut in_data = false;
@@ -232,7 +232,7 @@ fn items(text: &str) -> Vec<Item> {
 }
 
 /// The clauses of the functions of a file of `src/`.
-fn clauses(text: &str) -> BTreeMap<String, String> {
+pub fn clauses(text: &str) -> BTreeMap<String, String> {
     let mut found = BTreeMap::new();
     let mut name = None;
     let mut clause = String::new();
@@ -284,7 +284,7 @@ fn operations(of: &str) -> Vec<(String, String)> {
     found
 }
 
-fn resolve(text: &str, imports: &Imports) -> BTreeSet<Name> {
+pub fn resolve(text: &str, imports: &Imports) -> BTreeSet<Name> {
     words(text).iter().filter_map(|word| imports.get(word)).cloned().collect()
 }
 
@@ -306,25 +306,21 @@ fn cited_by_operations() -> BTreeSet<Name> {
     found
 }
 
-/// What the sentences cite: a law's signature runs to the line that starts its proof, or to what that unfolds.
-fn cited_by_sentences() -> BTreeSet<Name> {
-    let mut found = BTreeSet::new();
-    for sentence in SENTENCES {
-        let path = crates_dir().join(sentence.of).join(format!("proofs/{}.antt", sentence.file));
-        let text = read(&path);
-        // a law may stand in a module, indented
-        let start = format!("pub {} :", sentence.law);
-        let ends = [format!("{} ", sentence.law), "unfolding ".to_string()];
-        let signature: Vec<&str> = text
-            .lines()
-            .map(str::trim_start)
-            .skip_while(|line| !line.starts_with(&start))
-            .take_while(|line| !ends.iter().any(|end| line.starts_with(end)))
-            .collect();
-        assert!(!signature.is_empty(), "no law {} in {}", sentence.law, path.display());
-        found.extend(resolve(&signature.join("\n"), &imports(&text)));
-    }
-    found
+/// What a sentence cites: the law's signature runs to the line that starts its proof, or to what that unfolds.
+fn cited_by(sentence: &Sentence) -> BTreeSet<Name> {
+    let path = crates_dir().join(sentence.of).join(format!("proofs/{}.antt", sentence.file));
+    let text = read(&path);
+    // a law may stand in a module, indented
+    let start = format!("pub {} :", sentence.law);
+    let ends = [format!("{} ", sentence.law), "unfolding ".to_string()];
+    let signature: Vec<&str> = text
+        .lines()
+        .map(str::trim_start)
+        .skip_while(|line| !line.starts_with(&start))
+        .take_while(|line| !ends.iter().any(|end| line.starts_with(end)))
+        .collect();
+    assert!(!signature.is_empty(), "no law {} in {}", sentence.law, path.display());
+    resolve(&signature.join("\n"), &imports(&text))
 }
 
 /// All crates: one may have operations and no definitions, as `capi`, or definitions and no code, as `cards`.
@@ -381,8 +377,17 @@ impl Definitions {
 
     /// The definitions that the public contracts and the sentences reach.
     pub fn reached(&self) -> BTreeSet<Name> {
+        let sentences = SENTENCES.iter().flat_map(cited_by);
+        self.reached_from(cited_by_operations().into_iter().chain(sentences).collect())
+    }
+
+    /// The definitions that one sentence reaches.
+    pub fn reached_by(&self, sentence: &Sentence) -> BTreeSet<Name> {
+        self.reached_from(cited_by(sentence).into_iter().collect())
+    }
+
+    fn reached_from(&self, mut open: Vec<Name>) -> BTreeSet<Name> {
         let mut found = BTreeSet::new();
-        let mut open: Vec<Name> = cited_by_operations().into_iter().chain(cited_by_sentences()).collect();
         while let Some(name) = open.pop() {
             let name = self.type_of.get(&name).unwrap_or_else(|| panic!("no definition {:?}", name)).clone();
             if found.insert(name.clone()) {

@@ -171,14 +171,18 @@ pub fn citations(piece: &str) -> Vec<Citation> {
     found
 }
 
-/// The paths that a document names in backticks: files of crates/ by their paths from there, and whatever begins with a crate or a folder
-/// of the repository. From the top folder.
+/// The paths that a document names in backticks: files of crates/ by their paths from there, must-fail edits by crate and label, and
+/// whatever else begins with a crate or a folder of the repository. From the top folder.
 pub fn paths(text: &str) -> Vec<String> {
     let named = |word: &str| -> Option<String> {
         if let Some(file) = file(word) {
             return Some(format!("crates/{}", file));
         }
-        let (first, _) = word.split_once('/')?;
+        let (first, label) = word.split_once('/')?;
+        let edit = format!("crates/{}/must-fail/{}.edit", first, label);
+        if root().join(&edit).is_file() {
+            return Some(edit);
+        }
         // target/ comes and goes
         let is_plain = first.starts_with(char::is_alphabetic) && first != "target";
         let is_path = is_plain && !word.contains(|c: char| c == ' ' || c == '*');

@@ -29,6 +29,7 @@ pub mod shift;
 pub mod substitution;
 pub mod tables;
 pub mod tally;
+pub mod tried;
 
 /// The library's functions, by the safe crate.
 pub use hermitcasket::raw as capi;

@@ -28,6 +28,7 @@ mod sample_cards;
 mod search;
 mod show;
 mod table;
+mod tried;
 mod twins;
 mod update;
 mod variables;

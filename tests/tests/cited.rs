@@ -86,7 +86,7 @@ fn every_named_path_is_there() {
     assert!(count >= 320, "{} paths: the reader of documents is broken", count);
 }
 
-/// In CONTRACTS.md the tables of the scope's sentences and of the theory cite every name with its file, but for edits.
+/// In CONTRACTS.md the tables of the scope's sentences and of the theory cite every name with its file.
 #[test]
 fn the_contracts_give_every_name_its_file() {
     let text = fs::read_to_string(root().join("docs/CONTRACTS.md")).expect("the contracts");
@@ -95,13 +95,8 @@ fn the_contracts_give_every_name_its_file() {
     let mut count = 0;
     for row in tables.lines().filter(|line| line.starts_with("| ") && line.contains('`')) {
         let cell = row.split(" | ").nth(1).expect("a second cell");
-        let mut names: Vec<&str> = Vec::new();
-        let parts: Vec<&str> = cell.split('`').collect();
-        for k in (1..parts.len()).step_by(2).filter(|&k| !parts[k].contains('/')) {
-            if !parts[k - 1].ends_with("edit ") {
-                names.push(parts[k]);
-            }
-        }
+        let names: Vec<&str> =
+            cell.split('`').skip(1).step_by(2).filter(|word| !word.contains('/')).collect();
         let given: Vec<String> =
             citations(cell).into_iter().map(|citation| citation.name).collect();
         assert_eq!(names, given, "{}", row);
