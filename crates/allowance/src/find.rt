@@ -17,11 +17,11 @@ use subsumption::list_atoms;
 use subsumption::refusal::Outcome;
 use subsumption::refusal::Refusal;
 ghost use mathlib.Core.Path.{_≡_};
+ghost use Rattle.subsumption.specs.Lent.{given, lent, before, after};
 ghost use Rattle.subsumption.specs.declared.refusal.Outcome.the-variants.{Done};
-ghost use Rattle.subsumption.specs.Tables.{tables};
 ghost use Rattle.subsumption.specs.Refusal.{replyRefused};
 ghost use Rattle.subsumption.specs.Inner.Listing.{Accepted};
-ghost use Rattle.settings.specs.Settings.{settings, settingsFault};
+ghost use Rattle.settings.specs.Settings.{givenSettings, lentSettings, settingsFault};
 ghost use Rattle.allowance.specs.Find.{countedReply, FindsCounted};
 ghost use Rattle.allowance.specs.Inner.Find.{WalkedBy};
 
@@ -52,9 +52,9 @@ fn walk_known(
     largest: &[u16],
     allowance: u32,
 ) -> Trail
-    requires { ⌜ Accepted (tables (now concepts) (now inclusions) (now questions) (now roles) variables) (now ids) ⌝ }
-    requires { ⌜ settingsFault (tables (now concepts) (now inclusions) (now questions) (now roles) variables) (settings (now permitted) (now largest)) ≡ Done ⌝ }
-    ensures { λ r. ⌜ WalkedBy (tables (now (concepts .entry)) (now (inclusions .entry)) (now (questions .entry)) (now (roles .entry)) variables) (settings (now (permitted .entry)) (now (largest .entry))) allowance (r .found) (r .spent) (r .choice) (r .met) ⌝ }
+    requires { ⌜ Accepted (given concepts inclusions questions roles variables) (now ids) ⌝ }
+    requires { ⌜ settingsFault (given concepts inclusions questions roles variables) (givenSettings permitted largest) ≡ Done ⌝ }
+    ensures { λ r. ⌜ WalkedBy (lent concepts inclusions questions roles variables) (lentSettings permitted largest) allowance (r .found) (r .spent) (r .choice) (r .met) ⌝ }
 {
     let mut sets = [0u64; SETS];
     let mut problem = [0u16; PROBLEM];
@@ -88,9 +88,9 @@ fn find_set(
     allowance: u32,
     out: &mut [u64],
 ) -> Counted
-    requires { ⌜ Accepted (tables (now concepts) (now inclusions) (now questions) (now roles) variables) (now ids) ⌝ }
-    requires { ⌜ settingsFault (tables (now concepts) (now inclusions) (now questions) (now roles) variables) (settings (now permitted) (now largest)) ≡ Done ⌝ }
-    ensures { λ r. ⌜ FindsCounted (tables (now (concepts .entry)) (now (inclusions .entry)) (now (questions .entry)) (now (roles .entry)) variables) (settings (now (permitted .entry)) (now (largest .entry))) allowance (now (out .entry)) (now (out .exit)) (countedReply r) ⌝ }
+    requires { ⌜ Accepted (given concepts inclusions questions roles variables) (now ids) ⌝ }
+    requires { ⌜ settingsFault (given concepts inclusions questions roles variables) (givenSettings permitted largest) ≡ Done ⌝ }
+    ensures { λ r. ⌜ FindsCounted (lent concepts inclusions questions roles variables) (lentSettings permitted largest) allowance (before out) (after out) (countedReply r) ⌝ }
 {
     let wanted = variables as usize;
     if out.len() < wanted {
@@ -141,8 +141,8 @@ pub fn find_known(
     allowance: u32,
     out: &mut [u64],
 ) -> Counted
-    requires { ⌜ Accepted (tables (now concepts) (now inclusions) (now questions) (now roles) variables) (now ids) ⌝ }
-    ensures { λ r. ⌜ FindsCounted (tables (now (concepts .entry)) (now (inclusions .entry)) (now (questions .entry)) (now (roles .entry)) variables) (settings (now (permitted .entry)) (now (largest .entry))) allowance (now (out .entry)) (now (out .exit)) (countedReply r) ⌝ }
+    requires { ⌜ Accepted (given concepts inclusions questions roles variables) (now ids) ⌝ }
+    ensures { λ r. ⌜ FindsCounted (lent concepts inclusions questions roles variables) (lentSettings permitted largest) allowance (before out) (after out) (countedReply r) ⌝ }
 {
     let checked = check_settings(permitted, largest, variables, ids.len());
     match checked {
@@ -174,7 +174,7 @@ pub fn find_counted(
     allowance: u32,
     out: &mut [u64],
 ) -> Counted
-    ensures { λ r. ⌜ FindsCounted (tables (now (concepts .entry)) (now (inclusions .entry)) (now (questions .entry)) (now (roles .entry)) variables) (settings (now (permitted .entry)) (now (largest .entry))) allowance (now (out .entry)) (now (out .exit)) (countedReply r) ⌝ }
+    ensures { λ r. ⌜ FindsCounted (lent concepts inclusions questions roles variables) (lentSettings permitted largest) allowance (before out) (after out) (countedReply r) ⌝ }
 {
     let mut ids = [0u16; ATOMS];
     let listed = list_atoms(concepts, inclusions, questions, roles, variables, &mut ids);

@@ -11,6 +11,7 @@ ghost use Prim.Native.Nat.{_≤_};
 ghost use lib.ListN.{length};
 ghost use Rattle.matching.specs.Inner.Search.Problem.{Shaped};
 ghost use Rattle.allowance.specs.Inner.Kept.{ringAt, FollowsIf, Recalled, Noted, Tried};
+ghost use Rattle.subsumption.specs.Lent.{before, after};
 
 const RING: usize = 16;
 
@@ -51,7 +52,7 @@ fn follows(choice: [u64; 8], other: [u64; 8], right: bool, passed: bool) -> bool
 // Whether the outcome follows from a choice in its ring.
 fn is_known(kept: &[u64], choice: [u64; 8], right: bool, passed: bool) -> bool
     requires { ⌜ (length (now kept) ≡ 516) × (length choice ≡ 8) ⌝ }
-    ensures { λ r. ⌜ Recalled (now (kept .entry)) choice right passed r ⌝ }
+    ensures { λ r. ⌜ Recalled (before kept) choice right passed r ⌝ }
 {
     let ring = ring_at(right, passed);
     let noted = kept[ring + NOTED];
@@ -73,7 +74,7 @@ fn is_known(kept: &[u64], choice: [u64; 8], right: bool, passed: bool) -> bool
 // Notes a choice in a ring, in the place of the oldest.
 fn note(kept: &mut [u64], choice: [u64; 8], right: bool, passed: bool)
     requires { ⌜ (length (now kept) ≡ 516) × (length choice ≡ 8) ⌝ }
-    ensures { λ _. ⌜ Noted (now (kept .entry)) (now (kept .exit)) choice right passed ⌝ }
+    ensures { λ _. ⌜ Noted (before kept) (after kept) choice right passed ⌝ }
 {
     let ring = ring_at(right, passed);
     let noted = kept[ring + NOTED];
@@ -98,7 +99,7 @@ fn test(
     requires { ⌜ Shaped (now sets) (now problem) ⌝ }
     requires { ⌜ (length (now scratch) ≡ 16977) × (length (now kept) ≡ 516) ⌝ }
     requires { ⌜ length choice ≡ 8 ⌝ }
-    ensures { λ r. ⌜ Tried (now (sets .entry)) (now (problem .entry)) choice right (now (kept .entry)) (now (kept .exit)) r ⌝ }
+    ensures { λ r. ⌜ Tried (before sets) (before problem) choice right (before kept) (after kept) r ⌝ }
 {
     let m = failing_of(sets, problem, scratch, choice, right);
     if m < problem[QUESTION_COUNT] as usize {
@@ -121,7 +122,7 @@ pub fn holds(
     requires { ⌜ Shaped (now sets) (now problem) ⌝ }
     requires { ⌜ (length (now scratch) ≡ 16977) × (length (now kept) ≡ 516) ⌝ }
     requires { ⌜ length choice ≡ 8 ⌝ }
-    ensures { λ r. ⌜ Tried (now (sets .entry)) (now (problem .entry)) choice right (now (kept .entry)) (now (kept .exit)) r ⌝ }
+    ensures { λ r. ⌜ Tried (before sets) (before problem) choice right (before kept) (after kept) r ⌝ }
 {
     if is_known(kept, choice, right, true) {
         return true;

@@ -14,6 +14,7 @@ ghost use Prim.Native.Nat.{_*_, _≤_};
 ghost use lib.ListN.{length};
 ghost use Rattle.matching.specs.Inner.Search.Problem.{Shaped};
 ghost use Rattle.allowance.specs.Inner.Walk.{OpenedBy, Walked};
+ghost use Rattle.subsumption.specs.Lent.{before, after};
 
 // What was found, or that the allowance was spent, and how many open ones were met.
 pub struct Trail {
@@ -34,8 +35,8 @@ fn is_open(
     requires { ⌜ Shaped (now sets) (now problem) ⌝ }
     requires { ⌜ (length (now scratch) ≡ 16977) × (length (now kept) ≡ 516) ⌝ }
     requires { ⌜ (length permitted ≡ 8) × (length (place .low) ≡ 8) × (length (place .high) ≡ 8) ⌝ }
-    ensures { λ r. ⌜ length (now (kept .exit)) ≡ 516 ⌝ }
-    ensures { λ r. ⌜ OpenedBy (now (sets .entry)) (now (problem .entry)) permitted (place .low) (place .high) (now (kept .entry)) (now (kept .exit)) r ⌝ }
+    ensures { λ r. ⌜ length (after kept) ≡ 516 ⌝ }
+    ensures { λ r. ⌜ OpenedBy (before sets) (before problem) permitted (place .low) (place .high) (before kept) (after kept) r ⌝ }
 {
     let low = place.low;
     let high = place.high;
@@ -62,7 +63,7 @@ pub fn walk(
 ) -> Trail
     requires { ⌜ Shaped (now sets) (now problem) ⌝ }
     requires { ⌜ (length permitted ≡ 8) × (count ≤ 64) × (pairs ≤ 8 * count) ⌝ }
-    ensures { λ r. ⌜ Walked (now (sets .entry)) (now (problem .entry)) permitted count pairs allowance (r .found) (r .spent) (r .choice) (r .met) ⌝ }
+    ensures { λ r. ⌜ Walked (before sets) (before problem) permitted count pairs allowance (r .found) (r .spent) (r .choice) (r .met) ⌝ }
 {
     let mut scratch = [0u64; SCRATCH];
     let mut kept = [0u64; KEPT];

@@ -8,7 +8,8 @@ use subsumption::refusal::Outcome;
 use subsumption::refusal::code_of;
 ghost use mathlib.Core.Path.{_≡_};
 ghost use lib.ListN.{length};
-ghost use Rattle.subsumption.specs.Tables.{tables, tree, variablesOf};
+ghost use Rattle.subsumption.specs.Lent.{lent, before, after};
+ghost use Rattle.subsumption.specs.Tables.{tree, variablesOf};
 ghost use Rattle.subsumption.specs.Atoms.{atoms};
 ghost use Rattle.subsumption.specs.Refusal.{replyWith, replyOf};
 ghost use Rattle.subsumption.specs.Check.{tableFault, pairFault};
@@ -67,7 +68,7 @@ pub fn check(
     roles: &[u16],
     variables: u16,
 ) -> Answer
-    ensures { λ a. ⌜ replied a ≡ replyOf (tableFault (tables (now (concepts .entry)) (now (inclusions .entry)) (now (questions .entry)) (now (roles .entry)) variables)) ⌝ }
+    ensures { λ a. ⌜ replied a ≡ replyOf (tableFault (lent concepts inclusions questions roles variables)) ⌝ }
 {
     let checked = subsumption::check_tables(concepts, inclusions, questions, roles, variables);
     answer_of(checked, 0)
@@ -82,8 +83,8 @@ pub fn atoms(
     variables: u16,
     out: &mut [u16],
 ) -> Answer
-    ensures { λ a. ⌜ replied a ≡ replyWith (listingFault (tables (now (concepts .entry)) (now (inclusions .entry)) (now (questions .entry)) (now (roles .entry)) variables) (length (now (out .entry)))) (length (atoms (tables (now (concepts .entry)) (now (inclusions .entry)) (now (questions .entry)) (now (roles .entry)) variables))) ⌝ }
-    ensures { λ a. ⌜ now (out .exit) ≡ listedIn (listingFault (tables (now (concepts .entry)) (now (inclusions .entry)) (now (questions .entry)) (now (roles .entry)) variables) (length (now (out .entry)))) (tables (now (concepts .entry)) (now (inclusions .entry)) (now (questions .entry)) (now (roles .entry)) variables) (now (out .entry)) ⌝ }
+    ensures { λ a. ⌜ replied a ≡ replyWith (listingFault (lent concepts inclusions questions roles variables) (length (before out))) (length (atoms (lent concepts inclusions questions roles variables))) ⌝ }
+    ensures { λ a. ⌜ after out ≡ listedIn (listingFault (lent concepts inclusions questions roles variables) (length (before out))) (lent concepts inclusions questions roles variables) (before out) ⌝ }
 {
     let answer = subsumption::list_atoms(concepts, inclusions, questions, roles, variables, out);
     match answer {
@@ -101,7 +102,7 @@ pub fn blanks(
     variables: u16,
     id: u16,
 ) -> Answer
-    ensures { λ a. ⌜ replied a ≡ replyWith (pairFault (tables (now (concepts .entry)) (now (inclusions .entry)) (now (questions .entry)) (now (roles .entry)) variables) id id) (variablesOf (tree (now (concepts .entry)) id)) ⌝ }
+    ensures { λ a. ⌜ replied a ≡ replyWith (pairFault (lent concepts inclusions questions roles variables) id id) (variablesOf (tree (before concepts) id)) ⌝ }
 {
     let answer = subsumption::variables_in(concepts, inclusions, questions, roles, variables, id);
     match answer {
@@ -120,7 +121,7 @@ pub fn subsumption_table(
     assignment: &[u64],
     out: &mut [u8],
 ) -> Answer
-    ensures { λ a. ⌜ Wrote (tables (now (concepts .entry)) (now (inclusions .entry)) (now (questions .entry)) (now (roles .entry)) variables) (now (assignment .entry)) (now (out .entry)) (now (out .exit)) (replied a) ⌝ }
+    ensures { λ a. ⌜ Wrote (lent concepts inclusions questions roles variables) (before assignment) (before out) (after out) (replied a) ⌝ }
 {
     let answer = subsumption::write_table(
         concepts,
@@ -148,7 +149,7 @@ pub fn subsumed(
     left: u16,
     right: u16,
 ) -> Answer
-    ensures { λ a. ⌜ Decides (tables (now (concepts .entry)) (now (inclusions .entry)) (now (questions .entry)) (now (roles .entry)) variables) (now (assignment .entry)) left right (replied a) ⌝ }
+    ensures { λ a. ⌜ Decides (lent concepts inclusions questions roles variables) (before assignment) left right (replied a) ⌝ }
 {
     let answer = subsumption::decide_pair(
         concepts,

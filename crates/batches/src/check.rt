@@ -5,6 +5,7 @@ ghost use mathlib.Core.Path.{_≡_};
 ghost use Prim.Native.Nat.{_≤_};
 ghost use lib.ListN.{length};
 ghost use Rattle.batches.specs.Batch.{total, batchFault};
+ghost use Rattle.subsumption.specs.Lent.{before};
 
 pub const TABLES: usize = 8;
 
@@ -13,7 +14,7 @@ const SHARE: u32 = 1000000;
 // The sum of the lengths.
 fn sum_of(lengths: &[u16]) -> usize
     requires { ⌜ length (now lengths) ≤ 8 ⌝ }
-    ensures { λ r. ⌜ r ≡ total (now (lengths .entry)) (length (now (lengths .entry))) ⌝ }
+    ensures { λ r. ⌜ r ≡ total (before lengths) (length (before lengths)) ⌝ }
 {
     let mut sum: usize = 0;
     let mut k: usize = 0;
@@ -26,7 +27,7 @@ fn sum_of(lengths: &[u16]) -> usize
 
 // Check 20, given how many numbers the question tables have together.
 pub fn check_batch(lengths: &[u16], shares: &[u32], size: usize) -> Outcome
-    ensures { λ r. ⌜ r ≡ batchFault (now (lengths .entry)) (now (shares .entry)) size ⌝ }
+    ensures { λ r. ⌜ r ≡ batchFault (before lengths) (before shares) size ⌝ }
 {
     let count = lengths.len();
     if count > TABLES {

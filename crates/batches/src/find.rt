@@ -15,8 +15,8 @@ use subsumption::refusal::code_of;
 ghost use mathlib.Core.Path.{_≡_};
 ghost use Prim.Native.Nat.{_<_, min};
 ghost use lib.ListN.{length};
+ghost use Rattle.subsumption.specs.Lent.{lent, before, after};
 ghost use Rattle.subsumption.specs.declared.refusal.Outcome.the-variants.{Done};
-ghost use Rattle.subsumption.specs.Tables.{tables};
 ghost use Rattle.allowance.specs.Find.{countedReply, FindsCounted};
 ghost use Rattle.batches.specs.Batch.{unrestricted, batchFault};
 ghost use Rattle.batches.specs.Find.{FindsBatch, Ran};
@@ -43,7 +43,7 @@ fn find_all_permitted(
     allowance: u32,
     out: &mut [u64],
 ) -> Counted
-    ensures { λ r. ⌜ FindsCounted (tables (now (concepts .entry)) (now (inclusions .entry)) (now (questions .entry)) (now (roles .entry)) variables) (unrestricted (tables (now (concepts .entry)) (now (inclusions .entry)) (now (questions .entry)) (now (roles .entry)) variables)) allowance (now (out .entry)) (now (out .exit)) (countedReply r) ⌝ }
+    ensures { λ r. ⌜ FindsCounted (lent concepts inclusions questions roles variables) (unrestricted (lent concepts inclusions questions roles variables)) allowance (before out) (after out) (countedReply r) ⌝ }
 {
     let mut ids = [0u16; ATOMS];
     let listed = list_atoms(concepts, inclusions, questions, roles, variables, &mut ids);
@@ -90,7 +90,7 @@ fn find_at(
     out: &mut [u64],
 ) -> Counted
     requires { ⌜ k < 8 ⌝ }
-    ensures { λ r. ⌜ FindsAt (tables (now (concepts .entry)) (now (inclusions .entry)) (now (questions .entry)) (now (roles .entry)) variables) allowance k (now (out .entry)) (now (out .exit)) (countedReply r) ⌝ }
+    ensures { λ r. ⌜ FindsAt (lent concepts inclusions questions roles variables) allowance k (before out) (after out) (countedReply r) ⌝ }
 {
     let width = variables as usize;
     let size = out.len();
@@ -132,7 +132,7 @@ fn find_each(
     out: &mut [u64],
 ) -> Batch
     requires { ⌜ batchFault (now lengths) (now shares) (length (now questions)) ≡ Done ⌝ }
-    ensures { λ r. ⌜ Ran (tables (now (concepts .entry)) (now (inclusions .entry)) (now (questions .entry)) (now (roles .entry)) variables) (now (lengths .entry)) (now (shares .entry)) (now (out .entry)) (now (out .exit)) r ⌝ }
+    ensures { λ r. ⌜ Ran (lent concepts inclusions questions roles variables) (before lengths) (before shares) (before out) (after out) r ⌝ }
 {
     let mut numbers = [0u16; TABLES];
     let mut places = [0u64; TABLES];
@@ -185,7 +185,7 @@ pub fn find_batch(
     shares: &[u32],
     out: &mut [u64],
 ) -> Batch
-    ensures { λ r. ⌜ FindsBatch (tables (now (concepts .entry)) (now (inclusions .entry)) (now (questions .entry)) (now (roles .entry)) variables) (now (lengths .entry)) (now (shares .entry)) (now (out .entry)) (now (out .exit)) r ⌝ }
+    ensures { λ r. ⌜ FindsBatch (lent concepts inclusions questions roles variables) (before lengths) (before shares) (before out) (after out) r ⌝ }
 {
     let checked = check_batch(lengths, shares, questions.len());
     match checked {

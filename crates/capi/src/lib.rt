@@ -4,7 +4,8 @@ use batches::Batch;
 use catalogue_answers::CatalogueAnswer;
 ghost use mathlib.Core.Path.{_≡_};
 ghost use lib.ListN.{length};
-ghost use Rattle.subsumption.specs.Tables.{tables, tree, variablesOf};
+ghost use Rattle.subsumption.specs.Lent.{lent, before, after};
+ghost use Rattle.subsumption.specs.Tables.{tree, variablesOf};
 ghost use Rattle.subsumption.specs.Atoms.{atoms, chosen};
 ghost use Rattle.subsumption.specs.Refusal.{replyWith, replyOf};
 ghost use Rattle.subsumption.specs.Check.{tableFault, pairFault};
@@ -12,7 +13,7 @@ ghost use Rattle.subsumption.specs.Listing.{listingFault, listedIn};
 ghost use Rattle.subsumption.specs.Table.{Wrote};
 ghost use Rattle.subsumption.specs.Decide.{Decides};
 ghost use Rattle.matching.specs.Derivation.{checkingFault};
-ghost use Rattle.settings.specs.Settings.{settings};
+ghost use Rattle.settings.specs.Settings.{lentSettings};
 ghost use Rattle.matching.specs.Find.{Finds};
 ghost use Rattle.matching.specs.Within.{FindsWithin};
 ghost use Rattle.matching.specs.Chosen.{choosingFault, chosenIn};
@@ -37,7 +38,7 @@ pub extern "C" fn hc_check(
     roles: &[u16],
     variables: u16,
 ) -> Answer
-    ensures { λ a. ⌜ replied a ≡ replyOf (tableFault (tables (now (concepts .entry)) (now (inclusions .entry)) (now (questions .entry)) (now (roles .entry)) variables)) ⌝ }
+    ensures { λ a. ⌜ replied a ≡ replyOf (tableFault (lent concepts inclusions questions roles variables)) ⌝ }
 {
     answers::check(concepts, inclusions, questions, roles, variables)
 }
@@ -52,8 +53,8 @@ pub extern "C" fn hc_atoms(
     variables: u16,
     out: &mut [u16],
 ) -> Answer
-    ensures { λ a. ⌜ replied a ≡ replyWith (listingFault (tables (now (concepts .entry)) (now (inclusions .entry)) (now (questions .entry)) (now (roles .entry)) variables) (length (now (out .entry)))) (length (atoms (tables (now (concepts .entry)) (now (inclusions .entry)) (now (questions .entry)) (now (roles .entry)) variables))) ⌝ }
-    ensures { λ a. ⌜ now (out .exit) ≡ listedIn (listingFault (tables (now (concepts .entry)) (now (inclusions .entry)) (now (questions .entry)) (now (roles .entry)) variables) (length (now (out .entry)))) (tables (now (concepts .entry)) (now (inclusions .entry)) (now (questions .entry)) (now (roles .entry)) variables) (now (out .entry)) ⌝ }
+    ensures { λ a. ⌜ replied a ≡ replyWith (listingFault (lent concepts inclusions questions roles variables) (length (before out))) (length (atoms (lent concepts inclusions questions roles variables))) ⌝ }
+    ensures { λ a. ⌜ after out ≡ listedIn (listingFault (lent concepts inclusions questions roles variables) (length (before out))) (lent concepts inclusions questions roles variables) (before out) ⌝ }
 {
     answers::atoms(concepts, inclusions, questions, roles, variables, out)
 }
@@ -68,7 +69,7 @@ pub extern "C" fn hc_blanks(
     variables: u16,
     id: u16,
 ) -> Answer
-    ensures { λ a. ⌜ replied a ≡ replyWith (pairFault (tables (now (concepts .entry)) (now (inclusions .entry)) (now (questions .entry)) (now (roles .entry)) variables) id id) (variablesOf (tree (now (concepts .entry)) id)) ⌝ }
+    ensures { λ a. ⌜ replied a ≡ replyWith (pairFault (lent concepts inclusions questions roles variables) id id) (variablesOf (tree (before concepts) id)) ⌝ }
 {
     answers::blanks(concepts, inclusions, questions, roles, variables, id)
 }
@@ -84,7 +85,7 @@ pub extern "C" fn hc_subsumption_table(
     assignment: &[u64],
     out: &mut [u8],
 ) -> Answer
-    ensures { λ a. ⌜ Wrote (tables (now (concepts .entry)) (now (inclusions .entry)) (now (questions .entry)) (now (roles .entry)) variables) (now (assignment .entry)) (now (out .entry)) (now (out .exit)) (replied a) ⌝ }
+    ensures { λ a. ⌜ Wrote (lent concepts inclusions questions roles variables) (before assignment) (before out) (after out) (replied a) ⌝ }
 {
     answers::subsumption_table(
         concepts,
@@ -109,7 +110,7 @@ pub extern "C" fn hc_subsumed(
     left: u16,
     right: u16,
 ) -> Answer
-    ensures { λ a. ⌜ Decides (tables (now (concepts .entry)) (now (inclusions .entry)) (now (questions .entry)) (now (roles .entry)) variables) (now (assignment .entry)) left right (replied a) ⌝ }
+    ensures { λ a. ⌜ Decides (lent concepts inclusions questions roles variables) (before assignment) left right (replied a) ⌝ }
 {
     answers::subsumed(
         concepts,
@@ -133,7 +134,7 @@ pub extern "C" fn hc_match(
     variables: u16,
     out: &mut [u64],
 ) -> Answer
-    ensures { λ a. ⌜ Finds (tables (now (concepts .entry)) (now (inclusions .entry)) (now (questions .entry)) (now (roles .entry)) variables) (now (out .entry)) (now (out .exit)) (replied a) ⌝ }
+    ensures { λ a. ⌜ Finds (lent concepts inclusions questions roles variables) (before out) (after out) (replied a) ⌝ }
 {
     matching_answers::find(concepts, inclusions, questions, roles, variables, out)
 }
@@ -150,7 +151,7 @@ pub extern "C" fn hc_match_within(
     largest: &[u16],
     out: &mut [u64],
 ) -> Answer
-    ensures { λ a. ⌜ FindsWithin (tables (now (concepts .entry)) (now (inclusions .entry)) (now (questions .entry)) (now (roles .entry)) variables) (settings (now (permitted .entry)) (now (largest .entry))) (now (out .entry)) (now (out .exit)) (replied a) ⌝ }
+    ensures { λ a. ⌜ FindsWithin (lent concepts inclusions questions roles variables) (lentSettings permitted largest) (before out) (after out) (replied a) ⌝ }
 {
     matching_answers::find_within(
         concepts,
@@ -177,7 +178,7 @@ pub extern "C" fn hc_match_counted(
     allowance: u32,
     out: &mut [u64],
 ) -> Answer
-    ensures { λ a. ⌜ FindsCounted (tables (now (concepts .entry)) (now (inclusions .entry)) (now (questions .entry)) (now (roles .entry)) variables) (settings (now (permitted .entry)) (now (largest .entry))) allowance (now (out .entry)) (now (out .exit)) (replied a) ⌝ }
+    ensures { λ a. ⌜ FindsCounted (lent concepts inclusions questions roles variables) (lentSettings permitted largest) allowance (before out) (after out) (replied a) ⌝ }
 {
     finder_answers::find_counted(
         concepts,
@@ -205,7 +206,7 @@ pub extern "C" fn hc_match_group(
     question: u16,
     out: &mut [u64],
 ) -> Answer
-    ensures { λ a. ⌜ FindsGroup (tables (now (concepts .entry)) (now (inclusions .entry)) (now (questions .entry)) (now (roles .entry)) variables) (settings (now (permitted .entry)) (now (largest .entry))) question (now (out .entry)) (now (out .exit)) (replied a) ⌝ }
+    ensures { λ a. ⌜ FindsGroup (lent concepts inclusions questions roles variables) (lentSettings permitted largest) question (before out) (after out) (replied a) ⌝ }
 {
     finder_answers::find_group(
         concepts,
@@ -232,7 +233,7 @@ pub extern "C" fn hc_match_cards(
     shares: &[u32],
     out: &mut [u64],
 ) -> Batch
-    ensures { λ b. ⌜ FindsBatch (tables (now (concepts .entry)) (now (inclusions .entry)) (now (questions .entry)) (now (roles .entry)) variables) (now (lengths .entry)) (now (shares .entry)) (now (out .entry)) (now (out .exit)) b ⌝ }
+    ensures { λ b. ⌜ FindsBatch (lent concepts inclusions questions roles variables) (before lengths) (before shares) (before out) (after out) b ⌝ }
 {
     batches::find_batch(
         concepts,
@@ -258,8 +259,8 @@ pub extern "C" fn hc_chosen(
     variable: u16,
     out: &mut [u16],
 ) -> Answer
-    ensures { λ a. ⌜ replied a ≡ replyWith (choosingFault (tables (now (concepts .entry)) (now (inclusions .entry)) (now (questions .entry)) (now (roles .entry)) variables) (now (assignment .entry)) variable (length (now (out .entry)))) (length (chosen (tables (now (concepts .entry)) (now (inclusions .entry)) (now (questions .entry)) (now (roles .entry)) variables) (now (assignment .entry)) variable)) ⌝ }
-    ensures { λ a. ⌜ now (out .exit) ≡ chosenIn (choosingFault (tables (now (concepts .entry)) (now (inclusions .entry)) (now (questions .entry)) (now (roles .entry)) variables) (now (assignment .entry)) variable (length (now (out .entry)))) (chosen (tables (now (concepts .entry)) (now (inclusions .entry)) (now (questions .entry)) (now (roles .entry)) variables) (now (assignment .entry)) variable) (now (out .entry)) ⌝ }
+    ensures { λ a. ⌜ replied a ≡ replyWith (choosingFault (lent concepts inclusions questions roles variables) (before assignment) variable (length (before out))) (length (chosen (lent concepts inclusions questions roles variables) (before assignment) variable)) ⌝ }
+    ensures { λ a. ⌜ after out ≡ chosenIn (choosingFault (lent concepts inclusions questions roles variables) (before assignment) variable (length (before out))) (chosen (lent concepts inclusions questions roles variables) (before assignment) variable) (before out) ⌝ }
 {
     matching_answers::chosen(
         concepts,
@@ -286,7 +287,7 @@ pub extern "C" fn hc_derive(
     right: u16,
     out: &mut [u16],
 ) -> Answer
-    ensures { λ a. ⌜ Derives (tables (now (concepts .entry)) (now (inclusions .entry)) (now (questions .entry)) (now (roles .entry)) variables) (now (assignment .entry)) left right (now (out .entry)) (now (out .exit)) (replied a) ⌝ }
+    ensures { λ a. ⌜ Derives (lent concepts inclusions questions roles variables) (before assignment) left right (before out) (after out) (replied a) ⌝ }
 {
     derivation_answers::derive(
         concepts,
@@ -314,7 +315,7 @@ pub extern "C" fn hc_check_derivation(
     right: u16,
     lines: &[u16],
 ) -> Answer
-    ensures { λ a. ⌜ replied a ≡ replyOf (checkingFault (tables (now (concepts .entry)) (now (inclusions .entry)) (now (questions .entry)) (now (roles .entry)) variables) (now (assignment .entry)) left right (now (lines .entry))) ⌝ }
+    ensures { λ a. ⌜ replied a ≡ replyOf (checkingFault (lent concepts inclusions questions roles variables) (before assignment) left right (before lines)) ⌝ }
 {
     derivation_answers::check_derivation(
         concepts,
@@ -342,7 +343,7 @@ pub extern "C" fn hc_show(
     right: u16,
     out: &mut [u16],
 ) -> Answer
-    ensures { λ a. ⌜ Shows (tables (now (concepts .entry)) (now (inclusions .entry)) (now (questions .entry)) (now (roles .entry)) variables) (now (assignment .entry)) left right (now (out .entry)) (now (out .exit)) (replied a) ⌝ }
+    ensures { λ a. ⌜ Shows (lent concepts inclusions questions roles variables) (before assignment) left right (before out) (after out) (replied a) ⌝ }
 {
     countermodel_answers::show(
         concepts,
@@ -371,7 +372,7 @@ pub extern "C" fn hc_belongs(
     concept: u16,
     element: u16,
 ) -> Answer
-    ensures { λ a. ⌜ DecidesMember (tables (now (concepts .entry)) (now (inclusions .entry)) (now (questions .entry)) (now (roles .entry)) variables) (now (assignment .entry)) size (now (rows .entry)) concept element (replied a) ⌝ }
+    ensures { λ a. ⌜ DecidesMember (lent concepts inclusions questions roles variables) (before assignment) size (before rows) concept element (replied a) ⌝ }
 {
     countermodel_answers::belongs(
         concepts,
@@ -398,7 +399,7 @@ pub extern "C" fn hc_update_table(
     told: &[u16],
     table: &mut [u8],
 ) -> Answer
-    ensures { λ a. ⌜ Updates (tables (now (concepts .entry)) (now (inclusions .entry)) (now (questions .entry)) (now (roles .entry)) variables) (now (told .entry)) (now (table .entry)) (now (table .exit)) (replied a) ⌝ }
+    ensures { λ a. ⌜ Updates (lent concepts inclusions questions roles variables) (before told) (before table) (after table) (replied a) ⌝ }
 {
     catalogue_answers::update_table(
         concepts,
@@ -424,7 +425,7 @@ pub extern "C" fn hc_renumber(
     inclusions_out: &mut [u16],
     questions_out: &mut [u16],
 ) -> Answer
-    ensures { λ a. ⌜ Renumbers (tables (now (concepts .entry)) (now (inclusions .entry)) (now (questions .entry)) (now (roles .entry)) variables) (now (order .entry)) (now («concepts_out» .entry)) (now («concepts_out» .exit)) (now («inclusions_out» .entry)) (now («inclusions_out» .exit)) (now («questions_out» .entry)) (now («questions_out» .exit)) (replied a) ⌝ }
+    ensures { λ a. ⌜ Renumbers (lent concepts inclusions questions roles variables) (before order) (before «concepts_out») (after «concepts_out») (before «inclusions_out») (after «inclusions_out») (before «questions_out») (after «questions_out») (replied a) ⌝ }
 {
     catalogue_answers::renumber(
         concepts,
@@ -446,7 +447,7 @@ pub extern "C" fn hc_read_owl(
     concepts: &mut [u16],
     inclusions: &mut [u16],
 ) -> CatalogueAnswer
-    ensures { λ a. ⌜ ReadsCatalogue (now (text .entry)) (now (concepts .entry)) (now (concepts .exit)) (now (inclusions .entry)) (now (inclusions .exit)) (repliedTables a) ⌝ }
+    ensures { λ a. ⌜ ReadsCatalogue (before text) (before concepts) (after concepts) (before inclusions) (after inclusions) (repliedTables a) ⌝ }
 {
     catalogue_answers::read_owl(text, concepts, inclusions)
 }

@@ -4,12 +4,12 @@ use answers::answer_of;
 use owl::Catalogue;
 use subsumption::refusal::code_of;
 ghost use mathlib.Core.Path.{_≡_};
-ghost use Rattle.subsumption.specs.Tables.{tables};
 ghost use Rattle.incremental.specs.Update.{Updates};
 ghost use Rattle.renumbering.specs.Renumber.{Renumbers};
 ghost use Rattle.owl.specs.Read.{catalogueReply, ReadsCatalogue};
 ghost use Rattle.answers.specs.Answer.{replied};
 ghost use Rattle.catalogue_answers.specs.Answer.{repliedTables};
+ghost use Rattle.subsumption.specs.Lent.{lent, before, after};
 
 // number 0: so many entries and inclusions were read; else the refusal's number, with its place and zeros.
 #[repr(C)]
@@ -30,7 +30,7 @@ pub fn update_table(
     told: &[u16],
     table: &mut [u8],
 ) -> Answer
-    ensures { λ a. ⌜ Updates (tables (now (concepts .entry)) (now (inclusions .entry)) (now (questions .entry)) (now (roles .entry)) variables) (now (told .entry)) (now (table .entry)) (now (table .exit)) (replied a) ⌝ }
+    ensures { λ a. ⌜ Updates (lent concepts inclusions questions roles variables) (before told) (before table) (after table) (replied a) ⌝ }
 {
     let updated = incremental::update_table(
         concepts,
@@ -56,7 +56,7 @@ pub fn renumber(
     inclusions_out: &mut [u16],
     questions_out: &mut [u16],
 ) -> Answer
-    ensures { λ a. ⌜ Renumbers (tables (now (concepts .entry)) (now (inclusions .entry)) (now (questions .entry)) (now (roles .entry)) variables) (now (order .entry)) (now («concepts_out» .entry)) (now («concepts_out» .exit)) (now («inclusions_out» .entry)) (now («inclusions_out» .exit)) (now («questions_out» .entry)) (now («questions_out» .exit)) (replied a) ⌝ }
+    ensures { λ a. ⌜ Renumbers (lent concepts inclusions questions roles variables) (before order) (before «concepts_out») (after «concepts_out») (before «inclusions_out») (after «inclusions_out») (before «questions_out») (after «questions_out») (replied a) ⌝ }
 {
     let renumbered = renumbering::renumber_tables(
         concepts,
@@ -99,7 +99,7 @@ fn catalogue_of(catalogue: Catalogue) -> CatalogueAnswer
 
 // Reads a catalogue in OWL functional syntax.
 pub fn read_owl(text: &[u8], concepts: &mut [u16], inclusions: &mut [u16]) -> CatalogueAnswer
-    ensures { λ a. ⌜ ReadsCatalogue (now (text .entry)) (now (concepts .entry)) (now (concepts .exit)) (now (inclusions .entry)) (now (inclusions .exit)) (repliedTables a) ⌝ }
+    ensures { λ a. ⌜ ReadsCatalogue (before text) (before concepts) (after concepts) (before inclusions) (after inclusions) (repliedTables a) ⌝ }
 {
     let read = owl::read_catalogue(text, concepts, inclusions);
     catalogue_of(read)

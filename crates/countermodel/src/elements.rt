@@ -12,6 +12,7 @@ use subsumption::limits::ROLE_WORDS;
 ghost use mathlib.Core.Path.{_≡_};
 ghost use Prim.Native.Nat.{_+_, _<_, _≤_};
 ghost use lib.ListN.{length};
+ghost use Rattle.subsumption.specs.Lent.{before, after};
 ghost use Rattle.subsumption.specs.Tables.{countOf};
 ghost use Rattle.subsumption.specs.Table.{marked};
 ghost use Rattle.subsumption.specs.Inner.Roles.{LowRoles};
@@ -25,7 +26,7 @@ fn put_names_of(concepts: &[u16], table: &[u8], i: usize, at: usize, out: &mut [
     requires { ⌜ length (now table) ≡ 4608 ⌝ }
     requires { ⌜ (i < countOf (now concepts)) × (at ≤ 16000000) ⌝ }
     ensures { λ r. ⌜ r ≤ at + 4000 ⌝ }
-    ensures { λ r. ⌜ Put (now (out .entry)) at (namesOf (now (concepts .entry)) (marked (now (table .entry))) i) r (now (out .exit)) ⌝ }
+    ensures { λ r. ⌜ Put (before out) at (namesOf (before concepts) (marked (before table)) i) r (after out) ⌝ }
 {
     let mut names = [false; NAMES];
     note_names(concepts, table, i, &mut names);
@@ -37,7 +38,7 @@ fn put_names(concepts: &[u16], table: &[u8], out: &mut [u16]) -> usize
     requires { ⌜ Checked (now concepts) ⌝ }
     requires { ⌜ length (now table) ≡ 4608 ⌝ }
     ensures { λ r. ⌜ r ≤ 768000 ⌝ }
-    ensures { λ r. ⌜ Put (now (out .entry)) 0 (joined (namesOf (now (concepts .entry)) (marked (now (table .entry)))) 0 (countOf (now (concepts .entry)))) r (now (out .exit)) ⌝ }
+    ensures { λ r. ⌜ Put (before out) 0 (joined (namesOf (before concepts) (marked (before table))) 0 (countOf (before concepts))) r (after out) ⌝ }
 {
     let count = concepts.len() / 3;
     let mut end: usize = 0;
@@ -64,7 +65,7 @@ fn put_links_by(
     requires { ⌜ length (now table) ≡ 4608 ⌝ }
     requires { ⌜ (i < countOf (now concepts)) × (role < 100) × (at ≤ 16000000) ⌝ }
     ensures { λ r. ⌜ r ≤ at + 768 ⌝ }
-    ensures { λ r. ⌜ ForRoles (now (into .entry)) (λ roles. Put (now (out .entry)) at (linksBy (now (concepts .entry)) roles (marked (now (table .entry))) i role) r (now (out .exit))) ⌝ }
+    ensures { λ r. ⌜ ForRoles (before into) (λ roles. Put (before out) at (linksBy (before concepts) roles (marked (before table)) i role) r (after out)) ⌝ }
 {
     let mut links = [false; CONCEPTS];
     note_links(concepts, into, table, i, role, &mut links);
@@ -93,7 +94,7 @@ fn put_links_of(
     requires { ⌜ length (now table) ≡ 4608 ⌝ }
     requires { ⌜ (i < countOf (now concepts)) × (at ≤ 15600000) ⌝ }
     ensures { λ r. ⌜ r ≤ at + 76800 ⌝ }
-    ensures { λ r. ⌜ ForRoles (now (into .entry)) (λ roles. Put (now (out .entry)) at (linksOf (now (concepts .entry)) roles (marked (now (table .entry))) i) r (now (out .exit))) ⌝ }
+    ensures { λ r. ⌜ ForRoles (before into) (λ roles. Put (before out) at (linksOf (before concepts) roles (marked (before table)) i) r (after out)) ⌝ }
 {
     let mut own = [false; ROLES];
     note_own(concepts, table, i, &mut own);
@@ -117,7 +118,7 @@ fn put_links(concepts: &[u16], roles: &[u16], table: &[u8], at: usize, out: &mut
     requires { ⌜ LowRoles (now roles) ⌝ }
     requires { ⌜ length (now table) ≡ 4608 ⌝ }
     requires { ⌜ at ≤ 768000 ⌝ }
-    ensures { λ r. ⌜ Put (now (out .entry)) at (joined (linksOf (now (concepts .entry)) (now (roles .entry)) (marked (now (table .entry)))) 0 (countOf (now (concepts .entry)))) r (now (out .exit)) ⌝ }
+    ensures { λ r. ⌜ Put (before out) at (joined (linksOf (before concepts) (before roles) (marked (before table))) 0 (countOf (before concepts))) r (after out) ⌝ }
 {
     let mut into = [0u64; ROLE_WORDS];
     note_roles(roles, &mut into);
@@ -136,7 +137,7 @@ pub fn put_rows(concepts: &[u16], roles: &[u16], table: &[u8], out: &mut [u16]) 
     requires { ⌜ Checked (now concepts) ⌝ }
     requires { ⌜ LowRoles (now roles) ⌝ }
     requires { ⌜ length (now table) ≡ 4608 ⌝ }
-    ensures { λ r. ⌜ Put (now (out .entry)) 0 (shownRows (now (concepts .entry)) (now (roles .entry)) (marked (now (table .entry)))) r (now (out .exit)) ⌝ }
+    ensures { λ r. ⌜ Put (before out) 0 (shownRows (before concepts) (before roles) (marked (before table))) r (after out) ⌝ }
 {
     let end = put_names(concepts, table, out);
     put_links(concepts, roles, table, end, out)

@@ -6,6 +6,7 @@ ghost use mathlib.Core.Path.{_≡_};
 ghost use mathlib.Core.Bool.{false};
 ghost use Prim.Native.Nat.{_<_};
 ghost use lib.ListN.{length, replicate};
+ghost use Rattle.subsumption.specs.Lent.{before, after};
 ghost use Rattle.subsumption.specs.Tables.{countOf};
 ghost use Rattle.subsumption.specs.Table.{marked};
 ghost use Rattle.countermodel.specs.Inner.Show.{Checked, ForRoles, NamesOf, LinksOf};
@@ -14,7 +15,7 @@ ghost use Rattle.countermodel.specs.Inner.Show.{Checked, ForRoles, Names
 pub fn is_marked(table: &[u8], i: usize, j: usize) -> bool
     requires { ⌜ length (now table) ≡ 4608 ⌝ }
     requires { ⌜ (i < 192) × (j < 192) ⌝ }
-    ensures { λ r. ⌜ r ≡ marked (now (table .entry)) i j ⌝ }
+    ensures { λ r. ⌜ r ≡ marked (before table) i j ⌝ }
 {
     (table[i * ROW_BYTES + j / 8] >> (j % 8)) % 2 == 1
 }
@@ -25,7 +26,7 @@ pub fn note_names(concepts: &[u16], table: &[u8], i: usize, names: &mut [bool])
     requires { ⌜ length (now table) ≡ 4608 ⌝ }
     requires { ⌜ i < countOf (now concepts) ⌝ }
     requires { ⌜ now names ≡ replicate 1000 false ⌝ }
-    ensures { λ _. ⌜ NamesOf (now (concepts .entry)) (marked (now (table .entry))) i (now (names .exit)) ⌝ }
+    ensures { λ _. ⌜ NamesOf (before concepts) (marked (before table)) i (after names) ⌝ }
 {
     let count = concepts.len() / 3;
     let mut j: usize = 0;
@@ -56,7 +57,7 @@ pub fn note_links(
     requires { ⌜ length (now table) ≡ 4608 ⌝ }
     requires { ⌜ (i < countOf (now concepts)) × (role < 100) ⌝ }
     requires { ⌜ now links ≡ replicate 192 false ⌝ }
-    ensures { λ _. ⌜ ForRoles (now (into .entry)) (λ roles. LinksOf (now (concepts .entry)) roles (marked (now (table .entry))) i role (now (links .exit))) ⌝ }
+    ensures { λ _. ⌜ ForRoles (before into) (λ roles. LinksOf (before concepts) roles (marked (before table)) i role (after links)) ⌝ }
 {
     let count = concepts.len() / 3;
     let mut j: usize = 0;

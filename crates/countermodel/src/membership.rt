@@ -13,7 +13,7 @@ use subsumption::helpers::check_assignment;
 use subsumption::limits::ATOMS;
 use subsumption::list_atoms;
 use subsumption::refusal::Outcome;
-ghost use Rattle.subsumption.specs.Tables.{tables};
+ghost use Rattle.subsumption.specs.Lent.{lent, before};
 ghost use Rattle.subsumption.specs.Decide.{decisionReply};
 ghost use Rattle.countermodel.specs.Membership.{DecidesMember};
 ghost use Rattle.countermodel.specs.Inner.Membership.{Listing, ForListing};
@@ -30,7 +30,7 @@ fn decide_known(
     element: u16,
 ) -> Decision
     requires { ⌜ Listing (now concepts) variables (now ids) ⌝ }
-    ensures { λ r. ⌜ ForListing (now (concepts .entry)) variables (now (ids .entry)) (λ t. DecidesMember t (now (assignment .entry)) size (now (rows .entry)) concept element (decisionReply r)) ⌝ }
+    ensures { λ r. ⌜ ForListing (before concepts) variables (before ids) (λ t. DecidesMember t (before assignment) size (before rows) concept element (decisionReply r)) ⌝ }
 {
     let choices = check_assignment(assignment, variables, ids.len());
     if let Outcome::Refused(r) = choices {
@@ -67,7 +67,7 @@ pub fn decide_member(
     concept: u16,
     element: u16,
 ) -> Decision
-    ensures { λ r. ⌜ DecidesMember (tables (now (concepts .entry)) (now (inclusions .entry)) (now (questions .entry)) (now (roles .entry)) variables) (now (assignment .entry)) size (now (rows .entry)) concept element (decisionReply r) ⌝ }
+    ensures { λ r. ⌜ DecidesMember (lent concepts inclusions questions roles variables) (before assignment) size (before rows) concept element (decisionReply r) ⌝ }
 {
     let mut ids = [0u16; ATOMS];
     let listed = list_atoms(concepts, inclusions, questions, roles, variables, &mut ids);

@@ -7,6 +7,7 @@ ghost use mathlib.Core.Path.{_≡_};
 ghost use mathlib.Core.Bool.{false};
 ghost use Prim.Native.Nat.{_<_};
 ghost use lib.ListN.{length, replicate};
+ghost use Rattle.subsumption.specs.Lent.{before, after};
 ghost use Rattle.subsumption.specs.Tables.{countOf};
 ghost use Rattle.subsumption.specs.Table.{marked};
 ghost use Rattle.countermodel.specs.Inner.Show.{Checked, RolesOf, Widened, UsedRoles};
@@ -17,7 +18,7 @@ pub fn note_own(concepts: &[u16], table: &[u8], i: usize, own: &mut [bool])
     requires { ⌜ length (now table) ≡ 4608 ⌝ }
     requires { ⌜ i < countOf (now concepts) ⌝ }
     requires { ⌜ now own ≡ replicate 100 false ⌝ }
-    ensures { λ _. ⌜ RolesOf (now (concepts .entry)) (marked (now (table .entry))) i (now (own .exit)) ⌝ }
+    ensures { λ _. ⌜ RolesOf (before concepts) (marked (before table)) i (after own) ⌝ }
 {
     let count = concepts.len() / 3;
     let mut j: usize = 0;
@@ -39,7 +40,7 @@ fn mark_wider(into: &[u64], r: usize, used: &mut [bool])
     requires { ⌜ length (now into) ≡ 200 ⌝ }
     requires { ⌜ r < 100 ⌝ }
     requires { ⌜ length (now used) ≡ 100 ⌝ }
-    ensures { λ _. ⌜ Widened (now (into .entry)) r (now (used .entry)) (now (used .exit)) ⌝ }
+    ensures { λ _. ⌜ Widened (before into) r (before used) (after used) ⌝ }
 {
     let mut s: usize = 0;
     while s < ROLES {
@@ -56,7 +57,7 @@ pub fn mark_used(into: &[u64], own: &[bool], used: &mut [bool])
     requires { ⌜ length (now into) ≡ 200 ⌝ }
     requires { ⌜ length (now own) ≡ 100 ⌝ }
     requires { ⌜ length (now used) ≡ 100 ⌝ }
-    ensures { λ _. ⌜ UsedRoles (now (into .entry)) (now (own .entry)) (now (used .exit)) ⌝ }
+    ensures { λ _. ⌜ UsedRoles (before into) (before own) (after used) ⌝ }
 {
     let mut r: usize = 0;
     while r < ROLES {

@@ -3,12 +3,13 @@
 ghost use mathlib.Core.List.{[], _∷_};
 ghost use Prim.Native.Nat.{_+_, _*_, _≤_};
 ghost use lib.ListN.{length};
+ghost use Rattle.subsumption.specs.Lent.{before, after};
 ghost use Rattle.subsumption.specs.Inner.Atoms.{markedIds};
 ghost use Rattle.countermodel.specs.Inner.Show.{Put, rowFor, rowsFor};
 
 fn put_row(kind: u16, element: u16, by: u16, last: u16, at: usize, out: &mut [u16]) -> usize
     requires { ⌜ at ≤ 20000000 ⌝ }
-    ensures { λ r. ⌜ Put (now (out .entry)) at (kind ∷ element ∷ by ∷ last ∷ []) r (now (out .exit)) ⌝ }
+    ensures { λ r. ⌜ Put (before out) at (kind ∷ element ∷ by ∷ last ∷ []) r (after out) ⌝ }
 {
     let end = at + 4;
     if out.len() < end {
@@ -24,7 +25,7 @@ fn put_row(kind: u16, element: u16, by: u16, last: u16, at: usize, out: &mut [u1
 // A mark's row: the element's name, or the one that the role links it to.
 fn put_mark(kind: u16, element: u16, role: u16, mark: u16, at: usize, out: &mut [u16]) -> usize
     requires { ⌜ at ≤ 20000000 ⌝ }
-    ensures { λ r. ⌜ Put (now (out .entry)) at (rowFor kind element role mark) r (now (out .exit)) ⌝ }
+    ensures { λ r. ⌜ Put (before out) at (rowFor kind element role mark) r (after out) ⌝ }
 {
     if kind == 0 {
         return put_row(0, element, mark, 0, at, out);
@@ -45,7 +46,7 @@ pub fn put_marks(
     requires { ⌜ (count ≤ 1000) × (count ≤ length (now marks)) ⌝ }
     requires { ⌜ at ≤ 16000000 ⌝ }
     ensures { λ r. ⌜ r ≤ at + count * 4 ⌝ }
-    ensures { λ r. ⌜ Put (now (out .entry)) at (rowsFor kind element role (markedIds (now (marks .entry)) count)) r (now (out .exit)) ⌝ }
+    ensures { λ r. ⌜ Put (before out) at (rowsFor kind element role (markedIds (before marks) count)) r (after out) ⌝ }
 {
     let mut end = at;
     let mut q: usize = 0;

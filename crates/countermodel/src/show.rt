@@ -11,7 +11,7 @@ use subsumption::refusal::Refusal;
 use subsumption::write_table;
 ghost use mathlib.Core.Path.{_≡_};
 ghost use lib.ListN.{length};
-ghost use Rattle.subsumption.specs.Tables.{tables};
+ghost use Rattle.subsumption.specs.Lent.{lent, before, after};
 ghost use Rattle.subsumption.specs.Table.{marked};
 ghost use Rattle.subsumption.specs.Inner.Roles.{LowRoles};
 ghost use Rattle.countermodel.specs.Countermodel.{shownRows};
@@ -36,7 +36,7 @@ pub fn judge_pair(
     table: &mut [u8],
 ) -> Outcome
     requires { ⌜ length (now table) ≡ 4608 ⌝ }
-    ensures { λ r. ⌜ Judged (tables (now (concepts .entry)) (now (inclusions .entry)) (now (questions .entry)) (now (roles .entry)) variables) (now (assignment .entry)) left right (now (table .exit)) r ⌝ }
+    ensures { λ r. ⌜ Judged (lent concepts inclusions questions roles variables) (before assignment) left right (after table) r ⌝ }
 {
     let mut ids = [0u16; ATOMS];
     let listed = list_asked(
@@ -75,7 +75,7 @@ fn show_known(concepts: &[u16], roles: &[u16], table: &[u8], out: &mut [u16]) ->
     requires { ⌜ Checked (now concepts) ⌝ }
     requires { ⌜ LowRoles (now roles) ⌝ }
     requires { ⌜ length (now table) ≡ 4608 ⌝ }
-    ensures { λ r. ⌜ Laid (shownRows (now (concepts .entry)) (now (roles .entry)) (marked (now (table .entry)))) (now (out .entry)) (now (out .exit)) (shownReply r) ⌝ }
+    ensures { λ r. ⌜ Laid (shownRows (before concepts) (before roles) (marked (before table))) (before out) (after out) (shownReply r) ⌝ }
 {
     let mut none = [0u16; 0];
     let wanted = put_rows(concepts, roles, table, &mut none);
@@ -98,7 +98,7 @@ pub fn show_countermodel(
     right: u16,
     out: &mut [u16],
 ) -> Shown
-    ensures { λ r. ⌜ Shows (tables (now (concepts .entry)) (now (inclusions .entry)) (now (questions .entry)) (now (roles .entry)) variables) (now (assignment .entry)) left right (now (out .entry)) (now (out .exit)) (shownReply r) ⌝ }
+    ensures { λ r. ⌜ Shows (lent concepts inclusions questions roles variables) (before assignment) left right (before out) (after out) (shownReply r) ⌝ }
 {
     let mut table = [0u8; TABLE_BYTES];
     let judged = judge_pair(

@@ -4,10 +4,10 @@ use answers::answer_of;
 use answers::decided;
 use countermodel::Shown;
 use subsumption::refusal::Outcome;
-ghost use Rattle.subsumption.specs.Tables.{tables};
 ghost use Rattle.countermodel.specs.Show.{Shows};
 ghost use Rattle.countermodel.specs.Membership.{DecidesMember};
 ghost use Rattle.answers.specs.Answer.{replied};
+ghost use Rattle.subsumption.specs.Lent.{lent, before, after};
 
 // Shows an interpretation where one pair fails under an assignment; value: how many rows. Its elements are the concepts.
 pub fn show(
@@ -21,7 +21,7 @@ pub fn show(
     right: u16,
     out: &mut [u16],
 ) -> Answer
-    ensures { λ a. ⌜ Shows (tables (now (concepts .entry)) (now (inclusions .entry)) (now (questions .entry)) (now (roles .entry)) variables) (now (assignment .entry)) left right (now (out .entry)) (now (out .exit)) (replied a) ⌝ }
+    ensures { λ a. ⌜ Shows (lent concepts inclusions questions roles variables) (before assignment) left right (before out) (after out) (replied a) ⌝ }
 {
     let answer = countermodel::show_countermodel(
         concepts,
@@ -53,7 +53,7 @@ pub fn belongs(
     concept: u16,
     element: u16,
 ) -> Answer
-    ensures { λ a. ⌜ DecidesMember (tables (now (concepts .entry)) (now (inclusions .entry)) (now (questions .entry)) (now (roles .entry)) variables) (now (assignment .entry)) size (now (rows .entry)) concept element (replied a) ⌝ }
+    ensures { λ a. ⌜ DecidesMember (lent concepts inclusions questions roles variables) (before assignment) size (before rows) concept element (replied a) ⌝ }
 {
     let answer = countermodel::decide_member(
         concepts,

@@ -4,7 +4,7 @@ use answers::answer_of;
 use matching::Derived;
 use subsumption::refusal::Outcome;
 ghost use mathlib.Core.Path.{_≡_};
-ghost use Rattle.subsumption.specs.Tables.{tables};
+ghost use Rattle.subsumption.specs.Lent.{lent, before, after};
 ghost use Rattle.subsumption.specs.Refusal.{replyOf};
 ghost use Rattle.matching.specs.Derivation.{checkingFault};
 ghost use Rattle.matching.specs.Writer.{Derives};
@@ -22,7 +22,7 @@ pub fn derive(
     right: u16,
     out: &mut [u16],
 ) -> Answer
-    ensures { λ a. ⌜ Derives (tables (now (concepts .entry)) (now (inclusions .entry)) (now (questions .entry)) (now (roles .entry)) variables) (now (assignment .entry)) left right (now (out .entry)) (now (out .exit)) (replied a) ⌝ }
+    ensures { λ a. ⌜ Derives (lent concepts inclusions questions roles variables) (before assignment) left right (before out) (after out) (replied a) ⌝ }
 {
     let answer = matching::derive(
         concepts,
@@ -53,7 +53,7 @@ pub fn check_derivation(
     right: u16,
     lines: &[u16],
 ) -> Answer
-    ensures { λ a. ⌜ replied a ≡ replyOf (checkingFault (tables (now (concepts .entry)) (now (inclusions .entry)) (now (questions .entry)) (now (roles .entry)) variables) (now (assignment .entry)) left right (now (lines .entry))) ⌝ }
+    ensures { λ a. ⌜ replied a ≡ replyOf (checkingFault (lent concepts inclusions questions roles variables) (before assignment) left right (before lines)) ⌝ }
 {
     let judged = matching::check_derivation(
         concepts,

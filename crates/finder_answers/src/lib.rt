@@ -5,11 +5,11 @@ use matching::Match;
 use matching_answers::matched;
 use subsumption::refusal::code_of;
 ghost use mathlib.Core.Path.{_≡_};
-ghost use Rattle.subsumption.specs.Tables.{tables};
-ghost use Rattle.settings.specs.Settings.{settings};
+ghost use Rattle.settings.specs.Settings.{lentSettings};
 ghost use Rattle.allowance.specs.Find.{countedReply, FindsCounted};
 ghost use Rattle.groups.specs.Find.{FindsGroup};
 ghost use Rattle.answers.specs.Answer.{replied};
+ghost use Rattle.subsumption.specs.Lent.{lent, before, after};
 
 // What the finder with an allowance answered: the count is told with 10 and 14 too.
 fn counted_of(counted: Counted) -> Answer
@@ -48,7 +48,7 @@ pub fn find_counted(
     allowance: u32,
     out: &mut [u64],
 ) -> Answer
-    ensures { λ a. ⌜ FindsCounted (tables (now (concepts .entry)) (now (inclusions .entry)) (now (questions .entry)) (now (roles .entry)) variables) (settings (now (permitted .entry)) (now (largest .entry))) allowance (now (out .entry)) (now (out .exit)) (replied a) ⌝ }
+    ensures { λ a. ⌜ FindsCounted (lent concepts inclusions questions roles variables) (lentSettings permitted largest) allowance (before out) (after out) (replied a) ⌝ }
 {
     let counted = allowance::find_counted(
         concepts,
@@ -76,7 +76,7 @@ pub fn find_group(
     question: u16,
     out: &mut [u64],
 ) -> Answer
-    ensures { λ a. ⌜ FindsGroup (tables (now (concepts .entry)) (now (inclusions .entry)) (now (questions .entry)) (now (roles .entry)) variables) (settings (now (permitted .entry)) (now (largest .entry))) question (now (out .entry)) (now (out .exit)) (replied a) ⌝ }
+    ensures { λ a. ⌜ FindsGroup (lent concepts inclusions questions roles variables) (lentSettings permitted largest) question (before out) (after out) (replied a) ⌝ }
 {
     let answer = groups::find_group(
         concepts,

@@ -10,13 +10,14 @@ use subsumption::refusal::Outcome;
 use subsumption::refusal::Refusal;
 ghost use mathlib.Core.Path.{_≡_};
 ghost use Prim.Native.Nat.{_<_};
+ghost use Rattle.subsumption.specs.Lent.{given, lent, before, after};
 ghost use Rattle.subsumption.specs.declared.refusal.Outcome.the-variants.{Refused};
 ghost use Rattle.subsumption.specs.declared.refusal.Refusal.the-variants.{NoConcept};
-ghost use Rattle.subsumption.specs.Tables.{tables, pairsOf};
+ghost use Rattle.subsumption.specs.Tables.{pairsOf};
 ghost use Rattle.subsumption.specs.Refusal.{orElse};
 ghost use Rattle.subsumption.specs.Check.{conceptFault};
 ghost use Rattle.subsumption.specs.Inner.Listing.{Accepted};
-ghost use Rattle.settings.specs.Settings.{settings};
+ghost use Rattle.settings.specs.Settings.{lentSettings};
 ghost use Rattle.matching.specs.Find.{matchReply};
 ghost use Rattle.groups.specs.Find.{FindsGroup};
 
@@ -28,7 +29,7 @@ fn refuse_place(
     roles: &[u16],
     variables: u16,
 ) -> Refusal
-    ensures { λ r. ⌜ Refused r ≡ orElse (conceptFault (tables (now (concepts .entry)) (now (inclusions .entry)) (now (questions .entry)) (now (roles .entry)) variables)) (Refused (NoConcept 0)) ⌝ }
+    ensures { λ r. ⌜ Refused r ≡ orElse (conceptFault (lent concepts inclusions questions roles variables)) (Refused (NoConcept 0)) ⌝ }
 {
     let rows = check_concepts(concepts, inclusions, questions, roles, variables);
     if let Outcome::Refused(r) = rows {
@@ -50,9 +51,9 @@ fn find_placed(
     m: u16,
     out: &mut [u64],
 ) -> Match
-    requires { ⌜ Accepted (tables (now concepts) (now inclusions) (now questions) (now roles) variables) (now ids) ⌝ }
+    requires { ⌜ Accepted (given concepts inclusions questions roles variables) (now ids) ⌝ }
     requires { ⌜ m < pairsOf (now questions) ⌝ }
-    ensures { λ r. ⌜ FindsGroup (tables (now (concepts .entry)) (now (inclusions .entry)) (now (questions .entry)) (now (roles .entry)) variables) (settings (now (permitted .entry)) (now (largest .entry))) m (now (out .entry)) (now (out .exit)) (matchReply r) ⌝ }
+    ensures { λ r. ⌜ FindsGroup (lent concepts inclusions questions roles variables) (lentSettings permitted largest) m (before out) (after out) (matchReply r) ⌝ }
 {
     let group = group_of(
         concepts,
@@ -90,7 +91,7 @@ pub fn find_group(
     m: u16,
     out: &mut [u64],
 ) -> Match
-    ensures { λ r. ⌜ FindsGroup (tables (now (concepts .entry)) (now (inclusions .entry)) (now (questions .entry)) (now (roles .entry)) variables) (settings (now (permitted .entry)) (now (largest .entry))) m (now (out .entry)) (now (out .exit)) (matchReply r) ⌝ }
+    ensures { λ r. ⌜ FindsGroup (lent concepts inclusions questions roles variables) (lentSettings permitted largest) m (before out) (after out) (matchReply r) ⌝ }
 {
     if (m as usize) >= questions.len() / 2 {
         return Match::Rejected(refuse_place(concepts, inclusions, questions, roles, variables));

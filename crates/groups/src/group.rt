@@ -6,7 +6,8 @@ use subsumption::limits::CONCEPTS;
 ghost use mathlib.Core.Path.{_≡_};
 ghost use Prim.Native.Nat.{ℕ, _<_, _≤_};
 ghost use lib.ListN.{length, getD};
-ghost use Rattle.subsumption.specs.Tables.{tables, pairsOf};
+ghost use Rattle.subsumption.specs.Lent.{given, lent, before};
+ghost use Rattle.subsumption.specs.Tables.{pairsOf};
 ghost use Rattle.subsumption.specs.Atoms.{bit};
 ghost use Rattle.subsumption.specs.Inner.Atoms.{Known};
 ghost use Rattle.subsumption.specs.Inner.Listing.{Accepted};
@@ -19,7 +20,7 @@ const WALKS: usize = 8;
 fn set_of(sets: &[u8], questions: &[u16], m: usize) -> u8
     requires { ⌜ Known (length (now sets)) (now questions) ⌝ }
     requires { ⌜ m < pairsOf (now questions) ⌝ }
-    ensures { λ r. ⌜ r ≡ setAt (λ i. getD (now (sets .entry)) i 0) (now (questions .entry)) m ⌝ }
+    ensures { λ r. ⌜ r ≡ setAt (λ i. getD (before sets) i 0) (before questions) m ⌝ }
 {
     let pair = pair_at(questions, m);
     sets[pair.left as usize] | sets[pair.right as usize]
@@ -28,7 +29,7 @@ fn set_of(sets: &[u8], questions: &[u16], m: usize) -> u8
 // One walk over the questions: one that holds a reached variable brings all that it holds.
 fn sweep(sets: &[u8], questions: &[u16], from: u8) -> u8
     requires { ⌜ Known (length (now sets)) (now questions) ⌝ }
-    ensures { λ r. ⌜ r ≡ swept (setAt (λ i. getD (now (sets .entry)) i 0) (now (questions .entry))) (pairsOf (now (questions .entry))) from ⌝ }
+    ensures { λ r. ⌜ r ≡ swept (setAt (λ i. getD (before sets) i 0) (before questions)) (pairsOf (before questions)) from ⌝ }
 {
     let count = questions.len() / 2;
     let mut reached = from;
@@ -47,7 +48,7 @@ fn sweep(sets: &[u8], questions: &[u16], from: u8) -> u8
 fn reach(sets: &[u8], questions: &[u16], m: usize) -> u8
     requires { ⌜ Known (length (now sets)) (now questions) ⌝ }
     requires { ⌜ m < pairsOf (now questions) ⌝ }
-    ensures { λ r. ⌜ r ≡ reachedBy (λ i. getD (now (sets .entry)) i 0) (now (questions .entry)) m ⌝ }
+    ensures { λ r. ⌜ r ≡ reachedBy (λ i. getD (before sets) i 0) (before questions) m ⌝ }
 {
     let mut reached = set_of(sets, questions, m);
     let mut walk: usize = 0;
@@ -73,7 +74,7 @@ fn is_among(reached: u8, set: u8) -> bool
 fn gather(sets: &[u8], questions: &[u16], reached: u8) -> u64
     requires { ⌜ Known (length (now sets)) (now questions) ⌝ }
     requires { ⌜ pairsOf (now questions) ≤ 32 ⌝ }
-    ensures { λ r. ⌜ ((n : ℕ) → n < pairsOf (now (questions .entry)) → bit r n ≡ belongs reached (setAt (λ i. getD (now (sets .entry)) i 0) (now (questions .entry)) n)) ⌝ }
+    ensures { λ r. ⌜ ((n : ℕ) → n < pairsOf (before questions) → bit r n ≡ belongs reached (setAt (λ i. getD (before sets) i 0) (before questions) n)) ⌝ }
 {
     let count = questions.len() / 2;
     let mut group: u64 = 0;
@@ -98,9 +99,9 @@ pub fn group_of(
     ids: &[u16],
     m: usize,
 ) -> u64
-    requires { ⌜ Accepted (tables (now concepts) (now inclusions) (now questions) (now roles) variables) (now ids) ⌝ }
+    requires { ⌜ Accepted (given concepts inclusions questions roles variables) (now ids) ⌝ }
     requires { ⌜ m < pairsOf (now questions) ⌝ }
-    ensures { λ r. ⌜ GroupSet (tables (now (concepts .entry)) (now (inclusions .entry)) (now (questions .entry)) (now (roles .entry)) variables) m r ⌝ }
+    ensures { λ r. ⌜ GroupSet (lent concepts inclusions questions roles variables) m r ⌝ }
 {
     let mut sets = [0u8; CONCEPTS];
     write_sets(concepts, &mut sets);

@@ -14,7 +14,7 @@ use subsumption::refusal::code_of;
 ghost use mathlib.Core.Path.{_≡_};
 ghost use Prim.Native.Nat.{_*_, _≤_};
 ghost use lib.ListN.{length, replicate};
-ghost use Rattle.subsumption.specs.Tables.{tables};
+ghost use Rattle.subsumption.specs.Lent.{lent, before, after};
 ghost use Rattle.subsumption.specs.Refusal.{codeOf};
 ghost use Rattle.subsumption.specs.Check.{tableFault};
 ghost use Rattle.numerals.specs.Inner.Printing.{Wrote};
@@ -25,7 +25,7 @@ ghost use Rattle.hermitcasket.specs.Answer.{AnsweredTables, Planned};
 
 fn answer_refused(refusal: Refusal, out: &mut [u8]) -> usize
     requires { ⌜ 4096 ≤ length (now out) ⌝ }
-    ensures { λ r. ⌜ Wrote (now (out .entry)) 0 (codeText (codeOf refusal)) r (now (out .exit)) ⌝ }
+    ensures { λ r. ⌜ Wrote (before out) 0 (codeText (codeOf refusal)) r (after out) ⌝ }
 {
     let code = code_of(refusal);
     if code.number == 10 {
@@ -45,7 +45,7 @@ fn answer_tables(
 ) -> usize
     requires { ⌜ variables ≤ 8 ⌝ }
     requires { ⌜ 4096 ≤ length (now out) ⌝ }
-    ensures { λ r. ⌜ Output (AnsweredTables (tables (now (concepts .entry)) (now (inclusions .entry)) (now (questions .entry)) (now (roles .entry)) variables) (tableFault (tables (now (concepts .entry)) (now (inclusions .entry)) (now (questions .entry)) (now (roles .entry)) variables))) (now (out .entry)) r (now (out .exit)) ⌝ }
+    ensures { λ r. ⌜ Output (AnsweredTables (lent concepts inclusions questions roles variables) (tableFault (lent concepts inclusions questions roles variables))) (before out) r (after out) ⌝ }
 {
     let mut assignment = [0u64; 8];
     let found = matching::find_assignment(
@@ -98,7 +98,7 @@ fn plan_pair(
     requires { ⌜ now into ≡ replicate 200 0 ⌝ }
     requires { ⌜ length (now table) ≡ 4608 ⌝ }
     requires { ⌜ 4096 ≤ length (now out) ⌝ }
-    ensures { λ r. ⌜ Planned (accepted (tables (now (concepts .entry)) (now (inclusions .entry)) (now (questions .entry)) (now (roles .entry)) variables) (Ask.Show left right)) r (now (concepts .entry)) (now (into .exit)) (now (table .exit)) (now (out .entry)) (now (out .exit)) ⌝ }
+    ensures { λ r. ⌜ Planned (accepted (lent concepts inclusions questions roles variables) (Ask.Show left right)) r (before concepts) (after into) (after table) (before out) (after out) ⌝ }
 {
     let assignment = [0u64; 8];
     let n = variables as usize;
@@ -139,7 +139,7 @@ fn plan_tables(
     requires { ⌜ now into ≡ replicate 200 0 ⌝ }
     requires { ⌜ length (now table) ≡ 4608 ⌝ }
     requires { ⌜ 4096 ≤ length (now out) ⌝ }
-    ensures { λ r. ⌜ Planned (accepted (tables (now (concepts .entry)) (now (inclusions .entry)) (now (questions .entry)) (now (roles .entry)) variables) ask) r (now (concepts .entry)) (now (into .exit)) (now (table .exit)) (now (out .entry)) (now (out .exit)) ⌝ }
+    ensures { λ r. ⌜ Planned (accepted (lent concepts inclusions questions roles variables) ask) r (before concepts) (after into) (after table) (before out) (after out) ⌝ }
 {
     match ask {
         Ask::Fill => {
@@ -173,7 +173,7 @@ pub fn answer(
     requires { ⌜ now into ≡ replicate 200 0 ⌝ }
     requires { ⌜ length (now table) ≡ 4608 ⌝ }
     requires { ⌜ 4096 ≤ length (now out) ⌝ }
-    ensures { λ r. ⌜ Planned (judge (now (text .entry))) r (now (concepts .exit)) (now (into .exit)) (now (table .exit)) (now (out .entry)) (now (out .exit)) ⌝ }
+    ensures { λ r. ⌜ Planned (judge (before text)) r (after concepts) (after into) (after table) (before out) (after out) ⌝ }
 {
     let mut inclusions = [0u16; 192];
     let mut questions = [0u16; 64];

@@ -5,8 +5,8 @@ use numerals::helpers::put_line;
 ghost use mathlib.Core.Path.{_≡_};
 ghost use Prim.Native.Nat.{_+_, _<_, _≤_};
 ghost use lib.ListN.{length};
+ghost use Rattle.subsumption.specs.Lent.{given, lent, before, after};
 ghost use Rattle.subsumption.specs.declared.refusal.Outcome.the-variants.{Done};
-ghost use Rattle.subsumption.specs.Tables.{tables};
 ghost use Rattle.subsumption.specs.Atoms.{atoms, chosen};
 ghost use Rattle.subsumption.specs.Check.{tableFault, assignmentFault};
 ghost use Rattle.numerals.specs.Inner.Printing.{Wrote};
@@ -24,11 +24,11 @@ fn put_variable(
     at: usize,
     out: &mut [u8],
 ) -> usize
-    requires { ⌜ tableFault (tables (now concepts) (now inclusions) (now questions) (now roles) variables) ≡ Done ⌝ }
-    requires { ⌜ assignmentFault (tables (now concepts) (now inclusions) (now questions) (now roles) variables) (now assignment) ≡ Done ⌝ }
+    requires { ⌜ tableFault (given concepts inclusions questions roles variables) ≡ Done ⌝ }
+    requires { ⌜ assignmentFault (given concepts inclusions questions roles variables) (now assignment) ≡ Done ⌝ }
     requires { ⌜ variable < variables ⌝ }
-    requires { ⌜ at + length (fillText (chosen (tables (now concepts) (now inclusions) (now questions) (now roles) variables) (now assignment) variable)) ≤ length (now out) ⌝ }
-    ensures { λ r. ⌜ Wrote (now (out .entry)) at (fillText (chosen (tables (now (concepts .entry)) (now (inclusions .entry)) (now (questions .entry)) (now (roles .entry)) variables) (now (assignment .entry)) variable)) r (now (out .exit)) ⌝ }
+    requires { ⌜ at + length (fillText (chosen (given concepts inclusions questions roles variables) (now assignment) variable)) ≤ length (now out) ⌝ }
+    ensures { λ r. ⌜ Wrote (before out) at (fillText (chosen (lent concepts inclusions questions roles variables) (before assignment) variable)) r (after out) ⌝ }
 {
     let mut buffer = [0u16; 64];
     let mut number: u16 = 0;
@@ -58,10 +58,10 @@ fn put_fills(
     at: usize,
     out: &mut [u8],
 ) -> usize
-    requires { ⌜ tableFault (tables (now concepts) (now inclusions) (now questions) (now roles) variables) ≡ Done ⌝ }
-    requires { ⌜ assignmentFault (tables (now concepts) (now inclusions) (now questions) (now roles) variables) (now assignment) ≡ Done ⌝ }
-    requires { ⌜ at + length (fillsText (atoms (tables (now concepts) (now inclusions) (now questions) (now roles) variables)) (now assignment)) ≤ length (now out) ⌝ }
-    ensures { λ r. ⌜ Wrote (now (out .entry)) at (fillsText (atoms (tables (now (concepts .entry)) (now (inclusions .entry)) (now (questions .entry)) (now (roles .entry)) variables)) (now (assignment .entry))) r (now (out .exit)) ⌝ }
+    requires { ⌜ tableFault (given concepts inclusions questions roles variables) ≡ Done ⌝ }
+    requires { ⌜ assignmentFault (given concepts inclusions questions roles variables) (now assignment) ≡ Done ⌝ }
+    requires { ⌜ at + length (fillsText (atoms (given concepts inclusions questions roles variables)) (now assignment)) ≤ length (now out) ⌝ }
+    ensures { λ r. ⌜ Wrote (before out) at (fillsText (atoms (lent concepts inclusions questions roles variables)) (before assignment)) r (after out) ⌝ }
 {
     let mut end = at;
     let mut k: u16 = 0;
@@ -91,10 +91,10 @@ pub fn put_filled(
     assignment: &[u64],
     out: &mut [u8],
 ) -> usize
-    requires { ⌜ tableFault (tables (now concepts) (now inclusions) (now questions) (now roles) variables) ≡ Done ⌝ }
-    requires { ⌜ assignmentFault (tables (now concepts) (now inclusions) (now questions) (now roles) variables) (now assignment) ≡ Done ⌝ }
-    requires { ⌜ 0 + length (filledText (atoms (tables (now concepts) (now inclusions) (now questions) (now roles) variables)) (now assignment)) ≤ length (now out) ⌝ }
-    ensures { λ r. ⌜ Wrote (now (out .entry)) 0 (filledText (atoms (tables (now (concepts .entry)) (now (inclusions .entry)) (now (questions .entry)) (now (roles .entry)) variables)) (now (assignment .entry))) r (now (out .exit)) ⌝ }
+    requires { ⌜ tableFault (given concepts inclusions questions roles variables) ≡ Done ⌝ }
+    requires { ⌜ assignmentFault (given concepts inclusions questions roles variables) (now assignment) ≡ Done ⌝ }
+    requires { ⌜ 0 + length (filledText (atoms (given concepts inclusions questions roles variables)) (now assignment)) ≤ length (now out) ⌝ }
+    ensures { λ r. ⌜ Wrote (before out) 0 (filledText (atoms (lent concepts inclusions questions roles variables)) (before assignment)) r (after out) ⌝ }
 {
     let a = put_bytes(b"answer=filled\n", 0, out);
     let b = put_line(b"blanks=", assignment.len(), a, out);

@@ -5,6 +5,7 @@ ghost use mathlib.Core.Path.{_≡_};
 ghost use Prim.Native.Nat.{_≤_, _<_};
 ghost use lib.ListN.{length, drop};
 ghost use Rattle.hermitcasket.specs.Lines.{number, numberLine, pairLine, rowLine};
+ghost use Rattle.subsumption.specs.Lent.{before};
 
 // A number and the length used, its end among it.
 pub enum Number {
@@ -26,7 +27,7 @@ pub enum RowLine {
 // The text that remains behind so many bytes.
 pub fn behind<'a>(rest: &'a [u8], n: usize) -> &'a [u8]
     requires { ⌜ n ≤ length (now rest) ⌝ }
-    ensures { λ r. ⌜ now r ≡ drop n (now (rest .entry)) ⌝ }
+    ensures { λ r. ⌜ now r ≡ drop n (before rest) ⌝ }
 {
     &rest[n..]
 }
@@ -34,7 +35,7 @@ pub fn behind<'a>(rest: &'a [u8], n: usize) -> &'a [u8]
 // A number that the byte `stop` ends.
 pub fn read_number(rest: &[u8], stop: u8) -> Number
     requires { ⌜ stop < 48 ⌝ }
-    ensures { λ r. ⌜ r ≡ number stop (now (rest .entry)) ⌝ }
+    ensures { λ r. ⌜ r ≡ number stop (before rest) ⌝ }
 {
     let run = read_run(rest);
     let n = run.length;
@@ -53,7 +54,7 @@ pub fn read_number(rest: &[u8], stop: u8) -> Number
 // A line of one number.
 pub fn number_line(rest: &[u8], key: &[u8]) -> Number
     requires { ⌜ length (now key) ≤ 16 ⌝ }
-    ensures { λ r. ⌜ r ≡ numberLine (now (key .entry)) (now (rest .entry)) ⌝ }
+    ensures { λ r. ⌜ r ≡ numberLine (before key) (before rest) ⌝ }
 {
     if !starts_with(rest, key) {
         return Number::NoNumber;
@@ -70,7 +71,7 @@ pub fn number_line(rest: &[u8], key: &[u8]) -> Number
 // A line of two numbers with a comma between them.
 pub fn pair_line(rest: &[u8], key: &[u8]) -> PairLine
     requires { ⌜ length (now key) ≤ 16 ⌝ }
-    ensures { λ r. ⌜ r ≡ pairLine (now (key .entry)) (now (rest .entry)) ⌝ }
+    ensures { λ r. ⌜ r ≡ pairLine (before key) (before rest) ⌝ }
 {
     if !starts_with(rest, key) {
         return PairLine::NoPair;
@@ -91,7 +92,7 @@ pub fn pair_line(rest: &[u8], key: &[u8]) -> PairLine
 
 // A line of the concept table: the key says the kind.
 pub fn row_line(rest: &[u8]) -> RowLine
-    ensures { λ r. ⌜ r ≡ rowLine (now (rest .entry)) ⌝ }
+    ensures { λ r. ⌜ r ≡ rowLine (before rest) ⌝ }
 {
     if starts_with(rest, b"top=0\n") {
         return RowLine::Row(0, 0, 0, 6);

@@ -7,6 +7,7 @@ use numerals::helpers::put_pair;
 ghost use mathlib.Core.Path.{_≡_};
 ghost use Prim.Native.Nat.{_+_, _<_, _≤_};
 ghost use lib.ListN.{length};
+ghost use Rattle.subsumption.specs.Lent.{before, after};
 ghost use Rattle.subsumption.specs.Tables.{Tables, countOf};
 ghost use Rattle.subsumption.specs.Table.{marked};
 ghost use Rattle.subsumption.specs.Inner.Atoms.{markedIds};
@@ -21,7 +22,7 @@ ghost use Rattle.hermitcasket.specs.Answer.{Held, IsPart};
 // The line of a mark of an element: its name, or its link by the role to another.
 fn put_mark(link: bool, i: usize, role: usize, mark: usize, at: usize, out: &mut [u8]) -> usize
     requires { ⌜ at + length (markLine link i role mark) ≤ length (now out) ⌝ }
-    ensures { λ r. ⌜ Wrote (now (out .entry)) at (markLine link i role mark) r (now (out .exit)) ⌝ }
+    ensures { λ r. ⌜ Wrote (before out) at (markLine link i role mark) r (after out) ⌝ }
 {
     if link {
         return put_link(i, role, mark, at, out);
@@ -40,7 +41,7 @@ fn put_marks(
 ) -> usize
     requires { ⌜ count ≤ length (now marks) ⌝ }
     requires { ⌜ 0 + length (markLines link i role (markedIds (now marks) count)) ≤ length (now out) ⌝ }
-    ensures { λ r. ⌜ Wrote (now (out .entry)) 0 (markLines link i role (markedIds (now (marks .entry)) count)) r (now (out .exit)) ⌝ }
+    ensures { λ r. ⌜ Wrote (before out) 0 (markLines link i role (markedIds (before marks) count)) r (after out) ⌝ }
 {
     let mut end: usize = 0;
     let mut q: usize = 0;
@@ -60,7 +61,7 @@ fn put_names(concepts: &[u16], table: &[u8], i: usize, out: &mut [u8]) -> usize
     requires { ⌜ length (now table) ≡ 4608 ⌝ }
     requires { ⌜ i < countOf (now concepts) ⌝ }
     requires { ⌜ 4096 ≤ length (now out) ⌝ }
-    ensures { λ r. ⌜ Wrote (now (out .entry)) 0 (rowsText (nameRows i (namesAt (now (concepts .entry)) (marked (now (table .entry))) i))) r (now (out .exit)) ⌝ }
+    ensures { λ r. ⌜ Wrote (before out) 0 (rowsText (nameRows i (namesAt (before concepts) (marked (before table)) i))) r (after out) ⌝ }
 {
     let mut names = [false; 1000];
     note_names(concepts, table, i, &mut names);
@@ -81,7 +82,7 @@ fn put_links(
     requires { ⌜ length (now table) ≡ 4608 ⌝ }
     requires { ⌜ (i < countOf (now concepts)) × (role < 100) ⌝ }
     requires { ⌜ 4096 ≤ length (now out) ⌝ }
-    ensures { λ r. ⌜ Output (IsLinks (now (concepts .entry)) (now (into .entry)) (now (table .entry)) i role) (now (out .entry)) r (now (out .exit)) ⌝ }
+    ensures { λ r. ⌜ Output (IsLinks (before concepts) (before into) (before table) i role) (before out) r (after out) ⌝ }
 {
     let mut links = [false; 192];
     note_links(concepts, into, table, i, role, &mut links);
@@ -93,7 +94,7 @@ pub fn put_part(concepts: &[u16], into: &[u64], table: &[u8], k: usize, out: &mu
     requires { ⌜ ((t : Tables) × Held t (now concepts) (now into) (now table)) ⌝ }
     requires { ⌜ k < partsOf (now concepts) ⌝ }
     requires { ⌜ 4096 ≤ length (now out) ⌝ }
-    ensures { λ r. ⌜ Output (IsPart (now (concepts .entry)) (now (into .entry)) (now (table .entry)) k) (now (out .entry)) r (now (out .exit)) ⌝ }
+    ensures { λ r. ⌜ Output (IsPart (before concepts) (before into) (before table) k) (before out) r (after out) ⌝ }
 {
     let count = concepts.len() / 3;
     if k == 0 {

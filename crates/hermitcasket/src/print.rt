@@ -8,11 +8,12 @@ ghost use Prim.Native.Nat.{_+_, _≤_};
 ghost use lib.ListN.{length};
 ghost use Rattle.numerals.specs.Inner.Printing.{Wrote};
 ghost use Rattle.hermitcasket.specs.Printing.{idText, idsText, fillText, noneLine, linkText};
+ghost use Rattle.subsumption.specs.Lent.{before, after};
 
 // The line of a link by a role.
 pub fn put_link(from: usize, role: usize, to: usize, at: usize, out: &mut [u8]) -> usize
     requires { ⌜ at + length (linkText from role to) ≤ length (now out) ⌝ }
-    ensures { λ r. ⌜ Wrote (now (out .entry)) at (linkText from role to) r (now (out .exit)) ⌝ }
+    ensures { λ r. ⌜ Wrote (before out) at (linkText from role to) r (after out) ⌝ }
 {
     let x = put_bytes(b"link=", at, out);
     let y = put_number(from, x, out);
@@ -22,7 +23,7 @@ pub fn put_link(from: usize, role: usize, to: usize, at: usize, out: &mut [u8]) 
 // An id, after a comma if one went before it.
 fn put_id(id: u16, later: bool, at: usize, out: &mut [u8]) -> usize
     requires { ⌜ at + length (idText later id) ≤ length (now out) ⌝ }
-    ensures { λ r. ⌜ Wrote (now (out .entry)) at (idText later id) r (now (out .exit)) ⌝ }
+    ensures { λ r. ⌜ Wrote (before out) at (idText later id) r (after out) ⌝ }
 {
     if later {
         let a = put_bytes(b",", at, out);
@@ -34,7 +35,7 @@ fn put_id(id: u16, later: bool, at: usize, out: &mut [u8]) -> usize
 // Ids with commas between them.
 fn put_ids(ids: &[u16], at: usize, out: &mut [u8]) -> usize
     requires { ⌜ at + length (idsText false (now ids)) ≤ length (now out) ⌝ }
-    ensures { λ r. ⌜ Wrote (now (out .entry)) at (idsText false (now (ids .entry))) r (now (out .exit)) ⌝ }
+    ensures { λ r. ⌜ Wrote (before out) at (idsText false (before ids)) r (after out) ⌝ }
 {
     let mut end = at;
     let mut i: usize = 0;
@@ -48,7 +49,7 @@ fn put_ids(ids: &[u16], at: usize, out: &mut [u8]) -> usize
 // The line of one variable.
 pub fn put_fill(ids: &[u16], at: usize, out: &mut [u8]) -> usize
     requires { ⌜ at + length (fillText (now ids)) ≤ length (now out) ⌝ }
-    ensures { λ r. ⌜ Wrote (now (out .entry)) at (fillText (now (ids .entry))) r (now (out .exit)) ⌝ }
+    ensures { λ r. ⌜ Wrote (before out) at (fillText (before ids)) r (after out) ⌝ }
 {
     let a = put_bytes(b"fill=", at, out);
     let b = put_ids(ids, a, out);
@@ -57,7 +58,7 @@ pub fn put_fill(ids: &[u16], at: usize, out: &mut [u8]) -> usize
 
 pub fn put_none(out: &mut [u8]) -> usize
     requires { ⌜ 12 ≤ length (now out) ⌝ }
-    ensures { λ r. ⌜ Wrote (now (out .entry)) 0 noneLine r (now (out .exit)) ⌝ }
+    ensures { λ r. ⌜ Wrote (before out) 0 noneLine r (after out) ⌝ }
 {
     put_bytes(b"answer=none\n", 0, out)
 }

@@ -14,6 +14,7 @@ ghost use lib.ListN.{length};
 ghost use Rattle.numerals.specs.Lines.{conceptsKey};
 ghost use Rattle.hermitcasket.specs.Text.{readLines, rowAt, pairAt, sectionAt, rolesAt, judge};
 ghost use Rattle.hermitcasket.specs.Inner.Text.{partOf, PartFits, Counts, Sectioned, Ends, Last, faultOf, judgedBy, ReadFits, TablesRead};
+ghost use Rattle.subsumption.specs.Lent.{given, before, after};
 
 // The length of the lines, or the place where the earliest faulty one starts.
 pub enum Lines {
@@ -37,8 +38,8 @@ pub enum Read {
 fn read_rows(part: &[u8], at: usize, count: usize, out: &mut [u16]) -> Lines
     requires { ⌜ at + length (now part) ≤ 8192 ⌝ }
     requires { ⌜ count * 3 ≤ length (now out) ⌝ }
-    ensures { λ r. ⌜ readLines rowAt count at (now (part .entry)) ≡ partOf r at (now (part .entry)) (count * 3) (now (out .exit)) ⌝ }
-    ensures { λ r. ⌜ PartFits r (length (now (part .entry))) ⌝ }
+    ensures { λ r. ⌜ readLines rowAt count at (before part) ≡ partOf r at (before part) (count * 3) (after out) ⌝ }
+    ensures { λ r. ⌜ PartFits r (length (before part)) ⌝ }
 {
     let mut rest = part;
     let mut used: usize = 0;
@@ -65,8 +66,8 @@ fn read_pairs(part: &[u8], at: usize, key: &[u8], count: usize, out: &mut [u16])
     requires { ⌜ at + length (now part) ≤ 8192 ⌝ }
     requires { ⌜ length (now key) ≤ 16 ⌝ }
     requires { ⌜ count * 2 ≤ length (now out) ⌝ }
-    ensures { λ r. ⌜ readLines (pairAt (now (key .entry))) count at (now (part .entry)) ≡ partOf r at (now (part .entry)) (count * 2) (now (out .exit)) ⌝ }
-    ensures { λ r. ⌜ PartFits r (length (now (part .entry))) ⌝ }
+    ensures { λ r. ⌜ readLines (pairAt (before key)) count at (before part) ≡ partOf r at (before part) (count * 2) (after out) ⌝ }
+    ensures { λ r. ⌜ PartFits r (length (before part)) ⌝ }
 {
     let mut rest = part;
     let mut used: usize = 0;
@@ -96,7 +97,7 @@ pub enum Section {
 // A count line. A count over its limit is refused with the table's place.
 fn read_count(rest: &[u8], at: usize, key: &[u8], limit: u16, table: usize) -> Section
     requires { ⌜ length (now key) ≤ 16 ⌝ }
-    ensures { λ r. ⌜ Counts (now (key .entry)) limit table at (now (rest .entry)) r ⌝ }
+    ensures { λ r. ⌜ Counts (before key) limit table at (before rest) r ⌝ }
 {
     let found = number_line(rest, key);
     let Number::Value(count, n) = found else {
@@ -112,7 +113,7 @@ fn read_count(rest: &[u8], at: usize, key: &[u8], limit: u16, table: usize) -> S
 fn read_concepts(rest: &[u8], at: usize, out: &mut [u16]) -> Section
     requires { ⌜ at + length (now rest) ≤ 8192 ⌝ }
     requires { ⌜ 192 * 3 ≤ length (now out) ⌝ }
-    ensures { λ r. ⌜ Sectioned (sectionAt conceptsKey 192 0 rowAt) 192 3 at (now (rest .entry)) r (now (out .exit)) ⌝ }
+    ensures { λ r. ⌜ Sectioned (sectionAt conceptsKey 192 0 rowAt) 192 3 at (before rest) r (after out) ⌝ }
 {
     let counted = read_count(rest, at, b"entries=", 192, 0);
     let Section::Through(count, n) = counted else {
@@ -140,7 +141,7 @@ fn read_section(
     requires { ⌜ length (now key) ≤ 16 ⌝ }
     requires { ⌜ length (now line) ≤ 16 ⌝ }
     requires { ⌜ limit * 2 ≤ length (now out) ⌝ }
-    ensures { λ r. ⌜ Sectioned (sectionAt (now (key .entry)) limit table (pairAt (now (line .entry)))) limit 2 at (now (rest .entry)) r (now (out .exit)) ⌝ }
+    ensures { λ r. ⌜ Sectioned (sectionAt (before key) limit table (pairAt (before line))) limit 2 at (before rest) r (after out) ⌝ }
 {
     let counted = read_count(rest, at, key, limit, table);
     let Section::Through(count, n) = counted else {
@@ -158,7 +159,7 @@ fn read_section(
 fn read_roles(rest: &[u8], at: usize, out: &mut [u16]) -> Section
     requires { ⌜ at + length (now rest) ≤ 8192 ⌝ }
     requires { ⌜ 32 * 2 ≤ length (now out) ⌝ }
-    ensures { λ r. ⌜ Sectioned rolesAt 32 2 at (now (rest .entry)) r (now (out .exit)) ⌝ }
+    ensures { λ r. ⌜ Sectioned rolesAt 32 2 at (before rest) r (after out) ⌝ }
 {
     if !starts_with(rest, b"roles=") {
         return Section::Through(0, 0);
@@ -175,7 +176,7 @@ pub enum End {
 // What stands behind the questions: nothing, or the line of a pair and nothing behind it.
 fn read_end(rest: &[u8], at: usize) -> End
     requires { ⌜ at + length (now rest) ≤ 8192 ⌝ }
-    ensures { λ r. ⌜ Ends at (now (rest .entry)) r ⌝ }
+    ensures { λ r. ⌜ Ends at (before rest) r ⌝ }
 {
     if rest.len() == 0 {
         return End::Asks(Ask::Fill);
@@ -200,7 +201,7 @@ pub enum Asked {
 fn read_questions(rest: &[u8], at: usize, out: &mut [u16]) -> Asked
     requires { ⌜ at + length (now rest) ≤ 8192 ⌝ }
     requires { ⌜ 32 * 2 ≤ length (now out) ⌝ }
-    ensures { λ r. ⌜ Last at (now (rest .entry)) r (now (out .exit)) ⌝ }
+    ensures { λ r. ⌜ Last at (before rest) r (after out) ⌝ }
 {
     let section = read_section(rest, at, b"questions=", b"below=", 32, 2, out);
     let Section::Through(count, n) = section else {
@@ -240,7 +241,7 @@ fn read_tables(
     requires { ⌜ 192 * 3 ≤ length (now concepts) ⌝ }
     requires { ⌜ 96 * 2 ≤ length (now inclusions) ⌝ }
     requires { ⌜ 32 * 2 ≤ length (now questions) ⌝ }
-    ensures { λ r. ⌜ TablesRead variables pairs at (now (rest .entry)) r (now (concepts .exit)) (now (inclusions .exit)) (now (questions .exit)) ⌝ }
+    ensures { λ r. ⌜ TablesRead variables pairs at (before rest) r (after concepts) (after inclusions) (after questions) ⌝ }
 {
     let rows = read_concepts(rest, at, concepts);
     let Section::Through(c, n) = rows else {
@@ -272,7 +273,7 @@ pub fn read_text(
     requires { ⌜ 96 * 2 ≤ length (now inclusions) ⌝ }
     requires { ⌜ 32 * 2 ≤ length (now questions) ⌝ }
     requires { ⌜ 32 * 2 ≤ length (now roles) ⌝ }
-    ensures { λ r. ⌜ judge (now (text .entry)) ≡ judgedBy r (now (concepts .exit)) (now (inclusions .exit)) (now (questions .exit)) (now (roles .exit)) ⌝ }
+    ensures { λ r. ⌜ judge (before text) ≡ judgedBy r (after concepts) (after inclusions) (after questions) (after roles) ⌝ }
     ensures { λ r. ⌜ ReadFits r ⌝ }
 {
     if 8192 < text.len() {

@@ -8,11 +8,12 @@ ghost use Prim.Native.Nat.{_≤_};
 ghost use lib.ListN.{length};
 ghost use Rattle.numerals.specs.Printing.{Output};
 ghost use Rattle.hermitcasket_owl.specs.Card.{Carded};
+ghost use Rattle.subsumption.specs.Lent.{before, after};
 
 // The whole program, from the text's bytes to the output's.
 pub fn answer(text: &[u8], out: &mut [u8]) -> usize
     requires { ⌜ 4096 ≤ length (now out) ⌝ }
-    ensures { λ r. ⌜ Output (Carded (now (text .entry))) (now (out .entry)) r (now (out .exit)) ⌝ }
+    ensures { λ r. ⌜ Output (Carded (before text)) (before out) r (after out) ⌝ }
 {
     let mut concepts = [0u16; 576];
     let mut inclusions = [0u16; 192];

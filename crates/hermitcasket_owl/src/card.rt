@@ -6,11 +6,12 @@ ghost use Prim.Native.Nat.{_+_, _≤_};
 ghost use lib.ListN.{length};
 ghost use Rattle.numerals.specs.Inner.Printing.{Wrote};
 ghost use Rattle.hermitcasket_owl.specs.Card.{rowsText, pairsText, entriesText, inclusionsText, cardText};
+ghost use Rattle.subsumption.specs.Lent.{before, after};
 
 // A line for each row of the concept table.
 fn put_rows(concepts: &[u16], at: usize, out: &mut [u8]) -> usize
     requires { ⌜ at + length (rowsText (now concepts)) ≤ length (now out) ⌝ }
-    ensures { λ r. ⌜ Wrote (now (out .entry)) at (rowsText (now (concepts .entry))) r (now (out .exit)) ⌝ }
+    ensures { λ r. ⌜ Wrote (before out) at (rowsText (before concepts)) r (after out) ⌝ }
 {
     let count = concepts.len() / 3;
     let mut end = at;
@@ -28,7 +29,7 @@ fn put_rows(concepts: &[u16], at: usize, out: &mut [u8]) -> usize
 // A line for each inclusion.
 fn put_pairs(inclusions: &[u16], at: usize, out: &mut [u8]) -> usize
     requires { ⌜ at + length (pairsText (now inclusions)) ≤ length (now out) ⌝ }
-    ensures { λ r. ⌜ Wrote (now (out .entry)) at (pairsText (now (inclusions .entry))) r (now (out .exit)) ⌝ }
+    ensures { λ r. ⌜ Wrote (before out) at (pairsText (before inclusions)) r (after out) ⌝ }
 {
     let count = inclusions.len() / 2;
     let mut end = at;
@@ -44,7 +45,7 @@ fn put_pairs(inclusions: &[u16], at: usize, out: &mut [u8]) -> usize
 
 fn put_entries(concepts: &[u16], at: usize, out: &mut [u8]) -> usize
     requires { ⌜ at + length (entriesText (now concepts)) ≤ length (now out) ⌝ }
-    ensures { λ r. ⌜ Wrote (now (out .entry)) at (entriesText (now (concepts .entry))) r (now (out .exit)) ⌝ }
+    ensures { λ r. ⌜ Wrote (before out) at (entriesText (before concepts)) r (after out) ⌝ }
 {
     let a = put_line(b"entries=", concepts.len() / 3, at, out);
     put_rows(concepts, a, out)
@@ -52,7 +53,7 @@ fn put_entries(concepts: &[u16], at: usize, out: &mut [u8]) -> usize
 
 fn put_inclusions(inclusions: &[u16], at: usize, out: &mut [u8]) -> usize
     requires { ⌜ at + length (inclusionsText (now inclusions)) ≤ length (now out) ⌝ }
-    ensures { λ r. ⌜ Wrote (now (out .entry)) at (inclusionsText (now (inclusions .entry))) r (now (out .exit)) ⌝ }
+    ensures { λ r. ⌜ Wrote (before out) at (inclusionsText (before inclusions)) r (after out) ⌝ }
 {
     let a = put_line(b"inclusions=", inclusions.len() / 2, at, out);
     put_pairs(inclusions, a, out)
@@ -60,7 +61,7 @@ fn put_inclusions(inclusions: &[u16], at: usize, out: &mut [u8]) -> usize
 
 pub fn put_card(concepts: &[u16], inclusions: &[u16], out: &mut [u8]) -> usize
     requires { ⌜ 0 + length (cardText (now concepts) (now inclusions)) ≤ length (now out) ⌝ }
-    ensures { λ r. ⌜ Wrote (now (out .entry)) 0 (cardText (now (concepts .entry)) (now (inclusions .entry))) r (now (out .exit)) ⌝ }
+    ensures { λ r. ⌜ Wrote (before out) 0 (cardText (before concepts) (before inclusions)) r (after out) ⌝ }
 {
     let a = put_line(b"blanks=", 0, 0, out);
     let b = put_entries(concepts, a, out);

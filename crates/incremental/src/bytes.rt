@@ -5,11 +5,12 @@ ghost use mathlib.Core.Path.{_≡_};
 ghost use Prim.Native.Nat.{_+_, _*_, _<_, _≤_};
 ghost use lib.ListN.{length};
 ghost use Rattle.incremental.specs.Inner.Bytes.{WordStored, RowStored, Stored};
+ghost use Rattle.subsumption.specs.Lent.{before, after};
 
 // Adds a word's bits to eight bytes.
 fn add_word(word: u64, at: usize, table: &mut [u8])
     requires { ⌜ at + 8 ≤ length (now table) ⌝ }
-    ensures { λ _. ⌜ WordStored word at (now (table .entry)) (now (table .exit)) ⌝ }
+    ensures { λ _. ⌜ WordStored word at (before table) (after table) ⌝ }
 {
     let mut m = 0;
     while m < 8 {
@@ -22,7 +23,7 @@ fn add_word(word: u64, at: usize, table: &mut [u8])
 // The same, and most often there is nothing to add.
 fn store_word(word: u64, at: usize, table: &mut [u8])
     requires { ⌜ at + 8 ≤ length (now table) ⌝ }
-    ensures { λ _. ⌜ WordStored word at (now (table .entry)) (now (table .exit)) ⌝ }
+    ensures { λ _. ⌜ WordStored word at (before table) (after table) ⌝ }
 {
     let old = word_at(table, at);
     if old | word == old {
@@ -34,7 +35,7 @@ fn store_word(word: u64, at: usize, table: &mut [u8])
 fn store_row(square: &[u64], i: usize, table: &mut [u8])
     requires { ⌜ length (now square) ≡ 1152 ⌝ }
     requires { ⌜ (i < 192) × (i * 24 + 24 ≤ length (now table)) ⌝ }
-    ensures { λ _. ⌜ RowStored (now (square .entry)) i (now (table .entry)) (now (table .exit)) ⌝ }
+    ensures { λ _. ⌜ RowStored (before square) i (before table) (after table) ⌝ }
 {
     let at = i * ROW_BYTES;
     store_word(square[i * 3], at, table);
@@ -46,7 +47,7 @@ fn store_row(square: &[u64], i: usize, table: &mut [u8])
 pub fn store(square: &[u64], count: usize, table: &mut [u8])
     requires { ⌜ length (now square) ≡ 1152 ⌝ }
     requires { ⌜ (count ≤ 192) × (count * 24 ≤ length (now table)) ⌝ }
-    ensures { λ _. ⌜ Stored (now (square .entry)) count (now (table .entry)) (now (table .exit)) ⌝ }
+    ensures { λ _. ⌜ Stored (before square) count (before table) (after table) ⌝ }
 {
     let mut i = 0;
     while i < count {

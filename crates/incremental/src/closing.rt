@@ -14,6 +14,7 @@ use subsumption::limits::WORDS;
 ghost use mathlib.Core.Path.{_≡_};
 ghost use Prim.Native.Nat.{_≤_};
 ghost use lib.ListN.{length};
+ghost use Rattle.subsumption.specs.Lent.{before, after};
 ghost use Rattle.subsumption.specs.Tables.{countOf, pairsOf};
 ghost use Rattle.subsumption.specs.Roles.{wider};
 ghost use Rattle.subsumption.specs.Inner.Roles.{inSet, LowRoles};
@@ -51,7 +52,7 @@ fn round(
     requires { ⌜ length (now into) ≡ 200 ⌝ }
     requires { ⌜ Existentials (now concepts) (now outer) (now inners) (now roles) (countOf (now concepts)) ⌝ }
     requires { ⌜ Square (now square) ⌝ }
-    ensures { λ r. ⌜ RoundPass (now (concepts .entry)) (now (inclusions .entry)) (inSet (now (into .entry))) (chooseFrom (now (atoms .entry)) (now (choices .entry))) (now (square .entry)) (now (square .exit)) r ⌝ }
+    ensures { λ r. ⌜ RoundPass (before concepts) (before inclusions) (inSet (before into)) (chooseFrom (before atoms) (before choices)) (before square) (after square) r ⌝ }
 {
     let a = close_rows(
         concepts,
@@ -97,7 +98,7 @@ fn rounds(
     requires { ⌜ length (now into) ≡ 200 ⌝ }
     requires { ⌜ Existentials (now concepts) (now outer) (now inners) (now roles) (countOf (now concepts)) ⌝ }
     requires { ⌜ Square (now square) ⌝ }
-    ensures { λ _. ⌜ Rounded (now (concepts .entry)) (now (inclusions .entry)) (inSet (now (into .entry))) (chooseFrom (now (atoms .entry)) (now (choices .entry))) (now (square .entry)) (now (square .exit)) ⌝ }
+    ensures { λ _. ⌜ Rounded (before concepts) (before inclusions) (inSet (before into)) (chooseFrom (before atoms) (before choices)) (before square) (after square) ⌝ }
 {
     let mut order = [0u16; CONCEPTS];
     note_order(square, concepts.len() / 3, &mut order);
@@ -133,7 +134,7 @@ pub fn close(
     requires { ⌜ pairsOf (now inclusions) ≤ 96 ⌝ }
     requires { ⌜ LowRoles (now roles) ⌝ }
     requires { ⌜ Square (now square) ⌝ }
-    ensures { λ _. ⌜ Closed (now (concepts .entry)) (now (inclusions .entry)) (wider (now (roles .entry))) (chooseFrom (now (atoms .entry)) (now (choices .entry))) (now (square .entry)) (now (square .exit)) ⌝ }
+    ensures { λ _. ⌜ Closed (before concepts) (before inclusions) (wider (before roles)) (chooseFrom (before atoms) (before choices)) (before square) (after square) ⌝ }
 {
     start(concepts, square);
     let mut chain = [NO_PAIR; CHAIN];

@@ -10,6 +10,7 @@ ghost use mathlib.Core.Path.{_≡_};
 ghost use mathlib.Core.Bool.{true};
 ghost use Prim.Native.Nat.{ℕ, _+_, _*_, _<_, _≤_};
 ghost use lib.ListN.{length, replicate};
+ghost use Rattle.subsumption.specs.Lent.{before, after};
 ghost use Rattle.subsumption.specs.Tables.{countOf};
 ghost use Rattle.square.specs.Inner.Square.{inRow, Square};
 ghost use Rattle.incremental.specs.Inner.Lines.{IncludeAt};
@@ -21,7 +22,7 @@ const NO_PAIR: u16 = 96;
 pub fn note_chain(inclusions: &[u16], chain: &mut [u16])
     requires { ⌜ Pairs 192 (now inclusions) ⌝ }
     requires { ⌜ now chain ≡ replicate 288 96 ⌝ }
-    ensures { λ _. ⌜ Chain (now (inclusions .entry)) (now (chain .exit)) ⌝ }
+    ensures { λ _. ⌜ Chain (before inclusions) (after chain) ⌝ }
 {
     let mut m = inclusions.len() / 2;
     while m > 0 {
@@ -36,7 +37,7 @@ pub fn note_chain(inclusions: &[u16], chain: &mut [u16])
 pub fn note_idle(inclusions: &[u16], chain: &[u16], idle: &mut [u64])
     requires { ⌜ Chain (now inclusions) (now chain) ⌝ }
     requires { ⌜ now idle ≡ replicate 3 0 ⌝ }
-    ensures { λ _. ⌜ Idle (now (inclusions .entry)) (now (idle .exit)) ⌝ }
+    ensures { λ _. ⌜ Idle (before inclusions) (after idle) ⌝ }
 {
     let pairs = inclusions.len() / 2;
     let mut l: usize = 0;
@@ -56,7 +57,7 @@ fn cover(square: &[u64], done: &[u64], covered: &mut [u64], k: usize, i: usize)
     requires { ⌜ length (now done) ≡ 3 ⌝ }
     requires { ⌜ length (now covered) ≡ 3 ⌝ }
     requires { ⌜ (k < 192) × (i < 192) ⌝ }
-    ensures { λ _. ⌜ Covering (now (square .entry)) (now (done .entry)) k i (now (covered .entry)) (now (covered .exit)) ⌝ }
+    ensures { λ _. ⌜ Covering (before square) (before done) k i (before covered) (after covered) ⌝ }
 {
     if !has(done, 0, k) {
         return;
@@ -78,7 +79,7 @@ fn next_open(square: &[u64], covered: &[u64], i: usize, from: usize) -> usize
     requires { ⌜ length (now square) ≡ 1152 ⌝ }
     requires { ⌜ length (now covered) ≡ 3 ⌝ }
     requires { ⌜ (i < 192) × (from ≤ 192) ⌝ }
-    ensures { λ r. ⌜ NextOpen (now (square .entry)) (now (covered .entry)) i from r ⌝ }
+    ensures { λ r. ⌜ NextOpen (before square) (before covered) i from r ⌝ }
 {
     let mut k = from / 64;
     let mut low = from % 64;
@@ -111,8 +112,8 @@ fn include_left(
     requires { ⌜ length (now covered) ≡ 3 ⌝ }
     requires { ⌜ (i < count) × (l < 192) ⌝ }
     requires { ⌜ inRow (now square) i l ≡ true ⌝ }
-    ensures { λ r. ⌜ IncludePass count (now (inclusions .entry)) (LeftQuiet count (now (inclusions .entry)) (now (done .entry)) i l (now (covered .entry)) (now (covered .exit))) (now (square .entry)) (now (square .exit)) r ⌝ }
-    ensures { λ _. ⌜ length (now (covered .exit)) ≡ 3 ⌝ }
+    ensures { λ r. ⌜ IncludePass count (before inclusions) (LeftQuiet count (before inclusions) (before done) i l (before covered) (after covered)) (before square) (after square) r ⌝ }
+    ensures { λ _. ⌜ length (after covered) ≡ 3 ⌝ }
 {
     let pairs = inclusions.len() / 2;
     let mut changed = false;
@@ -145,8 +146,8 @@ fn scan_lefts(
     requires { ⌜ length (now done) ≡ 3 ⌝ }
     requires { ⌜ length (now covered) ≡ 3 ⌝ }
     requires { ⌜ (i < count) × (from ≤ 192) × (to ≤ 192) ⌝ }
-    ensures { λ r. ⌜ IncludePass count (now (inclusions .entry)) (ScanQuiet count (now (inclusions .entry)) (now (done .entry)) i from to (now (covered .entry)) (now (covered .exit))) (now (square .entry)) (now (square .exit)) r ⌝ }
-    ensures { λ _. ⌜ length (now (covered .exit)) ≡ 3 ⌝ }
+    ensures { λ r. ⌜ IncludePass count (before inclusions) (ScanQuiet count (before inclusions) (before done) i from to (before covered) (after covered)) (before square) (after square) r ⌝ }
+    ensures { λ _. ⌜ length (after covered) ≡ 3 ⌝ }
 {
     let mut changed = false;
     let mut l = next_open(square, covered, i, from);
@@ -179,7 +180,7 @@ pub fn include_row(
     requires { ⌜ Square (now square) ⌝ }
     requires { ⌜ length (now done) ≡ 3 ⌝ }
     requires { ⌜ (i < count) × (first < count) × (second < count) × (third < count) ⌝ }
-    ensures { λ r. ⌜ IncludePass count (now (inclusions .entry)) (λ s. DoneRows count (now (inclusions .entry)) s (now (done .entry)) → IncludeAt count (now (inclusions .entry)) (inRow s) i) (now (square .entry)) (now (square .exit)) r ⌝ }
+    ensures { λ r. ⌜ IncludePass count (before inclusions) (λ s. DoneRows count (before inclusions) s (before done) → IncludeAt count (before inclusions) (inRow s) i) (before square) (after square) r ⌝ }
 {
     let mut covered = [idle[0], idle[1], idle[2]];
     cover(square, done, &mut covered, first, i);
@@ -230,7 +231,7 @@ pub fn proposed(order: &[u16], count: usize, n: usize) -> usize
 pub fn member(concepts: &[u16], i: usize, which: usize) -> usize
     requires { ⌜ i < countOf (now concepts) ⌝ }
     requires { ⌜ which < 3 ⌝ }
-    ensures { λ r. ⌜ r < countOf (now (concepts .entry)) ⌝ }
+    ensures { λ r. ⌜ r < countOf (before concepts) ⌝ }
 {
     let at = i * 3;
     if concepts[at] != 3 {

@@ -7,6 +7,7 @@ use square::helpers::insert;
 ghost use mathlib.Core.Path.{_≡_};
 ghost use Prim.Native.Nat.{_+_, _*_, _<_, _≤_};
 ghost use lib.ListN.{length, replicate};
+ghost use Rattle.subsumption.specs.Lent.{before, after};
 ghost use Rattle.subsumption.specs.Tables.{countOf};
 ghost use Rattle.subsumption.specs.Inner.Links.{Inner};
 ghost use Rattle.subsumption.specs.Inner.Roles.{inSet};
@@ -23,7 +24,7 @@ pub fn note_existentials(concepts: &[u16], outer: &mut [u64], inners: &mut [u64]
     requires { ⌜ now outer ≡ replicate 576 0 ⌝ }
     requires { ⌜ now inners ≡ replicate 3 0 ⌝ }
     requires { ⌜ now roles ≡ replicate 384 0 ⌝ }
-    ensures { λ _. ⌜ Existentials (now (concepts .entry)) (now (outer .exit)) (now (inners .exit)) (now (roles .exit)) (countOf (now (concepts .entry))) ⌝ }
+    ensures { λ _. ⌜ Existentials (before concepts) (after outer) (after inners) (after roles) (countOf (before concepts)) ⌝ }
 {
     let count = concepts.len() / 3;
     let mut e: usize = 0;
@@ -52,7 +53,7 @@ struct Words {
 // The set with all lines, from line `from` on, that the word picks.
 fn join(sets: &[u64], from: usize, word: u64, set: Words) -> Words
     requires { ⌜ from * 3 + 192 ≤ length (now sets) ⌝ }
-    ensures { λ r. ⌜ Joins (now (sets .entry)) from word (inThree (set .first) (set .second) (set .third)) (inThree (r .first) (r .second) (r .third)) ⌝ }
+    ensures { λ r. ⌜ Joins (before sets) from word (inThree (set .first) (set .second) (set .third)) (inThree (r .first) (r .second) (r .third)) ⌝ }
 {
     let mut first = set.first;
     let mut second = set.second;
@@ -77,7 +78,7 @@ fn of_role(into: &[u64], roles: &[u64], role: usize) -> Words
     requires { ⌜ length (now into) ≡ 200 ⌝ }
     requires { ⌜ length (now roles) ≡ 384 ⌝ }
     requires { ⌜ role < 100 ⌝ }
-    ensures { λ r. ⌜ ByRole (now (into .entry)) (now (roles .entry)) role (inThree (r .first) (r .second) (r .third)) ⌝ }
+    ensures { λ r. ⌜ ByRole (before into) (before roles) role (inThree (r .first) (r .second) (r .third)) ⌝ }
 {
     let none = Words {
         first: 0,
@@ -96,7 +97,7 @@ fn over(square: &[u64], outer: &[u64], inners: &[u64], inner: usize) -> Words
     requires { ⌜ length (now outer) ≡ 576 ⌝ }
     requires { ⌜ length (now inners) ≡ 3 ⌝ }
     requires { ⌜ inner < 192 ⌝ }
-    ensures { λ r. ⌜ ByInner (now (square .entry)) (now (outer .entry)) (now (inners .entry)) inner (inThree (r .first) (r .second) (r .third)) ⌝ }
+    ensures { λ r. ⌜ ByInner (before square) (before outer) (before inners) inner (inThree (r .first) (r .second) (r .third)) ⌝ }
 {
     let none = Words {
         first: 0,
@@ -127,7 +128,7 @@ pub fn link_to(
     requires { ⌜ length (now into) ≡ 200 ⌝ }
     requires { ⌜ Square (now square) ⌝ }
     requires { ⌜ f < countOf (now concepts) ⌝ }
-    ensures { λ r. ⌜ LinkPass (now (concepts .entry)) (inSet (now (into .entry))) f (now (square .entry)) (now (square .exit)) r ⌝ }
+    ensures { λ r. ⌜ LinkPass (before concepts) (inSet (before into)) f (before square) (after square) r ⌝ }
 {
     let at = f * 3;
     if concepts[at] != 2 {

@@ -5,6 +5,7 @@ ghost use mathlib.Core.Path.{_≡_};
 ghost use Prim.Native.Nat.{_+_, _<_, _≤_};
 ghost use mathlib.Core.Bool.{true};
 ghost use lib.ListN.{length};
+ghost use Rattle.subsumption.specs.Lent.{before, after};
 ghost use Rattle.subsumption.specs.Inner.Columns.{Absorbs};
 ghost use Rattle.square.specs.Inner.Square.{inRow, Square};
 ghost use Rattle.incremental.specs.Inner.Marking.{inHalf, Base, Adds, inWord, inThree, Holding};
@@ -14,7 +15,7 @@ pub const ROWS: usize = 0;
 // The one place that changes a word.
 fn absorb(square: &mut [u64], at: usize, add: u64) -> bool
     requires { ⌜ at < length (now square) ⌝ }
-    ensures { λ r. ⌜ Absorbs (now (square .entry)) (now (square .exit)) at add r ⌝ }
+    ensures { λ r. ⌜ Absorbs (before square) (after square) at add r ⌝ }
 {
     let old = square[at];
     let new = old | add;
@@ -27,7 +28,7 @@ pub fn mark(square: &mut [u64], base: usize, x: usize, y: usize) -> bool
     requires { ⌜ Square (now square) ⌝ }
     requires { ⌜ Base base ⌝ }
     requires { ⌜ (x < 192) × (y < 192) ⌝ }
-    ensures { λ r. ⌜ Adds (inHalf base) (now (square .entry)) (now (square .exit)) (λ p q. (p ≡ x) × (q ≡ y)) r ⌝ }
+    ensures { λ r. ⌜ Adds (inHalf base) (before square) (after square) (λ p q. (p ≡ x) × (q ≡ y)) r ⌝ }
 {
     let a = absorb(square, base + x * 3 + y / 64, 1 << (y % 64));
     let other = COLUMNS - base;
@@ -40,7 +41,7 @@ fn take_word(square: &mut [u64], base: usize, x: usize, k: usize, add: u64) -> b
     requires { ⌜ Square (now square) ⌝ }
     requires { ⌜ Base base ⌝ }
     requires { ⌜ (x < 192) × (k < 3) ⌝ }
-    ensures { λ r. ⌜ Adds (inHalf base) (now (square .entry)) (now (square .exit)) (λ p q. (p ≡ x) × inWord k add q) r ⌝ }
+    ensures { λ r. ⌜ Adds (inHalf base) (before square) (after square) (λ p q. (p ≡ x) × inWord k add q) r ⌝ }
 {
     let old = square[base + x * 3 + k];
     let mut rest = (old | add) ^ old;
@@ -57,7 +58,7 @@ fn take_word(square: &mut [u64], base: usize, x: usize, k: usize, add: u64) -> b
 // Whether the line that starts at that word has all of these bits. A no says nothing.
 pub fn holds(square: &[u64], at: usize, first: u64, second: u64, third: u64) -> bool
     requires { ⌜ at + 3 ≤ length (now square) ⌝ }
-    ensures { λ r. ⌜ Holding (now (square .entry)) at first second third r ⌝ }
+    ensures { λ r. ⌜ Holding (before square) at first second third r ⌝ }
 {
     if square[at] | first != square[at] {
         return false;
@@ -73,7 +74,7 @@ pub fn take(square: &mut [u64], base: usize, x: usize, first: u64, second: u64, 
     requires { ⌜ Square (now square) ⌝ }
     requires { ⌜ Base base ⌝ }
     requires { ⌜ x < 192 ⌝ }
-    ensures { λ r. ⌜ Adds (inHalf base) (now (square .entry)) (now (square .exit)) (λ p q. (p ≡ x) × inThree first second third q) r ⌝ }
+    ensures { λ r. ⌜ Adds (inHalf base) (before square) (after square) (λ p q. (p ≡ x) × inThree first second third q) r ⌝ }
 {
     if holds(square, base + x * 3, first, second, third) {
         return false;
@@ -88,7 +89,7 @@ pub fn take(square: &mut [u64], base: usize, x: usize, first: u64, second: u64, 
 pub fn flow(square: &mut [u64], from: usize, to: usize) -> bool
     requires { ⌜ Square (now square) ⌝ }
     requires { ⌜ (from < 192) × (to < 192) ⌝ }
-    ensures { λ r. ⌜ Adds inRow (now (square .entry)) (now (square .exit)) (λ i j. (i ≡ to) × (inRow (now (square .entry)) from j ≡ true)) r ⌝ }
+    ensures { λ r. ⌜ Adds inRow (before square) (after square) (λ i j. (i ≡ to) × (inRow (before square) from j ≡ true)) r ⌝ }
 {
     let at = from * 3;
     let first = square[at];
@@ -101,8 +102,8 @@ pub fn flow(square: &mut [u64], from: usize, to: usize) -> bool
 pub fn meet(square: &mut [u64], left: usize, right: usize, to: usize) -> bool
     requires { ⌜ Square (now square) ⌝ }
     requires { ⌜ (left < 192) × (right < 192) × (to < 192) ⌝ }
-    ensures { λ r. ⌜ Adds inRow (now (square .entry)) (now (square .exit))
-        (λ i j. (j ≡ to) × (inRow (now (square .entry)) i left ≡ true) × (inRow (now (square .entry)) i right ≡ true)) r ⌝ }
+    ensures { λ r. ⌜ Adds inRow (before square) (after square)
+        (λ i j. (j ≡ to) × (inRow (before square) i left ≡ true) × (inRow (before square) i right ≡ true)) r ⌝ }
 {
     let a = COLUMNS + left * 3;
     let b = COLUMNS + right * 3;

@@ -8,6 +8,7 @@ use square::helpers::has;
 ghost use mathlib.Core.Path.{_≡_};
 ghost use Prim.Native.Nat.{_<_};
 ghost use lib.ListN.{length};
+ghost use Rattle.subsumption.specs.Lent.{before, after};
 ghost use Rattle.subsumption.specs.Tables.{countOf};
 ghost use Rattle.subsumption.specs.Inner.Roles.{inSet};
 ghost use Rattle.subsumption.specs.Inner.Links.{Inner};
@@ -23,7 +24,7 @@ fn include_column(inclusions: &[u16], count: usize, square: &mut [u64], j: usize
     requires { ⌜ Pairs count (now inclusions) ⌝ }
     requires { ⌜ Square (now square) ⌝ }
     requires { ⌜ j < count ⌝ }
-    ensures { λ r. ⌜ ColumnGains count (now (inclusions .entry)) (now (square .entry)) (now (square .exit)) r ⌝ }
+    ensures { λ r. ⌜ ColumnGains count (before inclusions) (before square) (after square) r ⌝ }
 {
     let pairs = inclusions.len() / 2;
     let mut changed = false;
@@ -61,7 +62,7 @@ fn rise_column(
     requires { ⌜ Existentials (now concepts) (now outer) (now inners) (now roles) (countOf (now concepts)) ⌝ }
     requires { ⌜ Square (now square) ⌝ }
     requires { ⌜ j < countOf (now concepts) ⌝ }
-    ensures { λ r. ⌜ RisenPass (now (concepts .entry)) (now (inclusions .entry)) (inSet (now (into .entry))) (chooseFrom (now (atoms .entry)) (now (choices .entry))) j (now (square .entry)) (now (square .exit)) r ⌝ }
+    ensures { λ r. ⌜ RisenPass (before concepts) (before inclusions) (inSet (before into)) (chooseFrom (before atoms) (before choices)) j (before square) (after square) r ⌝ }
 {
     let a = settle_column(concepts, atoms, choices, square, j);
     let b = link_to(concepts, into, outer, inners, roles, square, j);
@@ -89,7 +90,7 @@ pub fn rise(
     requires { ⌜ length (now into) ≡ 200 ⌝ }
     requires { ⌜ Existentials (now concepts) (now outer) (now inners) (now roles) (countOf (now concepts)) ⌝ }
     requires { ⌜ Square (now square) ⌝ }
-    ensures { λ r. ⌜ AllRisen (now (concepts .entry)) (now (inclusions .entry)) (inSet (now (into .entry))) (chooseFrom (now (atoms .entry)) (now (choices .entry))) (now (square .entry)) (now (square .exit)) r ⌝ }
+    ensures { λ r. ⌜ AllRisen (before concepts) (before inclusions) (inSet (before into)) (chooseFrom (before atoms) (before choices)) (before square) (after square) r ⌝ }
 {
     let count = concepts.len() / 3;
     let mut changed = false;

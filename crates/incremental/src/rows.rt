@@ -8,6 +8,7 @@ use square::helpers::has;
 use square::helpers::insert;
 ghost use mathlib.Core.Path.{_≡_};
 ghost use lib.ListN.{length};
+ghost use Rattle.subsumption.specs.Lent.{before, after};
 ghost use Rattle.subsumption.specs.Tables.{countOf};
 ghost use Rattle.subsumption.specs.Inner.Settling.{Settleable, chooseFrom};
 ghost use Rattle.square.specs.Inner.Square.{Square};
@@ -30,7 +31,7 @@ pub fn close_rows(
     requires { ⌜ Idle (now inclusions) (now idle) ⌝ }
     requires { ⌜ length (now order) ≡ 192 ⌝ }
     requires { ⌜ Square (now square) ⌝ }
-    ensures { λ r. ⌜ RowsPass (now (concepts .entry)) (now (inclusions .entry)) (chooseFrom (now (atoms .entry)) (now (choices .entry))) (now (square .entry)) (now (square .exit)) r ⌝ }
+    ensures { λ r. ⌜ RowsPass (before concepts) (before inclusions) (chooseFrom (before atoms) (before choices)) (before square) (after square) r ⌝ }
 {
     let count = concepts.len() / 3;
     let mut done = [0u64; 3];

@@ -8,6 +8,7 @@ ghost use Prim.Native.Nat.{ℕ, _<_};
 ghost use mathlib.Core.Bool.{true};
 ghost use mathlib.Core.List.{List·Memᴰ};
 ghost use lib.ListN.{length};
+ghost use Rattle.subsumption.specs.Lent.{before, after};
 ghost use Rattle.subsumption.specs.Tables.{countOf};
 ghost use Rattle.subsumption.specs.Atoms.{pick};
 ghost use Rattle.subsumption.specs.Inner.Columns.{Known, Common};
@@ -23,7 +24,7 @@ fn spread(atoms: &[u16], choice: u64, square: &mut [u64], to: usize) -> bool
     requires { ⌜ Square (now square) ⌝ }
     requires { ⌜ Known (now atoms) ⌝ }
     requires { ⌜ to < 192 ⌝ }
-    ensures { λ r. ⌜ SpreadPass (now (atoms .entry)) choice to (now (square .entry)) (now (square .exit)) r ⌝ }
+    ensures { λ r. ⌜ SpreadPass (before atoms) choice to (before square) (after square) r ⌝ }
 {
     let mut changed = false;
     let mut q = 0;
@@ -51,9 +52,9 @@ struct Words {
 fn common(atoms: &[u16], choice: u64, columns: &[u64]) -> Words
     requires { ⌜ length (now columns) ≡ 576 ⌝ }
     requires { ⌜ Known (now atoms) ⌝ }
-    ensures { λ r. ⌜ Common (length (now (atoms .entry))) (now (atoms .entry)) choice (now (columns .entry)) 0 (r .first) ⌝ }
-    ensures { λ r. ⌜ Common (length (now (atoms .entry))) (now (atoms .entry)) choice (now (columns .entry)) 1 (r .second) ⌝ }
-    ensures { λ r. ⌜ Common (length (now (atoms .entry))) (now (atoms .entry)) choice (now (columns .entry)) 2 (r .third) ⌝ }
+    ensures { λ r. ⌜ Common (length (before atoms)) (before atoms) choice (before columns) 0 (r .first) ⌝ }
+    ensures { λ r. ⌜ Common (length (before atoms)) (before atoms) choice (before columns) 1 (r .second) ⌝ }
+    ensures { λ r. ⌜ Common (length (before atoms)) (before atoms) choice (before columns) 2 (r .third) ⌝ }
 {
     let mut first = ALL;
     let mut second = ALL;
@@ -82,8 +83,8 @@ fn gather(atoms: &[u16], choice: u64, square: &mut [u64], to: usize) -> bool
     requires { ⌜ Square (now square) ⌝ }
     requires { ⌜ Known (now atoms) ⌝ }
     requires { ⌜ to < 192 ⌝ }
-    ensures { λ r. ⌜ Adds inRow (now (square .entry)) (now (square .exit))
-        (λ i j. (j ≡ to) × ((p : ℕ) → List·Memᴰ p (pick (now (atoms .entry)) choice) → inRow (now (square .entry)) i p ≡ true)) r ⌝ }
+    ensures { λ r. ⌜ Adds inRow (before square) (after square)
+        (λ i j. (j ≡ to) × ((p : ℕ) → List·Memᴰ p (pick (before atoms) choice) → inRow (before square) i p ≡ true)) r ⌝ }
 {
     let words = common(atoms, choice, &square[COLUMNS..]);
     let first = words.first;
@@ -103,7 +104,7 @@ pub fn settle_row(
     requires { ⌜ Settleable (now concepts) (now atoms) (now choices) ⌝ }
     requires { ⌜ Square (now square) ⌝ }
     requires { ⌜ i < countOf (now concepts) ⌝ }
-    ensures { λ r. ⌜ InnerPass (now (concepts .entry)) (chooseFrom (now (atoms .entry)) (now (choices .entry))) i (now (square .entry)) (now (square .exit)) r ⌝ }
+    ensures { λ r. ⌜ InnerPass (before concepts) (chooseFrom (before atoms) (before choices)) i (before square) (after square) r ⌝ }
 {
     let at = i * 3;
     let kind = concepts[at];
@@ -132,7 +133,7 @@ pub fn settle_column(
     requires { ⌜ Settleable (now concepts) (now atoms) (now choices) ⌝ }
     requires { ⌜ Square (now square) ⌝ }
     requires { ⌜ j < countOf (now concepts) ⌝ }
-    ensures { λ r. ⌜ MeetPass (now (concepts .entry)) (chooseFrom (now (atoms .entry)) (now (choices .entry))) j (now (square .entry)) (now (square .exit)) r ⌝ }
+    ensures { λ r. ⌜ MeetPass (before concepts) (chooseFrom (before atoms) (before choices)) j (before square) (after square) r ⌝ }
 {
     let at = j * 3;
     let kind = concepts[at];

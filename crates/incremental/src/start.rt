@@ -7,6 +7,7 @@ use square::helpers::insert;
 ghost use mathlib.Core.Path.{_≡_};
 ghost use Prim.Native.Nat.{_<_};
 ghost use lib.ListN.{replicate};
+ghost use Rattle.subsumption.specs.Lent.{before, after};
 ghost use Rattle.subsumption.specs.Tables.{countOf};
 ghost use Rattle.subsumption.specs.Inner.Names.{Nameable};
 ghost use Rattle.square.specs.Inner.Square.{Square};
@@ -20,7 +21,7 @@ const NAME_WORDS: usize = 3000;
 fn note_names(concepts: &[u16], names: &mut [u64])
     requires { ⌜ Nameable (now concepts) ⌝ }
     requires { ⌜ now names ≡ replicate 3000 0 ⌝ }
-    ensures { λ _. ⌜ NamesTo (now (concepts .entry)) (now (names .exit)) (countOf (now (concepts .entry))) ⌝ }
+    ensures { λ _. ⌜ NamesTo (before concepts) (after names) (countOf (before concepts)) ⌝ }
 {
     let count = concepts.len() / 3;
     let mut i: usize = 0;
@@ -41,7 +42,7 @@ fn start_row(concepts: &[u16], names: &[u64], square: &mut [u64], i: usize)
     requires { ⌜ NamesTo (now concepts) (now names) (countOf (now concepts)) ⌝ }
     requires { ⌜ Square (now square) ⌝ }
     requires { ⌜ i < countOf (now concepts) ⌝ }
-    ensures { λ _. ⌜ BegunAt (now (concepts .entry)) (now (square .entry)) (now (square .exit)) i ⌝ }
+    ensures { λ _. ⌜ BegunAt (before concepts) (before square) (after square) i ⌝ }
 {
     mark(square, ROWS, i, i);
     let kind = concepts[i * 3];
@@ -69,7 +70,7 @@ fn start_rows(concepts: &[u16], names: &[u64], square: &mut [u64])
     requires { ⌜ Nameable (now concepts) ⌝ }
     requires { ⌜ NamesTo (now concepts) (now names) (countOf (now concepts)) ⌝ }
     requires { ⌜ Square (now square) ⌝ }
-    ensures { λ _. ⌜ Begun (now (concepts .entry)) (now (square .entry)) (now (square .exit)) ⌝ }
+    ensures { λ _. ⌜ Begun (before concepts) (before square) (after square) ⌝ }
 {
     let count = concepts.len() / 3;
     let mut i = 0;
@@ -82,7 +83,7 @@ fn start_rows(concepts: &[u16], names: &[u64], square: &mut [u64])
 pub fn start(concepts: &[u16], square: &mut [u64])
     requires { ⌜ Nameable (now concepts) ⌝ }
     requires { ⌜ Square (now square) ⌝ }
-    ensures { λ _. ⌜ Begun (now (concepts .entry)) (now (square .entry)) (now (square .exit)) ⌝ }
+    ensures { λ _. ⌜ Begun (before concepts) (before square) (after square) ⌝ }
 {
     let mut names = [0u64; NAME_WORDS];
     note_names(concepts, &mut names);

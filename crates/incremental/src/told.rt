@@ -4,10 +4,11 @@ use subsumption::refusal::Refusal;
 ghost use mathlib.Core.Path.{_≡_};
 ghost use lib.ListN.{replicate};
 ghost use Rattle.incremental.specs.Inner.Told.{badPair, toldFaultIn, PlaceOf, Readable, ToldChoices};
+ghost use Rattle.subsumption.specs.Lent.{before, after};
 
 // The place of the id among the atoms; their number if it is none.
 fn place_of(atoms: &[u16], id: u16) -> usize
-    ensures { λ r. ⌜ PlaceOf (now (atoms .entry)) id r ⌝ }
+    ensures { λ r. ⌜ PlaceOf (before atoms) id r ⌝ }
 {
     let mut q = 0;
     while q < atoms.len() {
@@ -20,7 +21,7 @@ fn place_of(atoms: &[u16], id: u16) -> usize
 }
 
 fn is_bad(atoms: &[u16], variables: u16, variable: u16, id: u16) -> bool
-    ensures { λ r. ⌜ r ≡ badPair (now (atoms .entry)) variables variable id ⌝ }
+    ensures { λ r. ⌜ r ≡ badPair (before atoms) variables variable id ⌝ }
 {
     if variables <= variable {
         return true;
@@ -31,7 +32,7 @@ fn is_bad(atoms: &[u16], variables: u16, variable: u16, id: u16) -> bool
 
 // Check 9: a ragged list first, then the first bad pair.
 pub fn check_told(atoms: &[u16], variables: u16, told: &[u16]) -> Outcome
-    ensures { λ r. ⌜ r ≡ toldFaultIn (now (atoms .entry)) variables (now (told .entry)) ⌝ }
+    ensures { λ r. ⌜ r ≡ toldFaultIn (before atoms) variables (before told) ⌝ }
 {
     if told.len() % 2 != 0 {
         return Outcome::Refused(Refusal::BadAssignment(0));
@@ -53,7 +54,7 @@ pub fn check_told(atoms: &[u16], variables: u16, told: &[u16]) -> Outcome
 pub fn read_told(atoms: &[u16], told: &[u16], choices: &mut [u64])
     requires { ⌜ Readable (now atoms) (now told) ⌝ }
     requires { ⌜ now choices ≡ replicate 8 0 ⌝ }
-    ensures { λ _. ⌜ ToldChoices (now (atoms .entry)) (now (told .entry)) (now (choices .exit)) ⌝ }
+    ensures { λ _. ⌜ ToldChoices (before atoms) (before told) (after choices) ⌝ }
 {
     let pairs = told.len() / 2;
     let mut m: usize = 0;

@@ -11,7 +11,7 @@ use subsumption::limits::ROW_BYTES;
 use subsumption::list_atoms;
 use subsumption::refusal::Outcome;
 use subsumption::refusal::Refusal;
-ghost use Rattle.subsumption.specs.Tables.{tables};
+ghost use Rattle.subsumption.specs.Lent.{lent, before, after};
 ghost use Rattle.subsumption.specs.Refusal.{replyOf};
 ghost use Rattle.subsumption.specs.Inner.Listing.{ForAccepted, Prepared};
 ghost use Rattle.incremental.specs.Update.{Updates};
@@ -29,7 +29,7 @@ fn put_update(
     table: &mut [u8],
 ) -> Outcome
     requires { ⌜ Prepared (now concepts) (now inclusions) (now roles) variables (now atoms) ⌝ }
-    ensures { λ r. ⌜ ForAccepted (now (concepts .entry)) (now (inclusions .entry)) (now (roles .entry)) variables (now (atoms .entry)) (λ t. Updates t (now (told .entry)) (now (table .entry)) (now (table .exit)) (replyOf r)) ⌝ }
+    ensures { λ r. ⌜ ForAccepted (before concepts) (before inclusions) (before roles) variables (before atoms) (λ t. Updates t (before told) (before table) (after table) (replyOf r)) ⌝ }
 {
     let pairs = check_told(atoms, variables, told);
     if let Outcome::Refused(r) = pairs {
@@ -58,7 +58,7 @@ pub fn update_table(
     told: &[u16],
     table: &mut [u8],
 ) -> Outcome
-    ensures { λ r. ⌜ Updates (tables (now (concepts .entry)) (now (inclusions .entry)) (now (questions .entry)) (now (roles .entry)) variables) (now (told .entry)) (now (table .entry)) (now (table .exit)) (replyOf r) ⌝ }
+    ensures { λ r. ⌜ Updates (lent concepts inclusions questions roles variables) (before told) (before table) (after table) (replyOf r) ⌝ }
 {
     let mut ids = [0u16; ATOMS];
     let listed = list_atoms(concepts, inclusions, questions, roles, variables, &mut ids);

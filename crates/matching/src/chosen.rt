@@ -9,7 +9,7 @@ use subsumption::refusal::code_of;
 ghost use mathlib.Core.Path.{_≡_};
 ghost use Prim.Native.Nat.{_<_, _≤_, _^_};
 ghost use lib.ListN.{length, getD};
-ghost use Rattle.subsumption.specs.Tables.{tables};
+ghost use Rattle.subsumption.specs.Lent.{lent, before, after};
 ghost use Rattle.subsumption.specs.Atoms.{pick, chosen};
 ghost use Rattle.subsumption.specs.Refusal.{replyWith, replyOf};
 ghost use Rattle.subsumption.specs.Inner.Atoms.{inFront};
@@ -33,8 +33,8 @@ fn put_picked(ids: &[u16], choice: u64, out: &mut [u16]) -> usize
     requires { ⌜ length (now ids) ≤ 64 ⌝ }
     requires { ⌜ choice < 2 ^ length (now ids) ⌝ }
     requires { ⌜ 64 ≤ length (now out) ⌝ }
-    ensures { λ r. ⌜ r ≡ length (pick (now (ids .entry)) choice) ⌝ }
-    ensures { λ r. ⌜ now (out .exit) ≡ inFront (pick (now (ids .entry)) choice) (now (out .entry)) ⌝ }
+    ensures { λ r. ⌜ r ≡ length (pick (before ids) choice) ⌝ }
+    ensures { λ r. ⌜ after out ≡ inFront (pick (before ids) choice) (before out) ⌝ }
 {
     let count = u64::count_ones(choice) as usize;
     let mut rest = choice;
@@ -57,8 +57,8 @@ fn put_known(
     out: &mut [u16],
 ) -> Chosen
     requires { ⌜ length (now ids) ≤ 64 ⌝ }
-    ensures { λ r. ⌜ chosenReply r ≡ replyWith (knownFault (length (now (ids .entry))) variables (now (assignment .entry)) variable (length (now (out .entry)))) (length (pick (now (ids .entry)) (getD (now (assignment .entry)) variable 0))) ⌝ }
-    ensures { λ r. ⌜ now (out .exit) ≡ chosenIn (knownFault (length (now (ids .entry))) variables (now (assignment .entry)) variable (length (now (out .entry)))) (pick (now (ids .entry)) (getD (now (assignment .entry)) variable 0)) (now (out .entry)) ⌝ }
+    ensures { λ r. ⌜ chosenReply r ≡ replyWith (knownFault (length (before ids)) variables (before assignment) variable (length (before out))) (length (pick (before ids) (getD (before assignment) variable 0))) ⌝ }
+    ensures { λ r. ⌜ after out ≡ chosenIn (knownFault (length (before ids)) variables (before assignment) variable (length (before out))) (pick (before ids) (getD (before assignment) variable 0)) (before out) ⌝ }
 {
     if variables <= variable {
         return Chosen::Rejected(Refusal::Malformed(0));
@@ -99,8 +99,8 @@ pub fn put_chosen(
     variable: u16,
     out: &mut [u16],
 ) -> Chosen
-    ensures { λ r. ⌜ chosenReply r ≡ replyWith (choosingFault (tables (now (concepts .entry)) (now (inclusions .entry)) (now (questions .entry)) (now (roles .entry)) variables) (now (assignment .entry)) variable (length (now (out .entry)))) (length (chosen (tables (now (concepts .entry)) (now (inclusions .entry)) (now (questions .entry)) (now (roles .entry)) variables) (now (assignment .entry)) variable)) ⌝ }
-    ensures { λ r. ⌜ now (out .exit) ≡ chosenIn (choosingFault (tables (now (concepts .entry)) (now (inclusions .entry)) (now (questions .entry)) (now (roles .entry)) variables) (now (assignment .entry)) variable (length (now (out .entry)))) (chosen (tables (now (concepts .entry)) (now (inclusions .entry)) (now (questions .entry)) (now (roles .entry)) variables) (now (assignment .entry)) variable) (now (out .entry)) ⌝ }
+    ensures { λ r. ⌜ chosenReply r ≡ replyWith (choosingFault (lent concepts inclusions questions roles variables) (before assignment) variable (length (before out))) (length (chosen (lent concepts inclusions questions roles variables) (before assignment) variable)) ⌝ }
+    ensures { λ r. ⌜ after out ≡ chosenIn (choosingFault (lent concepts inclusions questions roles variables) (before assignment) variable (length (before out))) (chosen (lent concepts inclusions questions roles variables) (before assignment) variable) (before out) ⌝ }
 {
     let mut ids = [0u16; ATOMS];
     let atoms = list_atoms(concepts, inclusions, questions, roles, variables, &mut ids);
@@ -145,9 +145,9 @@ pub fn list_chosen<'a>(
     number: &mut u16,
     place: &mut u64,
 ) -> &'a mut [u16]
-    ensures { λ r. ⌜ now r ≡ handedBack (choosingFault (tables (now (concepts .entry)) (now (inclusions .entry)) (now (questions .entry)) (now (roles .entry)) variables) (now (assignment .entry)) variable (length (now (out .entry)))) (chosen (tables (now (concepts .entry)) (now (inclusions .entry)) (now (questions .entry)) (now (roles .entry)) variables) (now (assignment .entry)) variable) (now (out .entry)) ⌝ }
-    ensures { λ r. ⌜ now (number .exit) ≡ replyOf (choosingFault (tables (now (concepts .entry)) (now (inclusions .entry)) (now (questions .entry)) (now (roles .entry)) variables) (now (assignment .entry)) variable (length (now (out .entry)))) .number ⌝ }
-    ensures { λ r. ⌜ now (place .exit) ≡ replyOf (choosingFault (tables (now (concepts .entry)) (now (inclusions .entry)) (now (questions .entry)) (now (roles .entry)) variables) (now (assignment .entry)) variable (length (now (out .entry)))) .place ⌝ }
+    ensures { λ r. ⌜ now r ≡ handedBack (choosingFault (lent concepts inclusions questions roles variables) (before assignment) variable (length (before out))) (chosen (lent concepts inclusions questions roles variables) (before assignment) variable) (before out) ⌝ }
+    ensures { λ r. ⌜ after number ≡ replyOf (choosingFault (lent concepts inclusions questions roles variables) (before assignment) variable (length (before out))) .number ⌝ }
+    ensures { λ r. ⌜ after place ≡ replyOf (choosingFault (lent concepts inclusions questions roles variables) (before assignment) variable (length (before out))) .place ⌝ }
 {
     let size = out.len();
     let answer = put_chosen(

@@ -17,9 +17,10 @@ use subsumption::refusal::Refusal;
 ghost use mathlib.Core.Path.{_≡_};
 ghost use lib.ListN.{length};
 ghost use Prim.Native.Nat.{_<_};
+ghost use Rattle.subsumption.specs.Lent.{lent, before};
 ghost use Rattle.subsumption.specs.declared.refusal.Refusal.the-variants.{BadDerivation};
 ghost use Rattle.subsumption.specs.declared.refusal.Outcome.the-variants.{Done};
-ghost use Rattle.subsumption.specs.Tables.{tables, countOf};
+ghost use Rattle.subsumption.specs.Tables.{countOf};
 ghost use Rattle.subsumption.specs.Refusal.{replyOf, refuseIf};
 ghost use Rattle.subsumption.specs.Inner.Closure.{Ready};
 ghost use Rattle.subsumption.specs.Inner.Listing.{Prepared, ForAccepted};
@@ -40,7 +41,7 @@ fn line_follows(
     requires { ⌜ length (now into) ≡ 200 ⌝ }
     requires { ⌜ MarksOf (countOf (now concepts)) (now marks) (now lines) k ⌝ }
     requires { ⌜ k < linesOf (now lines) ⌝ }
-    ensures { λ r. ⌜ LineTest (now (concepts .entry)) (now (inclusions .entry)) (now (into .entry)) (now (atoms .entry)) (now (assignment .entry)) (now (lines .entry)) k r ⌝ }
+    ensures { λ r. ⌜ LineTest (before concepts) (before inclusions) (before into) (before atoms) (before assignment) (before lines) k r ⌝ }
 {
     let count = concepts.len() / 3;
     let rule = number_at(lines, k * 4);
@@ -80,7 +81,7 @@ fn check_lines(
     requires { ⌜ Ready (now concepts) (now inclusions) (now atoms) (now assignment) ⌝ }
     requires { ⌜ length (now into) ≡ 200 ⌝ }
     requires { ⌜ MarksOf (countOf (now concepts)) (now marks) (now lines) 0 ⌝ }
-    ensures { λ r. ⌜ RulesTest (now (concepts .entry)) (now (inclusions .entry)) (now (into .entry)) (now (atoms .entry)) (now (assignment .entry)) (now (lines .entry)) r ⌝ }
+    ensures { λ r. ⌜ RulesTest (before concepts) (before inclusions) (before into) (before atoms) (before assignment) (before lines) r ⌝ }
 {
     let count = concepts.len() / 3;
     let total = lines.len() / 4;
@@ -118,7 +119,7 @@ fn check_rules(
 ) -> Outcome
     requires { ⌜ Ready (now concepts) (now inclusions) (now atoms) (now assignment) ⌝ }
     requires { ⌜ length (now into) ≡ 200 ⌝ }
-    ensures { λ r. ⌜ RulesTest (now (concepts .entry)) (now (inclusions .entry)) (now (into .entry)) (now (atoms .entry)) (now (assignment .entry)) (now (lines .entry)) r ⌝ }
+    ensures { λ r. ⌜ RulesTest (before concepts) (before inclusions) (before into) (before atoms) (before assignment) (before lines) r ⌝ }
 {
     let mut marks = [false; SQUARE];
     let count = concepts.len() / 3;
@@ -136,7 +137,7 @@ fn check_rules(
 
 // No lines, or a ragged list.
 fn check_shape(lines: &[u16]) -> Outcome
-    ensures { λ r. ⌜ r ≡ refuseIf (noLines (now (lines .entry))) (BadDerivation 0) ⌝ }
+    ensures { λ r. ⌜ r ≡ refuseIf (noLines (before lines)) (BadDerivation 0) ⌝ }
 {
     if lines.len() == 0 {
         return Outcome::Refused(Refusal::BadDerivation(0));
@@ -150,7 +151,7 @@ fn check_shape(lines: &[u16]) -> Outcome
 // The last line is the asked pair.
 fn check_last(left: u16, right: u16, lines: &[u16]) -> Outcome
     requires { ⌜ refuseIf (noLines (now lines)) (BadDerivation 0) ≡ Done ⌝ }
-    ensures { λ r. ⌜ r ≡ lastFault left right (now (lines .entry)) ⌝ }
+    ensures { λ r. ⌜ r ≡ lastFault left right (before lines) ⌝ }
 {
     let total = lines.len() / 4;
     let last = total - 1;
@@ -177,7 +178,7 @@ fn check_known(
 ) -> Outcome
     requires { ⌜ Prepared (now concepts) (now inclusions) (now roles) variables (now atoms) ⌝ }
     requires { ⌜ (left < countOf (now concepts)) × (right < countOf (now concepts)) ⌝ }
-    ensures { λ r. ⌜ ForAccepted (now (concepts .entry)) (now (inclusions .entry)) (now (roles .entry)) variables (now (atoms .entry)) (λ t. r ≡ checkingFault t (now (assignment .entry)) left right (now (lines .entry))) ⌝ }
+    ensures { λ r. ⌜ ForAccepted (before concepts) (before inclusions) (before roles) variables (before atoms) (λ t. r ≡ checkingFault t (before assignment) left right (before lines)) ⌝ }
 {
     let choices = check_assignment(assignment, variables, atoms.len());
     if let Outcome::Refused(r) = choices {
@@ -208,7 +209,7 @@ pub fn check_derivation(
     right: u16,
     lines: &[u16],
 ) -> Outcome
-    ensures { λ r. ⌜ replyOf r ≡ replyOf (checkingFault (tables (now (concepts .entry)) (now (inclusions .entry)) (now (questions .entry)) (now (roles .entry)) variables) (now (assignment .entry)) left right (now (lines .entry))) ⌝ }
+    ensures { λ r. ⌜ replyOf r ≡ replyOf (checkingFault (lent concepts inclusions questions roles variables) (before assignment) left right (before lines)) ⌝ }
 {
     let mut ids = [0u16; ATOMS];
     let listed = list_asked(

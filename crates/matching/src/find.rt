@@ -7,9 +7,9 @@ use subsumption::limits::ATOMS;
 use subsumption::list_atoms;
 use subsumption::refusal::Refusal;
 ghost use Prim.Native.Nat.{_≤_};
-ghost use Rattle.subsumption.specs.Tables.{tables};
 ghost use Rattle.matching.specs.Inner.Find.{Full};
 ghost use Rattle.matching.specs.Find.{matchReply, Finds};
+ghost use Rattle.subsumption.specs.Lent.{lent, before, after};
 
 pub enum Match {
     Filled,
@@ -34,7 +34,7 @@ pub fn find_assignment(
     variables: u16,
     out: &mut [u64],
 ) -> Match
-    ensures { λ r. ⌜ Finds (tables (now (concepts .entry)) (now (inclusions .entry)) (now (questions .entry)) (now (roles .entry)) variables) (now (out .entry)) (now (out .exit)) (matchReply r) ⌝ }
+    ensures { λ r. ⌜ Finds (lent concepts inclusions questions roles variables) (before out) (after out) (matchReply r) ⌝ }
 {
     let mut ids = [0u16; ATOMS];
     let listed = list_atoms(concepts, inclusions, questions, roles, variables, &mut ids);

@@ -22,12 +22,12 @@ use subsumption::refusal::Refusal;
 ghost use mathlib.Core.Path.{_≡_};
 ghost use Prim.Native.Nat.{_≤_};
 ghost use lib.ListN.{length};
+ghost use Rattle.subsumption.specs.Lent.{given, lent, before, after};
 ghost use Rattle.subsumption.specs.declared.refusal.Outcome.the-variants.{Done};
 ghost use mathlib.Core.Bool.{true};
-ghost use Rattle.subsumption.specs.Tables.{tables};
 ghost use Rattle.subsumption.specs.Atoms.{bit};
 ghost use Rattle.subsumption.specs.Inner.Listing.{Accepted};
-ghost use Rattle.settings.specs.Settings.{settings, settingsFault};
+ghost use Rattle.settings.specs.Settings.{givenSettings, lentSettings, settingsFault};
 ghost use Rattle.matching.specs.Inner.Within.{Counting, Asking, FoundIn, FoundAmong, FindsAmong, Copied};
 ghost use Rattle.matching.specs.Inner.Search.Problem.{Shaped};
 ghost use Rattle.matching.specs.Find.{matchReply};
@@ -46,7 +46,7 @@ pub struct Solution {
 fn search(sets: &[u64], problem: &[u16], permitted: [u64; 8]) -> Solution
     requires { ⌜ Shaped (now sets) (now problem) ⌝ }
     requires { ⌜ length permitted ≡ 8 ⌝ }
-    ensures { λ r. ⌜ FoundIn (now (sets .entry)) (now (problem .entry)) permitted (r .found) (r .choice) ⌝ }
+    ensures { λ r. ⌜ FoundIn (before sets) (before problem) permitted (r .found) (r .choice) ⌝ }
 {
     let mut store = [0u64; STORE];
     let mut scratch = [0u64; SCRATCH];
@@ -71,7 +71,7 @@ fn search(sets: &[u64], problem: &[u16], permitted: [u64; 8]) -> Solution
 // Writes the largest counts into the problem.
 pub fn put_counts(problem: &mut [u16], largest: &[u16])
     requires { ⌜ (length (now problem) ≡ 971) × (length (now largest) ≤ 8) ⌝ }
-    ensures { λ _. ⌜ Counting (now (largest .entry)) (now (problem .entry)) (now (problem .exit)) ⌝ }
+    ensures { λ _. ⌜ Counting (before largest) (before problem) (after problem) ⌝ }
 {
     copy_at(largest, problem, MOST);
 }
@@ -79,7 +79,7 @@ pub fn put_counts(problem: &mut [u16], largest: &[u16])
 // Writes into the problem which questions are asked: those whose bit is set.
 pub fn put_asked(problem: &mut [u16], wanted: u64)
     requires { ⌜ length (now problem) ≡ 971 ⌝ }
-    ensures { λ _. ⌜ Asking wanted (now (problem .entry)) (now (problem .exit)) ⌝ }
+    ensures { λ _. ⌜ Asking wanted (before problem) (after problem) ⌝ }
 {
     let mut m: usize = 0;
     while m < 32 {
@@ -100,9 +100,9 @@ fn find_first(
     largest: &[u16],
     wanted: u64,
 ) -> Solution
-    requires { ⌜ Accepted (tables (now concepts) (now inclusions) (now questions) (now roles) variables) (now ids) ⌝ }
-    requires { ⌜ settingsFault (tables (now concepts) (now inclusions) (now questions) (now roles) variables) (settings (now permitted) (now largest)) ≡ Done ⌝ }
-    ensures { λ r. ⌜ FoundAmong (λ m. bit wanted m ≡ true) (tables (now (concepts .entry)) (now (inclusions .entry)) (now (questions .entry)) (now (roles .entry)) variables) (settings (now (permitted .entry)) (now (largest .entry))) (r .found) (r .choice) ⌝ }
+    requires { ⌜ Accepted (given concepts inclusions questions roles variables) (now ids) ⌝ }
+    requires { ⌜ settingsFault (given concepts inclusions questions roles variables) (givenSettings permitted largest) ≡ Done ⌝ }
+    ensures { λ r. ⌜ FoundAmong (λ m. bit wanted m ≡ true) (lent concepts inclusions questions roles variables) (lentSettings permitted largest) (r .found) (r .choice) ⌝ }
 {
     let mut sets = [0u64; SETS];
     let mut problem = [0u16; PROBLEM];
@@ -125,7 +125,7 @@ fn find_first(
 pub fn write_choice(choice: [u64; 8], count: usize, out: &mut [u64])
     requires { ⌜ count ≤ 8 ⌝ }
     requires { ⌜ count ≤ length (now out) ⌝ }
-    ensures { λ _. ⌜ Copied count choice (now (out .entry)) (now (out .exit)) ⌝ }
+    ensures { λ _. ⌜ Copied count choice (before out) (after out) ⌝ }
 {
     let mut k: usize = 0;
     while k < count {
@@ -147,9 +147,9 @@ fn find_set(
     wanted: u64,
     out: &mut [u64],
 ) -> Match
-    requires { ⌜ Accepted (tables (now concepts) (now inclusions) (now questions) (now roles) variables) (now ids) ⌝ }
-    requires { ⌜ settingsFault (tables (now concepts) (now inclusions) (now questions) (now roles) variables) (settings (now permitted) (now largest)) ≡ Done ⌝ }
-    ensures { λ r. ⌜ FindsAmong (λ m. bit wanted m ≡ true) (tables (now (concepts .entry)) (now (inclusions .entry)) (now (questions .entry)) (now (roles .entry)) variables) (settings (now (permitted .entry)) (now (largest .entry))) (now (out .entry)) (now (out .exit)) (matchReply r) ⌝ }
+    requires { ⌜ Accepted (given concepts inclusions questions roles variables) (now ids) ⌝ }
+    requires { ⌜ settingsFault (given concepts inclusions questions roles variables) (givenSettings permitted largest) ≡ Done ⌝ }
+    ensures { λ r. ⌜ FindsAmong (λ m. bit wanted m ≡ true) (lent concepts inclusions questions roles variables) (lentSettings permitted largest) (before out) (after out) (matchReply r) ⌝ }
 {
     let count = variables as usize;
     if out.len() < count {
@@ -187,8 +187,8 @@ pub fn find_known(
     wanted: u64,
     out: &mut [u64],
 ) -> Match
-    requires { ⌜ Accepted (tables (now concepts) (now inclusions) (now questions) (now roles) variables) (now ids) ⌝ }
-    ensures { λ r. ⌜ FindsAmong (λ m. bit wanted m ≡ true) (tables (now (concepts .entry)) (now (inclusions .entry)) (now (questions .entry)) (now (roles .entry)) variables) (settings (now (permitted .entry)) (now (largest .entry))) (now (out .entry)) (now (out .exit)) (matchReply r) ⌝ }
+    requires { ⌜ Accepted (given concepts inclusions questions roles variables) (now ids) ⌝ }
+    ensures { λ r. ⌜ FindsAmong (λ m. bit wanted m ≡ true) (lent concepts inclusions questions roles variables) (lentSettings permitted largest) (before out) (after out) (matchReply r) ⌝ }
 {
     let checked = check_settings(permitted, largest, variables, ids.len());
     match checked {
@@ -219,7 +219,7 @@ pub fn find_within(
     largest: &[u16],
     out: &mut [u64],
 ) -> Match
-    ensures { λ r. ⌜ FindsWithin (tables (now (concepts .entry)) (now (inclusions .entry)) (now (questions .entry)) (now (roles .entry)) variables) (settings (now (permitted .entry)) (now (largest .entry))) (now (out .entry)) (now (out .exit)) (matchReply r) ⌝ }
+    ensures { λ r. ⌜ FindsWithin (lent concepts inclusions questions roles variables) (lentSettings permitted largest) (before out) (after out) (matchReply r) ⌝ }
 {
     let mut ids = [0u16; ATOMS];
     let listed = list_atoms(concepts, inclusions, questions, roles, variables, &mut ids);

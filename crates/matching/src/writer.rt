@@ -30,7 +30,8 @@ ghost use mathlib.Core.Bool.{false};
 ghost use Prim.Native.Nat.{_+_, _*_, _<_, _≤_};
 ghost use lib.Dec.{eqb};
 ghost use lib.ListN.{length};
-ghost use Rattle.subsumption.specs.Tables.{tables, both, countOf};
+ghost use Rattle.subsumption.specs.Lent.{lent, before, after};
+ghost use Rattle.subsumption.specs.Tables.{both, countOf};
 ghost use Rattle.subsumption.specs.Inner.Listing.{Prepared, ForAccepted};
 ghost use Rattle.matching.specs.Writer.{derivedReply, Derives};
 ghost use Rattle.matching.specs.Inner.Derivation.{seen};
@@ -44,7 +45,7 @@ pub enum Derived {
 // A line in front of the part not yet written.
 fn put_line(rest: &mut [u16], rule: u16, left: u16, right: u16, extra: u16)
     requires { ⌜ 4 ≤ length (now rest) ⌝ }
-    ensures { λ _. ⌜ now (rest .exit) ≡ inFront rule left right extra (now (rest .entry)) ⌝ }
+    ensures { λ _. ⌜ after rest ≡ inFront rule left right extra (before rest) ⌝ }
 {
     rest[0] = rule;
     rest[1] = left;
@@ -55,7 +56,7 @@ fn put_line(rest: &mut [u16], rule: u16, left: u16, right: u16, extra: u16)
 // The unwritten rest is lent on for the next line.
 fn write_line(out: &mut [u16], n: usize, rule: u16, left: u16, right: u16, extra: u16)
     requires { ⌜ (n + 1) * 4 ≤ length (now out) ⌝ }
-    ensures { λ _. ⌜ LineWritten (now (out .entry)) (now (out .exit)) n rule left right extra ⌝ }
+    ensures { λ _. ⌜ LineWritten (before out) (after out) n rule left right extra ⌝ }
 {
     let at = n * 4;
     put_line(&mut out[at..], rule, left, right, extra);
@@ -90,8 +91,8 @@ fn write_more(
     requires { ⌜ Written (now concepts) (now inclusions) (now into) (now atoms) (now assignment) (now marks) (now out) written ⌝ }
     requires { ⌜ seen (countOf (now concepts)) (now marks) left right ≡ false ⌝ }
     requires { ⌜ countOf (now concepts) * countOf (now concepts) * 4 ≤ length (now out) ⌝ }
-    ensures { λ r. ⌜ WrittenTo (now (concepts .entry)) (now (inclusions .entry)) (now (into .entry)) (now (atoms .entry)) (now (assignment .entry)) left right (now (marks .exit)) (now (out .exit)) r ⌝ }
-    ensures { λ r. ⌜ RestKept (now (out .entry)) (now (out .exit)) written r ⌝ }
+    ensures { λ r. ⌜ WrittenTo (before concepts) (before inclusions) (before into) (before atoms) (before assignment) left right (after marks) (after out) r ⌝ }
+    ensures { λ r. ⌜ RestKept (before out) (after out) written r ⌝ }
 {
     let count = concepts.len() / 3;
     let mut n = written;
@@ -135,8 +136,8 @@ fn write_tested(
     requires { ⌜ (left < countOf (now concepts)) × (right < countOf (now concepts)) ⌝ }
     requires { ⌜ Blank (countOf (now concepts)) (now marks) ⌝ }
     requires { ⌜ countOf (now concepts) * countOf (now concepts) * 4 ≤ length (now out) ⌝ }
-    ensures { λ r. ⌜ Begun (now (concepts .entry)) (now (inclusions .entry)) (now (into .entry)) (now (atoms .entry)) (now (assignment .entry)) left right (now (marks .exit)) (now (out .exit)) r ⌝ }
-    ensures { λ r. ⌜ RestKept (now (out .entry)) (now (out .exit)) 0 r ⌝ }
+    ensures { λ r. ⌜ Begun (before concepts) (before inclusions) (before into) (before atoms) (before assignment) left right (after marks) (after out) r ⌝ }
+    ensures { λ r. ⌜ RestKept (before out) (after out) 0 r ⌝ }
 {
     let count = concepts.len() / 3;
     let end = number(work, LINES, 0, 0);
@@ -175,8 +176,8 @@ fn write_proposed(
     requires { ⌜ (left < countOf (now concepts)) × (right < countOf (now concepts)) ⌝ }
     requires { ⌜ Blank (countOf (now concepts)) (now marks) ⌝ }
     requires { ⌜ countOf (now concepts) * countOf (now concepts) * 4 ≤ length (now out) ⌝ }
-    ensures { λ r. ⌜ Begun (now (concepts .entry)) (now (inclusions .entry)) (now (into .entry)) (now (atoms .entry)) (now (assignment .entry)) left right (now (marks .exit)) (now (out .exit)) r ⌝ }
-    ensures { λ r. ⌜ RestKept (now (out .entry)) (now (out .exit)) 0 r ⌝ }
+    ensures { λ r. ⌜ Begun (before concepts) (before inclusions) (before into) (before atoms) (before assignment) left right (after marks) (after out) r ⌝ }
+    ensures { λ r. ⌜ RestKept (before out) (after out) 0 r ⌝ }
 {
     let mut work = [0u64; WORK];
     let first = propose(
@@ -221,8 +222,8 @@ fn write_lines(
     requires { ⌜ Asked (now concepts) (now inclusions) (now into) (now atoms) (now assignment) left right ⌝ }
     requires { ⌜ Blank (countOf (now concepts)) (now marks) ⌝ }
     requires { ⌜ countOf (now concepts) * countOf (now concepts) * 4 ≤ length (now out) ⌝ }
-    ensures { λ r. ⌜ WrittenTo (now (concepts .entry)) (now (inclusions .entry)) (now (into .entry)) (now (atoms .entry)) (now (assignment .entry)) left right (now (marks .exit)) (now (out .exit)) r ⌝ }
-    ensures { λ r. ⌜ RestKept (now (out .entry)) (now (out .exit)) 0 r ⌝ }
+    ensures { λ r. ⌜ WrittenTo (before concepts) (before inclusions) (before into) (before atoms) (before assignment) left right (after marks) (after out) r ⌝ }
+    ensures { λ r. ⌜ RestKept (before out) (after out) 0 r ⌝ }
 {
     let count = concepts.len() / 3;
     let n = write_proposed(
@@ -268,7 +269,7 @@ fn put_lines(
     requires { ⌜ length (now into) ≡ 200 ⌝ }
     requires { ⌜ Asked (now concepts) (now inclusions) (now into) (now atoms) (now assignment) left right ⌝ }
     requires { ⌜ countOf (now concepts) * countOf (now concepts) * 4 ≤ length (now out) ⌝ }
-    ensures { λ r. ⌜ WrittenFor (now (concepts .entry)) (now (inclusions .entry)) (now (into .entry)) (now (atoms .entry)) (now (assignment .entry)) left right (now (out .entry)) (now (out .exit)) r ⌝ }
+    ensures { λ r. ⌜ WrittenFor (before concepts) (before inclusions) (before into) (before atoms) (before assignment) left right (before out) (after out) r ⌝ }
 {
     let mut marks = [false; SQUARE];
     let count = concepts.len() / 3;
@@ -300,7 +301,7 @@ fn derive_known(
 ) -> Derived
     requires { ⌜ Prepared (now concepts) (now inclusions) (now roles) variables (now atoms) ⌝ }
     requires { ⌜ (left < countOf (now concepts)) × (right < countOf (now concepts)) ⌝ }
-    ensures { λ r. ⌜ ForAccepted (now (concepts .entry)) (now (inclusions .entry)) (now (roles .entry)) variables (now (atoms .entry)) (λ t. Derives t (now (assignment .entry)) left right (now (out .entry)) (now (out .exit)) (derivedReply r)) ⌝ }
+    ensures { λ r. ⌜ ForAccepted (before concepts) (before inclusions) (before roles) variables (before atoms) (λ t. Derives t (before assignment) left right (before out) (after out) (derivedReply r)) ⌝ }
 {
     let choices = check_assignment(assignment, variables, atoms.len());
     if let Outcome::Refused(r) = choices {
@@ -351,7 +352,7 @@ pub fn derive(
     right: u16,
     out: &mut [u16],
 ) -> Derived
-    ensures { λ r. ⌜ Derives (tables (now (concepts .entry)) (now (inclusions .entry)) (now (questions .entry)) (now (roles .entry)) variables) (now (assignment .entry)) left right (now (out .entry)) (now (out .exit)) (derivedReply r) ⌝ }
+    ensures { λ r. ⌜ Derives (lent concepts inclusions questions roles variables) (before assignment) left right (before out) (after out) (derivedReply r) ⌝ }
 {
     let mut ids = [0u16; ATOMS];
     let listed = list_asked(

@@ -3,6 +3,7 @@ ghost use mathlib.Core.Path.{_≡_};
 ghost use Prim.Native.Nat.{_≤_};
 ghost use Rattle.numerals.specs.Bytes.{starts};
 ghost use Rattle.numerals.specs.Reading.{wrongDigit, runOf};
+ghost use Rattle.subsumption.specs.Lent.{before};
 
 // A number and how many digits gave it; none gave it where there are none.
 pub struct Run {
@@ -12,7 +13,7 @@ pub struct Run {
 
 // The remaining text starts with these bytes.
 pub fn starts_with(rest: &[u8], key: &[u8]) -> bool
-    ensures { λ r. ⌜ r ≡ starts (now (key .entry)) (now (rest .entry)) ⌝ }
+    ensures { λ r. ⌜ r ≡ starts (before key) (before rest) ⌝ }
 {
     let mut i: usize = 0;
     while i < key.len() {
@@ -50,7 +51,7 @@ fn is_wrong_digit(value: u32, count: usize, byte: u8) -> bool
 
 // The longest run of right digits in front.
 pub fn read_run(rest: &[u8]) -> Run
-    ensures { λ r. ⌜ r ≡ runOf (now (rest .entry)) ⌝ }
+    ensures { λ r. ⌜ r ≡ runOf (before rest) ⌝ }
 {
     let mut value: u32 = 0;
     let mut n: usize = 0;

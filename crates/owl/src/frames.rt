@@ -6,6 +6,7 @@ ghost use mathlib.Core.Path.{_≡_};
 ghost use Prim.Native.Nat.{_-_, _<_, _≤_};
 ghost use lib.ListN.{length};
 ghost use Rattle.owl.specs.Inner.Frames.{Bounds, Nested, startOf, TellsRoom, FirstOf, waiting, Opens, Roles};
+ghost use Rattle.subsumption.specs.Lent.{before, after};
 
 pub const AXIOM: u16 = 0;
 
@@ -56,7 +57,7 @@ pub fn has_room(frames: &[u16], reader: Reader) -> bool
     requires { ⌜ (0 < reader .depth) × (reader .depth ≤ 33) ⌝ }
     requires { ⌜ length (now frames) ≡ 99 ⌝ }
     requires { ⌜ startOf (reader .depth - 1) (now frames) ≤ reader .used ⌝ }
-    ensures { λ r. ⌜ TellsRoom reader (now (frames .entry)) r ⌝ }
+    ensures { λ r. ⌜ TellsRoom reader (before frames) r ⌝ }
 {
     let at = (reader.depth - 1) * 3;
     let kind = frames[at];
@@ -85,7 +86,7 @@ fn first(kind: u16) -> u16
 pub fn open_bracket(frames: &mut [u16], reader: Reader, place: usize) -> Next
     requires { ⌜ Bounds reader ⌝ }
     requires { ⌜ length (now frames) ≡ 99 ⌝ }
-    ensures { λ next. ⌜ Opens reader place (now (frames .entry)) (now (frames .exit)) next ⌝ }
+    ensures { λ next. ⌜ Opens reader place (before frames) (after frames) next ⌝ }
 {
     let kind = reader.want;
     if ITEM <= kind {
@@ -109,7 +110,7 @@ pub fn open_bracket(frames: &mut [u16], reader: Reader, place: usize) -> Next
 pub fn take_role(frames: &mut [u16], reader: Reader, word: Word, place: usize) -> Next
     requires { ⌜ (0 < reader .depth) × (reader .depth ≤ 33) ⌝ }
     requires { ⌜ length (now frames) ≡ 99 ⌝ }
-    ensures { λ next. ⌜ Roles reader place word (now (frames .entry)) (now (frames .exit)) next ⌝ }
+    ensures { λ next. ⌜ Roles reader place word (before frames) (after frames) next ⌝ }
 {
     match word {
         Word::RoleOf(r) => {

@@ -23,6 +23,7 @@ ghost use Rattle.owl.specs.Tokens.{closing};
 ghost use Rattle.owl.specs.Inner.Tokens.{tokenOf};
 ghost use Rattle.owl.specs.Inner.Frames.{Bounds, Fits, Starts, Begins};
 ghost use Rattle.owl.specs.Inner.Judging.{deepNext, FitsSomehow, StepsOnWord, Steps, EndsText, Judged};
+ghost use Rattle.subsumption.specs.Lent.{before, after};
 
 // A word between axioms.
 fn start_axiom(reader: Reader, word: Word, place: usize) -> Next
@@ -65,7 +66,7 @@ fn begin_class(
     requires { ⌜ Bounds reader ⌝ }
     requires { ⌜ length (now pending) ≡ 192 ⌝ }
     requires { ⌜ length (now rows) ≡ 576 ⌝ }
-    ensures { λ next. ⌜ Begins reader place word (now (pending .entry)) (now (pending .exit)) (now (rows .entry)) (now (rows .exit)) next ⌝ }
+    ensures { λ next. ⌜ Begins reader place word (before pending) (after pending) (before rows) (after rows) next ⌝ }
 {
     if 32 < reader.depth {
         return begin_deep(word, place);
@@ -91,7 +92,7 @@ fn step_word(
     place: usize,
 ) -> Next
     requires { ⌜ FitsSomehow reader (now frames) (now pending) (now rows) ⌝ }
-    ensures { λ next. ⌜ StepsOnWord reader place word (now (frames .entry)) (now (frames .exit)) (now (pending .entry)) (now (pending .exit)) (now (rows .entry)) (now (rows .exit)) next ⌝ }
+    ensures { λ next. ⌜ StepsOnWord reader place word (before frames) (after frames) (before pending) (after pending) (before rows) (after rows) next ⌝ }
 {
     if ITEM < reader.want {
         return take_role(frames, reader, word, place);
@@ -118,7 +119,7 @@ fn close_bracket(
     place: usize,
 ) -> Next
     requires { ⌜ Fits reader (now frames) (now pending) (now rows) (now inclusions) ⌝ }
-    ensures { λ next. ⌜ Steps reader place closing (now (frames .entry)) (now (frames .entry)) (now (pending .entry)) (now (pending .exit)) (now (rows .entry)) (now (rows .exit)) (now (inclusions .entry)) (now (inclusions .exit)) next ⌝ }
+    ensures { λ next. ⌜ Steps reader place closing (before frames) (before frames) (before pending) (after pending) (before rows) (after rows) (before inclusions) (after inclusions) next ⌝ }
 {
     if reader.want != ITEM {
         return Next::Stop(Refusal::BadSyntax(place));
@@ -141,7 +142,7 @@ fn step_token(
 ) -> Next
     requires { ⌜ 0 < length (now token) ⌝ }
     requires { ⌜ Fits reader (now frames) (now pending) (now rows) (now inclusions) ⌝ }
-    ensures { λ next. ⌜ Steps reader place (tokenOf (now (token .entry))) (now (frames .entry)) (now (frames .exit)) (now (pending .entry)) (now (pending .exit)) (now (rows .entry)) (now (rows .exit)) (now (inclusions .entry)) (now (inclusions .exit)) next ⌝ }
+    ensures { λ next. ⌜ Steps reader place (tokenOf (before token)) (before frames) (after frames) (before pending) (after pending) (before rows) (after rows) (before inclusions) (after inclusions) next ⌝ }
 {
     let byte = token[0];
     if byte == 40 {
@@ -179,7 +180,7 @@ pub fn judge_text(
     requires { ⌜ length (now pending) ≡ 192 ⌝ }
     requires { ⌜ length (now rows) ≡ 576 ⌝ }
     requires { ⌜ length (now inclusions) ≡ 192 ⌝ }
-    ensures { λ next. ⌜ Judged (now (text .entry)) next (now (frames .exit)) (now (pending .exit)) (now (rows .exit)) (now (inclusions .exit)) ⌝ }
+    ensures { λ next. ⌜ Judged (before text) next (after frames) (after pending) (after rows) (after inclusions) ⌝ }
 {
     let mut reader = Reader {
         depth: 0,

@@ -7,6 +7,7 @@ ghost use Prim.Native.Nat.{_≤_};
 ghost use lib.ListN.{length};
 ghost use Rattle.owl.specs.Judgement.{judge};
 ghost use Rattle.owl.specs.Read.{catalogueReply, ReadsBy, ReadsCatalogue, inFront};
+ghost use Rattle.subsumption.specs.Lent.{before, after};
 
 const FRAMES: usize = 99;
 
@@ -25,7 +26,7 @@ pub enum Catalogue {
 // The numbers in front of a buffer.
 fn put_front(numbers: &[u16], out: &mut [u16])
     requires { ⌜ length (now numbers) ≤ length (now out) ⌝ }
-    ensures { λ _. ⌜ now (out .exit) ≡ inFront (now (numbers .entry)) (now (out .entry)) ⌝ }
+    ensures { λ _. ⌜ after out ≡ inFront (before numbers) (before out) ⌝ }
 {
     let mut i: usize = 0;
     while i < numbers.len() {
@@ -38,7 +39,7 @@ fn put_front(numbers: &[u16], out: &mut [u16])
 fn read_text(text: &[u8], concepts: &mut [u16], inclusions: &mut [u16]) -> Catalogue
     requires { ⌜ 576 ≤ length (now concepts) ⌝ }
     requires { ⌜ 192 ≤ length (now inclusions) ⌝ }
-    ensures { λ r. ⌜ ReadsBy (judge (now (text .entry))) (now (concepts .entry)) (now (concepts .exit)) (now (inclusions .entry)) (now (inclusions .exit)) (catalogueReply r) ⌝ }
+    ensures { λ r. ⌜ ReadsBy (judge (before text)) (before concepts) (after concepts) (before inclusions) (after inclusions) (catalogueReply r) ⌝ }
 {
     let mut frames = [0u16; FRAMES];
     let mut pending = [0u16; SIDES];
@@ -58,7 +59,7 @@ fn read_text(text: &[u8], concepts: &mut [u16], inclusions: &mut [u16]) -> Catal
 }
 
 pub fn read_catalogue(text: &[u8], concepts: &mut [u16], inclusions: &mut [u16]) -> Catalogue
-    ensures { λ r. ⌜ ReadsCatalogue (now (text .entry)) (now (concepts .entry)) (now (concepts .exit)) (now (inclusions .entry)) (now (inclusions .exit)) (catalogueReply r) ⌝ }
+    ensures { λ r. ⌜ ReadsCatalogue (before text) (before concepts) (after concepts) (before inclusions) (after inclusions) (catalogueReply r) ⌝ }
 {
     if concepts.len() < ROWS {
         return Catalogue::Rejected(Refusal::BufferTooShort(ROWS));

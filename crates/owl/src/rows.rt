@@ -10,11 +10,12 @@ ghost use Prim.Native.Nat.{_+_, _-_, _*_, _<_, _≤_};
 ghost use lib.ListN.{length};
 ghost use Rattle.owl.specs.Inner.Frames.{Bounds, Closes};
 ghost use Rattle.owl.specs.Inner.Rows.{rowPut, Paired};
+ghost use Rattle.subsumption.specs.Lent.{before, after};
 
 // Row i.
 fn put_row(rows: &mut [u16], i: usize, kind: u16, a: u16, b: u16)
     requires { ⌜ i * 3 + 2 < length (now rows) ⌝ }
-    ensures { λ _. ⌜ now (rows .exit) ≡ rowPut (now (rows .entry)) i kind a b ⌝ }
+    ensures { λ _. ⌜ after rows ≡ rowPut (before rows) i kind a b ⌝ }
 {
     let at = i * 3;
     rows[at] = kind;
@@ -34,7 +35,7 @@ pub fn close_row(
     requires { ⌜ Bounds reader ⌝ }
     requires { ⌜ length (now pending) ≡ 192 ⌝ }
     requires { ⌜ length (now rows) ≡ 576 ⌝ }
-    ensures { λ next. ⌜ Closes reader (kind ∷ a ∷ b ∷ []) (now (pending .entry)) (now (pending .exit)) (now (rows .entry)) (now (rows .exit)) next ⌝ }
+    ensures { λ next. ⌜ Closes reader (kind ∷ a ∷ b ∷ []) (before pending) (after pending) (before rows) (after rows) next ⌝ }
 {
     let count = reader.count;
     if CONCEPTS <= count {
@@ -57,7 +58,7 @@ pub fn put_ands(pending: &[u16], rows: &mut [u16], start: usize, used: usize, co
     requires { ⌜ (start < used) × (used ≤ length (now pending)) ⌝ }
     requires { ⌜ count + (used - start) ≤ 193 ⌝ }
     requires { ⌜ length (now rows) ≡ 576 ⌝ }
-    ensures { λ _. ⌜ Paired start used count (now (pending .entry)) (now (rows .entry)) (now (rows .exit)) ⌝ }
+    ensures { λ _. ⌜ Paired start used count (before pending) (before rows) (after rows) ⌝ }
 {
     let mut left = pending[start];
     let mut next = count;

@@ -15,6 +15,7 @@ ghost use lib.ListN.{length};
 ghost use Rattle.owl.specs.Judgement.{meet, exist};
 ghost use Rattle.owl.specs.Inner.Frames.{Bounds, Fits, ShutsAxiom, ShutsClass};
 ghost use Rattle.owl.specs.Inner.Judging.{ShutsFrame};
+ghost use Rattle.subsumption.specs.Lent.{before, after};
 
 // An axiom's two members become an inclusion.
 fn shut_axiom(
@@ -28,7 +29,7 @@ fn shut_axiom(
     requires { ⌜ outer .pairs * 2 + used ≤ outer .count ⌝ }
     requires { ⌜ length (now pending) ≡ 192 ⌝ }
     requires { ⌜ length (now inclusions) ≡ 192 ⌝ }
-    ensures { λ next. ⌜ ShutsAxiom outer used place (now (pending .entry)) (now (inclusions .entry)) (now (inclusions .exit)) next ⌝ }
+    ensures { λ next. ⌜ ShutsAxiom outer used place (before pending) (before inclusions) (after inclusions) next ⌝ }
 {
     let start = outer.used;
     if used - start != 2 {
@@ -59,7 +60,7 @@ fn shut_exist(
     requires { ⌜ (outer .used ≤ used) × (used ≤ 192) ⌝ }
     requires { ⌜ length (now pending) ≡ 192 ⌝ }
     requires { ⌜ length (now rows) ≡ 576 ⌝ }
-    ensures { λ next. ⌜ ShutsClass exist role outer used place (now (pending .entry)) (now (pending .exit)) (now (rows .entry)) (now (rows .exit)) next ⌝ }
+    ensures { λ next. ⌜ ShutsClass exist role outer used place (before pending) (after pending) (before rows) (after rows) next ⌝ }
 {
     let start = outer.used;
     if used - start != 1 {
@@ -81,7 +82,7 @@ fn shut_meet(
     requires { ⌜ (outer .used ≤ used) × (used ≤ 192) ⌝ }
     requires { ⌜ length (now pending) ≡ 192 ⌝ }
     requires { ⌜ length (now rows) ≡ 576 ⌝ }
-    ensures { λ next. ⌜ ShutsClass meet 0 outer used place (now (pending .entry)) (now (pending .exit)) (now (rows .entry)) (now (rows .exit)) next ⌝ }
+    ensures { λ next. ⌜ ShutsClass meet 0 outer used place (before pending) (after pending) (before rows) (after rows) next ⌝ }
 {
     let start = outer.used;
     let members = used - start;
@@ -114,7 +115,7 @@ pub fn shut(
 ) -> Next
     requires { ⌜ 0 < reader .depth ⌝ }
     requires { ⌜ Fits reader (now frames) (now pending) (now rows) (now inclusions) ⌝ }
-    ensures { λ next. ⌜ ShutsFrame reader place (now (frames .entry)) (now (pending .entry)) (now (pending .exit)) (now (rows .entry)) (now (rows .exit)) (now (inclusions .entry)) (now (inclusions .exit)) next ⌝ }
+    ensures { λ next. ⌜ ShutsFrame reader place (before frames) (before pending) (after pending) (before rows) (after rows) (before inclusions) (after inclusions) next ⌝ }
 {
     let depth = reader.depth - 1;
     let at = depth * 3;

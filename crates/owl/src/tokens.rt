@@ -5,6 +5,7 @@ ghost use mathlib.Core.Bool.{false};
 ghost use lib.ListN.{length, getD};
 ghost use Rattle.owl.specs.Tokens.{isSpace, isBracket};
 ghost use Rattle.owl.specs.Inner.Tokens.{Skips, Ends};
+ghost use Rattle.subsumption.specs.Lent.{before};
 
 fn is_space(b: u8) -> bool
     ensures { λ r. ⌜ r ≡ isSpace b ⌝ }
@@ -30,7 +31,7 @@ fn is_bracket(b: u8) -> bool
 // The first place from `at` on that is no space, or the end of the text.
 pub fn skip_spaces(text: &[u8], at: usize) -> usize
     requires { ⌜ at ≤ length (now text) ⌝ }
-    ensures { λ r. ⌜ Skips (now (text .entry)) at r ⌝ }
+    ensures { λ r. ⌜ Skips (before text) at r ⌝ }
 {
     let mut p = at;
     while p < text.len() {
@@ -47,7 +48,7 @@ fn word_end(text: &[u8], at: usize) -> usize
     requires { ⌜ at < length (now text) ⌝ }
     requires { ⌜ isSpace (getD (now text) at 0) ≡ false ⌝ }
     requires { ⌜ isBracket (getD (now text) at 0) ≡ false ⌝ }
-    ensures { λ r. ⌜ Ends (now (text .entry)) at r ⌝ }
+    ensures { λ r. ⌜ Ends (before text) at r ⌝ }
 {
     let mut p = at + 1;
     while p < text.len() {
@@ -67,7 +68,7 @@ fn word_end(text: &[u8], at: usize) -> usize
 pub fn token_end(text: &[u8], at: usize) -> usize
     requires { ⌜ at < length (now text) ⌝ }
     requires { ⌜ isSpace (getD (now text) at 0) ≡ false ⌝ }
-    ensures { λ r. ⌜ Ends (now (text .entry)) at r ⌝ }
+    ensures { λ r. ⌜ Ends (before text) at r ⌝ }
 {
     if is_bracket(text[at]) {
         return at + 1;

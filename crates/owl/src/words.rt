@@ -6,6 +6,7 @@ ghost use Prim.Native.Nat.{_≤_};
 ghost use lib.ListN.{length};
 ghost use Rattle.owl.specs.Words.{isText, isNumbered, readWord};
 ghost use Rattle.owl.specs.Inner.Words.{readNumbered};
+ghost use Rattle.subsumption.specs.Lent.{before};
 
 pub enum Word {
     AxiomKey,
@@ -18,7 +19,7 @@ pub enum Word {
 }
 
 fn is_text(text: &[u8], word: &[u8]) -> bool
-    ensures { λ r. ⌜ r ≡ isText (now (text .entry)) (now (word .entry)) ⌝ }
+    ensures { λ r. ⌜ r ≡ isText (before text) (before word) ⌝ }
 {
     if word.len() != text.len() {
         return false;
@@ -28,7 +29,7 @@ fn is_text(text: &[u8], word: &[u8]) -> bool
 
 fn is_numbered(key: &[u8], most: u16, word: &[u8]) -> bool
     requires { ⌜ length (now key) ≤ 16 ⌝ }
-    ensures { λ r. ⌜ r ≡ isNumbered (now (key .entry)) most (now (word .entry)) ⌝ }
+    ensures { λ r. ⌜ r ≡ isNumbered (before key) most (before word) ⌝ }
 {
     if !starts_with(word, key) {
         return false;
@@ -45,7 +46,7 @@ fn is_numbered(key: &[u8], most: u16, word: &[u8]) -> bool
 
 // A word that is no keyword.
 fn read_numbered(word: &[u8]) -> Word
-    ensures { λ r. ⌜ r ≡ readNumbered (now (word .entry)) ⌝ }
+    ensures { λ r. ⌜ r ≡ readNumbered (before word) ⌝ }
 {
     if is_numbered(b":c", 999, word) {
         let run = read_run(&word[2..]);
@@ -59,7 +60,7 @@ fn read_numbered(word: &[u8]) -> Word
 }
 
 pub fn read_word(word: &[u8]) -> Word
-    ensures { λ r. ⌜ r ≡ readWord (now (word .entry)) ⌝ }
+    ensures { λ r. ⌜ r ≡ readWord (before word) ⌝ }
 {
     if is_text(b"SubClassOf", word) {
         return Word::AxiomKey;

@@ -6,6 +6,7 @@ ghost use mathlib.Core.Path.{_≡_};
 ghost use mathlib.Core.List.{_++_};
 ghost use Prim.Native.Nat.{_≤_, _<_};
 ghost use lib.ListN.{length, drop};
+ghost use Rattle.subsumption.specs.Lent.{before, after};
 ghost use Rattle.subsumption.specs.Tables.{countOf, decode};
 ghost use Rattle.subsumption.specs.Check.{forward};
 ghost use Rattle.renumbering.specs.Order.{movedIds};
@@ -16,7 +17,7 @@ ghost use Rattle.renumbering.specs.Inner.Moving.{Known, Inward, movedPar
 // A field of a row: an inner id is replaced.
 fn moved_field(order: &[u16], inner: bool, x: u16) -> u16
     requires { ⌜ Known (now order) inner x ⌝ }
-    ensures { λ r. ⌜ r ≡ movedField (now (order .entry)) inner x ⌝ }
+    ensures { λ r. ⌜ r ≡ movedField (before order) inner x ⌝ }
 {
     if inner {
         return order[x as usize];
@@ -35,7 +36,7 @@ fn moved_row(concepts: &[u16], order: &[u16], i: usize) -> Moved
     requires { ⌜ Inward (now concepts) ⌝ }
     requires { ⌜ length (now order) ≡ countOf (now concepts) ⌝ }
     requires { ⌜ i < countOf (now concepts) ⌝ }
-    ensures { λ r. ⌜ r ≡ movedParts (now (order .entry)) (now (concepts .entry)) i ⌝ }
+    ensures { λ r. ⌜ r ≡ movedParts (before order) (before concepts) i ⌝ }
 {
     let row = row_at(concepts, i);
     let kind = row.kind;
@@ -68,7 +69,7 @@ fn is_forward(own: u16, kind: u16, first: u16, second: u16) -> bool
 pub fn check_rising(concepts: &[u16], order: &[u16]) -> Outcome
     requires { ⌜ Inward (now concepts) ⌝ }
     requires { ⌜ length (now order) ≡ countOf (now concepts) ⌝ }
-    ensures { λ r. ⌜ r ≡ risingFault (now (concepts .entry)) (now (order .entry)) ⌝ }
+    ensures { λ r. ⌜ r ≡ risingFault (before concepts) (before order) ⌝ }
 {
     let count = concepts.len() / 3;
     let mut i: usize = 0;
@@ -90,7 +91,7 @@ pub fn put_rows(concepts: &[u16], order: &[u16], back: &[u16], out: &mut [u16])
     requires { ⌜ length (now order) ≡ countOf (now concepts) ⌝ }
     requires { ⌜ Arranges (countOf (now concepts)) (now order) ⌝ }
     requires { ⌜ LeadsBack (now order) (now back) ⌝ }
-    ensures { λ _. ⌜ now (out .exit) ≡ movedConcepts (now (order .entry)) (now (concepts .entry)) ++ drop (length (movedConcepts (now (order .entry)) (now (concepts .entry)))) (now (out .entry)) ⌝ }
+    ensures { λ _. ⌜ after out ≡ movedConcepts (before order) (before concepts) ++ drop (length (movedConcepts (before order) (before concepts))) (before out) ⌝ }
 {
     let count = concepts.len() / 3;
     let mut k: usize = 0;
@@ -108,7 +109,7 @@ pub fn put_rows(concepts: &[u16], order: &[u16], back: &[u16], out: &mut [u16])
 pub fn put_ids(order: &[u16], ids: &[u16], out: &mut [u16])
     requires { ⌜ IdsBelow (length (now order)) (now ids) ⌝ }
     requires { ⌜ length (now ids) ≤ length (now out) ⌝ }
-    ensures { λ _. ⌜ now (out .exit) ≡ movedIds (now (order .entry)) (now (ids .entry)) ++ drop (length (movedIds (now (order .entry)) (now (ids .entry)))) (now (out .entry)) ⌝ }
+    ensures { λ _. ⌜ after out ≡ movedIds (before order) (before ids) ++ drop (length (movedIds (before order) (before ids))) (before out) ⌝ }
 {
     let mut p: usize = 0;
     while p < ids.len() {

@@ -7,11 +7,12 @@ ghost use Prim.Native.Nat.{_≤_};
 ghost use lib.ListN.{length};
 ghost use Rattle.renumbering.specs.Order.{orderFault};
 ghost use Rattle.renumbering.specs.Inner.Order.{Arranges, LeadsBack};
+ghost use Rattle.subsumption.specs.Lent.{before, after};
 
 // Check 21.
 pub fn check_order(order: &[u16], count: usize) -> Outcome
     requires { ⌜ count ≤ 192 ⌝ }
-    ensures { λ r. ⌜ r ≡ orderFault count (now (order .entry)) ⌝ }
+    ensures { λ r. ⌜ r ≡ orderFault count (before order) ⌝ }
 {
     let mut seen = [false; CONCEPTS];
     let mut m: usize = 0;
@@ -37,7 +38,7 @@ pub fn invert(order: &[u16], back: &mut [u16])
     requires { ⌜ Arranges (length (now order)) (now order) ⌝ }
     requires { ⌜ length (now order) ≤ 192 ⌝ }
     requires { ⌜ length (now back) ≡ 192 ⌝ }
-    ensures { λ _. ⌜ LeadsBack (now (order .entry)) (now (back .exit)) ⌝ }
+    ensures { λ _. ⌜ LeadsBack (before order) (after back) ⌝ }
 {
     let mut i: usize = 0;
     while i < order.len() {

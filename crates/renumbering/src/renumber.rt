@@ -10,7 +10,7 @@ use subsumption::refusal::Outcome;
 use subsumption::refusal::Refusal;
 ghost use mathlib.Core.Path.{_≡_};
 ghost use lib.ListN.{length};
-ghost use Rattle.subsumption.specs.Tables.{tables};
+ghost use Rattle.subsumption.specs.Lent.{lent, before, after};
 ghost use Rattle.subsumption.specs.Refusal.{replyOf};
 ghost use Rattle.renumbering.specs.Renumber.{renumberingFault, Renumbers};
 
@@ -26,7 +26,7 @@ fn check_renumbering(
     inclusions_size: usize,
     questions_size: usize,
 ) -> Outcome
-    ensures { λ r. ⌜ r ≡ renumberingFault (tables (now (concepts .entry)) (now (inclusions .entry)) (now (questions .entry)) (now (roles .entry)) variables) (now (order .entry)) «concepts_size» «inclusions_size» «questions_size» ⌝ }
+    ensures { λ r. ⌜ r ≡ renumberingFault (lent concepts inclusions questions roles variables) (before order) «concepts_size» «inclusions_size» «questions_size» ⌝ }
 {
     let checked = check_tables(concepts, inclusions, questions, roles, variables);
     if let Outcome::Refused(r) = checked {
@@ -64,7 +64,7 @@ pub fn renumber_tables(
     inclusions_out: &mut [u16],
     questions_out: &mut [u16],
 ) -> Outcome
-    ensures { λ r. ⌜ Renumbers (tables (now (concepts .entry)) (now (inclusions .entry)) (now (questions .entry)) (now (roles .entry)) variables) (now (order .entry)) (now («concepts_out» .entry)) (now («concepts_out» .exit)) (now («inclusions_out» .entry)) (now («inclusions_out» .exit)) (now («questions_out» .entry)) (now («questions_out» .exit)) (replyOf r) ⌝ }
+    ensures { λ r. ⌜ Renumbers (lent concepts inclusions questions roles variables) (before order) (before «concepts_out») (after «concepts_out») (before «inclusions_out») (after «inclusions_out») (before «questions_out») (after «questions_out») (replyOf r) ⌝ }
 {
     let checked = check_renumbering(
         concepts,

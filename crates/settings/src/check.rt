@@ -6,14 +6,15 @@ use subsumption::refusal::Refusal;
 ghost use mathlib.Core.Path.{_≡_};
 ghost use Prim.Native.Nat.{_<_, _≤_};
 ghost use lib.ListN.{length};
-ghost use Rattle.settings.specs.Settings.{settings, faultyAt, settingsFaultAt};
+ghost use Rattle.settings.specs.Settings.{lentSettings, faultyAt, settingsFaultAt};
 ghost use Rattle.settings.specs.Inner.Check.{Loaded};
+ghost use Rattle.subsumption.specs.Lent.{before};
 
 // The settings of variable k are faulty.
 fn is_faulty(permitted: &[u64], largest: &[u16], k: usize, atoms: usize) -> bool
     requires { ⌜ atoms ≤ 64 ⌝ }
     requires { ⌜ (k < length (now permitted)) × (k < length (now largest)) ⌝ }
-    ensures { λ r. ⌜ r ≡ faultyAt atoms (settings (now (permitted .entry)) (now (largest .entry))) k ⌝ }
+    ensures { λ r. ⌜ r ≡ faultyAt atoms (lentSettings permitted largest) k ⌝ }
 {
     if is_past(permitted[k], atoms) {
         return true;
@@ -24,7 +25,7 @@ fn is_faulty(permitted: &[u64], largest: &[u16], k: usize, atoms: usize) -> bool
 // Check 19, given the number of atoms.
 pub fn check_settings(permitted: &[u64], largest: &[u16], variables: u16, atoms: usize) -> Outcome
     requires { ⌜ atoms ≤ 64 ⌝ }
-    ensures { λ r. ⌜ r ≡ settingsFaultAt atoms variables (settings (now (permitted .entry)) (now (largest .entry))) ⌝ }
+    ensures { λ r. ⌜ r ≡ settingsFaultAt atoms variables (lentSettings permitted largest) ⌝ }
 {
     let count = variables as usize;
     if permitted.len() != count {
@@ -46,7 +47,7 @@ pub fn check_settings(permitted: &[u64], largest: &[u16], variables: u16, atoms:
 // The permitted atoms, none past the variables.
 pub fn load_permitted(permitted: &[u64]) -> [u64; 8]
     requires { ⌜ length (now permitted) ≤ 8 ⌝ }
-    ensures { λ r. ⌜ Loaded (now (permitted .entry)) r ⌝ }
+    ensures { λ r. ⌜ Loaded (before permitted) r ⌝ }
 {
     let mut choice = [0u64; 8];
     let mut k: usize = 0;

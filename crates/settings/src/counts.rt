@@ -5,6 +5,7 @@ ghost use mathlib.Core.Path.{_≡_};
 ghost use lib.ListN.{length};
 ghost use Rattle.settings.specs.Settings.{size};
 ghost use Rattle.settings.specs.Inner.Counts.{Counted, Clamped, Unclamped};
+ghost use Rattle.subsumption.specs.Lent.{before};
 
 // How many atoms a choice takes.
 pub fn size_of(choice: u64) -> u32
@@ -16,7 +17,7 @@ pub fn size_of(choice: u64) -> u32
 // Whether no variable takes more than its largest count.
 pub fn is_few(most: &[u16], choice: [u64; 8]) -> bool
     requires { ⌜ (length (now most) ≡ 8) × (length choice ≡ 8) ⌝ }
-    ensures { λ r. ⌜ Counted (now (most .entry)) choice r ⌝ }
+    ensures { λ r. ⌜ Counted (before most) choice r ⌝ }
 {
     let mut k: usize = 0;
     while k < 8 {
@@ -35,7 +36,7 @@ pub fn is_few(most: &[u16], choice: [u64; 8]) -> bool
 // The high side, without what a variable would take past its count.
 pub fn clamp(most: &[u16], low: [u64; 8], high: [u64; 8]) -> [u64; 8]
     requires { ⌜ (length (now most) ≡ 8) × (length low ≡ 8) × (length high ≡ 8) ⌝ }
-    ensures { λ r. ⌜ Clamped (now (most .entry)) low high r ⌝ }
+    ensures { λ r. ⌜ Clamped (before most) low high r ⌝ }
 {
     let mut inner = high;
     let mut k: usize = 0;

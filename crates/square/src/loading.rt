@@ -5,6 +5,7 @@ ghost use mathlib.Core.Path.{_≡_};
 ghost use Prim.Native.Nat.{_+_, _*_, _<_, _≤_};
 ghost use lib.ListN.{length};
 ghost use Rattle.square.specs.Inner.Loading.{WordOf, Masked, RowLoaded, RowsLoaded, Loaded};
+ghost use Rattle.subsumption.specs.Lent.{before, after};
 
 // The words of the square of marks: its rows and its columns.
 pub const SQUARE: usize = 1152;
@@ -12,7 +13,7 @@ pub const SQUARE: usize = 1152;
 // Eight bytes as one word.
 pub fn word_at(table: &[u8], at: usize) -> u64
     requires { ⌜ at + 8 ≤ length (now table) ⌝ }
-    ensures { λ r. ⌜ WordOf (now (table .entry)) at r ⌝ }
+    ensures { λ r. ⌜ WordOf (before table) at r ⌝ }
 {
     let a = table[at] as u64;
     let b = table[at + 1] as u64;
@@ -43,7 +44,7 @@ fn masked(word: u64, k: usize, count: usize) -> u64
 fn load_row(table: &[u8], count: usize, i: usize, square: &mut [u64])
     requires { ⌜ length (now square) ≡ 1152 ⌝ }
     requires { ⌜ (i < 192) × (i * 24 + 24 ≤ length (now table)) ⌝ }
-    ensures { λ _. ⌜ RowLoaded (now (table .entry)) count i (now (square .entry)) (now (square .exit)) ⌝ }
+    ensures { λ _. ⌜ RowLoaded (before table) count i (before square) (after square) ⌝ }
 {
     let at = i * ROW_BYTES;
     let first = masked(word_at(table, at), 0, count);
@@ -57,7 +58,7 @@ fn load_row(table: &[u8], count: usize, i: usize, square: &mut [u64])
 fn load_rows(table: &[u8], count: usize, square: &mut [u64])
     requires { ⌜ length (now square) ≡ 1152 ⌝ }
     requires { ⌜ (count ≤ 192) × (count * 24 ≤ length (now table)) ⌝ }
-    ensures { λ _. ⌜ RowsLoaded (now (table .entry)) count (now (square .exit)) ⌝ }
+    ensures { λ _. ⌜ RowsLoaded (before table) count (after square) ⌝ }
 {
     let mut i = 0;
     while i < count {
@@ -70,7 +71,7 @@ fn load_rows(table: &[u8], count: usize, square: &mut [u64])
 pub fn load(table: &[u8], count: usize, square: &mut [u64])
     requires { ⌜ length (now square) ≡ 1152 ⌝ }
     requires { ⌜ (count ≤ 192) × (count * 24 ≤ length (now table)) ⌝ }
-    ensures { λ _. ⌜ Loaded count (now (table .entry)) (now (square .exit)) ⌝ }
+    ensures { λ _. ⌜ Loaded count (before table) (after square) ⌝ }
 {
     load_rows(table, count, square);
     turn(square);

@@ -4,6 +4,7 @@ ghost use mathlib.Core.Path.{_≡_};
 ghost use Prim.Native.Nat.{_<_};
 ghost use lib.ListN.{length};
 ghost use Rattle.square.specs.Inner.Turning.{Exchange, Staged, Turned, BlockOf, BlockSet, Transposed};
+ghost use Rattle.subsumption.specs.Lent.{before, after};
 
 // Where the columns start.
 pub const COLUMNS: usize = 576;
@@ -13,7 +14,7 @@ const BLOCK: usize = 64;
 fn stage(block: &mut [u64], s: usize, by: usize, low: u64, high: u64)
     requires { ⌜ length (now block) ≡ 64 ⌝ }
     requires { ⌜ Exchange s by low high ⌝ }
-    ensures { λ _. ⌜ Staged by (now (block .entry)) (now (block .exit)) ⌝ }
+    ensures { λ _. ⌜ Staged by (before block) (after block) ⌝ }
 {
     let mut p = 0;
     while p < 32 {
@@ -28,7 +29,7 @@ fn stage(block: &mut [u64], s: usize, by: usize, low: u64, high: u64)
 
 fn transpose(block: &mut [u64])
     requires { ⌜ length (now block) ≡ 64 ⌝ }
-    ensures { λ _. ⌜ Turned (now (block .entry)) (now (block .exit)) ⌝ }
+    ensures { λ _. ⌜ Turned (before block) (after block) ⌝ }
 {
     stage(block, 5, 32, 0x00000000ffffffff, 0xffffffff00000000);
     stage(block, 4, 16, 0x0000ffff0000ffff, 0xffff0000ffff0000);
@@ -43,7 +44,7 @@ fn read_block(square: &[u64], a: usize, b: usize, block: &mut [u64])
     requires { ⌜ length (now square) ≡ 1152 ⌝ }
     requires { ⌜ length (now block) ≡ 64 ⌝ }
     requires { ⌜ (a < 3) × (b < 3) ⌝ }
-    ensures { λ _. ⌜ BlockOf (now (square .entry)) a b (now (block .exit)) ⌝ }
+    ensures { λ _. ⌜ BlockOf (before square) a b (after block) ⌝ }
 {
     let mut k = 0;
     while k < BLOCK {
@@ -57,7 +58,7 @@ fn write_block(block: &[u64], a: usize, b: usize, square: &mut [u64])
     requires { ⌜ length (now square) ≡ 1152 ⌝ }
     requires { ⌜ length (now block) ≡ 64 ⌝ }
     requires { ⌜ (a < 3) × (b < 3) ⌝ }
-    ensures { λ _. ⌜ BlockSet (now (block .entry)) a b (now (square .entry)) (now (square .exit)) ⌝ }
+    ensures { λ _. ⌜ BlockSet (before block) a b (before square) (after square) ⌝ }
 {
     let mut k = 0;
     while k < BLOCK {
@@ -68,7 +69,7 @@ fn write_block(block: &[u64], a: usize, b: usize, square: &mut [u64])
 
 pub fn turn(square: &mut [u64])
     requires { ⌜ length (now square) ≡ 1152 ⌝ }
-    ensures { λ _. ⌜ Transposed (now (square .entry)) (now (square .exit)) ⌝ }
+    ensures { λ _. ⌜ Transposed (before square) (after square) ⌝ }
 {
     let mut block = [0u64; BLOCK];
     let mut n = 0;

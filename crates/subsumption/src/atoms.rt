@@ -10,6 +10,7 @@ ghost use mathlib.Core.Bool.{false};
 ghost use Prim.Native.Nat.{ℕ, _<_, _≤_};
 ghost use lib.Dec.{eqb};
 ghost use lib.ListN.{length, replicate};
+ghost use Rattle.subsumption.specs.Lent.{before, after};
 ghost use Rattle.subsumption.specs.Tables.{decode, or, both, node, existsAt, countOf};
 ghost use Rattle.subsumption.specs.Atoms.{inside, isAtomic};
 ghost use Rattle.subsumption.specs.Inner.Tables.{Rising};
@@ -17,7 +18,7 @@ ghost use Rattle.subsumption.specs.Inner.Atoms.{Layered, Known, markAt, 
 
 fn holds_variable(marks: &[bool], kind: u16, a: u16, b: u16) -> bool
     requires { ⌜ Rising (length (now marks)) (decode kind a b) ⌝ }
-    ensures { λ r. ⌜ r ≡ heldBy (markAt (now (marks .entry))) (decode kind a b) ⌝ }
+    ensures { λ r. ⌜ r ≡ heldBy (markAt (before marks)) (decode kind a b) ⌝ }
 {
     if kind == 2 {
         return marks[b as usize];
@@ -35,7 +36,7 @@ fn holds_variable(marks: &[bool], kind: u16, a: u16, b: u16) -> bool
 pub fn mark_variables(concepts: &[u16], marks: &mut [bool])
     requires { ⌜ Layered (now concepts) ⌝ }
     requires { ⌜ length (now marks) ≡ 192 ⌝ }
-    ensures { λ _. ⌜ VariableMarks (now (concepts .entry)) (now (marks .exit)) ⌝ }
+    ensures { λ _. ⌜ VariableMarks (before concepts) (after marks) ⌝ }
 {
     let count = concepts.len() / 3;
     let mut i: usize = 0;
@@ -51,7 +52,7 @@ fn mark_sides(count: usize, pairs: &[u16], marks: &mut [bool])
     requires { ⌜ Known count (now pairs) ⌝ }
     requires { ⌜ count ≤ 192 ⌝ }
     requires { ⌜ length (now marks) ≡ 192 ⌝ }
-    ensures { λ _. ⌜ MarkedBy (onSide (now (pairs .entry))) (now (marks .entry)) (now (marks .exit)) ⌝ }
+    ensures { λ _. ⌜ MarkedBy (onSide (before pairs)) (before marks) (after marks) ⌝ }
 {
     let rows = pairs.len() / 2;
     let mut m: usize = 0;
@@ -70,7 +71,7 @@ fn mark_ground_rights(count: usize, questions: &[u16], sets: &[u8], marks: &mut 
     requires { ⌜ count ≤ 192 ⌝ }
     requires { ⌜ length (now sets) ≡ 192 ⌝ }
     requires { ⌜ length (now marks) ≡ 192 ⌝ }
-    ensures { λ _. ⌜ MarkedBy (onGroundRight (now (questions .entry)) (now (sets .entry))) (now (marks .entry)) (now (marks .exit)) ⌝ }
+    ensures { λ _. ⌜ MarkedBy (onGroundRight (before questions) (before sets)) (before marks) (after marks) ⌝ }
 {
     let rows = questions.len() / 2;
     let mut m: usize = 0;
@@ -88,7 +89,7 @@ fn mark_ground_rights(count: usize, questions: &[u16], sets: &[u8], marks: &mut 
 fn mark_inner(marks: &mut [bool], kind: u16, a: u16, b: u16)
     requires { ⌜ Rising 192 (decode kind a b) ⌝ }
     requires { ⌜ length (now marks) ≡ 192 ⌝ }
-    ensures { λ _. ⌜ MarkedBy (λ q. inside (λ j. eqb q j) (decode kind a b)) (now (marks .entry)) (now (marks .exit)) ⌝ }
+    ensures { λ _. ⌜ MarkedBy (λ q. inside (λ j. eqb q j) (decode kind a b)) (before marks) (after marks) ⌝ }
 {
     if kind == 2 {
         marks[b as usize] = true;
@@ -105,7 +106,7 @@ fn mark_inner(marks: &mut [bool], kind: u16, a: u16, b: u16)
 fn spread(concepts: &[u16], marks: &mut [bool])
     requires { ⌜ Layered (now concepts) ⌝ }
     requires { ⌜ length (now marks) ≡ 192 ⌝ }
-    ensures { λ _. ⌜ Spread (now (concepts .entry)) (now (marks .entry)) (now (marks .exit)) ⌝ }
+    ensures { λ _. ⌜ Spread (before concepts) (before marks) (after marks) ⌝ }
 {
     let mut i = concepts.len() / 3;
     while 0 < i {
@@ -147,7 +148,7 @@ pub fn either(x: bool, y: bool) -> bool
 fn keep_atomic(concepts: &[u16], marks: &mut [bool])
     requires { ⌜ countOf (now concepts) ≤ 192 ⌝ }
     requires { ⌜ length (now marks) ≡ 192 ⌝ }
-    ensures { λ _. ⌜ Narrowed (now (concepts .entry)) (now (marks .entry)) (now (marks .exit)) ⌝ }
+    ensures { λ _. ⌜ Narrowed (before concepts) (before marks) (after marks) ⌝ }
 {
     let count = concepts.len() / 3;
     let mut p: usize = 0;
@@ -173,7 +174,7 @@ fn mark_standing(
     requires { ⌜ Known (countOf (now concepts)) (now questions) ⌝ }
     requires { ⌜ VariableSets (now concepts) (now sets) ⌝ }
     requires { ⌜ now marks ≡ replicate 192 false ⌝ }
-    ensures { λ _. ⌜ StandingMarks (now (concepts .entry)) (now (inclusions .entry)) (now (questions .entry)) (now (marks .exit)) ⌝ }
+    ensures { λ _. ⌜ StandingMarks (before concepts) (before inclusions) (before questions) (after marks) ⌝ }
 {
     let count = concepts.len() / 3;
     mark_sides(count, inclusions, marks);
@@ -196,7 +197,7 @@ pub fn mark_atoms(
     requires { ⌜ Known (countOf (now concepts)) (now questions) ⌝ }
     requires { ⌜ VariableSets (now concepts) (now sets) ⌝ }
     requires { ⌜ now marks ≡ replicate 192 false ⌝ }
-    ensures { λ _. ⌜ AtomMarks (now (concepts .entry)) (now (inclusions .entry)) (now (questions .entry)) (now (marks .exit)) ⌝ }
+    ensures { λ _. ⌜ AtomMarks (before concepts) (before inclusions) (before questions) (after marks) ⌝ }
 {
     mark_standing(concepts, inclusions, questions, sets, marks);
     let mut firsts = [0u16; CONCEPTS];
@@ -206,7 +207,7 @@ pub fn mark_atoms(
 
 pub fn count_marks(marks: &[bool], count: usize) -> usize
     requires { ⌜ count ≤ length (now marks) ⌝ }
-    ensures { λ r. ⌜ r ≡ length (markedIds (now (marks .entry)) count) ⌝ }
+    ensures { λ r. ⌜ r ≡ length (markedIds (before marks) count) ⌝ }
 {
     let mut marked: usize = 0;
     let mut p: usize = 0;
@@ -225,8 +226,8 @@ pub fn list_marks(marks: &[bool], count: usize, out: &mut [u16]) -> usize
     requires { ⌜ count ≤ 192 ⌝ }
     requires { ⌜ count ≤ length (now marks) ⌝ }
     requires { ⌜ length (markedIds (now marks) count) ≤ length (now out) ⌝ }
-    ensures { λ r. ⌜ r ≡ length (markedIds (now (marks .entry)) count) ⌝ }
-    ensures { λ r. ⌜ now (out .exit) ≡ inFront (markedIds (now (marks .entry)) count) (now (out .entry)) ⌝ }
+    ensures { λ r. ⌜ r ≡ length (markedIds (before marks) count) ⌝ }
+    ensures { λ r. ⌜ after out ≡ inFront (markedIds (before marks) count) (before out) ⌝ }
 {
     let mut listed: usize = 0;
     let mut p: usize = 0;

@@ -21,7 +21,8 @@ ghost use mathlib.Core.Bool.{not, false};
 ghost use Prim.Native.Nat.{_<_, _≤_, _^_};
 ghost use lib.Dec.{ltb};
 ghost use lib.ListN.{replicate};
-ghost use Rattle.subsumption.specs.Tables.{tables, decode, countOf};
+ghost use Rattle.subsumption.specs.Lent.{given, lent, before, after};
+ghost use Rattle.subsumption.specs.Tables.{decode, countOf};
 ghost use Rattle.subsumption.specs.Refusal.{replyOf};
 ghost use Rattle.subsumption.specs.Check.{unfit, limitFault, malformedRow, malformedFault, forward, forwardFault, noConcept, pairsFault, aloneFault, bufferFault, conceptFault, idFault, inclusionFault, sidesFault, rolesFault, tableFault, assignmentFaultAt};
 ghost use Rattle.subsumption.specs.Inner.Atoms.{VariableSets, Known};
@@ -31,7 +32,7 @@ ghost use Rattle.subsumption.specs.declared.refusal.Outcome.the-variants
 // A table's length is no multiple of its row's width, or has too many rows.
 fn is_unfit(numbers: &[u16], width: usize, limit: usize) -> bool
     requires { ⌜ 0 < width ⌝ }
-    ensures { λ r. ⌜ r ≡ unfit width limit (now (numbers .entry)) ⌝ }
+    ensures { λ r. ⌜ r ≡ unfit width limit (before numbers) ⌝ }
 {
     if numbers.len() % width != 0 {
         return true;
@@ -46,7 +47,7 @@ fn check_limits(
     roles: &[u16],
     variables: u16,
 ) -> Outcome
-    ensures { λ r. ⌜ r ≡ limitFault (tables (now (concepts .entry)) (now (inclusions .entry)) (now (questions .entry)) (now (roles .entry)) variables) ⌝ }
+    ensures { λ r. ⌜ r ≡ limitFault (lent concepts inclusions questions roles variables) ⌝ }
 {
     if is_unfit(concepts, 3, CONCEPTS) {
         return Outcome::Refused(Refusal::Limit(0));
@@ -97,7 +98,7 @@ fn is_malformed(variables: u16, kind: u16, a: u16, b: u16) -> bool
 }
 
 fn check_rows(concepts: &[u16], variables: u16) -> Outcome
-    ensures { λ r. ⌜ r ≡ malformedFault (now (concepts .entry)) variables ⌝ }
+    ensures { λ r. ⌜ r ≡ malformedFault (before concepts) variables ⌝ }
 {
     let count = concepts.len() / 3;
     let mut i: usize = 0;
@@ -127,7 +128,7 @@ fn is_forward(i: usize, kind: u16, a: u16, b: u16) -> bool
 }
 
 fn check_inner(concepts: &[u16]) -> Outcome
-    ensures { λ r. ⌜ r ≡ forwardFault (now (concepts .entry)) ⌝ }
+    ensures { λ r. ⌜ r ≡ forwardFault (before concepts) ⌝ }
 {
     let count = concepts.len() / 3;
     let mut i: usize = 0;
@@ -150,17 +151,17 @@ fn is_no_concept(count: usize, left: u16, right: u16) -> bool
     count <= right as usize
 }
 
-// `before` pairs are counted already.
-fn check_pairs(before: usize, count: usize, pairs: &[u16]) -> Outcome
-    requires { ⌜ before ≤ 96 ⌝ }
-    ensures { λ r. ⌜ r ≡ pairsFault before count (now (pairs .entry)) ⌝ }
+// `passed` pairs are counted already.
+fn check_pairs(passed: usize, count: usize, pairs: &[u16]) -> Outcome
+    requires { ⌜ passed ≤ 96 ⌝ }
+    ensures { λ r. ⌜ r ≡ pairsFault passed count (before pairs) ⌝ }
 {
     let rows = pairs.len() / 2;
     let mut m: usize = 0;
     while m < rows {
         let pair = pair_at(pairs, m);
         if is_no_concept(count, pair.left, pair.right) {
-            return Outcome::Refused(Refusal::NoConcept(before + m));
+            return Outcome::Refused(Refusal::NoConcept(passed + m));
         }
         m += 1;
     }
@@ -169,7 +170,7 @@ fn check_pairs(before: usize, count: usize, pairs: &[u16]) -> Outcome
 
 // Check 4 of a pair given alone.
 pub fn check_alone(concepts: &[u16], left: u16, right: u16) -> Outcome
-    ensures { λ r. ⌜ r ≡ aloneFault (now (concepts .entry)) left right ⌝ }
+    ensures { λ r. ⌜ r ≡ aloneFault (before concepts) left right ⌝ }
 {
     if is_no_concept(concepts.len() / 3, left, right) {
         return Outcome::Refused(Refusal::NoConcept(0));
@@ -195,7 +196,7 @@ pub fn check_concepts(
     roles: &[u16],
     variables: u16,
 ) -> Outcome
-    ensures { λ r. ⌜ r ≡ conceptFault (tables (now (concepts .entry)) (now (inclusions .entry)) (now (questions .entry)) (now (roles .entry)) variables) ⌝ }
+    ensures { λ r. ⌜ r ≡ conceptFault (lent concepts inclusions questions roles variables) ⌝ }
 {
     let limits = check_limits(concepts, inclusions, questions, roles, variables);
     if let Outcome::Refused(r) = limits {
@@ -216,8 +217,8 @@ pub fn check_ids(
     roles: &[u16],
     variables: u16,
 ) -> Outcome
-    requires { ⌜ conceptFault (tables (now concepts) (now inclusions) (now questions) (now roles) variables) ≡ Done ⌝ }
-    ensures { λ r. ⌜ r ≡ idFault (tables (now (concepts .entry)) (now (inclusions .entry)) (now (questions .entry)) (now (roles .entry)) variables) ⌝ }
+    requires { ⌜ conceptFault (given concepts inclusions questions roles variables) ≡ Done ⌝ }
+    ensures { λ r. ⌜ r ≡ idFault (lent concepts inclusions questions roles variables) ⌝ }
 {
     let count = concepts.len() / 3;
     let first = check_pairs(0, count, inclusions);
@@ -232,7 +233,7 @@ fn check_inclusions(concepts: &[u16], inclusions: &[u16], sets: &[u8]) -> Outcom
     requires { ⌜ VariableSets (now concepts) (now sets) ⌝ }
     requires { ⌜ countOf (now concepts) ≤ 192 ⌝ }
     requires { ⌜ Known (countOf (now concepts)) (now inclusions) ⌝ }
-    ensures { λ r. ⌜ r ≡ inclusionFault (now (concepts .entry)) (now (inclusions .entry)) ⌝ }
+    ensures { λ r. ⌜ r ≡ inclusionFault (before concepts) (before inclusions) ⌝ }
 {
     let rows = inclusions.len() / 2;
     let mut m: usize = 0;
@@ -253,7 +254,7 @@ fn check_sides(concepts: &[u16], questions: &[u16], sets: &[u8]) -> Outcome
     requires { ⌜ VariableSets (now concepts) (now sets) ⌝ }
     requires { ⌜ countOf (now concepts) ≤ 192 ⌝ }
     requires { ⌜ Known (countOf (now concepts)) (now questions) ⌝ }
-    ensures { λ r. ⌜ r ≡ sidesFault (now (concepts .entry)) (now (questions .entry)) ⌝ }
+    ensures { λ r. ⌜ r ≡ sidesFault (before concepts) (before questions) ⌝ }
 {
     let rows = questions.len() / 2;
     let mut m: usize = 0;
@@ -271,7 +272,7 @@ fn check_sides(concepts: &[u16], questions: &[u16], sets: &[u8]) -> Outcome
 
 // Check 16: a role over 99.
 fn check_roles(roles: &[u16]) -> Outcome
-    ensures { λ r. ⌜ r ≡ rolesFault (now (roles .entry)) ⌝ }
+    ensures { λ r. ⌜ r ≡ rolesFault (before roles) ⌝ }
 {
     let rows = roles.len() / 2;
     let mut m: usize = 0;
@@ -294,10 +295,10 @@ pub fn check_use(
     variables: u16,
     marks: &mut [bool],
 ) -> Outcome
-    requires { ⌜ conceptFault (tables (now concepts) (now inclusions) (now questions) (now roles) variables) ≡ Done ⌝ }
-    requires { ⌜ idFault (tables (now concepts) (now inclusions) (now questions) (now roles) variables) ≡ Done ⌝ }
+    requires { ⌜ conceptFault (given concepts inclusions questions roles variables) ≡ Done ⌝ }
+    requires { ⌜ idFault (given concepts inclusions questions roles variables) ≡ Done ⌝ }
     requires { ⌜ now marks ≡ replicate 192 false ⌝ }
-    ensures { λ r. ⌜ Used (tables (now (concepts .entry)) (now (inclusions .entry)) (now (questions .entry)) (now (roles .entry)) variables) (now (marks .exit)) r ⌝ }
+    ensures { λ r. ⌜ Used (lent concepts inclusions questions roles variables) (after marks) r ⌝ }
 {
     let mut sets = [0u8; CONCEPTS];
     write_sets(concepts, &mut sets);
@@ -328,7 +329,7 @@ pub fn check_tables(
     roles: &[u16],
     variables: u16,
 ) -> Outcome
-    ensures { λ r. ⌜ replyOf r ≡ replyOf (tableFault (tables (now (concepts .entry)) (now (inclusions .entry)) (now (questions .entry)) (now (roles .entry)) variables)) ⌝ }
+    ensures { λ r. ⌜ replyOf r ≡ replyOf (tableFault (lent concepts inclusions questions roles variables)) ⌝ }
 {
     let rows = check_concepts(concepts, inclusions, questions, roles, variables);
     if let Outcome::Refused(r) = rows {
@@ -363,7 +364,7 @@ pub fn is_past(choice: u64, atoms: usize) -> bool
 // Check 9, given the number of atoms.
 pub fn check_assignment(assignment: &[u64], variables: u16, atoms: usize) -> Outcome
     requires { ⌜ atoms ≤ 64 ⌝ }
-    ensures { λ r. ⌜ r ≡ assignmentFaultAt atoms variables (now (assignment .entry)) ⌝ }
+    ensures { λ r. ⌜ r ≡ assignmentFaultAt atoms variables (before assignment) ⌝ }
 {
     let count = variables as usize;
     if assignment.len() != count {

@@ -18,6 +18,7 @@ use crate::limits::WORDS;
 use crate::roles::note_roles;
 ghost use mathlib.Core.Path.{_≡_};
 ghost use lib.ListN.{length};
+ghost use Rattle.subsumption.specs.Lent.{before, after};
 ghost use Rattle.subsumption.specs.Roles.{wider};
 ghost use Rattle.subsumption.specs.Inner.Roles.{LowRoles};
 ghost use Rattle.subsumption.specs.Inner.Names.{Firsts};
@@ -32,7 +33,7 @@ const KIND_WORDS: usize = 300;
 fn include_all(inclusions: &[u16], columns: &mut [u64]) -> bool
     requires { ⌜ LowPairs (now inclusions) ⌝ }
     requires { ⌜ length (now columns) ≡ 576 ⌝ }
-    ensures { λ r. ⌜ IncludePass (now (inclusions .entry)) (now (columns .entry)) (now (columns .exit)) r ⌝ }
+    ensures { λ r. ⌜ IncludePass (before inclusions) (before columns) (after columns) r ⌝ }
 {
     let count = inclusions.len() / 2;
     let mut changed = false;
@@ -51,7 +52,7 @@ fn include_all(inclusions: &[u16], columns: &mut [u64]) -> bool
 fn include_until_quiet(inclusions: &[u16], columns: &mut [u64]) -> bool
     requires { ⌜ LowPairs (now inclusions) ⌝ }
     requires { ⌜ length (now columns) ≡ 576 ⌝ }
-    ensures { λ r. ⌜ IncludePass (now (inclusions .entry)) (now (columns .entry)) (now (columns .exit)) r ⌝ }
+    ensures { λ r. ⌜ IncludePass (before inclusions) (before columns) (after columns) r ⌝ }
 {
     let mut changed = false;
     let mut busy = true;
@@ -66,9 +67,9 @@ fn include_until_quiet(inclusions: &[u16], columns: &mut [u64]) -> bool
 fn fall(concepts: &[u16], atoms: &[u16], assignment: &[u64], columns: &mut [u64]) -> bool
     requires { ⌜ Settleable (now concepts) (now atoms) (now assignment) ⌝ }
     requires { ⌜ length (now columns) ≡ 576 ⌝ }
-    ensures { λ r. ⌜ SettlePass (now (concepts .entry)) (chooseFrom (now (atoms .entry)) (now (assignment .entry)))
-        (AllDescended (now (concepts .entry)) (chooseFrom (now (atoms .entry)) (now (assignment .entry))))
-        (now (columns .entry)) (now (columns .exit)) r ⌝ }
+    ensures { λ r. ⌜ SettlePass (before concepts) (chooseFrom (before atoms) (before assignment))
+        (AllDescended (before concepts) (chooseFrom (before atoms) (before assignment)))
+        (before columns) (after columns) r ⌝ }
 {
     let mut changed = false;
     let mut j = concepts.len() / 3;
@@ -97,9 +98,9 @@ fn rise(
     requires { ⌜ Inner (now concepts) ⌝ }
     requires { ⌜ Laid (now outer) (now inners) (now kinds) ⌝ }
     requires { ⌜ length (now columns) ≡ 576 ⌝ }
-    ensures { λ r. ⌜ RisePass (now (concepts .entry)) (now (outer .entry)) (now (inners .entry)) (now (kinds .entry)) (chooseFrom (now (atoms .entry)) (now (assignment .entry)))
-        (λ wide l. AllAscended (now (concepts .entry)) (now (firsts .entry)) (chooseFrom (now (atoms .entry)) (now (assignment .entry))) l × AllLinked (now (concepts .entry)) wide l)
-        (now (columns .entry)) (now (columns .exit)) r ⌝ }
+    ensures { λ r. ⌜ RisePass (before concepts) (before outer) (before inners) (before kinds) (chooseFrom (before atoms) (before assignment))
+        (λ wide l. AllAscended (before concepts) (before firsts) (chooseFrom (before atoms) (before assignment)) l × AllLinked (before concepts) wide l)
+        (before columns) (after columns) r ⌝ }
 {
     let count = concepts.len() / 3;
     let mut changed = false;
@@ -129,8 +130,8 @@ fn round(
     requires { ⌜ Firsts (now concepts) (now firsts) ⌝ }
     requires { ⌜ Laid (now outer) (now inners) (now kinds) ⌝ }
     requires { ⌜ length (now columns) ≡ 576 ⌝ }
-    ensures { λ r. ⌜ RoundPass (now (concepts .entry)) (now (inclusions .entry)) (now (outer .entry)) (now (inners .entry)) (now (kinds .entry))
-        (chooseFrom (now (atoms .entry)) (now (assignment .entry))) (now (firsts .entry)) (now (columns .entry)) (now (columns .exit)) r ⌝ }
+    ensures { λ r. ⌜ RoundPass (before concepts) (before inclusions) (before outer) (before inners) (before kinds)
+        (chooseFrom (before atoms) (before assignment)) (before firsts) (before columns) (after columns) r ⌝ }
 {
     let a = fall(concepts, atoms, assignment, columns);
     let b = rise(
@@ -159,7 +160,7 @@ pub fn close(
     requires { ⌜ Ready (now concepts) (now inclusions) (now atoms) (now assignment) ⌝ }
     requires { ⌜ LowRoles (now roles) ⌝ }
     requires { ⌜ length (now columns) ≡ 576 ⌝ }
-    ensures { λ r. ⌜ Closed (now (concepts .entry)) (now (inclusions .entry)) (wider (now (roles .entry))) (chooseFrom (now (atoms .entry)) (now (assignment .entry))) (now (columns .entry)) (now (columns .exit)) ⌝ }
+    ensures { λ r. ⌜ Closed (before concepts) (before inclusions) (wider (before roles)) (chooseFrom (before atoms) (before assignment)) (before columns) (after columns) ⌝ }
 {
     let mut firsts = [0u16; CONCEPTS];
     note_firsts(concepts, &mut firsts);

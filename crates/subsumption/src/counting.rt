@@ -2,6 +2,7 @@
 ghost use mathlib.Core.Path.{_≡_};
 ghost use Prim.Native.Nat.{_-_, _<_, _≤_};
 ghost use lib.ListN.{length};
+ghost use Rattle.subsumption.specs.Lent.{before};
 ghost use Rattle.subsumption.specs.Atoms.{bit};
 ghost use Rattle.subsumption.specs.Table.{counted, total};
 ghost use Rattle.subsumption.specs.Inner.Columns.{has};
@@ -31,7 +32,7 @@ fn ones_in(columns: &[u64], j: usize, count: usize) -> usize
     requires { ⌜ length (now columns) ≡ 576 ⌝ }
     requires { ⌜ j < 192 ⌝ }
     requires { ⌜ count ≤ 192 ⌝ }
-    ensures { λ r. ⌜ r ≡ counted (λ i. has (now (columns .entry)) i j) count ⌝ }
+    ensures { λ r. ⌜ r ≡ counted (λ i. has (before columns) i j) count ⌝ }
     ensures { λ r. ⌜ r ≤ 192 ⌝ }
 {
     let first = ones_below(columns[j * 3], count);
@@ -43,7 +44,7 @@ fn ones_in(columns: &[u64], j: usize, count: usize) -> usize
 pub fn count_pairs(columns: &[u64], count: usize) -> usize
     requires { ⌜ length (now columns) ≡ 576 ⌝ }
     requires { ⌜ count ≤ 192 ⌝ }
-    ensures { λ r. ⌜ r ≡ total (λ j. counted (λ i. has (now (columns .entry)) i j) count) count ⌝ }
+    ensures { λ r. ⌜ r ≡ total (λ j. counted (λ i. has (before columns) i j) count) count ⌝ }
 {
     let mut pairs: usize = 0;
     let mut j: usize = 0;

@@ -9,7 +9,8 @@ use crate::listing::list_asked;
 use crate::refusal::Outcome;
 use crate::refusal::Refusal;
 ghost use Prim.Native.Nat.{_<_};
-ghost use Rattle.subsumption.specs.Tables.{tables, countOf};
+ghost use Rattle.subsumption.specs.Lent.{lent, before};
+ghost use Rattle.subsumption.specs.Tables.{countOf};
 ghost use Rattle.subsumption.specs.Inner.Listing.{ForAccepted, Prepared};
 ghost use Rattle.subsumption.specs.Decide.{decisionReply, Decides};
 
@@ -32,7 +33,7 @@ pub fn decide_known(
 ) -> Decision
     requires { ⌜ Prepared (now concepts) (now inclusions) (now roles) variables (now atoms) ⌝ }
     requires { ⌜ (left < countOf (now concepts)) × (right < countOf (now concepts)) ⌝ }
-    ensures { λ r. ⌜ ForAccepted (now (concepts .entry)) (now (inclusions .entry)) (now (roles .entry)) variables (now (atoms .entry)) (λ t. Decides t (now (assignment .entry)) left right (decisionReply r)) ⌝ }
+    ensures { λ r. ⌜ ForAccepted (before concepts) (before inclusions) (before roles) variables (before atoms) (λ t. Decides t (before assignment) left right (decisionReply r)) ⌝ }
 {
     let choices = check_assignment(assignment, variables, atoms.len());
     if let Outcome::Refused(r) = choices {
@@ -57,7 +58,7 @@ pub fn decide_pair(
     left: u16,
     right: u16,
 ) -> Decision
-    ensures { λ r. ⌜ Decides (tables (now (concepts .entry)) (now (inclusions .entry)) (now (questions .entry)) (now (roles .entry)) variables) (now (assignment .entry)) left right (decisionReply r) ⌝ }
+    ensures { λ r. ⌜ Decides (lent concepts inclusions questions roles variables) (before assignment) left right (decisionReply r) ⌝ }
 {
     let mut ids = [0u16; ATOMS];
     let listed = list_asked(

@@ -10,8 +10,8 @@ use crate::refusal::Outcome;
 use crate::refusal::Refusal;
 ghost use mathlib.Core.Path.{_≡_};
 ghost use lib.ListN.{length};
+ghost use Rattle.subsumption.specs.Lent.{given, lent, before, after};
 ghost use Rattle.subsumption.specs.declared.refusal.Outcome.the-variants.{Done};
-ghost use Rattle.subsumption.specs.Tables.{tables};
 ghost use Rattle.subsumption.specs.Atoms.{atoms};
 ghost use Rattle.subsumption.specs.Refusal.{replyWith};
 ghost use Rattle.subsumption.specs.Check.{conceptFault, idFault};
@@ -32,10 +32,10 @@ fn list_used(
     variables: u16,
     out: &mut [u16],
 ) -> Listed
-    requires { ⌜ conceptFault (tables (now concepts) (now inclusions) (now questions) (now roles) variables) ≡ Done ⌝ }
-    requires { ⌜ idFault (tables (now concepts) (now inclusions) (now questions) (now roles) variables) ≡ Done ⌝ }
-    ensures { λ r. ⌜ listedReply r ≡ replyWith (usedFault (tables (now (concepts .entry)) (now (inclusions .entry)) (now (questions .entry)) (now (roles .entry)) variables) (length (now (out .entry)))) (length (atoms (tables (now (concepts .entry)) (now (inclusions .entry)) (now (questions .entry)) (now (roles .entry)) variables))) ⌝ }
-    ensures { λ r. ⌜ now (out .exit) ≡ listedIn (usedFault (tables (now (concepts .entry)) (now (inclusions .entry)) (now (questions .entry)) (now (roles .entry)) variables) (length (now (out .entry)))) (tables (now (concepts .entry)) (now (inclusions .entry)) (now (questions .entry)) (now (roles .entry)) variables) (now (out .entry)) ⌝ }
+    requires { ⌜ conceptFault (given concepts inclusions questions roles variables) ≡ Done ⌝ }
+    requires { ⌜ idFault (given concepts inclusions questions roles variables) ≡ Done ⌝ }
+    ensures { λ r. ⌜ listedReply r ≡ replyWith (usedFault (lent concepts inclusions questions roles variables) (length (before out))) (length (atoms (lent concepts inclusions questions roles variables))) ⌝ }
+    ensures { λ r. ⌜ after out ≡ listedIn (usedFault (lent concepts inclusions questions roles variables) (length (before out))) (lent concepts inclusions questions roles variables) (before out) ⌝ }
 {
     let mut marks = [false; CONCEPTS];
     let used = check_use(
@@ -64,8 +64,8 @@ pub fn list_atoms(
     variables: u16,
     out: &mut [u16],
 ) -> Listed
-    ensures { λ r. ⌜ listedReply r ≡ replyWith (listingFault (tables (now (concepts .entry)) (now (inclusions .entry)) (now (questions .entry)) (now (roles .entry)) variables) (length (now (out .entry)))) (length (atoms (tables (now (concepts .entry)) (now (inclusions .entry)) (now (questions .entry)) (now (roles .entry)) variables))) ⌝ }
-    ensures { λ r. ⌜ now (out .exit) ≡ listedIn (listingFault (tables (now (concepts .entry)) (now (inclusions .entry)) (now (questions .entry)) (now (roles .entry)) variables) (length (now (out .entry)))) (tables (now (concepts .entry)) (now (inclusions .entry)) (now (questions .entry)) (now (roles .entry)) variables) (now (out .entry)) ⌝ }
+    ensures { λ r. ⌜ listedReply r ≡ replyWith (listingFault (lent concepts inclusions questions roles variables) (length (before out))) (length (atoms (lent concepts inclusions questions roles variables))) ⌝ }
+    ensures { λ r. ⌜ after out ≡ listedIn (listingFault (lent concepts inclusions questions roles variables) (length (before out))) (lent concepts inclusions questions roles variables) (before out) ⌝ }
 {
     let rows = check_concepts(concepts, inclusions, questions, roles, variables);
     if let Outcome::Refused(r) = rows {
@@ -89,8 +89,8 @@ pub fn list_asked(
     right: u16,
     out: &mut [u16],
 ) -> Listed
-    ensures { λ r. ⌜ listedReply r ≡ replyWith (askedFault (tables (now (concepts .entry)) (now (inclusions .entry)) (now (questions .entry)) (now (roles .entry)) variables) left right (length (now (out .entry)))) (length (atoms (tables (now (concepts .entry)) (now (inclusions .entry)) (now (questions .entry)) (now (roles .entry)) variables))) ⌝ }
-    ensures { λ r. ⌜ now (out .exit) ≡ listedIn (askedFault (tables (now (concepts .entry)) (now (inclusions .entry)) (now (questions .entry)) (now (roles .entry)) variables) left right (length (now (out .entry)))) (tables (now (concepts .entry)) (now (inclusions .entry)) (now (questions .entry)) (now (roles .entry)) variables) (now (out .entry)) ⌝ }
+    ensures { λ r. ⌜ listedReply r ≡ replyWith (askedFault (lent concepts inclusions questions roles variables) left right (length (before out))) (length (atoms (lent concepts inclusions questions roles variables))) ⌝ }
+    ensures { λ r. ⌜ after out ≡ listedIn (askedFault (lent concepts inclusions questions roles variables) left right (length (before out))) (lent concepts inclusions questions roles variables) (before out) ⌝ }
 {
     let rows = check_concepts(concepts, inclusions, questions, roles, variables);
     if let Outcome::Refused(r) = rows {

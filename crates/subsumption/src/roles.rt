@@ -3,6 +3,7 @@
 ghost use mathlib.Core.Path.{_≡_};
 ghost use Prim.Native.Nat.{ℕ, _<_};
 ghost use lib.ListN.{length, replicate};
+ghost use Rattle.subsumption.specs.Lent.{before, after};
 ghost use Rattle.subsumption.specs.Tables.{pairsOf};
 ghost use Rattle.subsumption.specs.Inner.Roles.{inSet, LowRoles, Started, Joined, Widened, RoleSets};
 
@@ -10,7 +11,7 @@ ghost use Rattle.subsumption.specs.Inner.Roles.{inSet, LowRoles, Started
 pub fn counts(into: &[u64], r: usize, s: usize) -> bool
     requires { ⌜ length (now into) ≡ 200 ⌝ }
     requires { ⌜ (r < 100) × (s < 100) ⌝ }
-    ensures { λ b. ⌜ b ≡ inSet (now (into .entry)) r s ⌝ }
+    ensures { λ b. ⌜ b ≡ inSet (before into) r s ⌝ }
 {
     (into[s * 2 + r / 64] >> (r % 64)) % 2 == 1
 }
@@ -18,7 +19,7 @@ pub fn counts(into: &[u64], r: usize, s: usize) -> bool
 // Each role counts as itself.
 fn start(into: &mut [u64])
     requires { ⌜ now into ≡ replicate 200 0 ⌝ }
-    ensures { λ _. ⌜ Started (now (into .exit)) ⌝ }
+    ensures { λ _. ⌜ Started (after into) ⌝ }
 {
     let mut s: usize = 0;
     while s < 100 {
@@ -31,7 +32,7 @@ fn start(into: &mut [u64])
 fn join(into: &mut [u64], from: usize, to: usize)
     requires { ⌜ length (now into) ≡ 200 ⌝ }
     requires { ⌜ (from < 100) × (to < 100) ⌝ }
-    ensures { λ _. ⌜ Joined (now (into .entry)) (now (into .exit)) from to ⌝ }
+    ensures { λ _. ⌜ Joined (before into) (after into) from to ⌝ }
 {
     let low = into[from * 2];
     let high = into[from * 2 + 1];
@@ -43,7 +44,7 @@ fn join(into: &mut [u64], from: usize, to: usize)
 fn widen(into: &mut [u64], narrow: usize, wide: usize)
     requires { ⌜ length (now into) ≡ 200 ⌝ }
     requires { ⌜ (narrow < 100) × (wide < 100) ⌝ }
-    ensures { λ _. ⌜ Widened (now (into .entry)) (now (into .exit)) narrow wide ⌝ }
+    ensures { λ _. ⌜ Widened (before into) (after into) narrow wide ⌝ }
 {
     let mut s: usize = 0;
     while s < 100 {
@@ -58,7 +59,7 @@ fn widen(into: &mut [u64], narrow: usize, wide: usize)
 pub fn note_roles(roles: &[u16], into: &mut [u64])
     requires { ⌜ LowRoles (now roles) ⌝ }
     requires { ⌜ now into ≡ replicate 200 0 ⌝ }
-    ensures { λ _. ⌜ RoleSets (now (roles .entry)) (now (into .exit)) ⌝ }
+    ensures { λ _. ⌜ RoleSets (before roles) (after into) ⌝ }
 {
     start(into);
     let rows = roles.len() / 2;

@@ -3,6 +3,7 @@ use crate::limits::ROW_BYTES;
 ghost use mathlib.Core.Path.{_≡_};
 ghost use Prim.Native.Nat.{_+_, _*_, _/_, _<_, _≤_};
 ghost use lib.ListN.{length};
+ghost use Rattle.subsumption.specs.Lent.{before, after};
 ghost use Rattle.subsumption.specs.Table.{rowStart};
 ghost use Rattle.subsumption.specs.Inner.Rows.{exchanged, Transposed, BlockOf, BandOf, Banded, RowWritten, Written};
 
@@ -51,7 +52,7 @@ fn transpose(x: u64) -> u64
 fn block(columns: &[u64], count: usize, m: usize, a: usize) -> u64
     requires { ⌜ length (now columns) ≡ 576 ⌝ }
     requires { ⌜ (m < 24) × (a < 24) ⌝ }
-    ensures { λ r. ⌜ BlockOf (now (columns .entry)) count m a r ⌝ }
+    ensures { λ r. ⌜ BlockOf (before columns) count m a r ⌝ }
 {
     let mut word: u64 = 0;
     let mut b = 0;
@@ -72,7 +73,7 @@ fn fill_band(columns: &[u64], count: usize, m: usize, band: &mut [u64])
     requires { ⌜ length (now columns) ≡ 576 ⌝ }
     requires { ⌜ m < 24 ⌝ }
     requires { ⌜ length (now band) ≡ 24 ⌝ }
-    ensures { λ _. ⌜ BandOf (now (columns .entry)) count m (now (band .exit)) ⌝ }
+    ensures { λ _. ⌜ BandOf (before columns) count m (after band) ⌝ }
 {
     let mut a = 0;
     while a < ROW_BYTES {
@@ -88,7 +89,7 @@ fn renew_band(columns: &[u64], count: usize, i: usize, band: &mut [u64])
     requires { ⌜ length (now columns) ≡ 576 ⌝ }
     requires { ⌜ i < 192 ⌝ }
     requires { ⌜ Banded (now columns) count i (now band) ⌝ }
-    ensures { λ _. ⌜ BandOf (now (columns .entry)) count (i / 8) (now (band .exit)) ⌝ }
+    ensures { λ _. ⌜ BandOf (before columns) count (i / 8) (after band) ⌝ }
 {
     if i % 8 != 0 {
         return;
@@ -99,7 +100,7 @@ fn renew_band(columns: &[u64], count: usize, i: usize, band: &mut [u64])
 fn write_row(band: &[u64], i: usize, out: &mut [u8])
     requires { ⌜ length (now band) ≡ 24 ⌝ }
     requires { ⌜ (i < 192) × (i * 24 + 24 ≤ length (now out)) ⌝ }
-    ensures { λ r. ⌜ RowWritten (now (band .entry)) i (now (out .entry)) (now (out .exit)) ⌝ }
+    ensures { λ r. ⌜ RowWritten (before band) i (before out) (after out) ⌝ }
 {
     let start = row_start(i);
     let place = i % 8 * 8;
@@ -114,7 +115,7 @@ fn write_row(band: &[u64], i: usize, out: &mut [u8])
 pub fn write_rows(columns: &[u64], count: usize, out: &mut [u8])
     requires { ⌜ length (now columns) ≡ 576 ⌝ }
     requires { ⌜ (count ≤ 192) × (count * 24 ≤ length (now out)) ⌝ }
-    ensures { λ r. ⌜ Written (now (columns .entry)) count (now (out .entry)) (now (out .exit)) ⌝ }
+    ensures { λ r. ⌜ Written (before columns) count (before out) (after out) ⌝ }
 {
     let mut band = [0u64; ROW_BYTES];
     let mut i = 0;

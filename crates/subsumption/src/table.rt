@@ -11,7 +11,7 @@ use crate::listing::list_atoms;
 use crate::refusal::Outcome;
 use crate::refusal::Refusal;
 use crate::rows::write_rows;
-ghost use Rattle.subsumption.specs.Tables.{tables};
+ghost use Rattle.subsumption.specs.Lent.{lent, before, after};
 ghost use Rattle.subsumption.specs.Inner.Listing.{ForAccepted, Prepared};
 ghost use Rattle.subsumption.specs.Table.{tabledReply, Wrote};
 
@@ -31,7 +31,7 @@ fn put_table(
     out: &mut [u8],
 ) -> Tabled
     requires { ⌜ Prepared (now concepts) (now inclusions) (now roles) variables (now atoms) ⌝ }
-    ensures { λ r. ⌜ ForAccepted (now (concepts .entry)) (now (inclusions .entry)) (now (roles .entry)) variables (now (atoms .entry)) (λ t. Wrote t (now (assignment .entry)) (now (out .entry)) (now (out .exit)) (tabledReply r)) ⌝ }
+    ensures { λ r. ⌜ ForAccepted (before concepts) (before inclusions) (before roles) variables (before atoms) (λ t. Wrote t (before assignment) (before out) (after out) (tabledReply r)) ⌝ }
 {
     let choices = check_assignment(assignment, variables, atoms.len());
     if let Outcome::Refused(r) = choices {
@@ -58,7 +58,7 @@ pub fn write_table(
     assignment: &[u64],
     out: &mut [u8],
 ) -> Tabled
-    ensures { λ r. ⌜ Wrote (tables (now (concepts .entry)) (now (inclusions .entry)) (now (questions .entry)) (now (roles .entry)) variables) (now (assignment .entry)) (now (out .entry)) (now (out .exit)) (tabledReply r) ⌝ }
+    ensures { λ r. ⌜ Wrote (lent concepts inclusions questions roles variables) (before assignment) (before out) (after out) (tabledReply r) ⌝ }
 {
     let mut ids = [0u16; ATOMS];
     let listed = list_atoms(concepts, inclusions, questions, roles, variables, &mut ids);

@@ -1,6 +1,7 @@
 // Rows of the tables, read by place.
 ghost use mathlib.Core.Path.{_≡_};
 ghost use Prim.Native.Nat.{_<_};
+ghost use Rattle.subsumption.specs.Lent.{before};
 ghost use Rattle.subsumption.specs.Tables.{countOf, pairsOf};
 ghost use Rattle.subsumption.specs.Inner.Tables.{rowOf, pairOf};
 
@@ -17,7 +18,7 @@ pub struct Pair {
 
 pub fn row_at(concepts: &[u16], i: usize) -> Row
     requires { ⌜ i < countOf (now concepts) ⌝ }
-    ensures { λ r. ⌜ r ≡ rowOf (now (concepts .entry)) i ⌝ }
+    ensures { λ r. ⌜ r ≡ rowOf (before concepts) i ⌝ }
 {
     let at = i * 3;
     let kind = concepts[at];
@@ -28,7 +29,7 @@ pub fn row_at(concepts: &[u16], i: usize) -> Row
 
 pub fn pair_at(pairs: &[u16], m: usize) -> Pair
     requires { ⌜ m < pairsOf (now pairs) ⌝ }
-    ensures { λ r. ⌜ r ≡ pairOf (now (pairs .entry)) m ⌝ }
+    ensures { λ r. ⌜ r ≡ pairOf (before pairs) m ⌝ }
 {
     let at = m * 2;
     let left = pairs[at];

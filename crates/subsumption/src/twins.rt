@@ -5,6 +5,7 @@ use crate::tables::row_at;
 ghost use mathlib.Core.Path.{_≡_};
 ghost use Prim.Native.Nat.{ℕ, _+_, _*_, _<_, _≤_};
 ghost use lib.ListN.{length, getD};
+ghost use Rattle.subsumption.specs.Lent.{before, after};
 ghost use Rattle.subsumption.specs.Tables.{decode, node, existsAt, countOf};
 ghost use Rattle.subsumption.specs.Inner.Tables.{Rising};
 ghost use Rattle.subsumption.specs.Inner.Atoms.{Layered};
@@ -23,7 +24,7 @@ fn packed(kind: u16, x: u16, y: u16) -> u64
 
 fn key_of(firsts: &[u16], kind: u16, a: u16, b: u16) -> u64
     requires { ⌜ Rising (length (now firsts)) (decode kind a b) ⌝ }
-    ensures { λ r. ⌜ r ≡ keyOf (λ j. getD (now (firsts .entry)) j 0) (decode kind a b) ⌝ }
+    ensures { λ r. ⌜ r ≡ keyOf (λ j. getD (before firsts) j 0) (decode kind a b) ⌝ }
 {
     if kind == 1 {
         return packed(1, a, 0);
@@ -47,7 +48,7 @@ fn first_same(keys: &[u64], from: usize, i: usize) -> usize
     requires { ⌜ from ≤ i ⌝ }
     requires { ⌜ i < length (now keys) ⌝ }
     requires { ⌜ ((q : ℕ) → q < from → getD (now keys) q 0 ≡ getD (now keys) i 0 → ⊥) ⌝ }
-    ensures { λ r. ⌜ FirstSame (now (keys .entry)) i r ⌝ }
+    ensures { λ r. ⌜ FirstSame (before keys) i r ⌝ }
 {
     let key = keys[i];
     let mut q = from;
@@ -65,8 +66,8 @@ fn first_place(keys: &[u64], slots: &mut [u16], i: usize) -> usize
     requires { ⌜ i < length (now keys) ⌝ }
     requires { ⌜ i < 192 ⌝ }
     requires { ⌜ Slots (now keys) i (now slots) ⌝ }
-    ensures { λ r. ⌜ FirstSame (now (keys .entry)) i r ⌝ }
-    ensures { λ r. ⌜ Slots (now (keys .entry)) (i + 1) (now (slots .exit)) ⌝ }
+    ensures { λ r. ⌜ FirstSame (before keys) i r ⌝ }
+    ensures { λ r. ⌜ Slots (before keys) (i + 1) (after slots) ⌝ }
 {
     let slot = (keys[i] % 1021) as usize;
     let from = slots[slot] as usize;
@@ -82,7 +83,7 @@ pub fn note_twins(concepts: &[u16], firsts: &mut [u16])
     requires { ⌜ Layered (now concepts) ⌝ }
     requires { ⌜ ((i r j : ℕ) → node (now concepts) i ≡ existsAt r j → r < 100) ⌝ }
     requires { ⌜ length (now firsts) ≡ 192 ⌝ }
-    ensures { λ _. ⌜ LowestTwins (now (concepts .entry)) (now (firsts .exit)) ⌝ }
+    ensures { λ _. ⌜ LowestTwins (before concepts) (after firsts) ⌝ }
 {
     let count = concepts.len() / 3;
     let mut keys = [0u64; CONCEPTS];
@@ -104,7 +105,7 @@ pub fn keep_lowest(firsts: &[u16], count: usize, marks: &mut [bool])
     requires { ⌜ length (now firsts) ≡ 192 ⌝ }
     requires { ⌜ ((i : ℕ) → i < count → getD (now firsts) i 0 ≤ i) ⌝ }
     requires { ⌜ length (now marks) ≡ 192 ⌝ }
-    ensures { λ _. ⌜ Lowered (now (firsts .entry)) count (now (marks .entry)) (now (marks .exit)) ⌝ }
+    ensures { λ _. ⌜ Lowered (before firsts) count (before marks) (after marks) ⌝ }
 {
     let mut p: usize = 0;
     while p < count {

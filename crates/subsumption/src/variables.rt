@@ -8,7 +8,8 @@ use crate::tables::row_at;
 ghost use mathlib.Core.Path.{_≡_};
 ghost use Prim.Native.Nat.{ℕ, _<_};
 ghost use lib.ListN.{length, getD};
-ghost use Rattle.subsumption.specs.Tables.{tables, decode, node, varAt, countOf, tree, variablesOf};
+ghost use Rattle.subsumption.specs.Lent.{lent, before, after};
+ghost use Rattle.subsumption.specs.Tables.{decode, node, varAt, countOf, tree, variablesOf};
 ghost use Rattle.subsumption.specs.Refusal.{replyWith};
 ghost use Rattle.subsumption.specs.Check.{pairFault};
 ghost use Rattle.subsumption.specs.Variables.{variablesReply};
@@ -25,7 +26,7 @@ pub enum VariableSet {
 fn set_of(sets: &[u8], kind: u16, a: u16, b: u16) -> u8
     requires { ⌜ Rising (length (now sets)) (decode kind a b) ⌝ }
     requires { ⌜ Narrow (decode kind a b) ⌝ }
-    ensures { λ r. ⌜ r ≡ setBy (λ j. getD (now (sets .entry)) j 0) (decode kind a b) ⌝ }
+    ensures { λ r. ⌜ r ≡ setBy (λ j. getD (before sets) j 0) (decode kind a b) ⌝ }
 {
     if kind == 2 {
         return sets[b as usize];
@@ -45,7 +46,7 @@ pub fn write_sets(concepts: &[u16], sets: &mut [u8])
     requires { ⌜ Layered (now concepts) ⌝ }
     requires { ⌜ ((j k : ℕ) → node (now concepts) j ≡ varAt k → k < 8) ⌝ }
     requires { ⌜ length (now sets) ≡ 192 ⌝ }
-    ensures { λ _. ⌜ VariableSets (now (concepts .entry)) (now (sets .exit)) ⌝ }
+    ensures { λ _. ⌜ VariableSets (before concepts) (after sets) ⌝ }
 {
     let count = concepts.len() / 3;
     let mut i: usize = 0;
@@ -68,7 +69,7 @@ fn set_at(
 ) -> u8
     requires { ⌜ Prepared (now concepts) (now inclusions) (now roles) variables (now atoms) ⌝ }
     requires { ⌜ id < countOf (now concepts) ⌝ }
-    ensures { λ r. ⌜ r ≡ variablesOf (tree (now (concepts .entry)) id) ⌝ }
+    ensures { λ r. ⌜ r ≡ variablesOf (tree (before concepts) id) ⌝ }
 {
     let mut sets = [0u8; CONCEPTS];
     write_sets(concepts, &mut sets);
@@ -84,7 +85,7 @@ pub fn variables_in(
     variables: u16,
     id: u16,
 ) -> VariableSet
-    ensures { λ r. ⌜ variablesReply r ≡ replyWith (pairFault (tables (now (concepts .entry)) (now (inclusions .entry)) (now (questions .entry)) (now (roles .entry)) variables) id id) (variablesOf (tree (now (concepts .entry)) id)) ⌝ }
+    ensures { λ r. ⌜ variablesReply r ≡ replyWith (pairFault (lent concepts inclusions questions roles variables) id id) (variablesOf (tree (before concepts) id)) ⌝ }
 {
     let mut ids = [0u16; ATOMS];
     let listed = list_asked(

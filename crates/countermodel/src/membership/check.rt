@@ -3,12 +3,13 @@ use subsumption::refusal::Outcome;
 use subsumption::refusal::Refusal;
 ghost use mathlib.Core.Path.{_≡_};
 ghost use Rattle.countermodel.specs.Membership.{sizeFault, badRow, rowsFault, elementFault};
+ghost use Rattle.subsumption.specs.Lent.{before};
 
 const ELEMENTS: u16 = 192;
 
 // Check 1.
 pub fn check_size(size: u16, rows: &[u16]) -> Outcome
-    ensures { λ r. ⌜ r ≡ sizeFault size (now (rows .entry)) ⌝ }
+    ensures { λ r. ⌜ r ≡ sizeFault size (before rows) ⌝ }
 {
     if size == 0 {
         return Outcome::Refused(Refusal::Limit(0));
@@ -42,7 +43,7 @@ fn is_bad_row(size: u16, kind: u16, element: u16, last: u16) -> bool
 
 // Check 2.
 pub fn check_rows(size: u16, rows: &[u16]) -> Outcome
-    ensures { λ r. ⌜ r ≡ rowsFault size (now (rows .entry)) ⌝ }
+    ensures { λ r. ⌜ r ≡ rowsFault size (before rows) ⌝ }
 {
     let count = rows.len() / 4;
     let mut p: usize = 0;

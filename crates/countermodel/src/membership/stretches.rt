@@ -3,11 +3,12 @@
 ghost use mathlib.Core.Path.{_≡_};
 ghost use lib.ListN.{replicate};
 ghost use Rattle.countermodel.specs.Inner.Membership.{LowRows, Stretches};
+ghost use Rattle.subsumption.specs.Lent.{before, after};
 
 pub fn note_stretches(rows: &[u16], ends: &mut [usize])
     requires { ⌜ LowRows (now rows) ⌝ }
     requires { ⌜ now ends ≡ replicate 768 0 ⌝ }
-    ensures { λ _. ⌜ Stretches (now (rows .entry)) (now (ends .exit)) ⌝ }
+    ensures { λ _. ⌜ Stretches (before rows) (after ends) ⌝ }
 {
     let count = rows.len() / 4;
     let mut p: usize = 0;

@@ -5,6 +5,7 @@ use subsumption::limits::CONCEPTS;
 ghost use mathlib.Core.Path.{_≡_};
 ghost use Prim.Native.Nat.{_<_};
 ghost use lib.ListN.{length, set};
+ghost use Rattle.subsumption.specs.Lent.{before, after};
 ghost use Rattle.subsumption.specs.Tables.{countOf, exists, tree};
 ghost use Rattle.countermodel.specs.Inner.Membership.{LowRows, Stretches, Walkable, Right, noted, Remembers, Walked, IsIn, IsInAll, Bears};
 
@@ -19,7 +20,7 @@ fn bears(rows: &[u16], ends: &[usize], element: u16, name: u16) -> bool
     requires { ⌜ LowRows (now rows) ⌝ }
     requires { ⌜ Stretches (now rows) (now ends) ⌝ }
     requires { ⌜ element < 192 ⌝ }
-    ensures { λ r. ⌜ Right r (Bears (now (rows .entry)) element name) ⌝ }
+    ensures { λ r. ⌜ Right r (Bears (before rows) element name) ⌝ }
 {
     let own = element as usize * 4;
     let past = ends[own + 1];
@@ -43,7 +44,7 @@ fn bears(rows: &[u16], ends: &[usize], element: u16, name: u16) -> bool
 // Keeps an answer: 1 is yes and 2 is no, 0 is none yet.
 fn note(memo: &mut [u8], cell: usize, answer: bool) -> bool
     requires { ⌜ cell < length (now memo) ⌝ }
-    ensures { λ r. ⌜ (r ≡ answer) × (now (memo .exit) ≡ set (now (memo .entry)) cell (noted answer)) ⌝ }
+    ensures { λ r. ⌜ (r ≡ answer) × (after memo ≡ set (before memo) cell (noted answer)) ⌝ }
 {
     if answer {
         memo[cell] = 1;
@@ -68,7 +69,7 @@ fn member_at(
     requires { ⌜ Stretches (now rows) (now ends) ⌝ }
     requires { ⌜ Remembers (now concepts) (now ids) (now assignment) (now rows) (now memo) ⌝ }
     requires { ⌜ (element < 192) × (id < countOf (now concepts)) ⌝ }
-    ensures { λ r. ⌜ Walked (now (concepts .entry)) (now (ids .entry)) (now (assignment .entry)) (now (rows .entry)) (IsIn (now (concepts .entry)) (now (ids .entry)) (now (assignment .entry)) (now (rows .entry)) (tree (now (concepts .entry)) id) element) (now (memo .exit)) r ⌝ }
+    ensures { λ r. ⌜ Walked (before concepts) (before ids) (before assignment) (before rows) (IsIn (before concepts) (before ids) (before assignment) (before rows) (tree (before concepts) id) element) (after memo) r ⌝ }
 {
     let cell = element as usize * CONCEPTS + id as usize;
     let known = memo[cell];
@@ -122,7 +123,7 @@ fn some_link(
     requires { ⌜ Stretches (now rows) (now ends) ⌝ }
     requires { ⌜ Remembers (now concepts) (now ids) (now assignment) (now rows) (now memo) ⌝ }
     requires { ⌜ (element < 192) × (inner < countOf (now concepts)) ⌝ }
-    ensures { λ r. ⌜ Walked (now (concepts .entry)) (now (ids .entry)) (now (assignment .entry)) (now (rows .entry)) (IsIn (now (concepts .entry)) (now (ids .entry)) (now (assignment .entry)) (now (rows .entry)) (exists role (tree (now (concepts .entry)) inner)) element) (now (memo .exit)) r ⌝ }
+    ensures { λ r. ⌜ Walked (before concepts) (before ids) (before assignment) (before rows) (IsIn (before concepts) (before ids) (before assignment) (before rows) (exists role (tree (before concepts) inner)) element) (after memo) r ⌝ }
 {
     let own = element as usize * 4;
     let past = ends[own + 3];
@@ -162,7 +163,7 @@ fn in_all(
     requires { ⌜ Stretches (now rows) (now ends) ⌝ }
     requires { ⌜ Remembers (now concepts) (now ids) (now assignment) (now rows) (now memo) ⌝ }
     requires { ⌜ element < 192 ⌝ }
-    ensures { λ r. ⌜ Walked (now (concepts .entry)) (now (ids .entry)) (now (assignment .entry)) (now (rows .entry)) (IsInAll (now (concepts .entry)) (now (ids .entry)) (now (assignment .entry)) (now (rows .entry)) choice element) (now (memo .exit)) r ⌝ }
+    ensures { λ r. ⌜ Walked (before concepts) (before ids) (before assignment) (before rows) (IsInAll (before concepts) (before ids) (before assignment) (before rows) choice element) (after memo) r ⌝ }
 {
     let mut q: usize = 0;
     while q < ids.len() {
@@ -190,7 +191,7 @@ pub fn is_member(
 ) -> bool
     requires { ⌜ Walkable (now concepts) (now ids) (now assignment) (now rows) ⌝ }
     requires { ⌜ (element < 192) × (id < countOf (now concepts)) ⌝ }
-    ensures { λ r. ⌜ Right r (IsIn (now (concepts .entry)) (now (ids .entry)) (now (assignment .entry)) (now (rows .entry)) (tree (now (concepts .entry)) id) element) ⌝ }
+    ensures { λ r. ⌜ Right r (IsIn (before concepts) (before ids) (before assignment) (before rows) (tree (before concepts) id) element) ⌝ }
 {
     let mut ends = [0usize; ENDS];
     note_stretches(rows, &mut ends);

@@ -4,10 +4,11 @@ ghost use mathlib.Core.Bool.{true};
 ghost use Prim.Native.Nat.{_+_, _*_, _<_};
 ghost use lib.ListN.{length, getD, set};
 ghost use Rattle.matching.specs.Inner.Derivation.{Square, seen};
+ghost use Rattle.subsumption.specs.Lent.{before, after};
 
 pub fn number_at(numbers: &[u16], at: usize) -> usize
     requires { ⌜ at < length (now numbers) ⌝ }
-    ensures { λ r. ⌜ r ≡ getD (now (numbers .entry)) at 0 ⌝ }
+    ensures { λ r. ⌜ r ≡ getD (before numbers) at 0 ⌝ }
 {
     numbers[at] as usize
 }
@@ -15,7 +16,7 @@ pub fn number_at(numbers: &[u16], at: usize) -> usize
 pub fn has_mark(marks: &[bool], count: usize, i: usize, j: usize) -> bool
     requires { ⌜ Square count (now marks) ⌝ }
     requires { ⌜ (i < count) × (j < count) ⌝ }
-    ensures { λ r. ⌜ r ≡ seen count (now (marks .entry)) i j ⌝ }
+    ensures { λ r. ⌜ r ≡ seen count (before marks) i j ⌝ }
 {
     marks[i * count + j]
 }
@@ -23,7 +24,7 @@ pub fn has_mark(marks: &[bool], count: usize, i: usize, j: usize) -> bool
 pub fn mark_pair(marks: &mut [bool], count: usize, i: usize, j: usize)
     requires { ⌜ Square count (now marks) ⌝ }
     requires { ⌜ (i < count) × (j < count) ⌝ }
-    ensures { λ _. ⌜ now (marks .exit) ≡ set (now (marks .entry)) (i * count + j) true ⌝ }
+    ensures { λ _. ⌜ after marks ≡ set (before marks) (i * count + j) true ⌝ }
 {
     marks[i * count + j] = true;
 }

@@ -9,6 +9,7 @@ ghost use mathlib.Core.Path.{_≡_};
 ghost use Prim.Native.Nat.{_<_, _≤_};
 ghost use lib.Dec.{eqb, ltb};
 ghost use lib.ListN.{length, getD};
+ghost use Rattle.subsumption.specs.Lent.{before};
 ghost use Rattle.subsumption.specs.Tables.{or, both, countOf, pairsOf, leftOf, rightOf};
 ghost use Rattle.subsumption.specs.Atoms.{pick};
 ghost use Rattle.subsumption.specs.Inner.Atoms.{Known};
@@ -49,7 +50,7 @@ fn by_member(marks: &[bool], count: usize, l: Row, right: usize, extra: usize) -
     requires { ⌜ Square count (now marks) ⌝ }
     requires { ⌜ Rising count (nodeOf l) ⌝ }
     requires { ⌜ right < count ⌝ }
-    ensures { λ x. ⌜ x ≡ onPicked extra (λ i. seen count (now (marks .entry)) i right) (nodeOf l) ⌝ }
+    ensures { λ x. ⌜ x ≡ onPicked extra (λ i. seen count (before marks) i right) (nodeOf l) ⌝ }
 {
     if l.kind != 3 {
         return false;
@@ -68,7 +69,7 @@ fn by_both(marks: &[bool], count: usize, left: usize, r: Row) -> bool
     requires { ⌜ Square count (now marks) ⌝ }
     requires { ⌜ Rising count (nodeOf r) ⌝ }
     requires { ⌜ left < count ⌝ }
-    ensures { λ x. ⌜ x ≡ onBoth (λ j. seen count (now (marks .entry)) left j) (nodeOf r) ⌝ }
+    ensures { λ x. ⌜ x ≡ onBoth (λ j. seen count (before marks) left j) (nodeOf r) ⌝ }
 {
     if r.kind != 3 {
         return false;
@@ -87,7 +88,7 @@ fn by_inner(into: &[u64], marks: &[bool], count: usize, l: Row, r: Row) -> bool
     requires { ⌜ Square count (now marks) ⌝ }
     requires { ⌜ Rising count (nodeOf l) ⌝ }
     requires { ⌜ Rising count (nodeOf r) ⌝ }
-    ensures { λ x. ⌜ x ≡ onInner (inSet (now (into .entry))) (seen count (now (marks .entry))) (nodeOf l) (nodeOf r) ⌝ }
+    ensures { λ x. ⌜ x ≡ onInner (inSet (before into)) (seen count (before marks)) (nodeOf l) (nodeOf r) ⌝ }
 {
     if l.kind != 2 {
         return false;
@@ -113,8 +114,8 @@ fn by_inclusion(
     requires { ⌜ Square count (now marks) ⌝ }
     requires { ⌜ Known count (now inclusions) ⌝ }
     requires { ⌜ (left < count) × (right < count) ⌝ }
-    ensures { λ x. ⌜ x ≡ both (ltb extra (pairsOf (now (inclusions .entry))))
-        (both (seen count (now (marks .entry)) left (leftOf (now (inclusions .entry)) extra)) (seen count (now (marks .entry)) (rightOf (now (inclusions .entry)) extra) right)) ⌝ }
+    ensures { λ x. ⌜ x ≡ both (ltb extra (pairsOf (before inclusions)))
+        (both (seen count (before marks) left (leftOf (before inclusions) extra)) (seen count (before marks) (rightOf (before inclusions) extra) right)) ⌝ }
 {
     if inclusions.len() / 2 <= extra {
         return false;
@@ -129,7 +130,7 @@ fn by_inclusion(
 // Whether the choice takes that id.
 fn is_chosen(atoms: &[u16], choice: u64, id: usize) -> bool
     requires { ⌜ length (now atoms) ≤ 64 ⌝ }
-    ensures { λ x. ⌜ x ≡ contains id (pick (now (atoms .entry)) choice) ⌝ }
+    ensures { λ x. ⌜ x ≡ contains id (pick (before atoms) choice) ⌝ }
 {
     let mut q = 0;
     while q < atoms.len() {
@@ -160,7 +161,7 @@ fn by_choice(
     requires { ⌜ KnownAtoms count (now atoms) ⌝ }
     requires { ⌜ Numbered (now assignment) (nodeOf l) ⌝ }
     requires { ⌜ right < count ⌝ }
-    ensures { λ x. ⌜ x ≡ onVariable (λ k. both (contains extra (pick (now (atoms .entry)) (getD (now (assignment .entry)) k 0))) (seen count (now (marks .entry)) extra right)) (nodeOf l) ⌝ }
+    ensures { λ x. ⌜ x ≡ onVariable (λ k. both (contains extra (pick (before atoms) (getD (before assignment) k 0))) (seen count (before marks) extra right)) (nodeOf l) ⌝ }
 {
     if l.kind != 4 {
         return false;
@@ -180,7 +181,7 @@ fn all_marked(atoms: &[u16], choice: u64, marks: &[bool], count: usize, left: us
     requires { ⌜ Square count (now marks) ⌝ }
     requires { ⌜ KnownAtoms count (now atoms) ⌝ }
     requires { ⌜ left < count ⌝ }
-    ensures { λ x. ⌜ x ≡ every (λ p. seen count (now (marks .entry)) left p) (pick (now (atoms .entry)) choice) ⌝ }
+    ensures { λ x. ⌜ x ≡ every (λ p. seen count (before marks) left p) (pick (before atoms) choice) ⌝ }
 {
     let mut q = 0;
     while q < atoms.len() {
@@ -211,7 +212,7 @@ fn by_all(
     requires { ⌜ KnownAtoms count (now atoms) ⌝ }
     requires { ⌜ Numbered (now assignment) (nodeOf r) ⌝ }
     requires { ⌜ left < count ⌝ }
-    ensures { λ x. ⌜ x ≡ onVariable (λ k. every (λ p. seen count (now (marks .entry)) left p) (pick (now (atoms .entry)) (getD (now (assignment .entry)) k 0))) (nodeOf r) ⌝ }
+    ensures { λ x. ⌜ x ≡ onVariable (λ k. every (λ p. seen count (before marks) left p) (pick (before atoms) (getD (before assignment) k 0))) (nodeOf r) ⌝ }
 {
     if r.kind != 4 {
         return false;
@@ -237,7 +238,7 @@ pub fn by_rule(
     requires { ⌜ length (now into) ≡ 200 ⌝ }
     requires { ⌜ Square (countOf (now concepts)) (now marks) ⌝ }
     requires { ⌜ (left < countOf (now concepts)) × (right < countOf (now concepts)) ⌝ }
-    ensures { λ x. ⌜ ByRule (now (concepts .entry)) (now (inclusions .entry)) (now (into .entry)) (now (atoms .entry)) (now (assignment .entry)) (now (marks .entry)) rule left right extra x ⌝ }
+    ensures { λ x. ⌜ ByRule (before concepts) (before inclusions) (before into) (before atoms) (before assignment) (before marks) rule left right extra x ⌝ }
 {
     let count = concepts.len() / 3;
     let l = row_at(concepts, left);

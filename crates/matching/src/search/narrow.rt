@@ -15,6 +15,7 @@ ghost use Prim.Native.Nat.{_<_};
 ghost use lib.ListN.{length};
 ghost use Rattle.matching.specs.Inner.Search.Problem.{Shaped, heldAt, rightAt, questionCount, AskedAt};
 ghost use Rattle.matching.specs.Inner.Search.Narrow.{Narrowed};
+ghost use Rattle.subsumption.specs.Lent.{before};
 
 // By one question and variable.
 fn narrow_variable(
@@ -30,7 +31,7 @@ fn narrow_variable(
     requires { ⌜ (m < questionCount (now problem)) × (k < 8) ⌝ }
     requires { ⌜ AskedAt (now problem) m × (heldAt (now problem) (rightAt (now problem) m) ≡ true) ⌝ }
     ensures { λ r. ⌜ length r ≡ 8 ⌝ }
-    ensures { λ r. ⌜ Narrowed (now (sets .entry)) (now (problem .entry)) full r ⌝ }
+    ensures { λ r. ⌜ Narrowed (before sets) (before problem) full r ⌝ }
 {
     let none = [0u64; 8];
     let mut high = full;
@@ -60,7 +61,7 @@ fn narrow_question(
     requires { ⌜ (length (now scratch) ≡ 16977) × (length full ≡ 8) ⌝ }
     requires { ⌜ m < questionCount (now problem) ⌝ }
     ensures { λ r. ⌜ length r ≡ 8 ⌝ }
-    ensures { λ r. ⌜ Narrowed (now (sets .entry)) (now (problem .entry)) full r ⌝ }
+    ensures { λ r. ⌜ Narrowed (before sets) (before problem) full r ⌝ }
 {
     if problem[ASKED + m] != 1 {
         return full;
@@ -88,7 +89,7 @@ pub fn narrow(sets: &[u64], problem: &[u16], scratch: &mut [u64], full: [u64; 8]
     requires { ⌜ Shaped (now sets) (now problem) ⌝ }
     requires { ⌜ (length (now scratch) ≡ 16977) × (length full ≡ 8) ⌝ }
     ensures { λ r. ⌜ length r ≡ 8 ⌝ }
-    ensures { λ r. ⌜ Narrowed (now (sets .entry)) (now (problem .entry)) full r ⌝ }
+    ensures { λ r. ⌜ Narrowed (before sets) (before problem) full r ⌝ }
 {
     let count = problem[QUESTION_COUNT] as usize;
     let mut high = full;

@@ -14,13 +14,14 @@ ghost use lib.ListN.{length};
 ghost use Rattle.matching.specs.Inner.Search.Nogoods.{used, Room};
 ghost use Rattle.matching.specs.Inner.Search.Pairs.{Joined};
 ghost use Rattle.matching.specs.Inner.Search.Needs.{NeedAt, Kept, WantedOver};
+ghost use Rattle.subsumption.specs.Lent.{before};
 
 // The pairs of variable k that the nogood at place c wants one of, if it is a need and none of them was met before; else no pairs.
 fn need_at(store: &[u64], c: usize, high: [u64; 8], low: [u64; 8], k: usize, met: u64) -> u64
     requires { ⌜ Room (now store) ⌝ }
     requires { ⌜ (c < used (now store)) × (k < 8) ⌝ }
     requires { ⌜ (length high ≡ 8) × (length low ≡ 8) ⌝ }
-    ensures { λ r. ⌜ NeedAt (now (store .entry)) c high low k met r ⌝ }
+    ensures { λ r. ⌜ NeedAt (before store) c high low k met r ⌝ }
 {
     let kept = store[c * 16 + 9 + k];
     let wanted = (kept | high[k]) ^ kept;
@@ -78,7 +79,7 @@ fn count_needs(
     requires { ⌜ Room (now store) ⌝ }
     requires { ⌜ (length full ≡ 8) × (length (interval .low) ≡ 8) × (length (interval .high) ≡ 8) × (k < 8) ⌝ }
     ensures { λ r. ⌜ (length (r .low) ≡ 8) × (length (r .high) ≡ 8) ⌝ }
-    ensures { λ r. ⌜ WantedOver (now (problem .entry)) (now (store .entry)) full (interval .low) (interval .high) (r .over) (r .low) (r .high) ⌝ }
+    ensures { λ r. ⌜ WantedOver (before problem) (before store) full (interval .low) (interval .high) (r .over) (r .low) (r .high) ⌝ }
 {
     let low = interval.low;
     let high = interval.high;
@@ -133,7 +134,7 @@ pub fn count_all(problem: &[u16], store: &[u64], full: [u64; 8], interval: Inter
     requires { ⌜ Room (now store) ⌝ }
     requires { ⌜ (length full ≡ 8) × (length (interval .low) ≡ 8) × (length (interval .high) ≡ 8) ⌝ }
     ensures { λ r. ⌜ (length (r .low) ≡ 8) × (length (r .high) ≡ 8) ⌝ }
-    ensures { λ r. ⌜ WantedOver (now (problem .entry)) (now (store .entry)) full (interval .low) (interval .high) (r .over) (r .low) (r .high) ⌝ }
+    ensures { λ r. ⌜ WantedOver (before problem) (before store) full (interval .low) (interval .high) (r .over) (r .low) (r .high) ⌝ }
 {
     let low = interval.low;
     let high = interval.high;

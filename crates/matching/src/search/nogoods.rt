@@ -6,10 +6,11 @@ ghost use mathlib.Core.Path.{_≡_};
 ghost use Prim.Native.Nat.{_+_, _<_, _≤_};
 ghost use lib.ListN.{length};
 ghost use Rattle.matching.specs.Inner.Search.Nogoods.{words, used, lowAt, highAt, Room, Put, Added};
+ghost use Rattle.subsumption.specs.Lent.{before, after};
 
 pub fn fetch(store: &[u64], at: usize) -> [u64; 8]
     requires { ⌜ at + 8 ≤ length (now store) ⌝ }
-    ensures { λ r. ⌜ r ≡ words (now (store .entry)) at ⌝ }
+    ensures { λ r. ⌜ r ≡ words (before store) at ⌝ }
 {
     let mut set = [0u64; 8];
     let mut k: usize = 0;
@@ -22,7 +23,7 @@ pub fn fetch(store: &[u64], at: usize) -> [u64; 8]
 
 pub fn put(store: &mut [u64], at: usize, set: [u64; 8])
     requires { ⌜ at + 8 ≤ length (now store) ⌝ }
-    ensures { λ _. ⌜ Put at set (now (store .entry)) (now (store .exit)) ⌝ }
+    ensures { λ _. ⌜ Put at set (before store) (after store) ⌝ }
 {
     let mut k: usize = 0;
     while k < 8 {
@@ -37,7 +38,7 @@ pub fn add(store: &mut [u64], scratch: &mut [u64], most: u64, full: [u64; 8], no
     requires { ⌜ most ≤ 1024 ⌝ }
     requires { ⌜ length (now scratch) ≡ 16977 ⌝ }
     requires { ⌜ (length (nogood .low) ≡ 8) × (length (nogood .high) ≡ 8) ⌝ }
-    ensures { λ _. ⌜ Added (nogood .low) (nogood .high) (now (store .entry)) (now (store .exit)) ⌝ }
+    ensures { λ _. ⌜ Added (nogood .low) (nogood .high) (before store) (after store) ⌝ }
 {
     let filled = store[0];
     if filled >= most {
@@ -55,7 +56,7 @@ pub fn add(store: &mut [u64], scratch: &mut [u64], most: u64, full: [u64; 8], no
 pub fn nogood_at(store: &[u64], c: usize) -> Interval
     requires { ⌜ Room (now store) ⌝ }
     requires { ⌜ c < used (now store) ⌝ }
-    ensures { λ r. ⌜ (r .low ≡ lowAt (now (store .entry)) c) × (r .high ≡ highAt (now (store .entry)) c) ⌝ }
+    ensures { λ r. ⌜ (r .low ≡ lowAt (before store) c) × (r .high ≡ highAt (before store) c) ⌝ }
 {
     let low = fetch(store, c * 16 + 1);
     let high = fetch(store, c * 16 + 9);

@@ -8,6 +8,7 @@ ghost use mathlib.Core.Path.{_≡_};
 ghost use lib.ListN.{length};
 ghost use Rattle.matching.specs.Inner.Search.Lent.{Lent};
 ghost use Rattle.matching.specs.Inner.Search.Order.{FirstOf};
+ghost use Rattle.subsumption.specs.Lent.{before};
 
 // `known` is any solution; the last one found is kept, so that a pair it leaves out costs nothing.
 pub fn first_solution(
@@ -20,7 +21,7 @@ pub fn first_solution(
 ) -> [u64; 8]
     requires { ⌜ Lent (now sets) (now problem) (now store) (now scratch) ⌝ }
     requires { ⌜ (length (start .low) ≡ 8) × (length (start .high) ≡ 8) × (length known ≡ 8) ⌝ }
-    ensures { λ r. ⌜ FirstOf (now (sets .entry)) (now (problem .entry)) (start .low) (start .high) (now (store .entry)) known r ⌝ }
+    ensures { λ r. ⌜ FirstOf (before sets) (before problem) (start .low) (start .high) (before store) known r ⌝ }
 {
     let full = start.high;
     let mut interval = start;

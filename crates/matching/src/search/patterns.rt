@@ -25,6 +25,7 @@ ghost use Prim.Native.Nat.{_*_, _+_, _<_, _≤_};
 ghost use lib.ListN.{length};
 ghost use Rattle.matching.specs.Inner.Search.Problem.{Numbers, Shaped, lineAt};
 ghost use Rattle.matching.specs.Inner.Search.Patterns.{ValueRead, BelowAll, AboveSome, Linked, Members, ClosedOnce, ClosedUp, Valued, ValuedIn, AllValued, Tested};
+ghost use Rattle.subsumption.specs.Lent.{before, after};
 
 const ALL: u64 = 18446744073709551615;
 
@@ -43,7 +44,7 @@ fn line_at(right: bool, id: usize) -> usize
 fn value_of(sets: &[u64], problem: &[u16], values: &[u64], right: bool, id: usize) -> Words
     requires { ⌜ Shaped (now sets) (now problem) ⌝ }
     requires { ⌜ (576 ≤ length (now values)) × (id < 192) ⌝ }
-    ensures { λ r. ⌜ ValueRead (now (sets .entry)) (now (problem .entry)) (now (values .entry)) right id r ⌝ }
+    ensures { λ r. ⌜ ValueRead (before sets) (before problem) (before values) right id r ⌝ }
 {
     if problem[HELD + id] == 1 {
         return words_at(values, id * 3);
@@ -54,7 +55,7 @@ fn value_of(sets: &[u64], problem: &[u16], values: &[u64], right: bool, id: usiz
 // What is below every chosen atom.
 fn below_all(sets: &[u64], problem: &[u16], choice: u64) -> Words
     requires { ⌜ Shaped (now sets) (now problem) ⌝ }
-    ensures { λ r. ⌜ BelowAll (now (sets .entry)) (now (problem .entry)) choice r ⌝ }
+    ensures { λ r. ⌜ BelowAll (before sets) (before problem) choice r ⌝ }
 {
     let mut common = Words {
         first: ALL,
@@ -73,7 +74,7 @@ fn below_all(sets: &[u64], problem: &[u16], choice: u64) -> Words
 // What is above some chosen atom.
 fn above_some(sets: &[u64], problem: &[u16], choice: u64) -> Words
     requires { ⌜ Shaped (now sets) (now problem) ⌝ }
-    ensures { λ r. ⌜ AboveSome (now (sets .entry)) (now (problem .entry)) choice r ⌝ }
+    ensures { λ r. ⌜ AboveSome (before sets) (before problem) choice r ⌝ }
 {
     let mut sum = Words {
         first: 0,
@@ -93,7 +94,7 @@ fn above_some(sets: &[u64], problem: &[u16], choice: u64) -> Words
 fn linked(sets: &[u64], problem: &[u16], inner: Words, right: bool, j: usize) -> Words
     requires { ⌜ Shaped (now sets) (now problem) ⌝ }
     requires { ⌜ j < 192 ⌝ }
-    ensures { λ r. ⌜ Linked (now (sets .entry)) (now (problem .entry)) inner right j r ⌝ }
+    ensures { λ r. ⌜ Linked (before sets) (before problem) inner right j r ⌝ }
 {
     let fits = fit_at(right, j);
     let mut sum = Words {
@@ -117,7 +118,7 @@ fn linked(sets: &[u64], problem: &[u16], inner: Words, right: bool, j: usize) ->
 fn has_members(problem: &[u16], x: Words, e: usize) -> bool
     requires { ⌜ Numbers (now problem) ⌝ }
     requires { ⌜ e < 192 ⌝ }
-    ensures { λ r. ⌜ Members (now (problem .entry)) x e r ⌝ }
+    ensures { λ r. ⌜ Members (before problem) x e r ⌝ }
 {
     let kind = problem[e * 3];
     if kind == 0 {
@@ -135,7 +136,7 @@ fn has_members(problem: &[u16], x: Words, e: usize) -> bool
 fn close_once(sets: &[u64], problem: &[u16], at: usize, x: Words) -> Words
     requires { ⌜ Shaped (now sets) (now problem) ⌝ }
     requires { ⌜ at + 3 ≤ 2496 ⌝ }
-    ensures { λ r. ⌜ ClosedOnce (now (sets .entry)) (now (problem .entry)) at x r ⌝ }
+    ensures { λ r. ⌜ ClosedOnce (before sets) (before problem) at x r ⌝ }
 {
     let mut sum = x;
     let mut e = next_in(sets, at, 0);
@@ -154,7 +155,7 @@ fn close_once(sets: &[u64], problem: &[u16], at: usize, x: Words) -> Words
 fn close_up(sets: &[u64], problem: &[u16], at: usize, x: Words) -> Words
     requires { ⌜ Shaped (now sets) (now problem) ⌝ }
     requires { ⌜ at + 3 ≤ 2496 ⌝ }
-    ensures { λ r. ⌜ ClosedUp (now (sets .entry)) (now (problem .entry)) at x r ⌝ }
+    ensures { λ r. ⌜ ClosedUp (before sets) (before problem) at x r ⌝ }
 {
     let mut sum = x;
     loop {
@@ -170,7 +171,7 @@ fn close_up(sets: &[u64], problem: &[u16], at: usize, x: Words) -> Words
 fn right_value(sets: &[u64], problem: &[u16], values: &[u64], choice: [u64; 8], j: usize) -> Words
     requires { ⌜ Shaped (now sets) (now problem) ⌝ }
     requires { ⌜ (576 ≤ length (now values)) × (j < 192) ⌝ }
-    ensures { λ r. ⌜ Valued (now (sets .entry)) (now (problem .entry)) (now (values .entry)) choice true j r ⌝ }
+    ensures { λ r. ⌜ Valued (before sets) (before problem) (before values) choice true j r ⌝ }
 {
     let kind = problem[j * 3];
     let inner = problem[j * 3 + 2] as usize;
@@ -199,7 +200,7 @@ fn left_value(
 ) -> Words
     requires { ⌜ Shaped (now sets) (now problem) ⌝ }
     requires { ⌜ (576 ≤ length (now values)) × (j < 192) × (m < 32) ⌝ }
-    ensures { λ r. ⌜ ValuedIn (now (sets .entry)) (now (problem .entry)) (now (values .entry)) choice m false j r ⌝ }
+    ensures { λ r. ⌜ ValuedIn (before sets) (before problem) (before values) choice m false j r ⌝ }
 {
     let kind = problem[j * 3];
     let inner = problem[j * 3 + 2] as usize;
@@ -227,7 +228,7 @@ fn make_values(
 )
     requires { ⌜ Shaped (now sets) (now problem) ⌝ }
     requires { ⌜ (576 ≤ length (now values)) × (m < 32) ⌝ }
-    ensures { λ _. ⌜ AllValued (now (sets .entry)) (now (problem .entry)) (now (values .exit)) choice m right ⌝ }
+    ensures { λ _. ⌜ AllValued (before sets) (before problem) (after values) choice m right ⌝ }
 {
     let cone = CONES + m * 3;
     let mut j = next_in(sets, cone, 0);
@@ -254,7 +255,7 @@ pub fn question_holds(
 ) -> bool
     requires { ⌜ Shaped (now sets) (now problem) ⌝ }
     requires { ⌜ (576 ≤ length (now values)) × (m < 32) ⌝ }
-    ensures { λ r. ⌜ Tested (now (sets .entry)) (now (problem .entry)) m choice r ⌝ }
+    ensures { λ r. ⌜ Tested (before sets) (before problem) m choice r ⌝ }
 {
     let left = problem[SIDES + m * 2] as usize;
     let right = problem[SIDES + m * 2 + 1] as usize;

@@ -32,8 +32,9 @@ ghost use mathlib.Core.Bool.{true, false};
 ghost use Prim.Native.Nat.{ℕ, _+_, _<_, _≤_};
 ghost use lib.Dec.{ltb};
 ghost use lib.ListN.{length, replicate};
+ghost use Rattle.subsumption.specs.Lent.{given, lent, before, after};
 ghost use Rattle.subsumption.specs.declared.refusal.Outcome.the-variants.{Done};
-ghost use Rattle.subsumption.specs.Tables.{tables, both, node};
+ghost use Rattle.subsumption.specs.Tables.{both, node};
 ghost use Rattle.subsumption.specs.Check.{tableFault};
 ghost use Rattle.subsumption.specs.Inner.Atoms.{Layered};
 ghost use Rattle.subsumption.specs.Inner.Listing.{Accepted};
@@ -45,7 +46,7 @@ ghost use Rattle.matching.specs.Inner.Search.Making.{CopiedAt, HeldNoted
 // ---- the numbers
 pub fn copy_at(from: &[u16], to: &mut [u16], at: usize)
     requires { ⌜ at + length (now from) ≤ length (now to) ⌝ }
-    ensures { λ _. ⌜ CopiedAt (now (from .entry)) at (now (to .entry)) (now (to .exit)) ⌝ }
+    ensures { λ _. ⌜ CopiedAt (before from) at (before to) (after to) ⌝ }
 {
     let mut p: usize = 0;
     while p < from.len() {
@@ -58,7 +59,7 @@ pub fn copy_at(from: &[u16], to: &mut [u16], at: usize)
 fn note_held(concepts: &[u16], problem: &mut [u16])
     requires { ⌜ Layered (now concepts) ⌝ }
     requires { ⌜ length (now problem) ≡ 971 ⌝ }
-    ensures { λ _. ⌜ HeldNoted (now (concepts .entry)) (now (problem .entry)) (now (problem .exit)) ⌝ }
+    ensures { λ _. ⌜ HeldNoted (before concepts) (before problem) (after problem) ⌝ }
 {
     let mut marks = [false; CONCEPTS];
     mark_variables(concepts, &mut marks);
@@ -110,7 +111,7 @@ fn note_variables(problem: &[u16], sets: &mut [u16])
 // The variables of each question, a hint for narrowing and widening.
 fn note_holds(problem: &mut [u16])
     requires { ⌜ length (now problem) ≡ 971 ⌝ }
-    ensures { λ _. ⌜ HintsNoted (now (problem .entry)) (now (problem .exit)) ⌝ }
+    ensures { λ _. ⌜ HintsNoted (before problem) (after problem) ⌝ }
 {
     let mut sets = [0u16; CONCEPTS];
     note_variables(problem, &mut sets);
@@ -134,7 +135,7 @@ fn note_numbers(concepts: &[u16], questions: &[u16], ids: &[u16], problem: &mut 
     requires { ⌜ Layered (now concepts) ⌝ }
     requires { ⌜ (length (now questions) ≤ 64) × (length (now ids) ≤ 64) ⌝ }
     requires { ⌜ now problem ≡ replicate 971 0 ⌝ }
-    ensures { λ _. ⌜ NumbersOf (now (concepts .entry)) (now (questions .entry)) (now (ids .entry)) (now (problem .exit)) ⌝ }
+    ensures { λ _. ⌜ NumbersOf (before concepts) (before questions) (before ids) (after problem) ⌝ }
 {
     copy_at(concepts, problem, 0);
     note_held(concepts, problem);
@@ -154,9 +155,9 @@ fn note_lines(
     variables: u16,
     square: &mut [u64],
 )
-    requires { ⌜ tableFault (tables (now concepts) (now inclusions) (now questions) (now roles) variables) ≡ Done ⌝ }
+    requires { ⌜ tableFault (given concepts inclusions questions roles variables) ≡ Done ⌝ }
     requires { ⌜ length (now square) ≡ 1152 ⌝ }
-    ensures { λ _. ⌜ LinesOf (tables (now (concepts .entry)) (now (inclusions .entry)) (now (questions .entry)) (now (roles .entry)) variables) (now (square .exit)) ⌝ }
+    ensures { λ _. ⌜ LinesOf (lent concepts inclusions questions roles variables) (after square) ⌝ }
 {
     let mut table = [0u8; TABLE];
     let nothing = [0u64; 8];
@@ -178,7 +179,7 @@ fn is_fitting(problem: &[u16], into: &[u64], count: usize, right: bool, j: usize
     requires { ⌜ Readable (now problem) count ⌝ }
     requires { ⌜ length (now into) ≡ 200 ⌝ }
     requires { ⌜ (j < count) × (e < count) × (kindAt (now problem) j ≡ 2) ⌝ }
-    ensures { λ r. ⌜ r ≡ fitsBy (now (problem .entry)) (now (into .entry)) right j e ⌝ }
+    ensures { λ r. ⌜ r ≡ fitsBy (before problem) (before into) right j e ⌝ }
 {
     if problem[e * 3] != 2 {
         return false;
@@ -199,7 +200,7 @@ fn note_fit(problem: &[u16], into: &[u64], count: usize, right: bool, j: usize, 
     requires { ⌜ length (now into) ≡ 200 ⌝ }
     requires { ⌜ (j < count) × (kindAt (now problem) j ≡ 2) ⌝ }
     requires { ⌜ length (now sets) ≡ 2496 ⌝ }
-    ensures { λ _. ⌜ Filled (fitAt right j) (λ q. both (ltb q count) (fitsBy (now (problem .entry)) (now (into .entry)) right j q)) (now (sets .entry)) (now (sets .exit)) ⌝ }
+    ensures { λ _. ⌜ Filled (fitAt right j) (λ q. both (ltb q count) (fitsBy (before problem) (before into) right j q)) (before sets) (after sets) ⌝ }
 {
     let at = fit_at(right, j);
     let mut e: usize = 0;
@@ -216,7 +217,7 @@ fn note_fits(problem: &[u16], into: &[u64], count: usize, right: bool, sets: &mu
     requires { ⌜ Readable (now problem) count ⌝ }
     requires { ⌜ length (now into) ≡ 200 ⌝ }
     requires { ⌜ length (now sets) ≡ 2496 ⌝ }
-    ensures { λ _. ⌜ FitsNoted (now (problem .entry)) (now (into .entry)) count right (now (sets .entry)) (now (sets .exit)) ⌝ }
+    ensures { λ _. ⌜ FitsNoted (before problem) (before into) count right (before sets) (after sets) ⌝ }
 {
     let mut j: usize = 0;
     while j < count {
@@ -234,7 +235,7 @@ fn note_fits(problem: &[u16], into: &[u64], count: usize, right: bool, sets: &mu
 fn is_closer(problem: &[u16], e: usize) -> bool
     requires { ⌜ length (now problem) ≡ 971 ⌝ }
     requires { ⌜ e < 192 ⌝ }
-    ensures { λ r. ⌜ r ≡ isCloser (now (problem .entry)) e ⌝ }
+    ensures { λ r. ⌜ r ≡ isCloser (before problem) e ⌝ }
 {
     if problem[HELD + e] == 1 {
         return false;
@@ -250,7 +251,7 @@ fn mark_held(problem: &[u16], sets: &mut [u64], at: usize, id: usize)
     requires { ⌜ length (now problem) ≡ 971 ⌝ }
     requires { ⌜ at + 3 ≤ length (now sets) ⌝ }
     requires { ⌜ id < 192 ⌝ }
-    ensures { λ _. ⌜ Filled at (heldId (now (problem .entry)) id) (now (sets .entry)) (now (sets .exit)) ⌝ }
+    ensures { λ _. ⌜ Filled at (heldId (before problem) id) (before sets) (after sets) ⌝ }
 {
     if problem[HELD + id] == 1 {
         insert(sets, at, id);
@@ -262,7 +263,7 @@ fn mark_inside(problem: &[u16], sets: &mut [u64], at: usize, i: usize)
     requires { ⌜ length (now problem) ≡ 971 ⌝ }
     requires { ⌜ at + 3 ≤ length (now sets) ⌝ }
     requires { ⌜ (i < 192) × Rising i (node (now problem) i) ⌝ }
-    ensures { λ _. ⌜ Filled at (heldInside (now (problem .entry)) i) (now (sets .entry)) (now (sets .exit)) ⌝ }
+    ensures { λ _. ⌜ Filled at (heldInside (before problem) i) (before sets) (after sets) ⌝ }
 {
     let kind = problem[i * 3];
     if kind == 3 {
@@ -281,7 +282,7 @@ fn note_cone(problem: &[u16], count: usize, m: usize, sets: &mut [u64])
     requires { ⌜ m < questionCount (now problem) ⌝ }
     requires { ⌜ length (now sets) ≡ 2496 ⌝ }
     requires { ⌜ ((q : ℕ) → q < 192 → onLine (now sets) (coneAt m) q ≡ false) ⌝ }
-    ensures { λ _. ⌜ ConeNoted (now (problem .entry)) count m (now (sets .entry)) (now (sets .exit)) ⌝ }
+    ensures { λ _. ⌜ ConeNoted (before problem) count m (before sets) (after sets) ⌝ }
 {
     let at = CONES + m * 3;
     mark_held(problem, sets, at, problem[SIDES + m * 2] as usize);
@@ -299,7 +300,7 @@ fn note_cones(problem: &[u16], count: usize, sets: &mut [u64])
     requires { ⌜ Readable (now problem) count ⌝ }
     requires { ⌜ length (now sets) ≡ 2496 ⌝ }
     requires { ⌜ NoCones (now sets) ⌝ }
-    ensures { λ _. ⌜ ConesNoted (now (problem .entry)) count (now (sets .entry)) (now (sets .exit)) ⌝ }
+    ensures { λ _. ⌜ ConesNoted (before problem) count (before sets) (after sets) ⌝ }
 {
     let rows = problem[QUESTION_COUNT] as usize;
     let mut m: usize = 0;
@@ -314,8 +315,8 @@ fn note_cones(problem: &[u16], count: usize, sets: &mut [u64])
 fn want_inner(sets: &[u64], problem: &[u16], j: usize, wanted: &mut [u64])
     requires { ⌜ Shaped (now sets) (now problem) ⌝ }
     requires { ⌜ (j < 192) × (length (now wanted) ≡ 3) ⌝ }
-    ensures { λ _. ⌜ Grew (now (wanted .entry)) (now (wanted .exit)) ⌝ }
-    ensures { λ _. ⌜ WantsInner (now (sets .entry)) (now (problem .entry)) j (now (wanted .exit)) ⌝ }
+    ensures { λ _. ⌜ Grew (before wanted) (after wanted) ⌝ }
+    ensures { λ _. ⌜ WantsInner (before sets) (before problem) j (after wanted) ⌝ }
 {
     let at = FITS_LEFT + j * 3;
     let mut e = next_in(sets, at, 0);
@@ -330,7 +331,7 @@ fn want_inner(sets: &[u64], problem: &[u16], j: usize, wanted: &mut [u64])
 fn want_asked(sets: &[u64], problem: &[u16], m: usize, wanted: &mut [u64])
     requires { ⌜ Shaped (now sets) (now problem) ⌝ }
     requires { ⌜ (m < 32) × (length (now wanted) ≡ 3) ⌝ }
-    ensures { λ _. ⌜ AskedFor (now (sets .entry)) (now (problem .entry)) m (now (wanted .exit)) ⌝ }
+    ensures { λ _. ⌜ AskedFor (before sets) (before problem) m (after wanted) ⌝ }
 {
     insert(wanted, 0, problem[SIDES + m * 2 + 1] as usize);
     let cone = CONES + m * 3;
@@ -346,7 +347,7 @@ fn want_asked(sets: &[u64], problem: &[u16], m: usize, wanted: &mut [u64])
 fn is_covered(sets: &[u64], problem: &[u16], wanted: &[u64], e: usize) -> bool
     requires { ⌜ Shaped (now sets) (now problem) ⌝ }
     requires { ⌜ (e < 192) × (length (now wanted) ≡ 3) ⌝ }
-    ensures { λ r. ⌜ (r ≡ true → Covered (now (sets .entry)) (now (problem .entry)) (onLine (now (wanted .entry)) 0) e) ⌝ }
+    ensures { λ r. ⌜ (r ≡ true → Covered (before sets) (before problem) (onLine (before wanted) 0) e) ⌝ }
 {
     let row = words_at(sets, e * 3);
     let asked = meet(row, words_at(wanted, 0));
@@ -369,7 +370,7 @@ fn is_new(sets: &[u64], problem: &[u16], at: usize, wanted: &[u64], e: usize) ->
     requires { ⌜ Shaped (now sets) (now problem) ⌝ }
     requires { ⌜ (e < 192) × (length (now wanted) ≡ 3) ⌝ }
     requires { ⌜ at + 3 ≤ 2496 ⌝ }
-    ensures { λ r. ⌜ NewAt (now (sets .entry)) (now (problem .entry)) at (now (wanted .entry)) e r ⌝ }
+    ensures { λ r. ⌜ NewAt (before sets) (before problem) at (before wanted) e r ⌝ }
 {
     if has(sets, at, e) {
         return false;
@@ -395,7 +396,7 @@ fn next_new(
     requires { ⌜ Shaped (now sets) (now problem) ⌝ }
     requires { ⌜ (count ≤ 192) × (from ≤ count) × (length (now wanted) ≡ 3) ⌝ }
     requires { ⌜ at + 3 ≤ 2496 ⌝ }
-    ensures { λ r. ⌜ NextNew (now (sets .entry)) (now (problem .entry)) count at (now (wanted .entry)) from r ⌝ }
+    ensures { λ r. ⌜ NextNew (before sets) (before problem) count at (before wanted) from r ⌝ }
 {
     let mut e = from;
     while e < count {
@@ -412,7 +413,7 @@ fn keep(sets: &mut [u64], problem: &[u16], at: usize, wanted: &mut [u64], e: usi
     requires { ⌜ Numbers (now problem) ⌝ }
     requires { ⌜ (e < 192) × (length (now wanted) ≡ 3) ⌝ }
     requires { ⌜ at + 3 ≤ length (now sets) ⌝ }
-    ensures { λ _. ⌜ Kept (now (problem .entry)) at e (now (sets .entry)) (now (sets .exit)) (now (wanted .entry)) (now (wanted .exit)) ⌝ }
+    ensures { λ _. ⌜ Kept (before problem) at e (before sets) (after sets) (before wanted) (after wanted) ⌝ }
 {
     insert(sets, at, e);
     if problem[e * 3] == 3 {
@@ -427,7 +428,7 @@ fn keep_all(sets: &mut [u64], problem: &[u16], count: usize, at: usize, wanted: 
     requires { ⌜ (count ≤ 192) × (length (now wanted) ≡ 3) ⌝ }
     requires { ⌜ (at + 3 ≤ 2496) × (2400 ≤ at) ⌝ }
     requires { ⌜ ((q : ℕ) → q < 192 → onLine (now sets) at q ≡ false) ⌝ }
-    ensures { λ _. ⌜ KeptAll (now (problem .entry)) count at (now (sets .entry)) (now (sets .exit)) (now (wanted .entry)) (now (wanted .exit)) ⌝ }
+    ensures { λ _. ⌜ KeptAll (before problem) count at (before sets) (after sets) (before wanted) (after wanted) ⌝ }
 {
     let mut from: usize = 0;
     loop {
@@ -449,7 +450,7 @@ fn note_closers_of(sets: &mut [u64], problem: &[u16], count: usize, m: usize)
     requires { ⌜ Shaped (now sets) (now problem) ⌝ }
     requires { ⌜ (count ≤ 192) × (m < 32) ⌝ }
     requires { ⌜ ((q : ℕ) → q < 192 → onLine (now sets) (closersAt m) q ≡ false) ⌝ }
-    ensures { λ _. ⌜ ClosersNoted (now (problem .entry)) count m (now (sets .entry)) (now (sets .exit)) ⌝ }
+    ensures { λ _. ⌜ ClosersNoted (before problem) count m (before sets) (after sets) ⌝ }
 {
     let mut wanted = [0u64; 3];
     want_asked(sets, problem, m, &mut wanted);
@@ -460,7 +461,7 @@ fn note_closers(problem: &[u16], count: usize, sets: &mut [u64])
     requires { ⌜ Shaped (now sets) (now problem) ⌝ }
     requires { ⌜ count ≤ 192 ⌝ }
     requires { ⌜ NoClosers (now sets) ⌝ }
-    ensures { λ _. ⌜ AllClosers (now (problem .entry)) count (now (sets .entry)) (now (sets .exit)) ⌝ }
+    ensures { λ _. ⌜ AllClosers (before problem) count (before sets) (after sets) ⌝ }
 {
     let rows = problem[QUESTION_COUNT] as usize;
     let mut m: usize = 0;
@@ -481,11 +482,11 @@ pub fn make_problem(
     sets: &mut [u64],
     problem: &mut [u16],
 )
-    requires { ⌜ Accepted (tables (now concepts) (now inclusions) (now questions) (now roles) variables) (now ids) ⌝ }
+    requires { ⌜ Accepted (given concepts inclusions questions roles variables) (now ids) ⌝ }
     requires { ⌜ now sets ≡ replicate 2496 0 ⌝ }
     requires { ⌜ now problem ≡ replicate 971 0 ⌝ }
-    ensures { λ _. ⌜ Shaped (now (sets .exit)) (now (problem .exit)) ⌝ }
-    ensures { λ _. ⌜ Problem (tables (now (concepts .entry)) (now (inclusions .entry)) (now (questions .entry)) (now (roles .entry)) variables) (now (sets .exit)) (now (problem .exit)) ⌝ }
+    ensures { λ _. ⌜ Shaped (after sets) (after problem) ⌝ }
+    ensures { λ _. ⌜ Problem (lent concepts inclusions questions roles variables) (after sets) (after problem) ⌝ }
 {
     note_numbers(concepts, questions, ids, problem);
     note_lines(

@@ -4,6 +4,7 @@ use crate::limits::FITS_RIGHT;
 ghost use mathlib.Core.Path.{_≡_};
 ghost use Prim.Native.Nat.{ℕ, _+_, _<_, _≤_};
 ghost use lib.ListN.{length};
+ghost use Rattle.subsumption.specs.Lent.{before, after};
 ghost use Rattle.subsumption.specs.Tables.{both};
 ghost use Rattle.matching.specs.Inner.Search.Problem.{fitAt};
 ghost use Rattle.matching.specs.Inner.Search.Sets.{inWords, NextBit, NextIn, Same, Joined, Compared, PutAt};
@@ -44,7 +45,7 @@ pub fn next_bit(word: u64, from: usize) -> usize
 pub fn next_in(sets: &[u64], at: usize, from: usize) -> usize
     requires { ⌜ at + 3 ≤ length (now sets) ⌝ }
     requires { ⌜ from ≤ 192 ⌝ }
-    ensures { λ r. ⌜ NextIn (now (sets .entry)) at from r ⌝ }
+    ensures { λ r. ⌜ NextIn (before sets) at from r ⌝ }
 {
     let mut w = from / 64;
     let mut start = from % 64;
@@ -62,7 +63,7 @@ pub fn next_in(sets: &[u64], at: usize, from: usize) -> usize
 // The set that starts at that word.
 pub fn words_at(sets: &[u64], at: usize) -> Words
     requires { ⌜ at + 3 ≤ length (now sets) ⌝ }
-    ensures { λ r. ⌜ Same r (now (sets .entry)) at ⌝ }
+    ensures { λ r. ⌜ Same r (before sets) at ⌝ }
 {
     Words {
         first: sets[at],
@@ -118,7 +119,7 @@ pub fn is_same(a: Words, b: Words) -> bool
 
 pub fn put_words(values: &mut [u64], at: usize, a: Words)
     requires { ⌜ at + 3 ≤ length (now values) ⌝ }
-    ensures { λ _. ⌜ PutAt (now (values .entry)) (now (values .exit)) at a ⌝ }
+    ensures { λ _. ⌜ PutAt (before values) (after values) at a ⌝ }
 {
     values[at] = a.first;
     values[at + 1] = a.second;

@@ -41,6 +41,7 @@ ghost use Rattle.matching.specs.Inner.Search.Interval.{undecided};
 ghost use Rattle.matching.specs.Inner.Search.Lent.{Lent};
 ghost use Rattle.matching.specs.Inner.Search.Nogoods.{Room};
 ghost use Rattle.matching.specs.Inner.Search.Solve.{FailingOf, Failing, RefutedBy, Searched, Answers, CanSplit, Recalled, Merged};
+ghost use Rattle.subsumption.specs.Lent.{before, after};
 
 const ALL: u64 = 18446744073709551615;
 // How many nogoods are kept: of those that tests cost all, of those that come by merging only while there is much room.
@@ -68,7 +69,7 @@ pub fn failing_of(
 ) -> usize
     requires { ⌜ Shaped (now sets) (now problem) ⌝ }
     requires { ⌜ length (now scratch) ≡ 16977 ⌝ }
-    ensures { λ r. ⌜ FailingOf (now (sets .entry)) (now (problem .entry)) choice right r ⌝ }
+    ensures { λ r. ⌜ FailingOf (before sets) (before problem) choice right r ⌝ }
 {
     let count = problem[QUESTION_COUNT] as usize;
     let mut m: usize = 0;
@@ -94,7 +95,7 @@ pub fn failing_of(
 fn failing(sets: &[u64], problem: &[u16], scratch: &mut [u64], choice: [u64; 8]) -> usize
     requires { ⌜ Shaped (now sets) (now problem) ⌝ }
     requires { ⌜ length (now scratch) ≡ 16977 ⌝ }
-    ensures { λ r. ⌜ Failing (now (sets .entry)) (now (problem .entry)) choice r ⌝ }
+    ensures { λ r. ⌜ Failing (before sets) (before problem) choice r ⌝ }
 {
     let first = failing_of(sets, problem, scratch, choice, true);
     if first < problem[QUESTION_COUNT] as usize {
@@ -116,7 +117,7 @@ fn refute(
     requires { ⌜ (length (now scratch) ≡ 16977) × (m < questionCount (now problem)) ⌝ }
     requires { ⌜ (length full ≡ 8) × (length low ≡ 8) ⌝ }
     ensures { λ r. ⌜ (length (r .low) ≡ 8) × (length (r .high) ≡ 8) ⌝ }
-    ensures { λ r. ⌜ RefutedBy (now (sets .entry)) (now (problem .entry)) full low m (r .low) (r .high) ⌝ }
+    ensures { λ r. ⌜ RefutedBy (before sets) (before problem) full low m (r .low) (r .high) ⌝ }
 {
     let empty = [0u64; 8];
     let side = problem[SIDES + m * 2 + 1] as usize;
@@ -146,8 +147,8 @@ fn try_low(
     requires { ⌜ Lent (now sets) (now problem) (now store) (now scratch) ⌝ }
     requires { ⌜ (length full ≡ 8) × (length low ≡ 8) ⌝ }
     ensures { λ r. ⌜ (length (r .low) ≡ 8) × (length (r .high) ≡ 8) ⌝ }
-    ensures { λ _. ⌜ Room (now (store .exit)) ⌝ }
-    ensures { λ r. ⌜ Searched (now (sets .entry)) (now (problem .entry)) full low low (now (store .entry)) (now (store .exit)) (λ t. Answers t (now (problem .entry)) low low (r .found) (r .low) (r .high)) ⌝ }
+    ensures { λ _. ⌜ Room (after store) ⌝ }
+    ensures { λ r. ⌜ Searched (before sets) (before problem) full low low (before store) (after store) (λ t. Answers t (before problem) low low (r .found) (r .low) (r .high)) ⌝ }
 {
     if !is_few(&problem[MOST..ASKED], low) {
         return Answer {
@@ -240,9 +241,9 @@ fn step_by_test(
     requires { ⌜ Lent (now sets) (now problem) (now store) (now scratch) ⌝ }
     requires { ⌜ (length full ≡ 8) × (length (interval .low) ≡ 8) × (length (interval .high) ≡ 8) ⌝ }
     ensures { λ r. ⌜ (length (r .low) ≡ 8) × (length (r .high) ≡ 8) ⌝ }
-    ensures { λ _. ⌜ Room (now (store .exit)) ⌝ }
+    ensures { λ _. ⌜ Room (after store) ⌝ }
     ensures { λ r. ⌜ (r .done ≡ false → (r .pair < 512) × (undecided (interval .low) (interval .high) (r .pair) ≡ true)) ⌝ }
-    ensures { λ r. ⌜ Searched (now (sets .entry)) (now (problem .entry)) full (interval .low) (interval .high) (now (store .entry)) (now (store .exit)) (λ t. r .done ≡ true → Answers t (now (problem .entry)) (interval .low) (interval .high) (r .found) (r .low) (r .high)) ⌝ }
+    ensures { λ r. ⌜ Searched (before sets) (before problem) full (interval .low) (interval .high) (before store) (after store) (λ t. r .done ≡ true → Answers t (before problem) (interval .low) (interval .high) (r .found) (r .low) (r .high)) ⌝ }
 {
     let low = interval.low;
     let high = interval.high;
@@ -271,7 +272,7 @@ fn look_up(store: &[u64], place: usize, interval: Interval) -> Nogood
     requires { ⌜ Room (now store) ⌝ }
     requires { ⌜ (length (interval .low) ≡ 8) × (length (interval .high) ≡ 8) ⌝ }
     ensures { λ r. ⌜ (length (r .low) ≡ 8) × (length (r .high) ≡ 8) ⌝ }
-    ensures { λ r. ⌜ Recalled (now (store .entry)) (interval .low) (interval .high) (r .shut) (r .low) (r .high) ⌝ }
+    ensures { λ r. ⌜ Recalled (before store) (interval .low) (interval .high) (r .shut) (r .low) (r .high) ⌝ }
 {
     let low = interval.low;
     let high = interval.high;
@@ -314,9 +315,9 @@ fn step_by_choice(
     requires { ⌜ Lent (now sets) (now problem) (now store) (now scratch) ⌝ }
     requires { ⌜ (length full ≡ 8) × (length (interval .low) ≡ 8) × (length (interval .high) ≡ 8) ⌝ }
     ensures { λ r. ⌜ (length (r .low) ≡ 8) × (length (r .high) ≡ 8) ⌝ }
-    ensures { λ _. ⌜ Room (now (store .exit)) ⌝ }
+    ensures { λ _. ⌜ Room (after store) ⌝ }
     ensures { λ r. ⌜ (r .done ≡ false → (r .pair < 512) × (undecided (interval .low) (interval .high) (r .pair) ≡ true)) ⌝ }
-    ensures { λ r. ⌜ Searched (now (sets .entry)) (now (problem .entry)) full (interval .low) (interval .high) (now (store .entry)) (now (store .exit)) (λ t. r .done ≡ true → Answers t (now (problem .entry)) (interval .low) (interval .high) (r .found) (r .low) (r .high)) ⌝ }
+    ensures { λ r. ⌜ Searched (before sets) (before problem) full (interval .low) (interval .high) (before store) (after store) (λ t. r .done ≡ true → Answers t (before problem) (interval .low) (interval .high) (r .found) (r .low) (r .high)) ⌝ }
 {
     let hint = choose(store, scratch, interval);
     let known = look_up(store, hint.place, interval);
@@ -344,9 +345,9 @@ fn step_by_hint(
     requires { ⌜ Lent (now sets) (now problem) (now store) (now scratch) ⌝ }
     requires { ⌜ (length full ≡ 8) × (length (interval .low) ≡ 8) × (length (interval .high) ≡ 8) ⌝ }
     ensures { λ r. ⌜ (length (r .low) ≡ 8) × (length (r .high) ≡ 8) ⌝ }
-    ensures { λ _. ⌜ Room (now (store .exit)) ⌝ }
+    ensures { λ _. ⌜ Room (after store) ⌝ }
     ensures { λ r. ⌜ (r .done ≡ false → (r .pair < 512) × (undecided (interval .low) (interval .high) (r .pair) ≡ true)) ⌝ }
-    ensures { λ r. ⌜ Searched (now (sets .entry)) (now (problem .entry)) full (interval .low) (interval .high) (now (store .entry)) (now (store .exit)) (λ t. r .done ≡ true → Answers t (now (problem .entry)) (interval .low) (interval .high) (r .found) (r .low) (r .high)) ⌝ }
+    ensures { λ r. ⌜ Searched (before sets) (before problem) full (interval .low) (interval .high) (before store) (after store) (λ t. r .done ≡ true → Answers t (before problem) (interval .low) (interval .high) (r .found) (r .low) (r .high)) ⌝ }
 {
     let known = look_up(store, scratch[HINT] as usize, interval);
     let low = known.low;
@@ -369,9 +370,9 @@ fn step_by_clamp(
     requires { ⌜ Lent (now sets) (now problem) (now store) (now scratch) ⌝ }
     requires { ⌜ (length full ≡ 8) × (length (interval .low) ≡ 8) × (length (interval .high) ≡ 8) ⌝ }
     ensures { λ r. ⌜ (length (r .low) ≡ 8) × (length (r .high) ≡ 8) ⌝ }
-    ensures { λ _. ⌜ Room (now (store .exit)) ⌝ }
+    ensures { λ _. ⌜ Room (after store) ⌝ }
     ensures { λ r. ⌜ (r .done ≡ false → (r .pair < 512) × (undecided (interval .low) (interval .high) (r .pair) ≡ true)) ⌝ }
-    ensures { λ r. ⌜ Searched (now (sets .entry)) (now (problem .entry)) full (interval .low) (interval .high) (now (store .entry)) (now (store .exit)) (λ t. r .done ≡ true → Answers t (now (problem .entry)) (interval .low) (interval .high) (r .found) (r .low) (r .high)) ⌝ }
+    ensures { λ r. ⌜ Searched (before sets) (before problem) full (interval .low) (interval .high) (before store) (after store) (λ t. r .done ≡ true → Answers t (before problem) (interval .low) (interval .high) (r .found) (r .low) (r .high)) ⌝ }
 {
     let low = interval.low;
     let high = interval.high;
@@ -425,9 +426,9 @@ fn next_step(
     requires { ⌜ Lent (now sets) (now problem) (now store) (now scratch) ⌝ }
     requires { ⌜ (length full ≡ 8) × (length (interval .low) ≡ 8) × (length (interval .high) ≡ 8) ⌝ }
     ensures { λ r. ⌜ (length (r .low) ≡ 8) × (length (r .high) ≡ 8) ⌝ }
-    ensures { λ _. ⌜ Room (now (store .exit)) ⌝ }
+    ensures { λ _. ⌜ Room (after store) ⌝ }
     ensures { λ r. ⌜ (r .done ≡ false → (r .pair < 512) × (undecided (interval .low) (interval .high) (r .pair) ≡ true)) ⌝ }
-    ensures { λ r. ⌜ Searched (now (sets .entry)) (now (problem .entry)) full (interval .low) (interval .high) (now (store .entry)) (now (store .exit)) (λ t. r .done ≡ true → Answers t (now (problem .entry)) (interval .low) (interval .high) (r .found) (r .low) (r .high)) ⌝ }
+    ensures { λ r. ⌜ Searched (before sets) (before problem) full (interval .low) (interval .high) (before store) (after store) (λ t. r .done ≡ true → Answers t (before problem) (interval .low) (interval .high) (r .found) (r .low) (r .high)) ⌝ }
 {
     if !is_bounded(problem, full) {
         return step_by_hint(sets, problem, store, scratch, full, interval);
@@ -480,8 +481,8 @@ pub fn some_solution(
     requires { ⌜ Lent (now sets) (now problem) (now store) (now scratch) ⌝ }
     requires { ⌜ (length full ≡ 8) × (length (interval .low) ≡ 8) × (length (interval .high) ≡ 8) ⌝ }
     ensures { λ r. ⌜ (length (r .low) ≡ 8) × (length (r .high) ≡ 8) ⌝ }
-    ensures { λ _. ⌜ Room (now (store .exit)) ⌝ }
-    ensures { λ r. ⌜ Searched (now (sets .entry)) (now (problem .entry)) full (interval .low) (interval .high) (now (store .entry)) (now (store .exit)) (λ t. Answers t (now (problem .entry)) (interval .low) (interval .high) (r .found) (r .low) (r .high)) ⌝ }
+    ensures { λ _. ⌜ Room (after store) ⌝ }
+    ensures { λ r. ⌜ Searched (before sets) (before problem) full (interval .low) (interval .high) (before store) (after store) (λ t. Answers t (before problem) (interval .low) (interval .high) (r .found) (r .low) (r .high)) ⌝ }
 {
     let step = next_step(sets, problem, store, scratch, full, interval);
     if step.done {

@@ -10,6 +10,7 @@ ghost use Prim.Native.Nat.{_≤_, _<_};
 ghost use lib.ListN.{length};
 ghost use Rattle.matching.specs.Inner.Search.Problem.{Shaped};
 ghost use Rattle.matching.specs.Inner.Search.Widen.{Mixed, StillFails};
+ghost use Rattle.subsumption.specs.Lent.{before};
 
 const ALL: u64 = 18446744073709551615;
 
@@ -117,7 +118,7 @@ fn widen_runs(
     requires { ⌜ (length (now scratch) ≡ 16977) × (m < 32) ⌝ }
     requires { ⌜ (length choice ≡ 8) × (length target ≡ 8) ⌝ }
     ensures { λ r. ⌜ Mixed choice target r ⌝ }
-    ensures { λ r. ⌜ StillFails (now (sets .entry)) (now (problem .entry)) m choice target r ⌝ }
+    ensures { λ r. ⌜ StillFails (before sets) (before problem) m choice target r ⌝ }
 {
     let mut failing = choice;
     let mut from: usize = 0;
@@ -158,7 +159,7 @@ pub fn widen(
     requires { ⌜ (length (now scratch) ≡ 16977) × (m < 32) ⌝ }
     requires { ⌜ (length choice ≡ 8) × (length target ≡ 8) ⌝ }
     ensures { λ r. ⌜ Mixed choice target r ⌝ }
-    ensures { λ r. ⌜ StillFails (now (sets .entry)) (now (problem .entry)) m choice target r ⌝ }
+    ensures { λ r. ⌜ StillFails (before sets) (before problem) m choice target r ⌝ }
 {
     let own = with_others(choice, target, problem[HOLDS + m]);
     if question_holds(sets, problem, scratch, m, own) {

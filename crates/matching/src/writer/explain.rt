@@ -7,6 +7,7 @@ use crate::writer::propose::right_of;
 use crate::writer::propose::rule_of;
 use subsumption::helpers::row_at;
 ghost use Prim.Native.Nat.{_<_, _≤_};
+ghost use Rattle.subsumption.specs.Lent.{before};
 ghost use Rattle.subsumption.specs.Tables.{countOf, pairsOf};
 ghost use mathlib.Core.Path.{_≡_};
 ghost use lib.ListN.{length};
@@ -35,7 +36,7 @@ pub enum Next {
 fn extras(concepts: &[u16], inclusions: &[u16], rule: usize, left: usize) -> usize
     requires { ⌜ (countOf (now concepts) ≤ 192) × (pairsOf (now inclusions) ≤ 192) ⌝ }
     requires { ⌜ left < countOf (now concepts) ⌝ }
-    ensures { λ r. ⌜ ExtraBound (now (concepts .entry)) (now (inclusions .entry)) rule left r ⌝ }
+    ensures { λ r. ⌜ ExtraBound (before concepts) (before inclusions) rule left r ⌝ }
 {
     if rule == 3 {
         return 2;
@@ -70,7 +71,7 @@ fn try_rule(
     requires { ⌜ Square (countOf (now concepts)) (now marks) ⌝ }
     requires { ⌜ (left < countOf (now concepts)) × (right < countOf (now concepts)) ⌝ }
     requires { ⌜ rule < 9 ⌝ }
-    ensures { λ r. ⌜ Tried (now (concepts .entry)) (now (inclusions .entry)) (now (into .entry)) (now (atoms .entry)) (now (assignment .entry)) (now (marks .entry)) rule left right r ⌝ }
+    ensures { λ r. ⌜ Tried (before concepts) (before inclusions) (before into) (before atoms) (before assignment) (before marks) rule left right r ⌝ }
 {
     let bound = extras(concepts, inclusions, rule, left);
     let mut extra = 0;
@@ -109,7 +110,7 @@ fn explain(
     requires { ⌜ length (now into) ≡ 200 ⌝ }
     requires { ⌜ Square (countOf (now concepts)) (now marks) ⌝ }
     requires { ⌜ (left < countOf (now concepts)) × (right < countOf (now concepts)) ⌝ }
-    ensures { λ r. ⌜ Explained (now (concepts .entry)) (now (inclusions .entry)) (now (into .entry)) (now (atoms .entry)) (now (assignment .entry)) (now (marks .entry)) left right r ⌝ }
+    ensures { λ r. ⌜ Explained (before concepts) (before inclusions) (before into) (before atoms) (before assignment) (before marks) left right r ⌝ }
 {
     let mut rule = 1;
     while rule < 9 {
@@ -145,7 +146,7 @@ pub fn test_line(
     requires { ⌜ Grounds (now concepts) (now inclusions) (now atoms) (now assignment) ⌝ }
     requires { ⌜ length (now into) ≡ 200 ⌝ }
     requires { ⌜ Square (countOf (now concepts)) (now marks) ⌝ }
-    ensures { λ r. ⌜ Tested (now (concepts .entry)) (now (inclusions .entry)) (now (into .entry)) (now (atoms .entry)) (now (assignment .entry)) (now (marks .entry)) r ⌝ }
+    ensures { λ r. ⌜ Tested (before concepts) (before inclusions) (before into) (before atoms) (before assignment) (before marks) r ⌝ }
 {
     let count = concepts.len() / 3;
     let rule = rule_of(line) as usize;
@@ -197,7 +198,7 @@ pub fn next_line(
     requires { ⌜ Grounds (now concepts) (now inclusions) (now atoms) (now assignment) ⌝ }
     requires { ⌜ length (now into) ≡ 200 ⌝ }
     requires { ⌜ Square (countOf (now concepts)) (now marks) ⌝ }
-    ensures { λ r. ⌜ Found (now (concepts .entry)) (now (inclusions .entry)) (now (into .entry)) (now (atoms .entry)) (now (assignment .entry)) (now (marks .entry)) from r ⌝ }
+    ensures { λ r. ⌜ Found (before concepts) (before inclusions) (before into) (before atoms) (before assignment) (before marks) from r ⌝ }
 {
     let count = concepts.len() / 3;
     let size = count * count;

@@ -3,6 +3,7 @@ ghost use mathlib.Core.Path.{_≡_};
 ghost use Prim.Native.Nat.{ℕ, _<_};
 ghost use mathlib.Core.Bool.{true};
 ghost use mathlib.Core.List.{List·Memᴰ};
+ghost use Rattle.subsumption.specs.Lent.{before, after};
 ghost use Rattle.subsumption.specs.Atoms.{pick};
 ghost use lib.ListN.{length};
 ghost use Rattle.subsumption.specs.Inner.Columns.{has, Absorbs, Takes, inThree, Known, Common};
@@ -12,7 +13,7 @@ const ALL: u64 = 18446744073709551615;
 // The one place that changes a column.
 fn absorb(columns: &mut [u64], at: usize, add: u64) -> bool
     requires { ⌜ at < length (now columns) ⌝ }
-    ensures { λ r. ⌜ Absorbs (now (columns .entry)) (now (columns .exit)) at add r ⌝ }
+    ensures { λ r. ⌜ Absorbs (before columns) (after columns) at add r ⌝ }
 {
     let old = columns[at];
     let new = old | add;
@@ -23,7 +24,7 @@ fn absorb(columns: &mut [u64], at: usize, add: u64) -> bool
 pub fn take(columns: &mut [u64], to: usize, first: u64, second: u64, third: u64) -> bool
     requires { ⌜ length (now columns) ≡ 576 ⌝ }
     requires { ⌜ to < 192 ⌝ }
-    ensures { λ r. ⌜ Takes (now (columns .entry)) (now (columns .exit)) (λ j. j ≡ to) (inThree first second third) r ⌝ }
+    ensures { λ r. ⌜ Takes (before columns) (after columns) (λ j. j ≡ to) (inThree first second third) r ⌝ }
 {
     let a = absorb(columns, to * 3, first);
     let b = absorb(columns, to * 3 + 1, second);
@@ -35,7 +36,7 @@ pub fn take(columns: &mut [u64], to: usize, first: u64, second: u64, third: u64)
 pub fn flow(columns: &mut [u64], from: usize, to: usize) -> bool
     requires { ⌜ length (now columns) ≡ 576 ⌝ }
     requires { ⌜ (from < 192) × (to < 192) ⌝ }
-    ensures { λ r. ⌜ Takes (now (columns .entry)) (now (columns .exit)) (λ j. j ≡ to) (λ i. has (now (columns .entry)) i from ≡ true) r ⌝ }
+    ensures { λ r. ⌜ Takes (before columns) (after columns) (λ j. j ≡ to) (λ i. has (before columns) i from ≡ true) r ⌝ }
 {
     let first = columns[from * 3];
     let second = columns[from * 3 + 1];
@@ -47,8 +48,8 @@ pub fn flow(columns: &mut [u64], from: usize, to: usize) -> bool
 pub fn meet(columns: &mut [u64], left: usize, right: usize, to: usize) -> bool
     requires { ⌜ length (now columns) ≡ 576 ⌝ }
     requires { ⌜ (left < 192) × (right < 192) × (to < 192) ⌝ }
-    ensures { λ r. ⌜ Takes (now (columns .entry)) (now (columns .exit)) (λ j. j ≡ to)
-        (λ i. (has (now (columns .entry)) i left ≡ true) × (has (now (columns .entry)) i right ≡ true)) r ⌝ }
+    ensures { λ r. ⌜ Takes (before columns) (after columns) (λ j. j ≡ to)
+        (λ i. (has (before columns) i left ≡ true) × (has (before columns) i right ≡ true)) r ⌝ }
 {
     let first = columns[left * 3] & columns[right * 3];
     let second = columns[left * 3 + 1] & columns[right * 3 + 1];
@@ -60,7 +61,7 @@ pub fn meet(columns: &mut [u64], left: usize, right: usize, to: usize) -> bool
 pub fn fill(columns: &mut [u64], to: usize) -> bool
     requires { ⌜ length (now columns) ≡ 576 ⌝ }
     requires { ⌜ to < 192 ⌝ }
-    ensures { λ r. ⌜ Takes (now (columns .entry)) (now (columns .exit)) (λ j. j ≡ to) (λ i. Unit {0}) r ⌝ }
+    ensures { λ r. ⌜ Takes (before columns) (after columns) (λ j. j ≡ to) (λ i. Unit {0}) r ⌝ }
 {
     take(columns, to, ALL, ALL, ALL)
 }
@@ -69,7 +70,7 @@ pub fn fill(columns: &mut [u64], to: usize) -> bool
 pub fn mark(columns: &mut [u64], id: usize) -> bool
     requires { ⌜ length (now columns) ≡ 576 ⌝ }
     requires { ⌜ id < 192 ⌝ }
-    ensures { λ r. ⌜ Takes (now (columns .entry)) (now (columns .exit)) (λ j. j ≡ id) (λ i. i ≡ id) r ⌝ }
+    ensures { λ r. ⌜ Takes (before columns) (after columns) (λ j. j ≡ id) (λ i. i ≡ id) r ⌝ }
 {
     absorb(columns, id * 3 + id / 64, 1 << (id % 64))
 }
@@ -78,7 +79,7 @@ pub fn mark(columns: &mut [u64], id: usize) -> bool
 pub fn below(columns: &[u64], i: usize, j: usize) -> bool
     requires { ⌜ length (now columns) ≡ 576 ⌝ }
     requires { ⌜ (i < 192) × (j < 192) ⌝ }
-    ensures { λ r. ⌜ r ≡ has (now (columns .entry)) i j ⌝ }
+    ensures { λ r. ⌜ r ≡ has (before columns) i j ⌝ }
 {
     (columns[j * 3 + i / 64] >> (i % 64)) % 2 == 1
 }
@@ -94,9 +95,9 @@ pub struct Words {
 fn common(atoms: &[u16], choice: u64, columns: &[u64]) -> Words
     requires { ⌜ length (now columns) ≡ 576 ⌝ }
     requires { ⌜ Known (now atoms) ⌝ }
-    ensures { λ r. ⌜ Common (length (now (atoms .entry))) (now (atoms .entry)) choice (now (columns .entry)) 0 (r .first) ⌝ }
-    ensures { λ r. ⌜ Common (length (now (atoms .entry))) (now (atoms .entry)) choice (now (columns .entry)) 1 (r .second) ⌝ }
-    ensures { λ r. ⌜ Common (length (now (atoms .entry))) (now (atoms .entry)) choice (now (columns .entry)) 2 (r .third) ⌝ }
+    ensures { λ r. ⌜ Common (length (before atoms)) (before atoms) choice (before columns) 0 (r .first) ⌝ }
+    ensures { λ r. ⌜ Common (length (before atoms)) (before atoms) choice (before columns) 1 (r .second) ⌝ }
+    ensures { λ r. ⌜ Common (length (before atoms)) (before atoms) choice (before columns) 2 (r .third) ⌝ }
 {
     let mut first = ALL;
     let mut second = ALL;
@@ -125,8 +126,8 @@ pub fn gather(atoms: &[u16], choice: u64, columns: &mut [u64], to: usize) -> boo
     requires { ⌜ length (now columns) ≡ 576 ⌝ }
     requires { ⌜ Known (now atoms) ⌝ }
     requires { ⌜ to < 192 ⌝ }
-    ensures { λ r. ⌜ Takes (now (columns .entry)) (now (columns .exit)) (λ j. j ≡ to)
-        (λ i. (p : ℕ) → List·Memᴰ p (pick (now (atoms .entry)) choice) → has (now (columns .entry)) i p ≡ true) r ⌝ }
+    ensures { λ r. ⌜ Takes (before columns) (after columns) (λ j. j ≡ to)
+        (λ i. (p : ℕ) → List·Memᴰ p (pick (before atoms) choice) → has (before columns) i p ≡ true) r ⌝ }
 {
     let words = common(atoms, choice, columns);
     take(columns, to, words.first, words.second, words.third)
@@ -137,8 +138,8 @@ pub fn spread(atoms: &[u16], choice: u64, columns: &mut [u64], from: usize) -> b
     requires { ⌜ length (now columns) ≡ 576 ⌝ }
     requires { ⌜ Known (now atoms) ⌝ }
     requires { ⌜ from < 192 ⌝ }
-    ensures { λ r. ⌜ Takes (now (columns .entry)) (now (columns .exit)) (λ p. List·Memᴰ p (pick (now (atoms .entry)) choice))
-        (λ i. has (now (columns .entry)) i from ≡ true) r ⌝ }
+    ensures { λ r. ⌜ Takes (before columns) (after columns) (λ p. List·Memᴰ p (pick (before atoms) choice))
+        (λ i. has (before columns) i from ≡ true) r ⌝ }
 {
     let mut changed = false;
     let mut q = 0;

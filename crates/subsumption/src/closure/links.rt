@@ -8,6 +8,7 @@ use crate::closure::sets::union;
 ghost use mathlib.Core.Path.{_≡_};
 ghost use mathlib.Core.Bool.{true};
 ghost use Prim.Native.Nat.{_<_};
+ghost use Rattle.subsumption.specs.Lent.{before, after};
 ghost use Rattle.subsumption.specs.Tables.{countOf};
 ghost use lib.ListN.{length, replicate};
 ghost use Rattle.subsumption.specs.Inner.Columns.{has, inThree};
@@ -20,7 +21,7 @@ pub fn note_existentials(concepts: &[u16], outer: &mut [u64], inners: &mut [u64]
     requires { ⌜ now outer ≡ replicate 576 0 ⌝ }
     requires { ⌜ now inners ≡ replicate 3 0 ⌝ }
     requires { ⌜ now lines ≡ replicate 576 0 ⌝ }
-    ensures { λ _. ⌜ Existentials (now (concepts .entry)) (now (outer .exit)) (now (inners .exit)) (now (lines .exit)) (countOf (now (concepts .entry))) ⌝ }
+    ensures { λ _. ⌜ Existentials (before concepts) (after outer) (after inners) (after lines) (countOf (before concepts)) ⌝ }
 {
     let count = concepts.len() / 3;
     let mut e: usize = 0;
@@ -44,7 +45,7 @@ pub fn note_kinds(into: &[u64], lines: &[u64], kinds: &mut [u64])
     requires { ⌜ length (now into) ≡ 200 ⌝ }
     requires { ⌜ length (now lines) ≡ 576 ⌝ }
     requires { ⌜ length (now kinds) ≡ 300 ⌝ }
-    ensures { λ _. ⌜ KindsTo (now (into .entry)) (now (lines .entry)) (now (kinds .exit)) 100 ⌝ }
+    ensures { λ _. ⌜ KindsTo (before into) (before lines) (after kinds) 100 ⌝ }
 {
     let mut s: usize = 0;
     while s < 100 {
@@ -62,7 +63,7 @@ fn over(columns: &[u64], outer: &[u64], inners: &[u64], inner: usize) -> Words
     requires { ⌜ length (now outer) ≡ 576 ⌝ }
     requires { ⌜ length (now inners) ≡ 3 ⌝ }
     requires { ⌜ inner < 192 ⌝ }
-    ensures { λ r. ⌜ Union (now (outer .entry)) (λ x. (has (now (columns .entry)) x inner ≡ true) × (has (now (inners .entry)) x 0 ≡ true)) (inThree (r .first) (r .second) (r .third)) ⌝ }
+    ensures { λ r. ⌜ Union (before outer) (λ x. (has (before columns) x inner ≡ true) × (has (before inners) x 0 ≡ true)) (inThree (r .first) (r .second) (r .third)) ⌝ }
 {
     let at = inner * 3;
     let first = columns[at] & inners[0];
@@ -84,8 +85,8 @@ pub fn link_to(
     requires { ⌜ Laid (now outer) (now inners) (now kinds) ⌝ }
     requires { ⌜ length (now columns) ≡ 576 ⌝ }
     requires { ⌜ f < countOf (now concepts) ⌝ }
-    ensures { λ r. ⌜ LinkPass (now (concepts .entry)) (now (outer .entry)) (now (inners .entry)) (now (kinds .entry))
-        (λ wide. LinkedTo (now (concepts .entry)) wide f) (now (columns .entry)) (now (columns .exit)) r ⌝ }
+    ensures { λ r. ⌜ LinkPass (before concepts) (before outer) (before inners) (before kinds)
+        (λ wide. LinkedTo (before concepts) wide f) (before columns) (after columns) r ⌝ }
 {
     if concepts[f * 3] != 2 {
         return false;

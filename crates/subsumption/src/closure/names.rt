@@ -2,13 +2,14 @@
 use crate::limits::NAMES;
 ghost use mathlib.Core.Path.{_≡_};
 ghost use Prim.Native.Nat.{_+_, _<_};
+ghost use Rattle.subsumption.specs.Lent.{before, after};
 ghost use Rattle.subsumption.specs.Tables.{countOf};
 ghost use lib.ListN.{length};
 ghost use Rattle.subsumption.specs.Inner.Names.{Nameable, Seen, Firsts, IsNamed, FirstNamed};
 
 fn is_named(concepts: &[u16], k: usize, name: u16) -> bool
     requires { ⌜ k < countOf (now concepts) ⌝ }
-    ensures { λ r. ⌜ IsNamed (now (concepts .entry)) k name r ⌝ }
+    ensures { λ r. ⌜ IsNamed (before concepts) k name r ⌝ }
 {
     if concepts[k * 3] != 1 {
         return false;
@@ -21,7 +22,7 @@ fn first_named(concepts: &[u16], seen: &[u16], j: usize) -> usize
     requires { ⌜ Nameable (now concepts) ⌝ }
     requires { ⌜ Seen (now concepts) j (now seen) ⌝ }
     requires { ⌜ j < countOf (now concepts) ⌝ }
-    ensures { λ r. ⌜ FirstNamed (now (concepts .entry)) j r ⌝ }
+    ensures { λ r. ⌜ FirstNamed (before concepts) j r ⌝ }
 {
     if concepts[j * 3] != 1 {
         return j;
@@ -39,7 +40,7 @@ fn note_seen(concepts: &[u16], j: usize, first: usize, seen: &mut [u16])
     requires { ⌜ Seen (now concepts) j (now seen) ⌝ }
     requires { ⌜ j < countOf (now concepts) ⌝ }
     requires { ⌜ FirstNamed (now concepts) j first ⌝ }
-    ensures { λ _. ⌜ Seen (now (concepts .entry)) (j + 1) (now (seen .exit)) ⌝ }
+    ensures { λ _. ⌜ Seen (before concepts) (j + 1) (after seen) ⌝ }
 {
     if concepts[j * 3] != 1 {
         return;
@@ -52,7 +53,7 @@ fn note_seen(concepts: &[u16], j: usize, first: usize, seen: &mut [u16])
 pub fn note_firsts(concepts: &[u16], firsts: &mut [u16])
     requires { ⌜ Nameable (now concepts) ⌝ }
     requires { ⌜ length (now firsts) ≡ 192 ⌝ }
-    ensures { λ r. ⌜ Firsts (now (concepts .entry)) (now (firsts .exit)) ⌝ }
+    ensures { λ r. ⌜ Firsts (before concepts) (after firsts) ⌝ }
 {
     let count = concepts.len() / 3;
     let mut seen = [0u16; NAMES];

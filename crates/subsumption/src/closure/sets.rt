@@ -3,13 +3,14 @@ use crate::closure::columns::Words;
 ghost use mathlib.Core.Path.{_≡_};
 ghost use Prim.Native.Nat.{_+_, _*_, _<_, _≤_};
 ghost use lib.ListN.{length};
+ghost use Rattle.subsumption.specs.Lent.{before, after};
 ghost use Rattle.subsumption.specs.Inner.Columns.{inThree};
 ghost use Rattle.subsumption.specs.Inner.Links.{Inserted, Put, Joins, Union};
 
 pub fn insert(sets: &mut [u64], to: usize, id: usize)
     requires { ⌜ id < 192 ⌝ }
     requires { ⌜ to * 3 + 3 ≤ length (now sets) ⌝ }
-    ensures { λ _. ⌜ Inserted (now (sets .entry)) (now (sets .exit)) to id ⌝ }
+    ensures { λ _. ⌜ Inserted (before sets) (after sets) to id ⌝ }
 {
     let at = to * 3 + id / 64;
     sets[at] = sets[at] | (1 << (id % 64));
@@ -17,7 +18,7 @@ pub fn insert(sets: &mut [u64], to: usize, id: usize)
 
 pub fn put(sets: &mut [u64], to: usize, first: u64, second: u64, third: u64)
     requires { ⌜ to * 3 + 3 ≤ length (now sets) ⌝ }
-    ensures { λ _. ⌜ Put (now (sets .entry)) (now (sets .exit)) to first second third ⌝ }
+    ensures { λ _. ⌜ Put (before sets) (after sets) to first second third ⌝ }
 {
     let at = to * 3;
     sets[at] = first;
@@ -28,7 +29,7 @@ pub fn put(sets: &mut [u64], to: usize, first: u64, second: u64, third: u64)
 // The set with all those, from the set `from` on, that the word picks.
 fn join(sets: &[u64], from: usize, word: u64, set: Words) -> Words
     requires { ⌜ from * 3 + 192 ≤ length (now sets) ⌝ }
-    ensures { λ r. ⌜ Joins (now (sets .entry)) from word (inThree (set .first) (set .second) (set .third)) (inThree (r .first) (r .second) (r .third)) ⌝ }
+    ensures { λ r. ⌜ Joins (before sets) from word (inThree (set .first) (set .second) (set .third)) (inThree (r .first) (r .second) (r .third)) ⌝ }
 {
     let mut first = set.first;
     let mut second = set.second;
@@ -51,7 +52,7 @@ fn join(sets: &[u64], from: usize, word: u64, set: Words) -> Words
 // The union of all sets whose numbers the three words hold.
 pub fn union(sets: &[u64], first: u64, second: u64, third: u64) -> Words
     requires { ⌜ length (now sets) ≡ 576 ⌝ }
-    ensures { λ r. ⌜ Union (now (sets .entry)) (inThree first second third) (inThree (r .first) (r .second) (r .third)) ⌝ }
+    ensures { λ r. ⌜ Union (before sets) (inThree first second third) (inThree (r .first) (r .second) (r .third)) ⌝ }
 {
     let none = Words {
         first: 0,

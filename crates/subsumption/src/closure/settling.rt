@@ -7,6 +7,7 @@ use crate::closure::columns::meet;
 use crate::closure::columns::spread;
 ghost use mathlib.Core.Path.{_≡_};
 ghost use Prim.Native.Nat.{_<_};
+ghost use Rattle.subsumption.specs.Lent.{before, after};
 ghost use Rattle.subsumption.specs.Tables.{countOf};
 ghost use lib.ListN.{length};
 ghost use Rattle.subsumption.specs.Inner.Names.{Firsts};
@@ -24,9 +25,9 @@ pub fn descend(
     requires { ⌜ Settleable (now concepts) (now atoms) (now assignment) ⌝ }
     requires { ⌜ length (now columns) ≡ 576 ⌝ }
     requires { ⌜ j < countOf (now concepts) ⌝ }
-    ensures { λ r. ⌜ SettlePass (now (concepts .entry)) (chooseFrom (now (atoms .entry)) (now (assignment .entry)))
-        (Descended (now (concepts .entry)) (chooseFrom (now (atoms .entry)) (now (assignment .entry))) j)
-        (now (columns .entry)) (now (columns .exit)) r ⌝ }
+    ensures { λ r. ⌜ SettlePass (before concepts) (chooseFrom (before atoms) (before assignment))
+        (Descended (before concepts) (chooseFrom (before atoms) (before assignment)) j)
+        (before columns) (after columns) r ⌝ }
 {
     let at = j * 3;
     let kind = concepts[at];
@@ -59,9 +60,9 @@ pub fn ascend(
     requires { ⌜ Firsts (now concepts) (now firsts) ⌝ }
     requires { ⌜ length (now columns) ≡ 576 ⌝ }
     requires { ⌜ j < countOf (now concepts) ⌝ }
-    ensures { λ r. ⌜ SettlePass (now (concepts .entry)) (chooseFrom (now (atoms .entry)) (now (assignment .entry)))
-        (Ascended (now (concepts .entry)) (now (firsts .entry)) (chooseFrom (now (atoms .entry)) (now (assignment .entry))) j)
-        (now (columns .entry)) (now (columns .exit)) r ⌝ }
+    ensures { λ r. ⌜ SettlePass (before concepts) (chooseFrom (before atoms) (before assignment))
+        (Ascended (before concepts) (before firsts) (chooseFrom (before atoms) (before assignment)) j)
+        (before columns) (after columns) r ⌝ }
 {
     let at = j * 3;
     let kind = concepts[at];
