@@ -14,7 +14,9 @@ pub data Stretch (t : Tables) (settings : Settings) : List (List Bool) → ℕ �
   opened :
       (s : List Bool) (rest : List (List Bool)) (n : ℕ) → length s < pairs t → Open t settings s → Stretch t settings rest n
       → Stretch t settings (s ∷ rest) (suc n)
-  shut : (s : List Bool) (rest : List (List Bool)) (n : ℕ) → (Open t settings s → ⊥) → Stretch t settings rest n → Stretch t settings (s ∷ rest) n
+  shut :
+      (s : List Bool) (rest : List (List Bool)) (n : ℕ) → (Open t settings s → ⊥) → Stretch t settings rest n
+      → Stretch t settings (s ∷ rest) n
 
 -- The first answer.
 pub record Answered (t : Tables) (settings : Settings) (n : ℕ) (s : List Bool) : Type 0 where

@@ -37,7 +37,8 @@ pub record Spends (t : Tables) (settings : Settings) (allowance : ℕ) (before a
 abbrev pub FindsCountedAfter : Outcome → Tables → Settings → ℕ → List ℕ → List ℕ → Reply → Type 0
 FindsCountedAfter Done t settings allowance before after reply =
     ((reply ≡ replyDone (reply .value)) × (FilledWithin t settings before after × Counts t settings allowance (reply .value)))
-    ⊎ (((reply ≡ replyCounted NoAssignment (reply .value)) × (NoneWithin t settings before after × Counts t settings allowance (reply .value)))
+    ⊎ (((reply ≡ replyCounted NoAssignment (reply .value))
+    × (NoneWithin t settings before after × Counts t settings allowance (reply .value)))
     ⊎ ((reply ≡ replyCounted AllowanceSpent allowance) × Spends t settings allowance before after))
 FindsCountedAfter (Refused r) t settings allowance before after reply = (reply ≡ replyRefused r) × (after ≡ before)
 

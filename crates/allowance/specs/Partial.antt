@@ -13,8 +13,8 @@ use Rattle.subsumption.specs.Check.{assignmentFault}
 use Rattle.settings.specs.Settings.{Settings, Heeds}
 use Rattle.matching.specs.Solving.{takes}
 
--- A partial choice settles the first pairs (variable, position) of the order of assignments: it says of each, the last one first, whether the
--- atom is taken. Whether pair p is taken, where the unsettled ones are as `rest` says:
+-- A partial choice settles the first pairs (variable, position) of the order of assignments: it says of each, the last one first,
+-- whether the atom is taken. Whether pair p is taken, where the unsettled ones are as `rest` says:
 unfoldable pub settled : List Bool → Bool → ℕ → Bool
 settled [] rest p = rest
 settled (taken ∷ s) rest p = cond (eqb p (length s)) taken (settled s rest p)
@@ -35,8 +35,8 @@ Asked t right assignment =
     (m : ℕ) → m < pairsOf (t .questions) → hasVariable (tree (t .concepts) (rightOf (t .questions) m)) ≡ right
     → Subsumed t assignment (leftOf (t .questions) m) (rightOf (t .questions) m)
 
--- Open: what is taken is within the settings, the questions without a variable on the right hold with the permitted unsettled atoms taken, and
--- the others with them left out.
+-- Open: what is taken is within the settings, the questions without a variable on the right hold with the permitted unsettled atoms
+-- taken, and the others with them left out.
 pub record Open (t : Tables) (settings : Settings) (s : List Bool) : Type 0 where
   pub low : List ℕ
   pub high : List ℕ
@@ -46,7 +46,8 @@ pub record Open (t : Tables) (settings : Settings) (s : List Bool) : Type 0 wher
   pub fewer : Asked t true low
   pub more : Asked t false high
 
--- The partial choices in their order, from one on that leaves so many pairs unsettled: a shorter one before its extensions, left out before taken.
+-- The partial choices in their order, from one on that leaves so many pairs unsettled: a shorter one before its extensions, left
+-- out before taken.
 unfoldable pub partials : ℕ → List Bool → List (List Bool)
 partials zero s = s ∷ []
 partials (suc rest) s = s ∷ (partials rest (false ∷ s) ++ partials rest (true ∷ s))

@@ -54,7 +54,8 @@ fn walk_known(
 ) -> Trail
     requires { ⌜ Accepted (given concepts inclusions questions roles variables) (now ids) ⌝ }
     requires { ⌜ settingsFault (given concepts inclusions questions roles variables) (givenSettings permitted largest) ≡ Done ⌝ }
-    ensures { λ r. ⌜ WalkedBy (lent concepts inclusions questions roles variables) (lentSettings permitted largest) allowance (r .found) (r .spent) (r .choice) (r .met) ⌝ }
+    ensures { λ r. ⌜ WalkedBy (lent concepts inclusions questions roles variables) (lentSettings permitted largest) allowance
+        (r .found) (r .spent) (r .choice) (r .met) ⌝ }
 {
     let mut sets = [0u64; SETS];
     let mut problem = [0u16; PROBLEM];
@@ -90,7 +91,8 @@ fn find_set(
 ) -> Counted
     requires { ⌜ Accepted (given concepts inclusions questions roles variables) (now ids) ⌝ }
     requires { ⌜ settingsFault (given concepts inclusions questions roles variables) (givenSettings permitted largest) ≡ Done ⌝ }
-    ensures { λ r. ⌜ FindsCounted (lent concepts inclusions questions roles variables) (lentSettings permitted largest) allowance (before out) (after out) (countedReply r) ⌝ }
+    ensures { λ r. ⌜ FindsCounted (lent concepts inclusions questions roles variables) (lentSettings permitted largest) allowance
+        (before out) (after out) (countedReply r) ⌝ }
 {
     let wanted = variables as usize;
     if out.len() < wanted {
@@ -142,7 +144,8 @@ pub fn find_known(
     out: &mut [u64],
 ) -> Counted
     requires { ⌜ Accepted (given concepts inclusions questions roles variables) (now ids) ⌝ }
-    ensures { λ r. ⌜ FindsCounted (lent concepts inclusions questions roles variables) (lentSettings permitted largest) allowance (before out) (after out) (countedReply r) ⌝ }
+    ensures { λ r. ⌜ FindsCounted (lent concepts inclusions questions roles variables) (lentSettings permitted largest) allowance
+        (before out) (after out) (countedReply r) ⌝ }
 {
     let checked = check_settings(permitted, largest, variables, ids.len());
     match checked {
@@ -162,7 +165,8 @@ pub fn find_known(
     }
 }
 
-// Finds the first assignment within the settings that makes every question hold, and counts the decisions; an allowance of them may be spent first.
+// Finds the first assignment within the settings that makes every question hold, and counts the decisions; an allowance of them may
+// be spent first.
 pub fn find_counted(
     concepts: &[u16],
     inclusions: &[u16],
@@ -174,7 +178,8 @@ pub fn find_counted(
     allowance: u32,
     out: &mut [u64],
 ) -> Counted
-    ensures { λ r. ⌜ FindsCounted (lent concepts inclusions questions roles variables) (lentSettings permitted largest) allowance (before out) (after out) (countedReply r) ⌝ }
+    ensures { λ r. ⌜ FindsCounted (lent concepts inclusions questions roles variables) (lentSettings permitted largest) allowance
+        (before out) (after out) (countedReply r) ⌝ }
 {
     let mut ids = [0u16; ATOMS];
     let listed = list_atoms(concepts, inclusions, questions, roles, variables, &mut ids);

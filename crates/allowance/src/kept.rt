@@ -1,6 +1,6 @@
-// Tests of the questions of one kind, with what came of them kept, so that most partial choices cost none. The questions with a variable on the right want fewer
-// atoms, the others more: what passes passes with every easier choice, and what fails fails with every harder one. For each kind and outcome
-// there is a ring of the last sixteen choices that were tested.
+// Tests of the questions of one kind, with what came of them kept, so that most partial choices cost none. The questions with a
+// variable on the right want fewer atoms, the others more: what passes passes with every easier choice, and what fails fails with
+// every harder one. For each kind and outcome there is a ring of the last sixteen choices that were tested.
 use matching::helpers::QUESTION_COUNT;
 use matching::helpers::failing_of;
 use matching::helpers::fetch;

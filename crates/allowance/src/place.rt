@@ -1,5 +1,5 @@
-// A partial choice as words: what is taken where the unsettled atoms are left out, what where the permitted ones of them are taken, and how many pairs are
-// settled. The pairs are counted through, `count` positions a variable.
+// A partial choice as words: what is taken where the unsettled atoms are left out, what where the permitted ones of them are taken,
+// and how many pairs are settled. The pairs are counted through, `count` positions a variable.
 use matching::helpers::has_bit;
 use matching::helpers::with_pair;
 use matching::helpers::without_pair;
@@ -86,7 +86,8 @@ fn up(place: Place, permitted: [u64; 8], count: usize) -> Place
     requires { ⌜ (count ≤ 64) × (0 < place .settled) × (place .settled ≤ 8 * count) ⌝ }
     ensures { λ r. ⌜ r .settled ≡ place .settled - 1 ⌝ }
     ensures { λ r. ⌜ Changed (place .low) (r .low) ((place .settled - 1) / count) ((place .settled - 1) % count) false ⌝ }
-    ensures { λ r. ⌜ Changed (place .high) (r .high) ((place .settled - 1) / count) ((place .settled - 1) % count) (takes permitted ((place .settled - 1) / count) ((place .settled - 1) % count)) ⌝ }
+    ensures { λ r. ⌜ Changed (place .high) (r .high) ((place .settled - 1) / count) ((place .settled - 1) % count)
+        (takes permitted ((place .settled - 1) / count) ((place .settled - 1) % count)) ⌝ }
 {
     let p = place.settled - 1;
     let low = place.low;
@@ -112,7 +113,8 @@ pub fn next_sibling(place: Place, permitted: [u64; 8], count: usize) -> Next
     requires { ⌜ (count ≤ 64) × (place .settled ≤ 8 * count) ⌝ }
     ensures { λ r. ⌜ (length (r .place .low) ≡ 8) × (length (r .place .high) ≡ 8) ⌝ }
     ensures { λ r. ⌜ r .place .settled ≤ 8 * count ⌝ }
-    ensures { λ r. ⌜ NextFrom count permitted (place .low) (place .high) (place .settled) (r .found) (r .place .low) (r .place .high) (r .place .settled) ⌝ }
+    ensures { λ r. ⌜ NextFrom count permitted (place .low) (place .high) (place .settled) (r .found) (r .place .low)
+        (r .place .high) (r .place .settled) ⌝ }
 {
     let mut at = place;
     while at.settled > 0 {

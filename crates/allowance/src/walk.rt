@@ -1,4 +1,5 @@
-// The walk over the partial choices in their order: an open one is counted and then extended, a shut one is skipped with all that extends it.
+// The walk over the partial choices in their order: an open one is counted and then extended, a shut one is skipped with all that
+// extends it.
 use crate::kept::KEPT;
 use crate::kept::holds;
 use crate::place::Place;

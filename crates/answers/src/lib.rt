@@ -1,5 +1,5 @@
-// Answers in the numbers of the C interface: those of the operations of `subsumption`. Each function calls one operation and turns its answer into
-// numbers. They stand in small crates, so that a wrong one is soon refused.
+// Answers in the numbers of the C interface: those of the operations of `subsumption`. Each function calls one operation and turns
+// its answer into numbers. They stand in small crates, so that a wrong one is soon refused.
 use subsumption::Decision;
 use subsumption::Listed;
 use subsumption::Tabled;
@@ -83,8 +83,10 @@ pub fn atoms(
     variables: u16,
     out: &mut [u16],
 ) -> Answer
-    ensures { λ a. ⌜ replied a ≡ replyWith (listingFault (lent concepts inclusions questions roles variables) (length (before out))) (length (atoms (lent concepts inclusions questions roles variables))) ⌝ }
-    ensures { λ a. ⌜ after out ≡ listedIn (listingFault (lent concepts inclusions questions roles variables) (length (before out))) (lent concepts inclusions questions roles variables) (before out) ⌝ }
+    ensures { λ a. ⌜ replied a ≡ replyWith (listingFault (lent concepts inclusions questions roles variables) (length (before out)))
+        (length (atoms (lent concepts inclusions questions roles variables))) ⌝ }
+    ensures { λ a. ⌜ after out ≡ listedIn (listingFault (lent concepts inclusions questions roles variables) (length (before out)))
+        (lent concepts inclusions questions roles variables) (before out) ⌝ }
 {
     let answer = subsumption::list_atoms(concepts, inclusions, questions, roles, variables, out);
     match answer {
@@ -102,7 +104,8 @@ pub fn blanks(
     variables: u16,
     id: u16,
 ) -> Answer
-    ensures { λ a. ⌜ replied a ≡ replyWith (pairFault (lent concepts inclusions questions roles variables) id id) (variablesOf (tree (before concepts) id)) ⌝ }
+    ensures { λ a. ⌜ replied a ≡ replyWith (pairFault (lent concepts inclusions questions roles variables) id id)
+        (variablesOf (tree (before concepts) id)) ⌝ }
 {
     let answer = subsumption::variables_in(concepts, inclusions, questions, roles, variables, id);
     match answer {

@@ -46,4 +46,5 @@ misshapen lengths shares size =
 
 unfoldable pub batchFault : List ℕ → List ℕ → ℕ → Outcome
 batchFault lengths shares size =
-    orElse (refuseIf (misshapen lengths shares size) (BadBatch 8)) (firstAt BadBatch (λ k. ltb 1000000 (getD shares k 0)) 0 (length lengths))
+    orElse (refuseIf (misshapen lengths shares size) (BadBatch 8))
+    (firstAt BadBatch (λ k. ltb 1000000 (getD shares k 0)) 0 (length lengths))

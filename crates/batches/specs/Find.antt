@@ -42,4 +42,5 @@ FindsBatchAfter Done t lengths shares before after b = Ran t lengths shares befo
 FindsBatchAfter (Refused r) t lengths shares before after b = Refuses r before after b
 
 abbrev pub FindsBatch : Tables → List ℕ → List ℕ → List ℕ → List ℕ → Batch → Type 0
-FindsBatch t lengths shares before after b = FindsBatchAfter (batchFault lengths shares (length (t .questions))) t lengths shares before after b
+FindsBatch t lengths shares before after b =
+    FindsBatchAfter (batchFault lengths shares (length (t .questions))) t lengths shares before after b

@@ -43,7 +43,8 @@ fn find_all_permitted(
     allowance: u32,
     out: &mut [u64],
 ) -> Counted
-    ensures { λ r. ⌜ FindsCounted (lent concepts inclusions questions roles variables) (unrestricted (lent concepts inclusions questions roles variables)) allowance (before out) (after out) (countedReply r) ⌝ }
+    ensures { λ r. ⌜ FindsCounted (lent concepts inclusions questions roles variables)
+        (unrestricted (lent concepts inclusions questions roles variables)) allowance (before out) (after out) (countedReply r) ⌝ }
 {
     let mut ids = [0u16; ATOMS];
     let listed = list_atoms(concepts, inclusions, questions, roles, variables, &mut ids);
@@ -132,7 +133,8 @@ fn find_each(
     out: &mut [u64],
 ) -> Batch
     requires { ⌜ batchFault (now lengths) (now shares) (length (now questions)) ≡ Done ⌝ }
-    ensures { λ r. ⌜ Ran (lent concepts inclusions questions roles variables) (before lengths) (before shares) (before out) (after out) r ⌝ }
+    ensures { λ r. ⌜ Ran (lent concepts inclusions questions roles variables) (before lengths) (before shares) (before out)
+        (after out) r ⌝ }
 {
     let mut numbers = [0u16; TABLES];
     let mut places = [0u64; TABLES];
@@ -173,8 +175,8 @@ fn find_each(
     }
 }
 
-// Finds the first assignment for each of up to eight question tables, which lie one after another, each on its stretch of the buffer, with its share of
-// decisions and what the ones before it left over.
+// Finds the first assignment for each of up to eight question tables, which lie one after another, each on its stretch of the
+// buffer, with its share of decisions and what the ones before it left over.
 pub fn find_batch(
     concepts: &[u16],
     inclusions: &[u16],
@@ -185,7 +187,8 @@ pub fn find_batch(
     shares: &[u32],
     out: &mut [u64],
 ) -> Batch
-    ensures { λ r. ⌜ FindsBatch (lent concepts inclusions questions roles variables) (before lengths) (before shares) (before out) (after out) r ⌝ }
+    ensures { λ r. ⌜ FindsBatch (lent concepts inclusions questions roles variables) (before lengths) (before shares) (before out)
+        (after out) r ⌝ }
 {
     let checked = check_batch(lengths, shares, questions.len());
     match checked {

@@ -53,8 +53,10 @@ pub extern "C" fn hc_atoms(
     variables: u16,
     out: &mut [u16],
 ) -> Answer
-    ensures { λ a. ⌜ replied a ≡ replyWith (listingFault (lent concepts inclusions questions roles variables) (length (before out))) (length (atoms (lent concepts inclusions questions roles variables))) ⌝ }
-    ensures { λ a. ⌜ after out ≡ listedIn (listingFault (lent concepts inclusions questions roles variables) (length (before out))) (lent concepts inclusions questions roles variables) (before out) ⌝ }
+    ensures { λ a. ⌜ replied a ≡ replyWith (listingFault (lent concepts inclusions questions roles variables) (length (before out)))
+        (length (atoms (lent concepts inclusions questions roles variables))) ⌝ }
+    ensures { λ a. ⌜ after out ≡ listedIn (listingFault (lent concepts inclusions questions roles variables) (length (before out)))
+        (lent concepts inclusions questions roles variables) (before out) ⌝ }
 {
     answers::atoms(concepts, inclusions, questions, roles, variables, out)
 }
@@ -69,7 +71,8 @@ pub extern "C" fn hc_blanks(
     variables: u16,
     id: u16,
 ) -> Answer
-    ensures { λ a. ⌜ replied a ≡ replyWith (pairFault (lent concepts inclusions questions roles variables) id id) (variablesOf (tree (before concepts) id)) ⌝ }
+    ensures { λ a. ⌜ replied a ≡ replyWith (pairFault (lent concepts inclusions questions roles variables) id id)
+        (variablesOf (tree (before concepts) id)) ⌝ }
 {
     answers::blanks(concepts, inclusions, questions, roles, variables, id)
 }
@@ -151,7 +154,8 @@ pub extern "C" fn hc_match_within(
     largest: &[u16],
     out: &mut [u64],
 ) -> Answer
-    ensures { λ a. ⌜ FindsWithin (lent concepts inclusions questions roles variables) (lentSettings permitted largest) (before out) (after out) (replied a) ⌝ }
+    ensures { λ a. ⌜ FindsWithin (lent concepts inclusions questions roles variables) (lentSettings permitted largest) (before out)
+        (after out) (replied a) ⌝ }
 {
     matching_answers::find_within(
         concepts,
@@ -178,7 +182,8 @@ pub extern "C" fn hc_match_counted(
     allowance: u32,
     out: &mut [u64],
 ) -> Answer
-    ensures { λ a. ⌜ FindsCounted (lent concepts inclusions questions roles variables) (lentSettings permitted largest) allowance (before out) (after out) (replied a) ⌝ }
+    ensures { λ a. ⌜ FindsCounted (lent concepts inclusions questions roles variables) (lentSettings permitted largest) allowance
+        (before out) (after out) (replied a) ⌝ }
 {
     finder_answers::find_counted(
         concepts,
@@ -193,7 +198,8 @@ pub extern "C" fn hc_match_counted(
     )
 }
 
-// The same of the group of one question, without an allowance; refusal 10: no assignment within the settings makes the group's questions hold.
+// The same of the group of one question, without an allowance; refusal 10: no assignment within the settings makes the group's
+// questions hold.
 #[no_mangle]
 pub extern "C" fn hc_match_group(
     concepts: &[u16],
@@ -206,7 +212,8 @@ pub extern "C" fn hc_match_group(
     question: u16,
     out: &mut [u64],
 ) -> Answer
-    ensures { λ a. ⌜ FindsGroup (lent concepts inclusions questions roles variables) (lentSettings permitted largest) question (before out) (after out) (replied a) ⌝ }
+    ensures { λ a. ⌜ FindsGroup (lent concepts inclusions questions roles variables) (lentSettings permitted largest) question
+        (before out) (after out) (replied a) ⌝ }
 {
     finder_answers::find_group(
         concepts,
@@ -233,7 +240,8 @@ pub extern "C" fn hc_match_cards(
     shares: &[u32],
     out: &mut [u64],
 ) -> Batch
-    ensures { λ b. ⌜ FindsBatch (lent concepts inclusions questions roles variables) (before lengths) (before shares) (before out) (after out) b ⌝ }
+    ensures { λ b. ⌜ FindsBatch (lent concepts inclusions questions roles variables) (before lengths) (before shares) (before out)
+        (after out) b ⌝ }
 {
     batches::find_batch(
         concepts,
@@ -259,8 +267,12 @@ pub extern "C" fn hc_chosen(
     variable: u16,
     out: &mut [u16],
 ) -> Answer
-    ensures { λ a. ⌜ replied a ≡ replyWith (choosingFault (lent concepts inclusions questions roles variables) (before assignment) variable (length (before out))) (length (chosen (lent concepts inclusions questions roles variables) (before assignment) variable)) ⌝ }
-    ensures { λ a. ⌜ after out ≡ chosenIn (choosingFault (lent concepts inclusions questions roles variables) (before assignment) variable (length (before out))) (chosen (lent concepts inclusions questions roles variables) (before assignment) variable) (before out) ⌝ }
+    ensures { λ a. ⌜ replied a ≡ replyWith
+        (choosingFault (lent concepts inclusions questions roles variables) (before assignment) variable (length (before out)))
+        (length (chosen (lent concepts inclusions questions roles variables) (before assignment) variable)) ⌝ }
+    ensures { λ a. ⌜ after out ≡ chosenIn
+        (choosingFault (lent concepts inclusions questions roles variables) (before assignment) variable (length (before out)))
+        (chosen (lent concepts inclusions questions roles variables) (before assignment) variable) (before out) ⌝ }
 {
     matching_answers::chosen(
         concepts,
@@ -287,7 +299,8 @@ pub extern "C" fn hc_derive(
     right: u16,
     out: &mut [u16],
 ) -> Answer
-    ensures { λ a. ⌜ Derives (lent concepts inclusions questions roles variables) (before assignment) left right (before out) (after out) (replied a) ⌝ }
+    ensures { λ a. ⌜ Derives (lent concepts inclusions questions roles variables) (before assignment) left right (before out)
+        (after out) (replied a) ⌝ }
 {
     derivation_answers::derive(
         concepts,
@@ -315,7 +328,8 @@ pub extern "C" fn hc_check_derivation(
     right: u16,
     lines: &[u16],
 ) -> Answer
-    ensures { λ a. ⌜ replied a ≡ replyOf (checkingFault (lent concepts inclusions questions roles variables) (before assignment) left right (before lines)) ⌝ }
+    ensures { λ a. ⌜ replied a ≡ replyOf
+        (checkingFault (lent concepts inclusions questions roles variables) (before assignment) left right (before lines)) ⌝ }
 {
     derivation_answers::check_derivation(
         concepts,
@@ -343,7 +357,8 @@ pub extern "C" fn hc_show(
     right: u16,
     out: &mut [u16],
 ) -> Answer
-    ensures { λ a. ⌜ Shows (lent concepts inclusions questions roles variables) (before assignment) left right (before out) (after out) (replied a) ⌝ }
+    ensures { λ a. ⌜ Shows (lent concepts inclusions questions roles variables) (before assignment) left right (before out)
+        (after out) (replied a) ⌝ }
 {
     countermodel_answers::show(
         concepts,
@@ -372,7 +387,8 @@ pub extern "C" fn hc_belongs(
     concept: u16,
     element: u16,
 ) -> Answer
-    ensures { λ a. ⌜ DecidesMember (lent concepts inclusions questions roles variables) (before assignment) size (before rows) concept element (replied a) ⌝ }
+    ensures { λ a. ⌜ DecidesMember (lent concepts inclusions questions roles variables) (before assignment) size
+        (before rows) concept element (replied a) ⌝ }
 {
     countermodel_answers::belongs(
         concepts,
@@ -425,7 +441,9 @@ pub extern "C" fn hc_renumber(
     inclusions_out: &mut [u16],
     questions_out: &mut [u16],
 ) -> Answer
-    ensures { λ a. ⌜ Renumbers (lent concepts inclusions questions roles variables) (before order) (before «concepts_out») (after «concepts_out») (before «inclusions_out») (after «inclusions_out») (before «questions_out») (after «questions_out») (replied a) ⌝ }
+    ensures { λ a. ⌜ Renumbers (lent concepts inclusions questions roles variables) (before order) (before «concepts_out»)
+        (after «concepts_out») (before «inclusions_out») (after «inclusions_out») (before «questions_out») (after «questions_out»)
+        (replied a) ⌝ }
 {
     catalogue_answers::renumber(
         concepts,
@@ -447,7 +465,8 @@ pub extern "C" fn hc_read_owl(
     concepts: &mut [u16],
     inclusions: &mut [u16],
 ) -> CatalogueAnswer
-    ensures { λ a. ⌜ ReadsCatalogue (before text) (before concepts) (after concepts) (before inclusions) (after inclusions) (repliedTables a) ⌝ }
+    ensures { λ a. ⌜ ReadsCatalogue (before text) (before concepts) (after concepts) (before inclusions) (after inclusions)
+        (repliedTables a) ⌝ }
 {
     catalogue_answers::read_owl(text, concepts, inclusions)
 }

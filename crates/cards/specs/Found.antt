@@ -1,5 +1,6 @@
--- What every answer of a finder must be on the sample cards. So no promise is met by a finder that says 10 to every card, that always fills with top,
--- that heeds the first question only, or that gives a filling which is not the first (01, "What each operation owes", c).
+-- What every answer of a finder must be on the sample cards. So no promise is met by a finder that says 10 to every card, that
+-- always fills with top, that heeds the first question only, or that gives a filling which is not the first (01, "What each
+-- operation owes", c).
 use Prim.Native.Nat.{ℕ, _≤_}
 use mathlib.Core.Path.{_≡_}
 use mathlib.Core.List.{List, [], _∷_}
@@ -63,7 +64,8 @@ pub record FoundGroup : Type 0 where
   pub whole : Always (Finds grouped) (tells 10 0 0) keeps
   pub others : Always (FindsGroup opposed free 0) (tells 10 0 0) keeps
 
--- Batches (02, A.11): card H's questions twice, with shares of 5 and 3. The first leaves one over, so the second has the four that it needs.
+-- Batches (02, A.11): card H's questions twice, with shares of 5 and 3. The first leaves one over, so the second has the four that
+-- it needs.
 unfoldable pub twice : Tables
 twice = house (5 ∷ 3 ∷ 2 ∷ 4 ∷ 5 ∷ 3 ∷ 2 ∷ 4 ∷ [])
 

@@ -1,5 +1,6 @@
--- What the checks answer: the examples of the refusal table (01), tables with two faults, where the order of the checks decides, and for each of
--- the eight rules a derivation that is right and one that is not. No check that is left out or comes late, and no checker that lets a rule slip, gives these.
+-- What the checks answer: the examples of the refusal table (01), tables with two faults, where the order of the checks decides,
+-- and for each of the eight rules a derivation that is right and one that is not. No check that is left out or comes late, and no
+-- checker that lets a rule slip, gives these.
 use Prim.Native.Nat.{ℕ}
 use mathlib.Core.Path.{_≡_}
 use mathlib.Core.List.{List, [], _∷_}

@@ -1,5 +1,6 @@
--- What every table written or updated for the tables of cards K and L must show, whatever stood in a buffer that is long enough. So no promise is met
--- by a table all zeros, all ones or left unwritten (01, "What each operation owes", c), by one that is not closed, or by one with a mark too many (02, A.7).
+-- What every table written or updated for the tables of cards K and L must show, whatever stood in a buffer that is long enough. So
+-- no promise is met by a table all zeros, all ones or left unwritten (01, "What each operation owes", c), by one that is not
+-- closed, or by one with a mark too many (02, A.7).
 use Prim.Native.Nat.{ℕ, _<_, _≤_}
 use mathlib.Core.Path.{_≡_}
 use mathlib.Core.List.{List, [], _∷_}
@@ -32,7 +33,8 @@ EmptyTable = (before after : List ℕ) (told : Reply) → Wrote (tables [] [] []
 abbrev pub Unmarked : List ℕ → Type 0
 Unmarked bytes = (i j : ℕ) → i < 3 → j < 3 → marked bytes i j ≡ false
 
--- An updated table is closed; from no marks it has no more than it must; a mark that it has, right or not, stays, and so do bits past the last column.
+-- An updated table is closed; from no marks it has no more than it must; a mark that it has, right or not, stays, and so do bits
+-- past the last column.
 pub record Updated (before after : List ℕ) (told : Reply) : Type 0 where
   pub done : told ≡ tells 0 0 0
   pub closed : marked after 0 2 ≡ true
@@ -46,4 +48,5 @@ EveryUpdate = (before after : List ℕ) (told : Reply) → 72 ≤ length before 
 -- A pair that holds, card A's: nothing is shown, and that is judged before the buffer (02, A.5).
 abbrev pub NothingShown : Type 0
 NothingShown =
-    (before after : List ℕ) (told : Reply) → Shows (house questions) (4 ∷ []) 2 3 before after told → (told ≡ tells 15 0 0) × (after ≡ before)
+    (before after : List ℕ) (told : Reply) → Shows (house questions) (4 ∷ []) 2 3 before after told → (told ≡ tells 15 0 0)
+    × (after ≡ before)

@@ -1,4 +1,5 @@
-// Answers in the numbers of the C interface: those of the operations that keep a catalogue, its table updated, its concepts renumbered, its text read.
+// Answers in the numbers of the C interface: those of the operations that keep a catalogue, its table updated, its concepts
+// renumbered, its text read.
 use answers::Answer;
 use answers::answer_of;
 use owl::Catalogue;
@@ -56,7 +57,9 @@ pub fn renumber(
     inclusions_out: &mut [u16],
     questions_out: &mut [u16],
 ) -> Answer
-    ensures { λ a. ⌜ Renumbers (lent concepts inclusions questions roles variables) (before order) (before «concepts_out») (after «concepts_out») (before «inclusions_out») (after «inclusions_out») (before «questions_out») (after «questions_out») (replied a) ⌝ }
+    ensures { λ a. ⌜ Renumbers (lent concepts inclusions questions roles variables) (before order) (before «concepts_out»)
+        (after «concepts_out») (before «inclusions_out») (after «inclusions_out») (before «questions_out») (after «questions_out»)
+        (replied a) ⌝ }
 {
     let renumbered = renumbering::renumber_tables(
         concepts,
@@ -99,7 +102,8 @@ fn catalogue_of(catalogue: Catalogue) -> CatalogueAnswer
 
 // Reads a catalogue in OWL functional syntax.
 pub fn read_owl(text: &[u8], concepts: &mut [u16], inclusions: &mut [u16]) -> CatalogueAnswer
-    ensures { λ a. ⌜ ReadsCatalogue (before text) (before concepts) (after concepts) (before inclusions) (after inclusions) (repliedTables a) ⌝ }
+    ensures { λ a. ⌜ ReadsCatalogue (before text) (before concepts) (after concepts) (before inclusions) (after inclusions)
+        (repliedTables a) ⌝ }
 {
     let read = owl::read_catalogue(text, concepts, inclusions);
     catalogue_of(read)

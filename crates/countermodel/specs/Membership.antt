@@ -49,4 +49,5 @@ TellsMember t assignment I concept element (suc (suc value)) = ⊥
 
 abbrev pub DecidesMember : Tables → List ℕ → ℕ → List ℕ → ℕ → ℕ → Reply → Type 0
 DecidesMember t assignment size rows concept element reply =
-    Replies (membershipFault t assignment size rows concept element) (TellsMember t assignment (interpretationOf size rows) concept element) reply
+    Replies (membershipFault t assignment size rows concept element)
+    (TellsMember t assignment (interpretationOf size rows) concept element) reply

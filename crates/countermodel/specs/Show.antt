@@ -36,7 +36,8 @@ unfoldable pub shownIn : Outcome → List ℕ → List ℕ → List ℕ
 shownIn Done rows before = rows ++ drop (length rows) before
 shownIn (Refused r) rows before = before
 
--- By marks that say exactly what is below what: 15 exactly when the pair holds, else the rows that they give, whose interpretation refutes it.
+-- By marks that say exactly what is below what: 15 exactly when the pair holds, else the rows that they give, whose interpretation
+-- refutes it.
 pub record Shows (t : Tables) (assignment : List ℕ) (left right : ℕ) (before after : List ℕ) (reply : Reply) : Type 0 where
   pub marks : ℕ → ℕ → Bool
   pub exactly : decidingFault t assignment left right ≡ Done → Exactly t assignment marks

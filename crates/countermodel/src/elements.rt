@@ -38,7 +38,8 @@ fn put_names(concepts: &[u16], table: &[u8], out: &mut [u16]) -> usize
     requires { ⌜ Checked (now concepts) ⌝ }
     requires { ⌜ length (now table) ≡ 4608 ⌝ }
     ensures { λ r. ⌜ r ≤ 768000 ⌝ }
-    ensures { λ r. ⌜ Put (before out) 0 (joined (namesOf (before concepts) (marked (before table))) 0 (countOf (before concepts))) r (after out) ⌝ }
+    ensures { λ r. ⌜ Put (before out) 0 (joined (namesOf (before concepts) (marked (before table))) 0 (countOf (before concepts))) r
+        (after out) ⌝ }
 {
     let count = concepts.len() / 3;
     let mut end: usize = 0;
@@ -65,7 +66,8 @@ fn put_links_by(
     requires { ⌜ length (now table) ≡ 4608 ⌝ }
     requires { ⌜ (i < countOf (now concepts)) × (role < 100) × (at ≤ 16000000) ⌝ }
     ensures { λ r. ⌜ r ≤ at + 768 ⌝ }
-    ensures { λ r. ⌜ ForRoles (before into) (λ roles. Put (before out) at (linksBy (before concepts) roles (marked (before table)) i role) r (after out)) ⌝ }
+    ensures { λ r. ⌜ ForRoles (before into)
+        (λ roles. Put (before out) at (linksBy (before concepts) roles (marked (before table)) i role) r (after out)) ⌝ }
 {
     let mut links = [false; CONCEPTS];
     note_links(concepts, into, table, i, role, &mut links);
@@ -94,7 +96,8 @@ fn put_links_of(
     requires { ⌜ length (now table) ≡ 4608 ⌝ }
     requires { ⌜ (i < countOf (now concepts)) × (at ≤ 15600000) ⌝ }
     ensures { λ r. ⌜ r ≤ at + 76800 ⌝ }
-    ensures { λ r. ⌜ ForRoles (before into) (λ roles. Put (before out) at (linksOf (before concepts) roles (marked (before table)) i) r (after out)) ⌝ }
+    ensures { λ r. ⌜ ForRoles (before into)
+        (λ roles. Put (before out) at (linksOf (before concepts) roles (marked (before table)) i) r (after out)) ⌝ }
 {
     let mut own = [false; ROLES];
     note_own(concepts, table, i, &mut own);
@@ -118,7 +121,8 @@ fn put_links(concepts: &[u16], roles: &[u16], table: &[u8], at: usize, out: &mut
     requires { ⌜ LowRoles (now roles) ⌝ }
     requires { ⌜ length (now table) ≡ 4608 ⌝ }
     requires { ⌜ at ≤ 768000 ⌝ }
-    ensures { λ r. ⌜ Put (before out) at (joined (linksOf (before concepts) (before roles) (marked (before table))) 0 (countOf (before concepts))) r (after out) ⌝ }
+    ensures { λ r. ⌜ Put (before out) at
+        (joined (linksOf (before concepts) (before roles) (marked (before table))) 0 (countOf (before concepts))) r (after out) ⌝ }
 {
     let mut into = [0u64; ROLE_WORDS];
     note_roles(roles, &mut into);

@@ -30,7 +30,8 @@ fn decide_known(
     element: u16,
 ) -> Decision
     requires { ⌜ Listing (now concepts) variables (now ids) ⌝ }
-    ensures { λ r. ⌜ ForListing (before concepts) variables (before ids) (λ t. DecidesMember t (before assignment) size (before rows) concept element (decisionReply r)) ⌝ }
+    ensures { λ r. ⌜ ForListing (before concepts) variables (before ids)
+        (λ t. DecidesMember t (before assignment) size (before rows) concept element (decisionReply r)) ⌝ }
 {
     let choices = check_assignment(assignment, variables, ids.len());
     if let Outcome::Refused(r) = choices {
@@ -67,7 +68,8 @@ pub fn decide_member(
     concept: u16,
     element: u16,
 ) -> Decision
-    ensures { λ r. ⌜ DecidesMember (lent concepts inclusions questions roles variables) (before assignment) size (before rows) concept element (decisionReply r) ⌝ }
+    ensures { λ r. ⌜ DecidesMember (lent concepts inclusions questions roles variables) (before assignment) size
+        (before rows) concept element (decisionReply r) ⌝ }
 {
     let mut ids = [0u16; ATOMS];
     let listed = list_atoms(concepts, inclusions, questions, roles, variables, &mut ids);

@@ -21,7 +21,8 @@ pub fn show(
     right: u16,
     out: &mut [u16],
 ) -> Answer
-    ensures { λ a. ⌜ Shows (lent concepts inclusions questions roles variables) (before assignment) left right (before out) (after out) (replied a) ⌝ }
+    ensures { λ a. ⌜ Shows (lent concepts inclusions questions roles variables) (before assignment) left right (before out)
+        (after out) (replied a) ⌝ }
 {
     let answer = countermodel::show_countermodel(
         concepts,
@@ -53,7 +54,8 @@ pub fn belongs(
     concept: u16,
     element: u16,
 ) -> Answer
-    ensures { λ a. ⌜ DecidesMember (lent concepts inclusions questions roles variables) (before assignment) size (before rows) concept element (replied a) ⌝ }
+    ensures { λ a. ⌜ DecidesMember (lent concepts inclusions questions roles variables) (before assignment) size
+        (before rows) concept element (replied a) ⌝ }
 {
     let answer = countermodel::decide_member(
         concepts,

@@ -22,7 +22,8 @@ pub fn derive(
     right: u16,
     out: &mut [u16],
 ) -> Answer
-    ensures { λ a. ⌜ Derives (lent concepts inclusions questions roles variables) (before assignment) left right (before out) (after out) (replied a) ⌝ }
+    ensures { λ a. ⌜ Derives (lent concepts inclusions questions roles variables) (before assignment) left right (before out)
+        (after out) (replied a) ⌝ }
 {
     let answer = matching::derive(
         concepts,
@@ -53,7 +54,8 @@ pub fn check_derivation(
     right: u16,
     lines: &[u16],
 ) -> Answer
-    ensures { λ a. ⌜ replied a ≡ replyOf (checkingFault (lent concepts inclusions questions roles variables) (before assignment) left right (before lines)) ⌝ }
+    ensures { λ a. ⌜ replied a ≡ replyOf
+        (checkingFault (lent concepts inclusions questions roles variables) (before assignment) left right (before lines)) ⌝ }
 {
     let judged = matching::check_derivation(
         concepts,

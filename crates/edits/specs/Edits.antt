@@ -6,7 +6,8 @@ use Rattle.subsumption.specs.Atoms.{atoms}
 use Rattle.subsumption.specs.Check.{tableFault}
 use Rattle.incremental.specs.Fresh.{PairsAmong}
 
--- Inclusions were added, and nothing else; the tables were accepted and are. The atoms may be more, and then the positions of the old ones move.
+-- Inclusions were added, and nothing else; the tables were accepted and are. The atoms may be more, and then the positions of the
+-- old ones move.
 pub record MoreInclusions (older newer : Tables) : Type 0 where
   pub accepted-before : tableFault older ≡ Done
   pub accepted-after : tableFault newer ≡ Done

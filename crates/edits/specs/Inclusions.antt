@@ -25,7 +25,9 @@ pub record KeptBy (older newer : Tables) (assignment : List ℕ) : Type 0 where
   pub same : SameChoices older assignment newer kept
 
 abbrev pub IdsCanBeKept : Type 0
-IdsCanBeKept = (older newer : Tables) → MoreInclusions older newer → (assignment : List ℕ) → assignmentFault older assignment ≡ Done → KeptBy older newer assignment
+IdsCanBeKept =
+    (older newer : Tables) → MoreInclusions older newer → (assignment : List ℕ) → assignmentFault older assignment ≡ Done
+    → KeptBy older newer assignment
 
 -- With the chosen ids kept, no yes becomes a no.
 abbrev pub YesStays : Type 0
@@ -53,7 +55,8 @@ FilledStays =
 -- The same without settings.
 abbrev pub FoundStays : Type 0
 FoundStays =
-    (older newer : Tables) → MoreInclusions older newer → (before after before′ after′ : List ℕ) (was is : Reply) → Finds older before after was
+    (older newer : Tables) → MoreInclusions older newer → (before after before′ after′ : List ℕ) (was is : Reply)
+    → Finds older before after was
     → Finds newer before′ after′ is → newer .variables ≤ length before′ → was ≡ replyDone 0 → is ≡ replyDone 0
 
 -- The same on an allowance that suffices: the answer is not that it is spent.
@@ -61,5 +64,6 @@ abbrev pub CountedStays : Type 0
 CountedStays =
     (older newer : Tables) → MoreInclusions older newer → (s s′ : Settings) → s′ .largest ≡ s .largest → BarsNothing newer s′
     → settingsFault newer s′ ≡ Done → (allowance allowance′ : ℕ) (before after before′ after′ : List ℕ) (was is : Reply)
-    → FindsCounted older s allowance before after was → FindsCounted newer s′ allowance′ before′ after′ is → newer .variables ≤ length before′
+    → FindsCounted older s allowance before after was → FindsCounted newer s′ allowance′ before′ after′ is
+    → newer .variables ≤ length before′
     → was .number ≡ 0 → (is .number ≡ 14 → ⊥) → is .number ≡ 0

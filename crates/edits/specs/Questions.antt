@@ -22,7 +22,8 @@ StaysOrLater older newer = (newer ≡ older) ⊎ Earlier older newer
 -- Of the tables.
 abbrev pub FirstMovesLater : Type 0
 FirstMovesLater =
-    (older newer : Tables) → MoreQuestions older newer → (s : Settings) (a b : List ℕ) → FirstWithin older s a → FirstWithin newer s b → StaysOrLater a b
+    (older newer : Tables) → MoreQuestions older newer → (s : Settings) (a b : List ℕ) → FirstWithin older s a
+    → FirstWithin newer s b → StaysOrLater a b
 
 -- Of the answers: the new one is none, or both are filled and the filling stays or moves later. So a none stays.
 abbrev pub WithinMovesLater : Type 0
@@ -30,13 +31,16 @@ WithinMovesLater =
     (older newer : Tables) → MoreQuestions older newer → (s : Settings) → settingsFault older s ≡ Done
     → (before after before′ after′ : List ℕ) (was is : Reply) → FindsWithin older s before after was → FindsWithin newer s before′ after′ is
     → older .variables ≤ length before → older .variables ≤ length before′
-    → (is ≡ replyRefused NoAssignment) ⊎ ((was ≡ replyDone 0) × (is ≡ replyDone 0) × StaysOrLater (take (older .variables) after) (take (older .variables) after′))
+    → (is ≡ replyRefused NoAssignment)
+    ⊎ ((was ≡ replyDone 0) × (is ≡ replyDone 0) × StaysOrLater (take (older .variables) after) (take (older .variables) after′))
 
 abbrev pub FoundMovesLater : Type 0
 FoundMovesLater =
-    (older newer : Tables) → MoreQuestions older newer → (before after before′ after′ : List ℕ) (was is : Reply) → Finds older before after was
+    (older newer : Tables) → MoreQuestions older newer → (before after before′ after′ : List ℕ) (was is : Reply)
+    → Finds older before after was
     → Finds newer before′ after′ is → older .variables ≤ length before → older .variables ≤ length before′
-    → (is ≡ replyRefused NoAssignment) ⊎ ((was ≡ replyDone 0) × (is ≡ replyDone 0) × StaysOrLater (take (older .variables) after) (take (older .variables) after′))
+    → (is ≡ replyRefused NoAssignment)
+    ⊎ ((was ≡ replyDone 0) × (is ≡ replyDone 0) × StaysOrLater (take (older .variables) after) (take (older .variables) after′))
 
 -- On allowances that suffice: neither answer is that it is spent.
 abbrev pub CountedMovesLater : Type 0
@@ -45,4 +49,5 @@ CountedMovesLater =
     → (allowance allowance′ : ℕ) (before after before′ after′ : List ℕ) (was is : Reply)
     → FindsCounted older s allowance before after was → FindsCounted newer s allowance′ before′ after′ is
     → older .variables ≤ length before → older .variables ≤ length before′ → (was .number ≡ 14 → ⊥) → (is .number ≡ 14 → ⊥)
-    → (is .number ≡ 10) ⊎ ((was .number ≡ 0) × (is .number ≡ 0) × StaysOrLater (take (older .variables) after) (take (older .variables) after′))
+    → (is .number ≡ 10)
+    ⊎ ((was .number ≡ 0) × (is .number ≡ 0) × StaysOrLater (take (older .variables) after) (take (older .variables) after′))

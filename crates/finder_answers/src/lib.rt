@@ -36,7 +36,8 @@ fn counted_of(counted: Counted) -> Answer
     }
 }
 
-// Finds the first assignment within settings on an allowance of decisions; value: their count, with 10 and 14 too; refusal 14: the count is over the allowance.
+// Finds the first assignment within settings on an allowance of decisions; value: their count, with 10 and 14 too; refusal 14: the
+// count is over the allowance.
 pub fn find_counted(
     concepts: &[u16],
     inclusions: &[u16],
@@ -48,7 +49,8 @@ pub fn find_counted(
     allowance: u32,
     out: &mut [u64],
 ) -> Answer
-    ensures { λ a. ⌜ FindsCounted (lent concepts inclusions questions roles variables) (lentSettings permitted largest) allowance (before out) (after out) (replied a) ⌝ }
+    ensures { λ a. ⌜ FindsCounted (lent concepts inclusions questions roles variables) (lentSettings permitted largest) allowance
+        (before out) (after out) (replied a) ⌝ }
 {
     let counted = allowance::find_counted(
         concepts,
@@ -64,7 +66,8 @@ pub fn find_counted(
     counted_of(counted)
 }
 
-// Finds the first assignment of the group of one question, without an allowance; refusal 10: no assignment within the settings makes the group's questions hold.
+// Finds the first assignment of the group of one question, without an allowance; refusal 10: no assignment within the settings
+// makes the group's questions hold.
 pub fn find_group(
     concepts: &[u16],
     inclusions: &[u16],
@@ -76,7 +79,8 @@ pub fn find_group(
     question: u16,
     out: &mut [u64],
 ) -> Answer
-    ensures { λ a. ⌜ FindsGroup (lent concepts inclusions questions roles variables) (lentSettings permitted largest) question (before out) (after out) (replied a) ⌝ }
+    ensures { λ a. ⌜ FindsGroup (lent concepts inclusions questions roles variables) (lentSettings permitted largest) question
+        (before out) (after out) (replied a) ⌝ }
 {
     let answer = groups::find_group(
         concepts,

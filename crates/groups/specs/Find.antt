@@ -34,7 +34,8 @@ pub record FilledGroup (t : Tables) (s : Settings) (m : ℕ) (before after : Lis
 -- Where nothing is refused, either the group's first assignment is written, or none exists and the reply is refusal 10.
 abbrev pub FindsGroupAfter : Outcome → Tables → Settings → ℕ → List ℕ → List ℕ → Reply → Type 0
 FindsGroupAfter Done t s m before after reply =
-    ((reply ≡ replyDone 0) × FilledGroup t s m before after) ⊎ ((reply ≡ replyRefused NoAssignment) × UnfilledAmong (InGroup t m) t s before after)
+    ((reply ≡ replyDone 0) × FilledGroup t s m before after)
+    ⊎ ((reply ≡ replyRefused NoAssignment) × UnfilledAmong (InGroup t m) t s before after)
 FindsGroupAfter (Refused r) t s m before after reply = (reply ≡ replyRefused r) × (after ≡ before)
 
 abbrev pub FindsGroup : Tables → Settings → ℕ → List ℕ → List ℕ → Reply → Type 0

@@ -1,4 +1,5 @@
--- Groups of questions (02, A.10): those that share a variable (01: a blank), directly or through others; those without variables are one more.
+-- Groups of questions (02, A.10): those that share a variable (01: a blank), directly or through others; those without variables
+-- are one more.
 use Prim.Native.Nat.{ℕ, _<_}
 use mathlib.Core.Path.{_≡_}
 use mathlib.Core.List.{List, [], _∷_}

@@ -26,7 +26,8 @@ unfoldable pub together : Tables → (ℕ → List ℕ) → List ℕ
 together t part = numbers (λ k. choiceOf part k (pairsOf (t .questions))) (t .variables)
 
 -- The answers for the whole and for every question's group, where nothing is refused.
-pub record Answers (t : Tables) (s : Settings) (before after : List ℕ) (reply : Reply) (befores afters : ℕ → List ℕ) (replies : ℕ → Reply) : Type 0 where
+pub record Answers (t : Tables) (s : Settings) (before after : List ℕ) (reply : Reply) (befores afters : ℕ → List ℕ)
+    (replies : ℕ → Reply) : Type 0 where
   pub tables : tableFault t ≡ Done
   pub settings : settingsFault t s ≡ Done
   pub room : t .variables ≤ length before

@@ -53,7 +53,8 @@ fn find_placed(
 ) -> Match
     requires { ⌜ Accepted (given concepts inclusions questions roles variables) (now ids) ⌝ }
     requires { ⌜ m < pairsOf (now questions) ⌝ }
-    ensures { λ r. ⌜ FindsGroup (lent concepts inclusions questions roles variables) (lentSettings permitted largest) m (before out) (after out) (matchReply r) ⌝ }
+    ensures { λ r. ⌜ FindsGroup (lent concepts inclusions questions roles variables) (lentSettings permitted largest) m (before out)
+        (after out) (matchReply r) ⌝ }
 {
     let group = group_of(
         concepts,
@@ -91,7 +92,8 @@ pub fn find_group(
     m: u16,
     out: &mut [u64],
 ) -> Match
-    ensures { λ r. ⌜ FindsGroup (lent concepts inclusions questions roles variables) (lentSettings permitted largest) m (before out) (after out) (matchReply r) ⌝ }
+    ensures { λ r. ⌜ FindsGroup (lent concepts inclusions questions roles variables) (lentSettings permitted largest) m (before out)
+        (after out) (matchReply r) ⌝ }
 {
     if (m as usize) >= questions.len() / 2 {
         return Match::Rejected(refuse_place(concepts, inclusions, questions, roles, variables));

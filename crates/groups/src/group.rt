@@ -74,7 +74,8 @@ fn is_among(reached: u8, set: u8) -> bool
 fn gather(sets: &[u8], questions: &[u16], reached: u8) -> u64
     requires { ⌜ Known (length (now sets)) (now questions) ⌝ }
     requires { ⌜ pairsOf (now questions) ≤ 32 ⌝ }
-    ensures { λ r. ⌜ ((n : ℕ) → n < pairsOf (before questions) → bit r n ≡ belongs reached (setAt (λ i. getD (before sets) i 0) (before questions) n)) ⌝ }
+    ensures { λ r. ⌜ ((n : ℕ) → n < pairsOf (before questions) → bit r n ≡ belongs reached (setAt (λ i. getD (before sets) i 0)
+        (before questions) n)) ⌝ }
 {
     let count = questions.len() / 2;
     let mut group: u64 = 0;

@@ -1,5 +1,5 @@
--- Lines of the house text (01, "House text and the program"): how one is read from the front of the remaining text. The value and the length
--- used are told; what a right line is stands in numerals.
+-- Lines of the house text (01, "House text and the program"): how one is read from the front of the remaining text. The value and
+-- the length used are told; what a right line is stands in numerals.
 use Prim.Native.Nat.{ℕ, suc, _+_, _-_, _*_}
 use mathlib.Core.List.{List, [], _∷_}
 use mathlib.Core.Bool.{Bool, true, false}

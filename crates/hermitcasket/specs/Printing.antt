@@ -97,4 +97,5 @@ linksPart concepts roles marks p = rowsText (linkRows (p / 100) (p % 100) (links
 unfoldable pub partText : List ℕ → List ℕ → (ℕ → ℕ → Bool) → ℕ → List ℕ
 partText concepts roles marks zero = numberText thingsKey (countOf concepts)
 partText concepts roles marks (suc k) =
-    pickText (ltb k (countOf concepts)) (rowsText (nameRows k (namesAt concepts marks k))) (linksPart concepts roles marks (k - countOf concepts))
+    pickText (ltb k (countOf concepts)) (rowsText (nameRows k (namesAt concepts marks k)))
+    (linksPart concepts roles marks (k - countOf concepts))

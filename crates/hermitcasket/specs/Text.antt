@@ -39,7 +39,8 @@ layout present t ask =
     numberText variablesKey (t .variables)
     ++ (rolesText present (t .roles)
     ++ (numberText conceptsKey (countOf (t .concepts)) ++ (linesText rowOfNumbers 3 (countOf (t .concepts)) (t .concepts)
-    ++ (numberText inclusionsKey (pairsOf (t .inclusions)) ++ (linesText (pairOfNumbers belowKey) 2 (pairsOf (t .inclusions)) (t .inclusions)
+    ++ (numberText inclusionsKey (pairsOf (t .inclusions))
+    ++ (linesText (pairOfNumbers belowKey) 2 (pairsOf (t .inclusions)) (t .inclusions)
     ++ (numberText questionsKey (pairsOf (t .questions)) ++ (linesText (pairOfNumbers belowKey) 2 (pairsOf (t .questions)) (t .questions)
     ++ askText ask)))))))
 
@@ -60,7 +61,8 @@ RowFits (suc (suc (suc (suc (suc kind))))) a b = ⊥
 -- So many rows, of `width` numbers each, that fit.
 abbrev pub RowsFit : (List ℕ → Type 0) → ℕ → ℕ → List ℕ → Type 0
 RowsFit Fits width zero numbers = numbers ≡ []
-RowsFit Fits width (suc count) numbers = (length (take width numbers) ≡ width) × Fits (take width numbers) × RowsFit Fits width count (drop width numbers)
+RowsFit Fits width (suc count) numbers =
+    (length (take width numbers) ≡ width) × Fits (take width numbers) × RowsFit Fits width count (drop width numbers)
 
 abbrev pub ConceptFits : List ℕ → Type 0
 ConceptFits numbers = RowFits (getD numbers 0 0) (getD numbers 1 0) (getD numbers 2 0)
@@ -149,7 +151,8 @@ countAt key limit table go at rest = countThen limit table (numberLine key rest)
 
 -- A count line, and that many lines.
 unfoldable pub sectionAt : List ℕ → ℕ → ℕ → (List ℕ → Line) → (List ℕ → Onward) → Onward
-sectionAt key limit table line go at rest = countAt key limit table (λ count behind more. partThen (readLines line count behind more) go) at rest
+sectionAt key limit table line go at rest =
+    countAt key limit table (λ count behind more. partThen (readLines line count behind more) go) at rest
 
 -- The section of the roles is there where the text goes on with its key.
 unfoldable pub rolesAt : (List ℕ → Onward) → Onward

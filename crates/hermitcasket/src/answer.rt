@@ -45,7 +45,9 @@ fn answer_tables(
 ) -> usize
     requires { ⌜ variables ≤ 8 ⌝ }
     requires { ⌜ 4096 ≤ length (now out) ⌝ }
-    ensures { λ r. ⌜ Output (AnsweredTables (lent concepts inclusions questions roles variables) (tableFault (lent concepts inclusions questions roles variables))) (before out) r (after out) ⌝ }
+    ensures { λ r. ⌜ Output
+        (AnsweredTables (lent concepts inclusions questions roles variables) (tableFault
+        (lent concepts inclusions questions roles variables))) (before out) r (after out) ⌝ }
 {
     let mut assignment = [0u64; 8];
     let found = matching::find_assignment(
@@ -98,7 +100,8 @@ fn plan_pair(
     requires { ⌜ now into ≡ replicate 200 0 ⌝ }
     requires { ⌜ length (now table) ≡ 4608 ⌝ }
     requires { ⌜ 4096 ≤ length (now out) ⌝ }
-    ensures { λ r. ⌜ Planned (accepted (lent concepts inclusions questions roles variables) (Ask.Show left right)) r (before concepts) (after into) (after table) (before out) (after out) ⌝ }
+    ensures { λ r. ⌜ Planned (accepted (lent concepts inclusions questions roles variables) (Ask.Show left right)) r
+        (before concepts) (after into) (after table) (before out) (after out) ⌝ }
 {
     let assignment = [0u64; 8];
     let n = variables as usize;
@@ -139,7 +142,8 @@ fn plan_tables(
     requires { ⌜ now into ≡ replicate 200 0 ⌝ }
     requires { ⌜ length (now table) ≡ 4608 ⌝ }
     requires { ⌜ 4096 ≤ length (now out) ⌝ }
-    ensures { λ r. ⌜ Planned (accepted (lent concepts inclusions questions roles variables) ask) r (before concepts) (after into) (after table) (before out) (after out) ⌝ }
+    ensures { λ r. ⌜ Planned (accepted (lent concepts inclusions questions roles variables) ask) r (before concepts) (after into)
+        (after table) (before out) (after out) ⌝ }
 {
     match ask {
         Ask::Fill => {

@@ -27,8 +27,10 @@ fn put_variable(
     requires { ⌜ tableFault (given concepts inclusions questions roles variables) ≡ Done ⌝ }
     requires { ⌜ assignmentFault (given concepts inclusions questions roles variables) (now assignment) ≡ Done ⌝ }
     requires { ⌜ variable < variables ⌝ }
-    requires { ⌜ at + length (fillText (chosen (given concepts inclusions questions roles variables) (now assignment) variable)) ≤ length (now out) ⌝ }
-    ensures { λ r. ⌜ Wrote (before out) at (fillText (chosen (lent concepts inclusions questions roles variables) (before assignment) variable)) r (after out) ⌝ }
+    requires { ⌜ at + length
+        (fillText (chosen (given concepts inclusions questions roles variables) (now assignment) variable)) ≤ length (now out) ⌝ }
+    ensures { λ r. ⌜ Wrote (before out) at
+        (fillText (chosen (lent concepts inclusions questions roles variables) (before assignment) variable)) r (after out) ⌝ }
 {
     let mut buffer = [0u16; 64];
     let mut number: u16 = 0;
@@ -60,8 +62,10 @@ fn put_fills(
 ) -> usize
     requires { ⌜ tableFault (given concepts inclusions questions roles variables) ≡ Done ⌝ }
     requires { ⌜ assignmentFault (given concepts inclusions questions roles variables) (now assignment) ≡ Done ⌝ }
-    requires { ⌜ at + length (fillsText (atoms (given concepts inclusions questions roles variables)) (now assignment)) ≤ length (now out) ⌝ }
-    ensures { λ r. ⌜ Wrote (before out) at (fillsText (atoms (lent concepts inclusions questions roles variables)) (before assignment)) r (after out) ⌝ }
+    requires { ⌜ at + length (fillsText (atoms (given concepts inclusions questions roles variables)) (now assignment)) ≤ length
+        (now out) ⌝ }
+    ensures { λ r. ⌜ Wrote (before out) at
+        (fillsText (atoms (lent concepts inclusions questions roles variables)) (before assignment)) r (after out) ⌝ }
 {
     let mut end = at;
     let mut k: u16 = 0;
@@ -93,8 +97,10 @@ pub fn put_filled(
 ) -> usize
     requires { ⌜ tableFault (given concepts inclusions questions roles variables) ≡ Done ⌝ }
     requires { ⌜ assignmentFault (given concepts inclusions questions roles variables) (now assignment) ≡ Done ⌝ }
-    requires { ⌜ 0 + length (filledText (atoms (given concepts inclusions questions roles variables)) (now assignment)) ≤ length (now out) ⌝ }
-    ensures { λ r. ⌜ Wrote (before out) 0 (filledText (atoms (lent concepts inclusions questions roles variables)) (before assignment)) r (after out) ⌝ }
+    requires { ⌜ 0 + length (filledText (atoms (given concepts inclusions questions roles variables)) (now assignment)) ≤ length
+        (now out) ⌝ }
+    ensures { λ r. ⌜ Wrote (before out) 0
+        (filledText (atoms (lent concepts inclusions questions roles variables)) (before assignment)) r (after out) ⌝ }
 {
     let a = put_bytes(b"answer=filled\n", 0, out);
     let b = put_line(b"blanks=", assignment.len(), a, out);

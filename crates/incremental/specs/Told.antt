@@ -16,7 +16,8 @@ use Rattle.subsumption.specs.Table.{one}
 unfoldable pub toldFault : Tables → List ℕ → Outcome
 toldFault t told =
     orElse (refuseIf (not (eqb (length told % 2) 0)) (BadAssignment 0))
-    (firstAt BadAssignment (λ m. or (not (ltb (leftOf told m) (t .variables))) (not (contains (rightOf told m) (atoms t)))) 0 (pairsOf told))
+    (firstAt BadAssignment (λ m. or (not (ltb (leftOf told m) (t .variables))) (not (contains (rightOf told m) (atoms t)))) 0
+    (pairsOf told))
 
 -- Some pair tells the variable k and the id p.
 unfoldable pub tells : List ℕ → ℕ → ℕ → Bool

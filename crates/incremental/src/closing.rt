@@ -52,7 +52,8 @@ fn round(
     requires { ⌜ length (now into) ≡ 200 ⌝ }
     requires { ⌜ Existentials (now concepts) (now outer) (now inners) (now roles) (countOf (now concepts)) ⌝ }
     requires { ⌜ Square (now square) ⌝ }
-    ensures { λ r. ⌜ RoundPass (before concepts) (before inclusions) (inSet (before into)) (chooseFrom (before atoms) (before choices)) (before square) (after square) r ⌝ }
+    ensures { λ r. ⌜ RoundPass (before concepts) (before inclusions) (inSet (before into))
+        (chooseFrom (before atoms) (before choices)) (before square) (after square) r ⌝ }
 {
     let a = close_rows(
         concepts,
@@ -98,7 +99,8 @@ fn rounds(
     requires { ⌜ length (now into) ≡ 200 ⌝ }
     requires { ⌜ Existentials (now concepts) (now outer) (now inners) (now roles) (countOf (now concepts)) ⌝ }
     requires { ⌜ Square (now square) ⌝ }
-    ensures { λ _. ⌜ Rounded (before concepts) (before inclusions) (inSet (before into)) (chooseFrom (before atoms) (before choices)) (before square) (after square) ⌝ }
+    ensures { λ _. ⌜ Rounded (before concepts) (before inclusions) (inSet (before into))
+        (chooseFrom (before atoms) (before choices)) (before square) (after square) ⌝ }
 {
     let mut order = [0u16; CONCEPTS];
     note_order(square, concepts.len() / 3, &mut order);
@@ -134,7 +136,8 @@ pub fn close(
     requires { ⌜ pairsOf (now inclusions) ≤ 96 ⌝ }
     requires { ⌜ LowRoles (now roles) ⌝ }
     requires { ⌜ Square (now square) ⌝ }
-    ensures { λ _. ⌜ Closed (before concepts) (before inclusions) (wider (before roles)) (chooseFrom (before atoms) (before choices)) (before square) (after square) ⌝ }
+    ensures { λ _. ⌜ Closed (before concepts) (before inclusions) (wider (before roles))
+        (chooseFrom (before atoms) (before choices)) (before square) (after square) ⌝ }
 {
     start(concepts, square);
     let mut chain = [NO_PAIR; CHAIN];

@@ -112,7 +112,8 @@ fn include_left(
     requires { ⌜ length (now covered) ≡ 3 ⌝ }
     requires { ⌜ (i < count) × (l < 192) ⌝ }
     requires { ⌜ inRow (now square) i l ≡ true ⌝ }
-    ensures { λ r. ⌜ IncludePass count (before inclusions) (LeftQuiet count (before inclusions) (before done) i l (before covered) (after covered)) (before square) (after square) r ⌝ }
+    ensures { λ r. ⌜ IncludePass count (before inclusions)
+        (LeftQuiet count (before inclusions) (before done) i l (before covered) (after covered)) (before square) (after square) r ⌝ }
     ensures { λ _. ⌜ length (after covered) ≡ 3 ⌝ }
 {
     let pairs = inclusions.len() / 2;
@@ -146,7 +147,8 @@ fn scan_lefts(
     requires { ⌜ length (now done) ≡ 3 ⌝ }
     requires { ⌜ length (now covered) ≡ 3 ⌝ }
     requires { ⌜ (i < count) × (from ≤ 192) × (to ≤ 192) ⌝ }
-    ensures { λ r. ⌜ IncludePass count (before inclusions) (ScanQuiet count (before inclusions) (before done) i from to (before covered) (after covered)) (before square) (after square) r ⌝ }
+    ensures { λ r. ⌜ IncludePass count (before inclusions)
+        (ScanQuiet count (before inclusions) (before done) i from to (before covered) (after covered)) (before square) (after square) r ⌝ }
     ensures { λ _. ⌜ length (after covered) ≡ 3 ⌝ }
 {
     let mut changed = false;
@@ -180,7 +182,9 @@ pub fn include_row(
     requires { ⌜ Square (now square) ⌝ }
     requires { ⌜ length (now done) ≡ 3 ⌝ }
     requires { ⌜ (i < count) × (first < count) × (second < count) × (third < count) ⌝ }
-    ensures { λ r. ⌜ IncludePass count (before inclusions) (λ s. DoneRows count (before inclusions) s (before done) → IncludeAt count (before inclusions) (inRow s) i) (before square) (after square) r ⌝ }
+    ensures { λ r. ⌜ IncludePass count (before inclusions)
+        (λ s. DoneRows count (before inclusions) s (before done) → IncludeAt count (before inclusions) (inRow s) i) (before square)
+        (after square) r ⌝ }
 {
     let mut covered = [idle[0], idle[1], idle[2]];
     cover(square, done, &mut covered, first, i);

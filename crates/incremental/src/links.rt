@@ -53,7 +53,8 @@ struct Words {
 // The set with all lines, from line `from` on, that the word picks.
 fn join(sets: &[u64], from: usize, word: u64, set: Words) -> Words
     requires { ⌜ from * 3 + 192 ≤ length (now sets) ⌝ }
-    ensures { λ r. ⌜ Joins (before sets) from word (inThree (set .first) (set .second) (set .third)) (inThree (r .first) (r .second) (r .third)) ⌝ }
+    ensures { λ r. ⌜ Joins (before sets) from word (inThree (set .first) (set .second) (set .third))
+        (inThree (r .first) (r .second) (r .third)) ⌝ }
 {
     let mut first = set.first;
     let mut second = set.second;

@@ -62,7 +62,8 @@ fn rise_column(
     requires { ⌜ Existentials (now concepts) (now outer) (now inners) (now roles) (countOf (now concepts)) ⌝ }
     requires { ⌜ Square (now square) ⌝ }
     requires { ⌜ j < countOf (now concepts) ⌝ }
-    ensures { λ r. ⌜ RisenPass (before concepts) (before inclusions) (inSet (before into)) (chooseFrom (before atoms) (before choices)) j (before square) (after square) r ⌝ }
+    ensures { λ r. ⌜ RisenPass (before concepts) (before inclusions) (inSet (before into))
+        (chooseFrom (before atoms) (before choices)) j (before square) (after square) r ⌝ }
 {
     let a = settle_column(concepts, atoms, choices, square, j);
     let b = link_to(concepts, into, outer, inners, roles, square, j);
@@ -90,7 +91,8 @@ pub fn rise(
     requires { ⌜ length (now into) ≡ 200 ⌝ }
     requires { ⌜ Existentials (now concepts) (now outer) (now inners) (now roles) (countOf (now concepts)) ⌝ }
     requires { ⌜ Square (now square) ⌝ }
-    ensures { λ r. ⌜ AllRisen (before concepts) (before inclusions) (inSet (before into)) (chooseFrom (before atoms) (before choices)) (before square) (after square) r ⌝ }
+    ensures { λ r. ⌜ AllRisen (before concepts) (before inclusions) (inSet (before into))
+        (chooseFrom (before atoms) (before choices)) (before square) (after square) r ⌝ }
 {
     let count = concepts.len() / 3;
     let mut changed = false;

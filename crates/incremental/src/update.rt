@@ -29,7 +29,8 @@ fn put_update(
     table: &mut [u8],
 ) -> Outcome
     requires { ⌜ Prepared (now concepts) (now inclusions) (now roles) variables (now atoms) ⌝ }
-    ensures { λ r. ⌜ ForAccepted (before concepts) (before inclusions) (before roles) variables (before atoms) (λ t. Updates t (before told) (before table) (after table) (replyOf r)) ⌝ }
+    ensures { λ r. ⌜ ForAccepted (before concepts) (before inclusions) (before roles) variables (before atoms)
+        (λ t. Updates t (before told) (before table) (after table) (replyOf r)) ⌝ }
 {
     let pairs = check_told(atoms, variables, told);
     if let Outcome::Refused(r) = pairs {

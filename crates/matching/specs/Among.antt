@@ -25,7 +25,8 @@ pub record FirstAmong (asked : ℕ → Type 0) (t : Tables) (s : Settings) (assi
   pub heeds : Heeds s assignment
   pub solves : SolvesAmong asked t assignment
   pub first :
-      (other : List ℕ) → assignmentFault t other ≡ Done → Heeds s other → SolvesAmong asked t other → (other ≡ assignment) ⊎ Earlier assignment other
+      (other : List ℕ) → assignmentFault t other ≡ Done → Heeds s other → SolvesAmong asked t other → (other ≡ assignment)
+      ⊎ Earlier assignment other
 
 -- No assignment within the settings makes them hold.
 abbrev pub NoneAmong : (ℕ → Type 0) → Tables → Settings → Type 0

@@ -1,4 +1,5 @@
--- Derivations (01, "Below"): lines of four numbers, each by one of the eight rules from earlier lines, and the check of a whole list of them.
+-- Derivations (01, "Below"): lines of four numbers, each by one of the eight rules from earlier lines, and the check of a whole
+-- list of them.
 use Prim.Native.Nat.{ℕ, _+_, _-_, _*_, _/_, _%_}
 use mathlib.Core.List.{List}
 use mathlib.Core.Bool.{Bool, not}
@@ -37,7 +38,8 @@ provedBy lines n i j = anyBelow n (pairAt lines i j)
 
 -- Line k follows by its rule from earlier lines.
 unfoldable pub lineFollows : Tables → List ℕ → List ℕ → ℕ → Bool
-lineFollows t assignment lines k = follows t assignment (provedBy lines k) (ruleAt lines k) (leftAt lines k) (rightAt lines k) (extraAt lines k)
+lineFollows t assignment lines k =
+    follows t assignment (provedBy lines k) (ruleAt lines k) (leftAt lines k) (rightAt lines k) (extraAt lines k)
 
 -- Check 12: no lines or ragged; the lowest line that breaks its rule; the last line is another pair.
 unfoldable pub noLines : List ℕ → Bool

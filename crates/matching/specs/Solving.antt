@@ -34,7 +34,8 @@ SolvesBy t σ = Solved t (substituted (σ .concept))
 abbrev pub takes : List ℕ → ℕ → ℕ → Bool
 takes assignment k q = bit (getD assignment k 0) q
 
--- Look at the pairs (variable, position), variable 0 first and positions rising: at the first pair where the two differ, the earlier leaves the atom out.
+-- Look at the pairs (variable, position), variable 0 first and positions rising: at the first pair where the two differ, the
+-- earlier leaves the atom out.
 pub record Earlier (earlier later : List ℕ) : Type 0 where
   pub variable : ℕ
   pub position : ℕ

@@ -22,7 +22,8 @@ pub record FirstWithin (t : Tables) (s : Settings) (assignment : List ℕ) : Typ
   pub accepted : assignmentFault t assignment ≡ Done
   pub heeds : Heeds s assignment
   pub solves : Solves t assignment
-  pub first : (other : List ℕ) → assignmentFault t other ≡ Done → Heeds s other → Solves t other → (other ≡ assignment) ⊎ Earlier assignment other
+  pub first :
+      (other : List ℕ) → assignmentFault t other ≡ Done → Heeds s other → Solves t other → (other ≡ assignment) ⊎ Earlier assignment other
 
 -- One number a variable is written, the first assignment within the settings that solves; the rest of the buffer keeps its values.
 pub record FilledWithin (t : Tables) (s : Settings) (before after : List ℕ) : Type 0 where

@@ -40,7 +40,8 @@ derivedReply (Rejected r) = replyRefused r
 -- Where nothing else is refused, lines exactly when the pair is subsumed, else refusal 11. A refusal leaves the buffer as it was.
 abbrev pub DerivesAfter : Outcome → Tables → List ℕ → ℕ → ℕ → List ℕ → List ℕ → Reply → Type 0
 DerivesAfter Done t assignment left right before after reply =
-    ((reply ≡ replyDone (reply .value)) × Subsumed t assignment left right × DerivationOf t assignment left right before after (reply .value))
+    ((reply ≡ replyDone (reply .value)) × Subsumed t assignment left right
+    × DerivationOf t assignment left right before after (reply .value))
     ⊎ ((reply ≡ replyRefused NotSubsumed) × (Subsumed t assignment left right → ⊥) × (after ≡ before))
 DerivesAfter (Refused r) t assignment left right before after reply = (reply ≡ replyRefused r) × (after ≡ before)
 

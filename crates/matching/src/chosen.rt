@@ -57,8 +57,12 @@ fn put_known(
     out: &mut [u16],
 ) -> Chosen
     requires { ⌜ length (now ids) ≤ 64 ⌝ }
-    ensures { λ r. ⌜ chosenReply r ≡ replyWith (knownFault (length (before ids)) variables (before assignment) variable (length (before out))) (length (pick (before ids) (getD (before assignment) variable 0))) ⌝ }
-    ensures { λ r. ⌜ after out ≡ chosenIn (knownFault (length (before ids)) variables (before assignment) variable (length (before out))) (pick (before ids) (getD (before assignment) variable 0)) (before out) ⌝ }
+    ensures { λ r. ⌜ chosenReply r ≡ replyWith
+        (knownFault (length (before ids)) variables (before assignment) variable (length (before out)))
+        (length (pick (before ids) (getD (before assignment) variable 0))) ⌝ }
+    ensures { λ r. ⌜ after out ≡ chosenIn
+        (knownFault (length (before ids)) variables (before assignment) variable (length (before out)))
+        (pick (before ids) (getD (before assignment) variable 0)) (before out) ⌝ }
 {
     if variables <= variable {
         return Chosen::Rejected(Refusal::Malformed(0));
@@ -99,8 +103,12 @@ pub fn put_chosen(
     variable: u16,
     out: &mut [u16],
 ) -> Chosen
-    ensures { λ r. ⌜ chosenReply r ≡ replyWith (choosingFault (lent concepts inclusions questions roles variables) (before assignment) variable (length (before out))) (length (chosen (lent concepts inclusions questions roles variables) (before assignment) variable)) ⌝ }
-    ensures { λ r. ⌜ after out ≡ chosenIn (choosingFault (lent concepts inclusions questions roles variables) (before assignment) variable (length (before out))) (chosen (lent concepts inclusions questions roles variables) (before assignment) variable) (before out) ⌝ }
+    ensures { λ r. ⌜ chosenReply r ≡ replyWith
+        (choosingFault (lent concepts inclusions questions roles variables) (before assignment) variable (length (before out)))
+        (length (chosen (lent concepts inclusions questions roles variables) (before assignment) variable)) ⌝ }
+    ensures { λ r. ⌜ after out ≡ chosenIn
+        (choosingFault (lent concepts inclusions questions roles variables) (before assignment) variable (length (before out)))
+        (chosen (lent concepts inclusions questions roles variables) (before assignment) variable) (before out) ⌝ }
 {
     let mut ids = [0u16; ATOMS];
     let atoms = list_atoms(concepts, inclusions, questions, roles, variables, &mut ids);
@@ -145,9 +153,13 @@ pub fn list_chosen<'a>(
     number: &mut u16,
     place: &mut u64,
 ) -> &'a mut [u16]
-    ensures { λ r. ⌜ now r ≡ handedBack (choosingFault (lent concepts inclusions questions roles variables) (before assignment) variable (length (before out))) (chosen (lent concepts inclusions questions roles variables) (before assignment) variable) (before out) ⌝ }
-    ensures { λ r. ⌜ after number ≡ replyOf (choosingFault (lent concepts inclusions questions roles variables) (before assignment) variable (length (before out))) .number ⌝ }
-    ensures { λ r. ⌜ after place ≡ replyOf (choosingFault (lent concepts inclusions questions roles variables) (before assignment) variable (length (before out))) .place ⌝ }
+    ensures { λ r. ⌜ now r ≡ handedBack
+        (choosingFault (lent concepts inclusions questions roles variables) (before assignment) variable (length (before out)))
+        (chosen (lent concepts inclusions questions roles variables) (before assignment) variable) (before out) ⌝ }
+    ensures { λ r. ⌜ after number ≡ replyOf
+        (choosingFault (lent concepts inclusions questions roles variables) (before assignment) variable (length (before out))) .number ⌝ }
+    ensures { λ r. ⌜ after place ≡ replyOf
+        (choosingFault (lent concepts inclusions questions roles variables) (before assignment) variable (length (before out))) .place ⌝ }
 {
     let size = out.len();
     let answer = put_chosen(

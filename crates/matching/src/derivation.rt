@@ -178,7 +178,8 @@ fn check_known(
 ) -> Outcome
     requires { ⌜ Prepared (now concepts) (now inclusions) (now roles) variables (now atoms) ⌝ }
     requires { ⌜ (left < countOf (now concepts)) × (right < countOf (now concepts)) ⌝ }
-    ensures { λ r. ⌜ ForAccepted (before concepts) (before inclusions) (before roles) variables (before atoms) (λ t. r ≡ checkingFault t (before assignment) left right (before lines)) ⌝ }
+    ensures { λ r. ⌜ ForAccepted (before concepts) (before inclusions) (before roles) variables (before atoms)
+        (λ t. r ≡ checkingFault t (before assignment) left right (before lines)) ⌝ }
 {
     let choices = check_assignment(assignment, variables, atoms.len());
     if let Outcome::Refused(r) = choices {
@@ -209,7 +210,8 @@ pub fn check_derivation(
     right: u16,
     lines: &[u16],
 ) -> Outcome
-    ensures { λ r. ⌜ replyOf r ≡ replyOf (checkingFault (lent concepts inclusions questions roles variables) (before assignment) left right (before lines)) ⌝ }
+    ensures { λ r. ⌜ replyOf r ≡ replyOf
+        (checkingFault (lent concepts inclusions questions roles variables) (before assignment) left right (before lines)) ⌝ }
 {
     let mut ids = [0u16; ATOMS];
     let listed = list_asked(

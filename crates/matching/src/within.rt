@@ -102,7 +102,8 @@ fn find_first(
 ) -> Solution
     requires { ⌜ Accepted (given concepts inclusions questions roles variables) (now ids) ⌝ }
     requires { ⌜ settingsFault (given concepts inclusions questions roles variables) (givenSettings permitted largest) ≡ Done ⌝ }
-    ensures { λ r. ⌜ FoundAmong (λ m. bit wanted m ≡ true) (lent concepts inclusions questions roles variables) (lentSettings permitted largest) (r .found) (r .choice) ⌝ }
+    ensures { λ r. ⌜ FoundAmong (λ m. bit wanted m ≡ true) (lent concepts inclusions questions roles variables)
+        (lentSettings permitted largest) (r .found) (r .choice) ⌝ }
 {
     let mut sets = [0u64; SETS];
     let mut problem = [0u16; PROBLEM];
@@ -149,7 +150,8 @@ fn find_set(
 ) -> Match
     requires { ⌜ Accepted (given concepts inclusions questions roles variables) (now ids) ⌝ }
     requires { ⌜ settingsFault (given concepts inclusions questions roles variables) (givenSettings permitted largest) ≡ Done ⌝ }
-    ensures { λ r. ⌜ FindsAmong (λ m. bit wanted m ≡ true) (lent concepts inclusions questions roles variables) (lentSettings permitted largest) (before out) (after out) (matchReply r) ⌝ }
+    ensures { λ r. ⌜ FindsAmong (λ m. bit wanted m ≡ true) (lent concepts inclusions questions roles variables)
+        (lentSettings permitted largest) (before out) (after out) (matchReply r) ⌝ }
 {
     let count = variables as usize;
     if out.len() < count {
@@ -188,7 +190,8 @@ pub fn find_known(
     out: &mut [u64],
 ) -> Match
     requires { ⌜ Accepted (given concepts inclusions questions roles variables) (now ids) ⌝ }
-    ensures { λ r. ⌜ FindsAmong (λ m. bit wanted m ≡ true) (lent concepts inclusions questions roles variables) (lentSettings permitted largest) (before out) (after out) (matchReply r) ⌝ }
+    ensures { λ r. ⌜ FindsAmong (λ m. bit wanted m ≡ true) (lent concepts inclusions questions roles variables)
+        (lentSettings permitted largest) (before out) (after out) (matchReply r) ⌝ }
 {
     let checked = check_settings(permitted, largest, variables, ids.len());
     match checked {
@@ -219,7 +222,8 @@ pub fn find_within(
     largest: &[u16],
     out: &mut [u64],
 ) -> Match
-    ensures { λ r. ⌜ FindsWithin (lent concepts inclusions questions roles variables) (lentSettings permitted largest) (before out) (after out) (matchReply r) ⌝ }
+    ensures { λ r. ⌜ FindsWithin (lent concepts inclusions questions roles variables) (lentSettings permitted largest) (before out)
+        (after out) (matchReply r) ⌝ }
 {
     let mut ids = [0u16; ATOMS];
     let listed = list_atoms(concepts, inclusions, questions, roles, variables, &mut ids);

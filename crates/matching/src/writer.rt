@@ -91,7 +91,8 @@ fn write_more(
     requires { ⌜ Written (now concepts) (now inclusions) (now into) (now atoms) (now assignment) (now marks) (now out) written ⌝ }
     requires { ⌜ seen (countOf (now concepts)) (now marks) left right ≡ false ⌝ }
     requires { ⌜ countOf (now concepts) * countOf (now concepts) * 4 ≤ length (now out) ⌝ }
-    ensures { λ r. ⌜ WrittenTo (before concepts) (before inclusions) (before into) (before atoms) (before assignment) left right (after marks) (after out) r ⌝ }
+    ensures { λ r. ⌜ WrittenTo (before concepts) (before inclusions) (before into) (before atoms) (before assignment) left right
+        (after marks) (after out) r ⌝ }
     ensures { λ r. ⌜ RestKept (before out) (after out) written r ⌝ }
 {
     let count = concepts.len() / 3;
@@ -136,7 +137,8 @@ fn write_tested(
     requires { ⌜ (left < countOf (now concepts)) × (right < countOf (now concepts)) ⌝ }
     requires { ⌜ Blank (countOf (now concepts)) (now marks) ⌝ }
     requires { ⌜ countOf (now concepts) * countOf (now concepts) * 4 ≤ length (now out) ⌝ }
-    ensures { λ r. ⌜ Begun (before concepts) (before inclusions) (before into) (before atoms) (before assignment) left right (after marks) (after out) r ⌝ }
+    ensures { λ r. ⌜ Begun (before concepts) (before inclusions) (before into) (before atoms) (before assignment) left right
+        (after marks) (after out) r ⌝ }
     ensures { λ r. ⌜ RestKept (before out) (after out) 0 r ⌝ }
 {
     let count = concepts.len() / 3;
@@ -176,7 +178,8 @@ fn write_proposed(
     requires { ⌜ (left < countOf (now concepts)) × (right < countOf (now concepts)) ⌝ }
     requires { ⌜ Blank (countOf (now concepts)) (now marks) ⌝ }
     requires { ⌜ countOf (now concepts) * countOf (now concepts) * 4 ≤ length (now out) ⌝ }
-    ensures { λ r. ⌜ Begun (before concepts) (before inclusions) (before into) (before atoms) (before assignment) left right (after marks) (after out) r ⌝ }
+    ensures { λ r. ⌜ Begun (before concepts) (before inclusions) (before into) (before atoms) (before assignment) left right
+        (after marks) (after out) r ⌝ }
     ensures { λ r. ⌜ RestKept (before out) (after out) 0 r ⌝ }
 {
     let mut work = [0u64; WORK];
@@ -222,7 +225,8 @@ fn write_lines(
     requires { ⌜ Asked (now concepts) (now inclusions) (now into) (now atoms) (now assignment) left right ⌝ }
     requires { ⌜ Blank (countOf (now concepts)) (now marks) ⌝ }
     requires { ⌜ countOf (now concepts) * countOf (now concepts) * 4 ≤ length (now out) ⌝ }
-    ensures { λ r. ⌜ WrittenTo (before concepts) (before inclusions) (before into) (before atoms) (before assignment) left right (after marks) (after out) r ⌝ }
+    ensures { λ r. ⌜ WrittenTo (before concepts) (before inclusions) (before into) (before atoms) (before assignment) left right
+        (after marks) (after out) r ⌝ }
     ensures { λ r. ⌜ RestKept (before out) (after out) 0 r ⌝ }
 {
     let count = concepts.len() / 3;
@@ -269,7 +273,8 @@ fn put_lines(
     requires { ⌜ length (now into) ≡ 200 ⌝ }
     requires { ⌜ Asked (now concepts) (now inclusions) (now into) (now atoms) (now assignment) left right ⌝ }
     requires { ⌜ countOf (now concepts) * countOf (now concepts) * 4 ≤ length (now out) ⌝ }
-    ensures { λ r. ⌜ WrittenFor (before concepts) (before inclusions) (before into) (before atoms) (before assignment) left right (before out) (after out) r ⌝ }
+    ensures { λ r. ⌜ WrittenFor (before concepts) (before inclusions) (before into) (before atoms) (before assignment) left right
+        (before out) (after out) r ⌝ }
 {
     let mut marks = [false; SQUARE];
     let count = concepts.len() / 3;
@@ -301,7 +306,8 @@ fn derive_known(
 ) -> Derived
     requires { ⌜ Prepared (now concepts) (now inclusions) (now roles) variables (now atoms) ⌝ }
     requires { ⌜ (left < countOf (now concepts)) × (right < countOf (now concepts)) ⌝ }
-    ensures { λ r. ⌜ ForAccepted (before concepts) (before inclusions) (before roles) variables (before atoms) (λ t. Derives t (before assignment) left right (before out) (after out) (derivedReply r)) ⌝ }
+    ensures { λ r. ⌜ ForAccepted (before concepts) (before inclusions) (before roles) variables (before atoms)
+        (λ t. Derives t (before assignment) left right (before out) (after out) (derivedReply r)) ⌝ }
 {
     let choices = check_assignment(assignment, variables, atoms.len());
     if let Outcome::Refused(r) = choices {
@@ -352,7 +358,8 @@ pub fn derive(
     right: u16,
     out: &mut [u16],
 ) -> Derived
-    ensures { λ r. ⌜ Derives (lent concepts inclusions questions roles variables) (before assignment) left right (before out) (after out) (derivedReply r) ⌝ }
+    ensures { λ r. ⌜ Derives (lent concepts inclusions questions roles variables) (before assignment) left right (before out)
+        (after out) (derivedReply r) ⌝ }
 {
     let mut ids = [0u16; ATOMS];
     let listed = list_asked(

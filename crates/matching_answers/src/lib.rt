@@ -51,7 +51,8 @@ pub fn find_within(
     largest: &[u16],
     out: &mut [u64],
 ) -> Answer
-    ensures { λ a. ⌜ FindsWithin (lent concepts inclusions questions roles variables) (lentSettings permitted largest) (before out) (after out) (replied a) ⌝ }
+    ensures { λ a. ⌜ FindsWithin (lent concepts inclusions questions roles variables) (lentSettings permitted largest) (before out)
+        (after out) (replied a) ⌝ }
 {
     let answer = matching::find_within(
         concepts,
@@ -77,8 +78,12 @@ pub fn chosen(
     variable: u16,
     out: &mut [u16],
 ) -> Answer
-    ensures { λ a. ⌜ replied a ≡ replyWith (choosingFault (lent concepts inclusions questions roles variables) (before assignment) variable (length (before out))) (length (chosen (lent concepts inclusions questions roles variables) (before assignment) variable)) ⌝ }
-    ensures { λ a. ⌜ after out ≡ chosenIn (choosingFault (lent concepts inclusions questions roles variables) (before assignment) variable (length (before out))) (chosen (lent concepts inclusions questions roles variables) (before assignment) variable) (before out) ⌝ }
+    ensures { λ a. ⌜ replied a ≡ replyWith
+        (choosingFault (lent concepts inclusions questions roles variables) (before assignment) variable (length (before out)))
+        (length (chosen (lent concepts inclusions questions roles variables) (before assignment) variable)) ⌝ }
+    ensures { λ a. ⌜ after out ≡ chosenIn
+        (choosingFault (lent concepts inclusions questions roles variables) (before assignment) variable (length (before out)))
+        (chosen (lent concepts inclusions questions roles variables) (before assignment) variable) (before out) ⌝ }
 {
     let answer = matching::put_chosen(
         concepts,

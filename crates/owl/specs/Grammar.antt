@@ -1,4 +1,5 @@
--- The grammar (02, A.8) as data, and what a text that it gives means: the laws of proofs/ say that the judgement accepts exactly these texts.
+-- The grammar (02, A.8) as data, and what a text that it gives means: the laws of proofs/ say that the judgement accepts exactly
+-- these texts.
 use Prim.Native.Nat.{ℕ, suc, _+_, _-_, _≤_, _<_}
 use mathlib.Core.Path.{_≡_}
 use mathlib.Core.List.{List, [], _∷_, _++_}

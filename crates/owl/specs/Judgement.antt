@@ -56,7 +56,13 @@ first exist = role
 
 unfoldable pub opened : Kind → State → Step
 opened kind s =
-    go (record { frames = record { kind = kind; role = 0; members = [] } ∷ s .frames; want = first kind; rows = s .rows; inclusions = s .inclusions })
+    go
+    (record {
+      frames = record { kind = kind; role = 0; members = [] } ∷ s .frames;
+      want = first kind;
+      rows = s .rows;
+      inclusions = s .inclusions;
+    })
 
 -- The role of the innermost existential.
 unfoldable pub roled : ℕ → List Frame → List Frame

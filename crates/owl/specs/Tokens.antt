@@ -1,4 +1,5 @@
--- Tokens of the OWL functional syntax (02, A.8): a round bracket, or a longest run of bytes other than round brackets, spaces and line ends.
+-- Tokens of the OWL functional syntax (02, A.8): a round bracket, or a longest run of bytes other than round brackets, spaces and
+-- line ends.
 use Prim.Native.Nat.{ℕ, suc}
 use mathlib.Core.List.{List, [], _∷_}
 use mathlib.Core.Bool.{Bool, true, false}
@@ -31,8 +32,10 @@ unfoldable pub joinedTo : ℕ → ℕ → Placed → List Placed → Token → L
 joinedTo place b next more opening = record { place = place; token = word (b ∷ []) } ∷ next ∷ more
 joinedTo place b next more closing = record { place = place; token = word (b ∷ []) } ∷ next ∷ more
 joinedTo place b next more (word bytes) =
-    elim (eqb (next .place) (suc place))
-    [ true ↦ record { place = place; token = word (b ∷ bytes) } ∷ more | false ↦ record { place = place; token = word (b ∷ []) } ∷ next ∷ more ]
+    elim (eqb (next .place) (suc place)) [
+      | true ↦ record { place = place; token = word (b ∷ bytes) } ∷ more
+      | false ↦ record { place = place; token = word (b ∷ []) } ∷ next ∷ more
+    ]
 
 unfoldable pub joined : ℕ → ℕ → List Placed → List Placed
 joined place b [] = record { place = place; token = word (b ∷ []) } ∷ []

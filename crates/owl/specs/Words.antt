@@ -1,4 +1,5 @@
--- The words of the syntax (02, A.8): its keywords, ":cN" for the name N and ":rN" for the role N, N written as in house text and in 01's ranges.
+-- The words of the syntax (02, A.8): its keywords, ":cN" for the name N and ":rN" for the role N, N written as in house text and in
+-- 01's ranges.
 use Prim.Native.Nat.{ℕ, _+_}
 use mathlib.Core.List.{List, [], _∷_}
 use mathlib.Core.Bool.{Bool, true, false, not}
@@ -44,7 +45,8 @@ unfoldable pub isNumbered : List ℕ → ℕ → List ℕ → Bool
 isNumbered key most word =
     both (starts key word)
     (both (ltb 0 (runOf (drop (length key) word) .length))
-    (both (eqb (length key + runOf (drop (length key) word) .length) (length word)) (not (ltb most (runOf (drop (length key) word) .value)))))
+    (both (eqb (length key + runOf (drop (length key) word) .length) (length word))
+    (not (ltb most (runOf (drop (length key) word) .value)))))
 
 unfoldable pub readWord : List ℕ → Word
 readWord word =

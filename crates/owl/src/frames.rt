@@ -1,5 +1,5 @@
-// The open brackets of a text, and the tables so far. Each bracket has a frame of three numbers: its kind, the role of an existential, and where
-// its members start among those that wait.
+// The open brackets of a text, and the tables so far. Each bracket has a frame of three numbers: its kind, the role of an
+// existential, and where its members start among those that wait.
 use crate::words::Word;
 use subsumption::refusal::Refusal;
 ghost use mathlib.Core.Path.{_≡_};

@@ -92,7 +92,8 @@ fn step_word(
     place: usize,
 ) -> Next
     requires { ⌜ FitsSomehow reader (now frames) (now pending) (now rows) ⌝ }
-    ensures { λ next. ⌜ StepsOnWord reader place word (before frames) (after frames) (before pending) (after pending) (before rows) (after rows) next ⌝ }
+    ensures { λ next. ⌜ StepsOnWord reader place word (before frames) (after frames) (before pending) (after pending) (before rows)
+        (after rows) next ⌝ }
 {
     if ITEM < reader.want {
         return take_role(frames, reader, word, place);
@@ -119,7 +120,8 @@ fn close_bracket(
     place: usize,
 ) -> Next
     requires { ⌜ Fits reader (now frames) (now pending) (now rows) (now inclusions) ⌝ }
-    ensures { λ next. ⌜ Steps reader place closing (before frames) (before frames) (before pending) (after pending) (before rows) (after rows) (before inclusions) (after inclusions) next ⌝ }
+    ensures { λ next. ⌜ Steps reader place closing (before frames) (before frames) (before pending) (after pending) (before rows)
+        (after rows) (before inclusions) (after inclusions) next ⌝ }
 {
     if reader.want != ITEM {
         return Next::Stop(Refusal::BadSyntax(place));
@@ -142,7 +144,8 @@ fn step_token(
 ) -> Next
     requires { ⌜ 0 < length (now token) ⌝ }
     requires { ⌜ Fits reader (now frames) (now pending) (now rows) (now inclusions) ⌝ }
-    ensures { λ next. ⌜ Steps reader place (tokenOf (before token)) (before frames) (after frames) (before pending) (after pending) (before rows) (after rows) (before inclusions) (after inclusions) next ⌝ }
+    ensures { λ next. ⌜ Steps reader place (tokenOf (before token)) (before frames) (after frames) (before pending) (after pending)
+        (before rows) (after rows) (before inclusions) (after inclusions) next ⌝ }
 {
     let byte = token[0];
     if byte == 40 {

@@ -39,7 +39,8 @@ fn put_front(numbers: &[u16], out: &mut [u16])
 fn read_text(text: &[u8], concepts: &mut [u16], inclusions: &mut [u16]) -> Catalogue
     requires { ⌜ 576 ≤ length (now concepts) ⌝ }
     requires { ⌜ 192 ≤ length (now inclusions) ⌝ }
-    ensures { λ r. ⌜ ReadsBy (judge (before text)) (before concepts) (after concepts) (before inclusions) (after inclusions) (catalogueReply r) ⌝ }
+    ensures { λ r. ⌜ ReadsBy (judge (before text)) (before concepts) (after concepts) (before inclusions) (after inclusions)
+        (catalogueReply r) ⌝ }
 {
     let mut frames = [0u16; FRAMES];
     let mut pending = [0u16; SIDES];
@@ -59,7 +60,8 @@ fn read_text(text: &[u8], concepts: &mut [u16], inclusions: &mut [u16]) -> Catal
 }
 
 pub fn read_catalogue(text: &[u8], concepts: &mut [u16], inclusions: &mut [u16]) -> Catalogue
-    ensures { λ r. ⌜ ReadsCatalogue (before text) (before concepts) (after concepts) (before inclusions) (after inclusions) (catalogueReply r) ⌝ }
+    ensures { λ r. ⌜ ReadsCatalogue (before text) (before concepts) (after concepts) (before inclusions) (after inclusions)
+        (catalogueReply r) ⌝ }
 {
     if concepts.len() < ROWS {
         return Catalogue::Rejected(Refusal::BufferTooShort(ROWS));

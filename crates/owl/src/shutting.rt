@@ -115,7 +115,8 @@ pub fn shut(
 ) -> Next
     requires { ⌜ 0 < reader .depth ⌝ }
     requires { ⌜ Fits reader (now frames) (now pending) (now rows) (now inclusions) ⌝ }
-    ensures { λ next. ⌜ ShutsFrame reader place (before frames) (before pending) (after pending) (before rows) (after rows) (before inclusions) (after inclusions) next ⌝ }
+    ensures { λ next. ⌜ ShutsFrame reader place (before frames) (before pending) (after pending) (before rows) (after rows)
+        (before inclusions) (after inclusions) next ⌝ }
 {
     let depth = reader.depth - 1;
     let at = depth * 3;

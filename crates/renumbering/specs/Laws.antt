@@ -50,4 +50,6 @@ MovedMarks t order old new =
 
 -- To each filling there is one of the renumbered tables, of the same concepts.
 abbrev pub FillsAlike : Tables → Tables → Type 0
-FillsAlike t t′ = (assignment : List ℕ) → FilledNow t assignment → (assignment′ : List ℕ) × FilledNow t′ assignment′ × SameConcepts t assignment t′ assignment′
+FillsAlike t t′ =
+    (assignment : List ℕ) → FilledNow t assignment → (assignment′ : List ℕ) × FilledNow t′ assignment′
+    × SameConcepts t assignment t′ assignment′

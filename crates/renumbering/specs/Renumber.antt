@@ -26,11 +26,15 @@ putIn Done numbers before = numbers ++ drop (length numbers) before
 putIn (Refused r) numbers before = before
 
 -- The three buffers before and after.
-pub record Renumbers (t : Tables) (order concepts concepts′ inclusions inclusions′ questions questions′ : List ℕ) (reply : Reply) : Type 0 where
+pub record Renumbers (t : Tables) (order concepts concepts′ inclusions inclusions′ questions questions′ : List ℕ)
+    (reply : Reply) : Type 0 where
   pub replied : reply ≡ replyOf (renumberingFault t order (length concepts) (length inclusions) (length questions))
   pub put-concepts :
-      concepts′ ≡ putIn (renumberingFault t order (length concepts) (length inclusions) (length questions)) (renumbered order t .concepts) concepts
+      concepts′ ≡ putIn (renumberingFault t order (length concepts) (length inclusions) (length questions))
+      (renumbered order t .concepts) concepts
   pub put-inclusions :
-      inclusions′ ≡ putIn (renumberingFault t order (length concepts) (length inclusions) (length questions)) (renumbered order t .inclusions) inclusions
+      inclusions′ ≡ putIn (renumberingFault t order (length concepts) (length inclusions) (length questions))
+      (renumbered order t .inclusions) inclusions
   pub put-questions :
-      questions′ ≡ putIn (renumberingFault t order (length concepts) (length inclusions) (length questions)) (renumbered order t .questions) questions
+      questions′ ≡ putIn (renumberingFault t order (length concepts) (length inclusions) (length questions))
+      (renumbered order t .questions) questions

@@ -1,5 +1,5 @@
--- Renumbered tables (02, A.12): rows move to their new ids, and every id in them, in inclusions and in questions is replaced by its new one.
--- Names, roles and variables are no ids; the role pairs stay.
+-- Renumbered tables (02, A.12): rows move to their new ids, and every id in them, in inclusions and in questions is replaced by its
+-- new one. Names, roles and variables are no ids; the role pairs stay.
 use Prim.Native.Nat.{ℕ, zero, suc, _+_, _*_}
 use mathlib.Core.List.{List, [], _∷_, _++_}
 use mathlib.Core.Bool.{Bool, true, false}

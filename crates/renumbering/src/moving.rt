@@ -91,7 +91,8 @@ pub fn put_rows(concepts: &[u16], order: &[u16], back: &[u16], out: &mut [u16])
     requires { ⌜ length (now order) ≡ countOf (now concepts) ⌝ }
     requires { ⌜ Arranges (countOf (now concepts)) (now order) ⌝ }
     requires { ⌜ LeadsBack (now order) (now back) ⌝ }
-    ensures { λ _. ⌜ after out ≡ movedConcepts (before order) (before concepts) ++ drop (length (movedConcepts (before order) (before concepts))) (before out) ⌝ }
+    ensures { λ _. ⌜ after out ≡ movedConcepts (before order) (before concepts) ++ drop
+        (length (movedConcepts (before order) (before concepts))) (before out) ⌝ }
 {
     let count = concepts.len() / 3;
     let mut k: usize = 0;
@@ -109,7 +110,8 @@ pub fn put_rows(concepts: &[u16], order: &[u16], back: &[u16], out: &mut [u16])
 pub fn put_ids(order: &[u16], ids: &[u16], out: &mut [u16])
     requires { ⌜ IdsBelow (length (now order)) (now ids) ⌝ }
     requires { ⌜ length (now ids) ≤ length (now out) ⌝ }
-    ensures { λ _. ⌜ after out ≡ movedIds (before order) (before ids) ++ drop (length (movedIds (before order) (before ids))) (before out) ⌝ }
+    ensures { λ _. ⌜ after out ≡ movedIds (before order) (before ids) ++ drop (length (movedIds (before order) (before ids)))
+        (before out) ⌝ }
 {
     let mut p: usize = 0;
     while p < ids.len() {

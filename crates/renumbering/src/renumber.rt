@@ -26,7 +26,8 @@ fn check_renumbering(
     inclusions_size: usize,
     questions_size: usize,
 ) -> Outcome
-    ensures { λ r. ⌜ r ≡ renumberingFault (lent concepts inclusions questions roles variables) (before order) «concepts_size» «inclusions_size» «questions_size» ⌝ }
+    ensures { λ r. ⌜ r ≡ renumberingFault (lent concepts inclusions questions roles variables)
+        (before order) «concepts_size» «inclusions_size» «questions_size» ⌝ }
 {
     let checked = check_tables(concepts, inclusions, questions, roles, variables);
     if let Outcome::Refused(r) = checked {
@@ -64,7 +65,9 @@ pub fn renumber_tables(
     inclusions_out: &mut [u16],
     questions_out: &mut [u16],
 ) -> Outcome
-    ensures { λ r. ⌜ Renumbers (lent concepts inclusions questions roles variables) (before order) (before «concepts_out») (after «concepts_out») (before «inclusions_out») (after «inclusions_out») (before «questions_out») (after «questions_out») (replyOf r) ⌝ }
+    ensures { λ r. ⌜ Renumbers (lent concepts inclusions questions roles variables) (before order) (before «concepts_out»)
+        (after «concepts_out») (before «inclusions_out») (after «inclusions_out») (before «questions_out») (after «questions_out»)
+        (replyOf r) ⌝ }
 {
     let checked = check_renumbering(
         concepts,

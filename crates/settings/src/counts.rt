@@ -56,7 +56,8 @@ pub struct Sides {
     pub high: [u64; 8],
 }
 
-// The nogood of a clamped interval as one of the whole: where it leaves out an atom that clamping took away, it is about what the low side takes.
+// The nogood of a clamped interval as one of the whole: where it leaves out an atom that clamping took away, it is about what the
+// low side takes.
 pub fn unclamp(
     full: [u64; 8],
     low: [u64; 8],

@@ -32,7 +32,8 @@ malformedRow variables (suc (suc (suc (suc zero)))) a b = or (not (ltb a variabl
 malformedRow variables (suc (suc (suc (suc (suc kind))))) a b = true
 
 unfoldable pub malformed : List ℕ → ℕ → ℕ → Bool
-malformed concepts variables i = malformedRow variables (getD concepts (i * 3) 0) (getD concepts (i * 3 + 1) 0) (getD concepts (i * 3 + 2) 0)
+malformed concepts variables i =
+    malformedRow variables (getD concepts (i * 3) 0) (getD concepts (i * 3 + 1) 0) (getD concepts (i * 3 + 2) 0)
 
 unfoldable pub malformedFault : List ℕ → ℕ → Outcome
 malformedFault concepts variables = firstAt Malformed (malformed concepts variables) 0 (countOf concepts)
@@ -53,7 +54,8 @@ unfoldable pub noConcept : ℕ → ℕ → ℕ → Bool
 noConcept count left right = or (not (ltb left count)) (not (ltb right count))
 
 unfoldable pub pairsFault : ℕ → ℕ → List ℕ → Outcome
-pairsFault before count pairs = firstAt (λ m. NoConcept (before + m)) (λ m. noConcept count (leftOf pairs m) (rightOf pairs m)) 0 (pairsOf pairs)
+pairsFault before count pairs =
+    firstAt (λ m. NoConcept (before + m)) (λ m. noConcept count (leftOf pairs m) (rightOf pairs m)) 0 (pairsOf pairs)
 
 -- A pair given alone.
 unfoldable pub aloneFault : List ℕ → ℕ → ℕ → Outcome

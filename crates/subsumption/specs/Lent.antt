@@ -1,4 +1,5 @@
--- What an operation is lent, as its contract reads it: the content of a slice, buffer or array at the call and at the return, and the tables as one.
+-- What an operation is lent, as its contract reads it: the content of a slice, buffer or array at the call and at the return, and
+-- the tables as one.
 use Prim.Native.Nat.{ℕ}
 use mathlib.Core.List.{List}
 use denote.Ref.{RefT, now}

@@ -40,7 +40,8 @@ unfoldable pub marksIn : ℕ → List ℕ → ℕ
 marksIn count bytes = total (λ j. counted (λ i. marked bytes i j) count) 192
 
 unfoldable pub writingFault : Tables → List ℕ → ℕ → Outcome
-writingFault t assignment size = orElse (tableFault t) (orElse (assignmentFault t assignment) (bufferFault (rowStart (countOf (t .concepts))) size))
+writingFault t assignment size =
+    orElse (tableFault t) (orElse (assignmentFault t assignment) (bufferFault (rowStart (countOf (t .concepts))) size))
 
 -- What the buffer holds after: exactly the pairs that are below, other bits of the rows 0, bytes past the last row as before.
 pub record TableOf (t : Tables) (assignment : List ℕ) (before after : List ℕ) : Type 0 where

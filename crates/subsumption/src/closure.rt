@@ -98,8 +98,10 @@ fn rise(
     requires { ⌜ Inner (now concepts) ⌝ }
     requires { ⌜ Laid (now outer) (now inners) (now kinds) ⌝ }
     requires { ⌜ length (now columns) ≡ 576 ⌝ }
-    ensures { λ r. ⌜ RisePass (before concepts) (before outer) (before inners) (before kinds) (chooseFrom (before atoms) (before assignment))
-        (λ wide l. AllAscended (before concepts) (before firsts) (chooseFrom (before atoms) (before assignment)) l × AllLinked (before concepts) wide l)
+    ensures { λ r. ⌜ RisePass (before concepts) (before outer) (before inners) (before kinds)
+        (chooseFrom (before atoms) (before assignment))
+        (λ wide l. AllAscended (before concepts) (before firsts) (chooseFrom (before atoms) (before assignment)) l
+        × AllLinked (before concepts) wide l)
         (before columns) (after columns) r ⌝ }
 {
     let count = concepts.len() / 3;
@@ -160,7 +162,8 @@ pub fn close(
     requires { ⌜ Ready (now concepts) (now inclusions) (now atoms) (now assignment) ⌝ }
     requires { ⌜ LowRoles (now roles) ⌝ }
     requires { ⌜ length (now columns) ≡ 576 ⌝ }
-    ensures { λ r. ⌜ Closed (before concepts) (before inclusions) (wider (before roles)) (chooseFrom (before atoms) (before assignment)) (before columns) (after columns) ⌝ }
+    ensures { λ r. ⌜ Closed (before concepts) (before inclusions) (wider (before roles))
+        (chooseFrom (before atoms) (before assignment)) (before columns) (after columns) ⌝ }
 {
     let mut firsts = [0u16; CONCEPTS];
     note_firsts(concepts, &mut firsts);

@@ -1,5 +1,5 @@
-// What the crates above share with this one. These are no operations: all but `check_concepts` and `list_asked` have a `requires`, which asks what the tables'
-// checks have shown.
+// What the crates above share with this one. These are no operations: all but `check_concepts` and `list_asked` have a `requires`,
+// which asks what the tables' checks have shown.
 pub use crate::atoms::mark_variables;
 pub use crate::check::check_assignment;
 pub use crate::check::check_concepts;

@@ -34,8 +34,11 @@ fn list_used(
 ) -> Listed
     requires { ⌜ conceptFault (given concepts inclusions questions roles variables) ≡ Done ⌝ }
     requires { ⌜ idFault (given concepts inclusions questions roles variables) ≡ Done ⌝ }
-    ensures { λ r. ⌜ listedReply r ≡ replyWith (usedFault (lent concepts inclusions questions roles variables) (length (before out))) (length (atoms (lent concepts inclusions questions roles variables))) ⌝ }
-    ensures { λ r. ⌜ after out ≡ listedIn (usedFault (lent concepts inclusions questions roles variables) (length (before out))) (lent concepts inclusions questions roles variables) (before out) ⌝ }
+    ensures { λ r. ⌜ listedReply r ≡ replyWith
+        (usedFault (lent concepts inclusions questions roles variables) (length (before out)))
+        (length (atoms (lent concepts inclusions questions roles variables))) ⌝ }
+    ensures { λ r. ⌜ after out ≡ listedIn (usedFault (lent concepts inclusions questions roles variables) (length (before out)))
+        (lent concepts inclusions questions roles variables) (before out) ⌝ }
 {
     let mut marks = [false; CONCEPTS];
     let used = check_use(
@@ -64,8 +67,11 @@ pub fn list_atoms(
     variables: u16,
     out: &mut [u16],
 ) -> Listed
-    ensures { λ r. ⌜ listedReply r ≡ replyWith (listingFault (lent concepts inclusions questions roles variables) (length (before out))) (length (atoms (lent concepts inclusions questions roles variables))) ⌝ }
-    ensures { λ r. ⌜ after out ≡ listedIn (listingFault (lent concepts inclusions questions roles variables) (length (before out))) (lent concepts inclusions questions roles variables) (before out) ⌝ }
+    ensures { λ r. ⌜ listedReply r ≡ replyWith
+        (listingFault (lent concepts inclusions questions roles variables) (length (before out)))
+        (length (atoms (lent concepts inclusions questions roles variables))) ⌝ }
+    ensures { λ r. ⌜ after out ≡ listedIn (listingFault (lent concepts inclusions questions roles variables) (length (before out)))
+        (lent concepts inclusions questions roles variables) (before out) ⌝ }
 {
     let rows = check_concepts(concepts, inclusions, questions, roles, variables);
     if let Outcome::Refused(r) = rows {
@@ -89,8 +95,12 @@ pub fn list_asked(
     right: u16,
     out: &mut [u16],
 ) -> Listed
-    ensures { λ r. ⌜ listedReply r ≡ replyWith (askedFault (lent concepts inclusions questions roles variables) left right (length (before out))) (length (atoms (lent concepts inclusions questions roles variables))) ⌝ }
-    ensures { λ r. ⌜ after out ≡ listedIn (askedFault (lent concepts inclusions questions roles variables) left right (length (before out))) (lent concepts inclusions questions roles variables) (before out) ⌝ }
+    ensures { λ r. ⌜ listedReply r ≡ replyWith
+        (askedFault (lent concepts inclusions questions roles variables) left right (length (before out)))
+        (length (atoms (lent concepts inclusions questions roles variables))) ⌝ }
+    ensures { λ r. ⌜ after out ≡ listedIn
+        (askedFault (lent concepts inclusions questions roles variables) left right (length (before out)))
+        (lent concepts inclusions questions roles variables) (before out) ⌝ }
 {
     let rows = check_concepts(concepts, inclusions, questions, roles, variables);
     if let Outcome::Refused(r) = rows {

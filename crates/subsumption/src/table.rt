@@ -31,7 +31,8 @@ fn put_table(
     out: &mut [u8],
 ) -> Tabled
     requires { ⌜ Prepared (now concepts) (now inclusions) (now roles) variables (now atoms) ⌝ }
-    ensures { λ r. ⌜ ForAccepted (before concepts) (before inclusions) (before roles) variables (before atoms) (λ t. Wrote t (before assignment) (before out) (after out) (tabledReply r)) ⌝ }
+    ensures { λ r. ⌜ ForAccepted (before concepts) (before inclusions) (before roles) variables (before atoms)
+        (λ t. Wrote t (before assignment) (before out) (after out) (tabledReply r)) ⌝ }
 {
     let choices = check_assignment(assignment, variables, atoms.len());
     if let Outcome::Refused(r) = choices {
@@ -58,7 +59,8 @@ pub fn write_table(
     assignment: &[u64],
     out: &mut [u8],
 ) -> Tabled
-    ensures { λ r. ⌜ Wrote (lent concepts inclusions questions roles variables) (before assignment) (before out) (after out) (tabledReply r) ⌝ }
+    ensures { λ r. ⌜ Wrote (lent concepts inclusions questions roles variables) (before assignment) (before out) (after out)
+        (tabledReply r) ⌝ }
 {
     let mut ids = [0u16; ATOMS];
     let listed = list_atoms(concepts, inclusions, questions, roles, variables, &mut ids);

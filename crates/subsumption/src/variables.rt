@@ -85,7 +85,8 @@ pub fn variables_in(
     variables: u16,
     id: u16,
 ) -> VariableSet
-    ensures { λ r. ⌜ variablesReply r ≡ replyWith (pairFault (lent concepts inclusions questions roles variables) id id) (variablesOf (tree (before concepts) id)) ⌝ }
+    ensures { λ r. ⌜ variablesReply r ≡ replyWith (pairFault (lent concepts inclusions questions roles variables) id id)
+        (variablesOf (tree (before concepts) id)) ⌝ }
 {
     let mut ids = [0u16; ATOMS];
     let listed = list_asked(

@@ -47,4 +47,5 @@ pub record NextAt (count : ℕ) (permitted low high : List ℕ) (settled₁ : �
 -- of whatever partial choice the words are
 abbrev pub NextFrom : ℕ → List ℕ → List ℕ → List ℕ → ℕ → Bool → List ℕ → List ℕ → ℕ → Type 0
 NextFrom count permitted low high many found low₁ high₁ many₁ =
-    (s : List Bool) → Words count permitted low high s → length s ≡ many → (found ≡ hasNext s) × (found ≡ true → NextAt count permitted low₁ high₁ many₁ s)
+    (s : List Bool) → Words count permitted low high s → length s ≡ many → (found ≡ hasNext s)
+    × (found ≡ true → NextAt count permitted low₁ high₁ many₁ s)

@@ -28,7 +28,8 @@ pub record Lent (t : Tables) (settings : Settings) (sets problem permitted : Lis
 -- Whether a partial choice is open, whatever it and the tables are.
 abbrev pub OpenedBy : List ℕ → List ℕ → List ℕ → List ℕ → List ℕ → List ℕ → List ℕ → Bool → Type 0
 OpenedBy sets problem permitted low high before after answer =
-    (count : ℕ) (t : Tables) (settings : Settings) (s : List Bool) → Lent t settings sets problem permitted count → At (t .variables) count permitted low high s → Kept t before
+    (count : ℕ) (t : Tables) (settings : Settings) (s : List Bool) → Lent t settings sets problem permitted count
+    → At (t .variables) count permitted low high s → Kept t before
     → Decided (Open t settings s) answer × Kept t after
 
 -- The words are those of the first answer.

@@ -69,7 +69,8 @@ fn member_at(
     requires { ⌜ Stretches (now rows) (now ends) ⌝ }
     requires { ⌜ Remembers (now concepts) (now ids) (now assignment) (now rows) (now memo) ⌝ }
     requires { ⌜ (element < 192) × (id < countOf (now concepts)) ⌝ }
-    ensures { λ r. ⌜ Walked (before concepts) (before ids) (before assignment) (before rows) (IsIn (before concepts) (before ids) (before assignment) (before rows) (tree (before concepts) id) element) (after memo) r ⌝ }
+    ensures { λ r. ⌜ Walked (before concepts) (before ids) (before assignment) (before rows)
+        (IsIn (before concepts) (before ids) (before assignment) (before rows) (tree (before concepts) id) element) (after memo) r ⌝ }
 {
     let cell = element as usize * CONCEPTS + id as usize;
     let known = memo[cell];
@@ -123,7 +124,9 @@ fn some_link(
     requires { ⌜ Stretches (now rows) (now ends) ⌝ }
     requires { ⌜ Remembers (now concepts) (now ids) (now assignment) (now rows) (now memo) ⌝ }
     requires { ⌜ (element < 192) × (inner < countOf (now concepts)) ⌝ }
-    ensures { λ r. ⌜ Walked (before concepts) (before ids) (before assignment) (before rows) (IsIn (before concepts) (before ids) (before assignment) (before rows) (exists role (tree (before concepts) inner)) element) (after memo) r ⌝ }
+    ensures { λ r. ⌜ Walked (before concepts) (before ids) (before assignment) (before rows)
+        (IsIn (before concepts) (before ids) (before assignment) (before rows) (exists role (tree (before concepts) inner)) element)
+        (after memo) r ⌝ }
 {
     let own = element as usize * 4;
     let past = ends[own + 3];
@@ -163,7 +166,8 @@ fn in_all(
     requires { ⌜ Stretches (now rows) (now ends) ⌝ }
     requires { ⌜ Remembers (now concepts) (now ids) (now assignment) (now rows) (now memo) ⌝ }
     requires { ⌜ element < 192 ⌝ }
-    ensures { λ r. ⌜ Walked (before concepts) (before ids) (before assignment) (before rows) (IsInAll (before concepts) (before ids) (before assignment) (before rows) choice element) (after memo) r ⌝ }
+    ensures { λ r. ⌜ Walked (before concepts) (before ids) (before assignment) (before rows)
+        (IsInAll (before concepts) (before ids) (before assignment) (before rows) choice element) (after memo) r ⌝ }
 {
     let mut q: usize = 0;
     while q < ids.len() {

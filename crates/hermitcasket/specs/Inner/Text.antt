@@ -66,7 +66,8 @@ pub record Sectioned (section : (List ℕ → Onward) → Onward) (limit width a
   pub fits : SectionFits r limit (length rest)
 
 pub record Last (at : ℕ) (rest : List ℕ) (r : Asked) (out : List ℕ) : Type 0 where
-  pub judged : (t : List ℕ → Tables) → sectionAt questionsKey 32 2 (pairAt belowKey) (λ questions. judgeEnd (t questions)) at rest ≡ lastThen r out t
+  pub judged :
+      (t : List ℕ → Tables) → sectionAt questionsKey 32 2 (pairAt belowKey) (λ questions. judgeEnd (t questions)) at rest ≡ lastThen r out t
   pub fits : LastFits r
 
 unfoldable pub faultOf : Section → Refusal

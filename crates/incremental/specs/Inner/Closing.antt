@@ -19,7 +19,8 @@ pub record RoundLines (concepts inclusions : List ℕ) (wide : ℕ → ℕ → B
 
 abbrev pub RoundPass : List ℕ → List ℕ → (ℕ → ℕ → Bool) → (ℕ → List ℕ) → List ℕ → List ℕ → Bool → Type 0
 RoundPass concepts inclusions wide choose before after changed =
-    Pass (countOf concepts) (RoundLines concepts inclusions wide choose) (λ s. RoundLines concepts inclusions wide choose (inRow s)) before after changed
+    Pass (countOf concepts) (RoundLines concepts inclusions wide choose)
+    (λ s. RoundLines concepts inclusions wide choose (inRow s)) before after changed
 
 pub record Rounded (concepts inclusions : List ℕ) (wide : ℕ → ℕ → Bool) (choose : ℕ → List ℕ) (before after : List ℕ) : Type 0 where
   pub grown : Grown (countOf concepts) (RoundLines concepts inclusions wide choose) before after

@@ -58,7 +58,8 @@ pub record Covering (square done : List ℕ) (k i : ℕ) (before after : List �
   pub long : length after ≡ 3
   pub bits :
       (y : ℕ) → y < 192 → isIn after y ≡ true
-      → (isIn before y ≡ true) ⊎ ((isIn done k ≡ true) × (inRow square k y ≡ true) × ((j : ℕ) → j < 192 → inRow square k j ≡ true → inRow square i j ≡ true))
+      → (isIn before y ≡ true)
+      ⊎ ((isIn done k ≡ true) × (inRow square k y ≡ true) × ((j : ℕ) → j < 192 → inRow square k j ≡ true → inRow square i j ≡ true))
 
 -- the first id from `from` on that is in the row and not in the set, or 192
 pub record NextOpen (square covered : List ℕ) (i from n : ℕ) : Type 0 where

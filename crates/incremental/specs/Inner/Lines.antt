@@ -40,7 +40,8 @@ MeetLines concepts choose R = (j : ℕ) → j < countOf concepts → MeetAt (cou
 
 -- Rule 6, at the row i.
 abbrev pub IncludeAt : ℕ → List ℕ → (ℕ → ℕ → Bool) → ℕ → Type 0
-IncludeAt count inclusions R i = (m : ℕ) → m < pairsOf inclusions → R i (leftOf inclusions m) ≡ true → Under count R (rightOf inclusions m) i
+IncludeAt count inclusions R i =
+    (m : ℕ) → m < pairsOf inclusions → R i (leftOf inclusions m) ≡ true → Under count R (rightOf inclusions m) i
 
 abbrev pub IncludeLines : ℕ → List ℕ → (ℕ → ℕ → Bool) → Type 0
 IncludeLines count inclusions R = (i : ℕ) → i < count → IncludeAt count inclusions R i
@@ -48,7 +49,8 @@ IncludeLines count inclusions R = (i : ℕ) → i < count → IncludeAt count in
 -- Rule 5, at the column f.
 abbrev pub LinkAt : List ℕ → (ℕ → ℕ → Bool) → (ℕ → ℕ → Bool) → ℕ → Type 0
 LinkAt concepts wide R f =
-    (e r s x y : ℕ) → e < countOf concepts → node concepts e ≡ existsAt r x → node concepts f ≡ existsAt s y → wide r s ≡ true → R x y ≡ true
+    (e r s x y : ℕ) → e < countOf concepts → node concepts e ≡ existsAt r x → node concepts f ≡ existsAt s y → wide r s ≡ true
+    → R x y ≡ true
     → R e f ≡ true
 
 abbrev pub LinkLines : List ℕ → (ℕ → ℕ → Bool) → (ℕ → ℕ → Bool) → Type 0

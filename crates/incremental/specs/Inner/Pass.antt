@@ -12,7 +12,8 @@ Within count R square = (i j : ℕ) → i < count → j < 192 → inRow square i
 
 -- No mark goes; what comes in is in every relation with the law that holds the marks before; a change uses up slack, and without one
 -- Quiet holds.
-pub record Pass (count : ℕ) (Law : (ℕ → ℕ → Bool) → Type 0) (Quiet : List ℕ → Type 0) (before after : List ℕ) (changed : Bool) : Type 0 where
+pub record Pass (count : ℕ) (Law : (ℕ → ℕ → Bool) → Type 0) (Quiet : List ℕ → Type 0) (before after : List ℕ)
+    (changed : Bool) : Type 0 where
   pub square : Square after
   pub kept : (i j : ℕ) → i < 192 → j < 192 → inRow before i j ≡ true → inRow after i j ≡ true
   pub sound : (R : ℕ → ℕ → Bool) → Law R → Within count R before → Within count R after

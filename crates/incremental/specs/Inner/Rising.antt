@@ -25,5 +25,6 @@ RisenPass concepts inclusions wide choose j before after changed =
 
 abbrev pub AllRisen : List ℕ → List ℕ → (ℕ → ℕ → Bool) → (ℕ → List ℕ) → List ℕ → List ℕ → Bool → Type 0
 AllRisen concepts inclusions wide choose before after changed =
-    Pass (countOf concepts) (RisenLines concepts inclusions wide choose) (λ s. (j : ℕ) → j < countOf concepts → RisenAt concepts wide choose j s) before
+    Pass (countOf concepts) (RisenLines concepts inclusions wide choose)
+    (λ s. (j : ℕ) → j < countOf concepts → RisenAt concepts wide choose j s) before
     after changed

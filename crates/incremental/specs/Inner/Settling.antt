@@ -22,8 +22,10 @@ SpreadPass atoms choice to before after changed =
 
 abbrev pub InnerPass : List ℕ → (ℕ → List ℕ) → ℕ → List ℕ → List ℕ → Bool → Type 0
 InnerPass concepts choose i before after changed =
-    Pass (countOf concepts) (InnerLines concepts choose) (λ s. InnerAt (countOf concepts) choose (inRow s) i (node concepts i)) before after changed
+    Pass (countOf concepts) (InnerLines concepts choose)
+    (λ s. InnerAt (countOf concepts) choose (inRow s) i (node concepts i)) before after changed
 
 abbrev pub MeetPass : List ℕ → (ℕ → List ℕ) → ℕ → List ℕ → List ℕ → Bool → Type 0
 MeetPass concepts choose j before after changed =
-    Pass (countOf concepts) (MeetLines concepts choose) (λ s. MeetAt (countOf concepts) choose (inRow s) j (node concepts j)) before after changed
+    Pass (countOf concepts) (MeetLines concepts choose)
+    (λ s. MeetAt (countOf concepts) choose (inRow s) j (node concepts j)) before after changed

@@ -44,7 +44,8 @@ pub record Between (low high assignment : List ℕ) : Type 0 where
   pub above : Within low assignment
   pub below : Within assignment high
 
--- What is asked of an assignment: it makes the questions hold that the problem asks, and takes for no variable more atoms than the problem says.
+-- What is asked of an assignment: it makes the questions hold that the problem asks, and takes for no variable more atoms than the
+-- problem says.
 pub record Meets (t : Tables) (problem assignment : List ℕ) : Type 0 where
   pub solves : SolvesAmong (AskedAt problem) t assignment
   pub few : (k : ℕ) → size (getD assignment k 0) ≤ mostAt problem k
@@ -58,4 +59,5 @@ pub record SolutionIn (t : Tables) (problem low high choice : List ℕ) : Type 0
 -- No accepted assignment between the two sides is a solution.
 abbrev pub NoSolution : Tables → List ℕ → List ℕ → List ℕ → Type 0
 NoSolution t problem low high =
-    (other : List ℕ) → assignmentFault t other ≡ Done → Between (take (t .variables) low) (take (t .variables) high) other → Meets t problem other → ⊥
+    (other : List ℕ) → assignmentFault t other ≡ Done → Between (take (t .variables) low) (take (t .variables) high) other
+    → Meets t problem other → ⊥

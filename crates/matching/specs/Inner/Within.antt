@@ -62,7 +62,8 @@ FoundAmong asked t s false choice = NoneAmong asked t s
 -- What a finder of the asked questions answers, where nothing is refused and where something is.
 abbrev pub FindsAmongAfter : Outcome → (ℕ → Type 0) → Tables → Settings → List ℕ → List ℕ → Reply → Type 0
 FindsAmongAfter Done asked t s before after reply =
-    ((reply ≡ replyDone 0) × FilledAmong asked t s before after) ⊎ ((reply ≡ replyRefused NoAssignment) × UnfilledAmong asked t s before after)
+    ((reply ≡ replyDone 0) × FilledAmong asked t s before after)
+    ⊎ ((reply ≡ replyRefused NoAssignment) × UnfilledAmong asked t s before after)
 FindsAmongAfter (Refused r) asked t s before after reply = (reply ≡ replyRefused r) × (after ≡ before)
 
 abbrev pub FindsAmong : (ℕ → Type 0) → Tables → Settings → List ℕ → List ℕ → Reply → Type 0

@@ -70,13 +70,15 @@ pub record Written (concepts inclusions into ids assignment : List ℕ) (marks :
   pub follow : (k : ℕ) → k < n → (t : Tables) → Of t concepts inclusions into ids → lineFollows t assignment out k ≡ true
 
 -- the asked pair is written last
-pub record WrittenTo (concepts inclusions into ids assignment : List ℕ) (left right : ℕ) (marks : List Bool) (out : List ℕ) (n : ℕ) : Type 0 where
+pub record WrittenTo (concepts inclusions into ids assignment : List ℕ) (left right : ℕ) (marks : List Bool) (out : List ℕ)
+    (n : ℕ) : Type 0 where
   pub written : Written concepts inclusions into ids assignment marks out n
   pub some : 0 < n
   pub last : pairAt out left right (n - 1) ≡ true
 
 -- if the asked pair is written, it is written last
-pub record Begun (concepts inclusions into ids assignment : List ℕ) (left right : ℕ) (marks : List Bool) (out : List ℕ) (n : ℕ) : Type 0 where
+pub record Begun (concepts inclusions into ids assignment : List ℕ) (left right : ℕ) (marks : List Bool) (out : List ℕ)
+    (n : ℕ) : Type 0 where
   pub written : Written concepts inclusions into ids assignment marks out n
   pub asked : seen (countOf concepts) marks left right ≡ true → WrittenTo concepts inclusions into ids assignment left right marks out n
 

@@ -115,7 +115,8 @@ fn by_inclusion(
     requires { ⌜ Known count (now inclusions) ⌝ }
     requires { ⌜ (left < count) × (right < count) ⌝ }
     ensures { λ x. ⌜ x ≡ both (ltb extra (pairsOf (before inclusions)))
-        (both (seen count (before marks) left (leftOf (before inclusions) extra)) (seen count (before marks) (rightOf (before inclusions) extra) right)) ⌝ }
+        (both (seen count (before marks) left (leftOf (before inclusions) extra))
+        (seen count (before marks) (rightOf (before inclusions) extra) right)) ⌝ }
 {
     if inclusions.len() / 2 <= extra {
         return false;
@@ -161,7 +162,9 @@ fn by_choice(
     requires { ⌜ KnownAtoms count (now atoms) ⌝ }
     requires { ⌜ Numbered (now assignment) (nodeOf l) ⌝ }
     requires { ⌜ right < count ⌝ }
-    ensures { λ x. ⌜ x ≡ onVariable (λ k. both (contains extra (pick (before atoms) (getD (before assignment) k 0))) (seen count (before marks) extra right)) (nodeOf l) ⌝ }
+    ensures { λ x. ⌜ x ≡ onVariable
+        (λ k. both (contains extra (pick (before atoms) (getD (before assignment) k 0))) (seen count (before marks) extra right))
+        (nodeOf l) ⌝ }
 {
     if l.kind != 4 {
         return false;
@@ -212,7 +215,8 @@ fn by_all(
     requires { ⌜ KnownAtoms count (now atoms) ⌝ }
     requires { ⌜ Numbered (now assignment) (nodeOf r) ⌝ }
     requires { ⌜ left < count ⌝ }
-    ensures { λ x. ⌜ x ≡ onVariable (λ k. every (λ p. seen count (before marks) left p) (pick (before atoms) (getD (before assignment) k 0))) (nodeOf r) ⌝ }
+    ensures { λ x. ⌜ x ≡ onVariable
+        (λ k. every (λ p. seen count (before marks) left p) (pick (before atoms) (getD (before assignment) k 0))) (nodeOf r) ⌝ }
 {
     if r.kind != 4 {
         return false;
@@ -238,7 +242,8 @@ pub fn by_rule(
     requires { ⌜ length (now into) ≡ 200 ⌝ }
     requires { ⌜ Square (countOf (now concepts)) (now marks) ⌝ }
     requires { ⌜ (left < countOf (now concepts)) × (right < countOf (now concepts)) ⌝ }
-    ensures { λ x. ⌜ ByRule (before concepts) (before inclusions) (before into) (before atoms) (before assignment) (before marks) rule left right extra x ⌝ }
+    ensures { λ x. ⌜ ByRule (before concepts) (before inclusions) (before into) (before atoms) (before assignment)
+        (before marks) rule left right extra x ⌝ }
 {
     let count = concepts.len() / 3;
     let l = row_at(concepts, left);

@@ -1,7 +1,7 @@
-// The sliced look-up. For each pair there are two masks over the nogoods: those whose low side wants it taken, and those whose high side wants
-// it left out. Going through the pairs of an interval, word by word of the masks, 64 nogoods are weighed at once: dead ones that the
-// interval cannot be inside of any more, and how many pairs of the others are open. All of it is a hint: the nogood found is
-// compared with the interval, and the pair is looked at, before anything rests on them.
+// The sliced look-up. For each pair there are two masks over the nogoods: those whose low side wants it taken, and those whose high
+// side wants it left out. Going through the pairs of an interval, word by word of the masks, 64 nogoods are weighed at once: dead
+// ones that the interval cannot be inside of any more, and how many pairs of the others are open. All of it is a hint: the nogood
+// found is compared with the interval, and the pair is looked at, before anything rests on them.
 use crate::limits::MASKS;
 use crate::limits::PAIRS;
 use crate::limits::WANTED;
@@ -52,8 +52,8 @@ pub fn note(scratch: &mut [u64], c: usize, full: [u64; 8], nogood: Interval)
     }
 }
 
-// Of 64 nogoods: those that cannot be around the interval, those with an open pair that they want taken, with one that they want left out, and with more
-// than one open pair.
+// Of 64 nogoods: those that cannot be around the interval, those with an open pair that they want taken, with one that they want
+// left out, and with more than one open pair.
 pub struct Weights {
     pub dead: u64,
     pub want: u64,
@@ -161,8 +161,8 @@ fn weigh(scratch: &[u64], w: usize, interval: Interval) -> Weights
     weights
 }
 
-// The place of a nogood that shuts the interval, else of one with a single open pair, else of the first one that is around the low side. `spare` says that
-// it is one with a single open pair.
+// The place of a nogood that shuts the interval, else of one with a single open pair, else of the first one that is around the low
+// side. `spare` says that it is one with a single open pair.
 pub struct Hint {
     pub place: usize,
     pub spare: bool,

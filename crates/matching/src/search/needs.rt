@@ -1,6 +1,7 @@
-// Needs: a nogood that is around an interval's low side and of its high side leaves out pairs of one variable only says that every solution in the interval takes one
-// of those pairs. Needs without a pair in common want as many atoms as they are. So where they and what the low side takes are more than
-// the variable's largest count, there is no solution, and that is seen without splitting at any of them.
+// Needs: a nogood that is around an interval's low side and of its high side leaves out pairs of one variable only says that every
+// solution in the interval takes one of those pairs. Needs without a pair in common want as many atoms as they are. So where they
+// and what the low side takes are more than the variable's largest count, there is no solution, and that is seen without splitting
+// at any of them.
 use crate::limits::MOST;
 use crate::search::interval::Interval;
 use crate::search::nogoods::nogood_at;

@@ -1,7 +1,8 @@
 // What tests read, made once from the tables: sets of ids, three words each, and numbers. The sets are the rows and columns of one
-// subsumption table, written by the operation for it under the assignment that chooses nothing; for each existential with a variable the
-// variable-free ones that fit it by their roles; the cone of each question, the ids of its sides that hold a variable; and the variable-free
-// tops and conjunctions that bring what is asked of its left values. The search knows neither inclusions nor pairs of roles.
+// subsumption table, written by the operation for it under the assignment that chooses nothing; for each existential with a
+// variable the variable-free ones that fit it by their roles; the cone of each question, the ids of its sides that hold a variable;
+// and the variable-free tops and conjunctions that bring what is asked of its left values. The search knows neither inclusions nor
+// pairs of roles.
 use crate::limits::ATOM_IDS;
 use crate::limits::CLOSERS;
 use crate::limits::CONES;
@@ -200,7 +201,8 @@ fn note_fit(problem: &[u16], into: &[u64], count: usize, right: bool, j: usize, 
     requires { ⌜ length (now into) ≡ 200 ⌝ }
     requires { ⌜ (j < count) × (kindAt (now problem) j ≡ 2) ⌝ }
     requires { ⌜ length (now sets) ≡ 2496 ⌝ }
-    ensures { λ _. ⌜ Filled (fitAt right j) (λ q. both (ltb q count) (fitsBy (before problem) (before into) right j q)) (before sets) (after sets) ⌝ }
+    ensures { λ _. ⌜ Filled (fitAt right j) (λ q. both (ltb q count) (fitsBy (before problem) (before into) right j q))
+        (before sets) (after sets) ⌝ }
 {
     let at = fit_at(right, j);
     let mut e: usize = 0;

@@ -148,7 +148,8 @@ fn try_low(
     requires { ⌜ (length full ≡ 8) × (length low ≡ 8) ⌝ }
     ensures { λ r. ⌜ (length (r .low) ≡ 8) × (length (r .high) ≡ 8) ⌝ }
     ensures { λ _. ⌜ Room (after store) ⌝ }
-    ensures { λ r. ⌜ Searched (before sets) (before problem) full low low (before store) (after store) (λ t. Answers t (before problem) low low (r .found) (r .low) (r .high)) ⌝ }
+    ensures { λ r. ⌜ Searched (before sets) (before problem) full low low (before store) (after store)
+        (λ t. Answers t (before problem) low low (r .found) (r .low) (r .high)) ⌝ }
 {
     if !is_few(&problem[MOST..ASKED], low) {
         return Answer {
@@ -188,7 +189,8 @@ fn pair_outside(a: [u64; 8], b: [u64; 8]) -> usize {
     pair
 }
 
-// One step at an interval: an answer, or a pair to split at, with the place of the nogood that proposed it, and whether the pair was its last open one.
+// One step at an interval: an answer, or a pair to split at, with the place of the nogood that proposed it, and whether the pair
+// was its last open one.
 pub struct Step {
     pub done: bool,
     pub found: bool,
@@ -243,7 +245,8 @@ fn step_by_test(
     ensures { λ r. ⌜ (length (r .low) ≡ 8) × (length (r .high) ≡ 8) ⌝ }
     ensures { λ _. ⌜ Room (after store) ⌝ }
     ensures { λ r. ⌜ (r .done ≡ false → (r .pair < 512) × (undecided (interval .low) (interval .high) (r .pair) ≡ true)) ⌝ }
-    ensures { λ r. ⌜ Searched (before sets) (before problem) full (interval .low) (interval .high) (before store) (after store) (λ t. r .done ≡ true → Answers t (before problem) (interval .low) (interval .high) (r .found) (r .low) (r .high)) ⌝ }
+    ensures { λ r. ⌜ Searched (before sets) (before problem) full (interval .low) (interval .high) (before store) (after store)
+        (λ t. r .done ≡ true → Answers t (before problem) (interval .low) (interval .high) (r .found) (r .low) (r .high)) ⌝ }
 {
     let low = interval.low;
     let high = interval.high;
@@ -317,7 +320,8 @@ fn step_by_choice(
     ensures { λ r. ⌜ (length (r .low) ≡ 8) × (length (r .high) ≡ 8) ⌝ }
     ensures { λ _. ⌜ Room (after store) ⌝ }
     ensures { λ r. ⌜ (r .done ≡ false → (r .pair < 512) × (undecided (interval .low) (interval .high) (r .pair) ≡ true)) ⌝ }
-    ensures { λ r. ⌜ Searched (before sets) (before problem) full (interval .low) (interval .high) (before store) (after store) (λ t. r .done ≡ true → Answers t (before problem) (interval .low) (interval .high) (r .found) (r .low) (r .high)) ⌝ }
+    ensures { λ r. ⌜ Searched (before sets) (before problem) full (interval .low) (interval .high) (before store) (after store)
+        (λ t. r .done ≡ true → Answers t (before problem) (interval .low) (interval .high) (r .found) (r .low) (r .high)) ⌝ }
 {
     let hint = choose(store, scratch, interval);
     let known = look_up(store, hint.place, interval);
@@ -347,7 +351,8 @@ fn step_by_hint(
     ensures { λ r. ⌜ (length (r .low) ≡ 8) × (length (r .high) ≡ 8) ⌝ }
     ensures { λ _. ⌜ Room (after store) ⌝ }
     ensures { λ r. ⌜ (r .done ≡ false → (r .pair < 512) × (undecided (interval .low) (interval .high) (r .pair) ≡ true)) ⌝ }
-    ensures { λ r. ⌜ Searched (before sets) (before problem) full (interval .low) (interval .high) (before store) (after store) (λ t. r .done ≡ true → Answers t (before problem) (interval .low) (interval .high) (r .found) (r .low) (r .high)) ⌝ }
+    ensures { λ r. ⌜ Searched (before sets) (before problem) full (interval .low) (interval .high) (before store) (after store)
+        (λ t. r .done ≡ true → Answers t (before problem) (interval .low) (interval .high) (r .found) (r .low) (r .high)) ⌝ }
 {
     let known = look_up(store, scratch[HINT] as usize, interval);
     let low = known.low;
@@ -372,7 +377,8 @@ fn step_by_clamp(
     ensures { λ r. ⌜ (length (r .low) ≡ 8) × (length (r .high) ≡ 8) ⌝ }
     ensures { λ _. ⌜ Room (after store) ⌝ }
     ensures { λ r. ⌜ (r .done ≡ false → (r .pair < 512) × (undecided (interval .low) (interval .high) (r .pair) ≡ true)) ⌝ }
-    ensures { λ r. ⌜ Searched (before sets) (before problem) full (interval .low) (interval .high) (before store) (after store) (λ t. r .done ≡ true → Answers t (before problem) (interval .low) (interval .high) (r .found) (r .low) (r .high)) ⌝ }
+    ensures { λ r. ⌜ Searched (before sets) (before problem) full (interval .low) (interval .high) (before store) (after store)
+        (λ t. r .done ≡ true → Answers t (before problem) (interval .low) (interval .high) (r .found) (r .low) (r .high)) ⌝ }
 {
     let low = interval.low;
     let high = interval.high;
@@ -428,7 +434,8 @@ fn next_step(
     ensures { λ r. ⌜ (length (r .low) ≡ 8) × (length (r .high) ≡ 8) ⌝ }
     ensures { λ _. ⌜ Room (after store) ⌝ }
     ensures { λ r. ⌜ (r .done ≡ false → (r .pair < 512) × (undecided (interval .low) (interval .high) (r .pair) ≡ true)) ⌝ }
-    ensures { λ r. ⌜ Searched (before sets) (before problem) full (interval .low) (interval .high) (before store) (after store) (λ t. r .done ≡ true → Answers t (before problem) (interval .low) (interval .high) (r .found) (r .low) (r .high)) ⌝ }
+    ensures { λ r. ⌜ Searched (before sets) (before problem) full (interval .low) (interval .high) (before store) (after store)
+        (λ t. r .done ≡ true → Answers t (before problem) (interval .low) (interval .high) (r .found) (r .low) (r .high)) ⌝ }
 {
     if !is_bounded(problem, full) {
         return step_by_hint(sets, problem, store, scratch, full, interval);
@@ -468,8 +475,8 @@ fn merge(with: Answer, without: Answer, k: usize, q: usize) -> Interval
     Interval { low, high }
 }
 
-// Some solution between the two sides, or a nogood around them: no order is promised, so that any pair may be split. The nogood of two halves is
-// kept unless the pair was the last open one of a known nogood: then it says little more than that one.
+// Some solution between the two sides, or a nogood around them: no order is promised, so that any pair may be split. The nogood of
+// two halves is kept unless the pair was the last open one of a known nogood: then it says little more than that one.
 pub fn some_solution(
     sets: &[u64],
     problem: &[u16],
@@ -482,7 +489,8 @@ pub fn some_solution(
     requires { ⌜ (length full ≡ 8) × (length (interval .low) ≡ 8) × (length (interval .high) ≡ 8) ⌝ }
     ensures { λ r. ⌜ (length (r .low) ≡ 8) × (length (r .high) ≡ 8) ⌝ }
     ensures { λ _. ⌜ Room (after store) ⌝ }
-    ensures { λ r. ⌜ Searched (before sets) (before problem) full (interval .low) (interval .high) (before store) (after store) (λ t. Answers t (before problem) (interval .low) (interval .high) (r .found) (r .low) (r .high)) ⌝ }
+    ensures { λ r. ⌜ Searched (before sets) (before problem) full (interval .low) (interval .high) (before store) (after store)
+        (λ t. Answers t (before problem) (interval .low) (interval .high) (r .found) (r .low) (r .high)) ⌝ }
 {
     let step = next_step(sets, problem, store, scratch, full, interval);
     if step.done {

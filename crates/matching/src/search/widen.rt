@@ -1,5 +1,5 @@
-// A failed question is carried by itself as far as it goes on failing: towards no pair where it wants fewer, towards every pair where it wants
-// more. What comes out shuts a whole side of an interval. The variables that it does not hold go first, all at once.
+// A failed question is carried by itself as far as it goes on failing: towards no pair where it wants fewer, towards every pair
+// where it wants more. What comes out shuts a whole side of an interval. The variables that it does not hold go first, all at once.
 use crate::limits::HOLDS;
 use crate::limits::PAIRS;
 use crate::search::interval::ones;

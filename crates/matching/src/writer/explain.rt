@@ -71,7 +71,8 @@ fn try_rule(
     requires { ⌜ Square (countOf (now concepts)) (now marks) ⌝ }
     requires { ⌜ (left < countOf (now concepts)) × (right < countOf (now concepts)) ⌝ }
     requires { ⌜ rule < 9 ⌝ }
-    ensures { λ r. ⌜ Tried (before concepts) (before inclusions) (before into) (before atoms) (before assignment) (before marks) rule left right r ⌝ }
+    ensures { λ r. ⌜ Tried (before concepts) (before inclusions) (before into) (before atoms) (before assignment)
+        (before marks) rule left right r ⌝ }
 {
     let bound = extras(concepts, inclusions, rule, left);
     let mut extra = 0;
@@ -110,7 +111,8 @@ fn explain(
     requires { ⌜ length (now into) ≡ 200 ⌝ }
     requires { ⌜ Square (countOf (now concepts)) (now marks) ⌝ }
     requires { ⌜ (left < countOf (now concepts)) × (right < countOf (now concepts)) ⌝ }
-    ensures { λ r. ⌜ Explained (before concepts) (before inclusions) (before into) (before atoms) (before assignment) (before marks) left right r ⌝ }
+    ensures { λ r. ⌜ Explained (before concepts) (before inclusions) (before into) (before atoms) (before assignment)
+        (before marks) left right r ⌝ }
 {
     let mut rule = 1;
     while rule < 9 {

@@ -1,5 +1,6 @@
-// Proposals of lines: from the pairs that need no premise, round by round, each new pair with its line, until the asked pair is found; of
-// these lines, those that it needs. So it is of least depth. All this is a hint: every line is tested before it is written. Private to the crate.
+// Proposals of lines: from the pairs that need no premise, round by round, each new pair with its line, until the asked pair is
+// found; of these lines, those that it needs. So it is of least depth. All this is a hint: every line is tested before it is
+// written. Private to the crate.
 use crate::writer::load::load_pairs;
 use crate::writer::load::load_roles;
 use crate::writer::load::load_rows;

@@ -1,5 +1,5 @@
--- The state of the judgement as the code holds it (src/frames.rt): three numbers a frame (kind, role, where its members start), the members'
--- ids of all frames one behind the other, and the tables so far in front of their buffers.
+-- The state of the judgement as the code holds it (src/frames.rt): three numbers a frame (kind, role, where its members start), the
+-- members' ids of all frames one behind the other, and the tables so far in front of their buffers.
 use Prim.Native.Nat.{ℕ, zero, suc, _+_, _-_, _*_, _<_, _≤_}
 use mathlib.Core.Path.{_≡_}
 use mathlib.Core.List.{List, [], _∷_}
@@ -101,7 +101,8 @@ pub record FirstOf (kind want : ℕ) : Type 0 where
 abbrev pub Opens : Reader → ℕ → List ℕ → List ℕ → Next → Type 0
 Opens r place frames frames′ next =
     (pending rows inclusions : List ℕ) → Fits r frames pending rows inclusions
-    → NextOf (step (stateOf r frames pending rows inclusions) (record { place = place; token = opening })) next frames′ pending rows inclusions
+    → NextOf (step (stateOf r frames pending rows inclusions) (record { place = place; token = opening })) next frames′ pending rows
+    inclusions
 
 abbrev pub Roles : Reader → ℕ → Word → List ℕ → List ℕ → Next → Type 0
 Roles r place word frames frames′ next =
@@ -116,7 +117,8 @@ Starts r place word next =
 abbrev pub Closes : Reader → List ℕ → List ℕ → List ℕ → List ℕ → List ℕ → Next → Type 0
 Closes r row pending pending′ rows rows′ next =
     (frames inclusions : List ℕ) → Fits r frames pending rows inclusions
-    → NextOf (closed row (framesOf (r .depth) (r .used) frames pending) (stateOf r frames pending rows inclusions)) next frames pending′ rows′ inclusions
+    → NextOf (closed row (framesOf (r .depth) (r .used) frames pending) (stateOf r frames pending rows inclusions)) next frames
+    pending′ rows′ inclusions
 
 abbrev pub Begins : Reader → ℕ → Word → List ℕ → List ℕ → List ℕ → List ℕ → Next → Type 0
 Begins r place word pending pending′ rows rows′ next =
@@ -134,7 +136,8 @@ TellsRoom r frames answer = (pending : List ℕ) → length pending ≡ 192 → 
 abbrev pub Shuts : ℕ → Frame → Reader → List ℕ → List ℕ → List ℕ → List ℕ → List ℕ → List ℕ → List ℕ → Next → Type 0
 Shuts place f outer frames pending pending′ rows rows′ inclusions inclusions′ next =
     Fits outer frames pending rows inclusions
-    → NextOf (shut place f (framesOf (outer .depth) (outer .used) frames pending) (stateOf outer frames pending rows inclusions)) next frames pending′ rows′
+    → NextOf (shut place f (framesOf (outer .depth) (outer .used) frames pending) (stateOf outer frames pending rows inclusions))
+    next frames pending′ rows′
     inclusions′
 
 -- a word, by what may come next and by the frames

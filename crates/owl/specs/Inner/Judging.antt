@@ -43,7 +43,8 @@ ShutsFrame r place frames pending pending′ rows rows′ inclusions inclusions�
 
 abbrev pub Steps : Reader → ℕ → Token → List ℕ → List ℕ → List ℕ → List ℕ → List ℕ → List ℕ → List ℕ → List ℕ → Next → Type 0
 Steps r place token frames frames′ pending pending′ rows rows′ inclusions inclusions′ next =
-    NextOf (step (stateOf r frames pending rows inclusions) (record { place = place; token = token })) next frames′ pending′ rows′ inclusions′
+    NextOf (step (stateOf r frames pending rows inclusions) (record { place = place; token = token })) next frames′ pending′ rows′
+    inclusions′
 
 abbrev pub EndsText : Reader → ℕ → Next → Type 0
 EndsText r end next =

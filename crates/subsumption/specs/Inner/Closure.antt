@@ -57,7 +57,8 @@ module _ (concepts inclusions : List ℕ) (wide : ℕ → ℕ → Bool) (choose 
     pub chooses :
         (i v k p : ℕ) → i < countOf concepts → v < countOf concepts → node concepts v ≡ varAt k → List·Memᴰ p (choose k) → R i v → R i p
     pub all-chosen :
-        (i v k : ℕ) → i < countOf concepts → v < countOf concepts → node concepts v ≡ varAt k → ((p : ℕ) → List·Memᴰ p (choose k) → R i p) → R i v
+        (i v k : ℕ) → i < countOf concepts → v < countOf concepts → node concepts v ≡ varAt k
+        → ((p : ℕ) → List·Memᴰ p (choose k) → R i p) → R i v
 
   -- the least such relation that holds what some columns have from the start
   pub data Flow (given : List ℕ) : ℕ → ℕ → Type 0 where
@@ -68,14 +69,20 @@ module _ (concepts inclusions : List ℕ) (wide : ℕ → ℕ → Bool) (choose 
         (i j k n : ℕ) → i < countOf concepts → j < countOf concepts → k < countOf concepts
         → node concepts j ≡ nameAt n → node concepts k ≡ nameAt n → Flow given i j → Flow given i k
     flow-first : (i j a b : ℕ) → i < countOf concepts → j < countOf concepts → node concepts j ≡ andAt a b → Flow given i j → Flow given i a
-    flow-second : (i j a b : ℕ) → i < countOf concepts → j < countOf concepts → node concepts j ≡ andAt a b → Flow given i j → Flow given i b
-    flow-meet : (i j a b : ℕ) → i < countOf concepts → j < countOf concepts → node concepts j ≡ andAt a b → Flow given i a → Flow given i b → Flow given i j
-    flow-included : (i m : ℕ) → i < countOf concepts → m < pairsOf inclusions → Flow given i (leftOf inclusions m) → Flow given i (rightOf inclusions m)
+    flow-second :
+        (i j a b : ℕ) → i < countOf concepts → j < countOf concepts → node concepts j ≡ andAt a b → Flow given i j → Flow given i b
+    flow-meet :
+        (i j a b : ℕ) → i < countOf concepts → j < countOf concepts → node concepts j ≡ andAt a b → Flow given i a → Flow given i b
+        → Flow given i j
+    flow-included :
+        (i m : ℕ) → i < countOf concepts → m < pairsOf inclusions → Flow given i (leftOf inclusions m) → Flow given i (rightOf inclusions m)
     flow-linked :
         (i e f r s x y : ℕ) → i < countOf concepts → e < countOf concepts → f < countOf concepts
-        → node concepts e ≡ existsAt r x → node concepts f ≡ existsAt s y → wide r s ≡ true → Flow given x y → Flow given i e → Flow given i f
+        → node concepts e ≡ existsAt r x → node concepts f ≡ existsAt s y → wide r s ≡ true → Flow given x y → Flow given i e
+        → Flow given i f
     flow-chooses :
-        (i v k p : ℕ) → i < countOf concepts → v < countOf concepts → node concepts v ≡ varAt k → List·Memᴰ p (choose k) → Flow given i v → Flow given i p
+        (i v k p : ℕ) → i < countOf concepts → v < countOf concepts → node concepts v ≡ varAt k → List·Memᴰ p (choose k)
+        → Flow given i v → Flow given i p
     flow-all-chosen :
         (i v k : ℕ) → i < countOf concepts → v < countOf concepts → node concepts v ≡ varAt k
         → ((p : ℕ) → List·Memᴰ p (choose k) → Flow given i p) → Flow given i v
@@ -114,7 +121,8 @@ LinkPass concepts outer inners kinds Quiet before after changed =
     (inclusions : List ℕ) (wide : ℕ → ℕ → Bool) (choose : ℕ → List ℕ) → Sorted concepts wide outer inners kinds
     → Pass concepts inclusions wide choose (Quiet wide) before after changed
 
-abbrev pub RisePass : List ℕ → List ℕ → List ℕ → List ℕ → (ℕ → List ℕ) → ((ℕ → ℕ → Bool) → List ℕ → Type 0) → List ℕ → List ℕ → Bool → Type 0
+abbrev pub RisePass :
+    List ℕ → List ℕ → List ℕ → List ℕ → (ℕ → List ℕ) → ((ℕ → ℕ → Bool) → List ℕ → Type 0) → List ℕ → List ℕ → Bool → Type 0
 RisePass concepts outer inners kinds choose Quiet before after changed =
     (inclusions : List ℕ) (wide : ℕ → ℕ → Bool) → Sorted concepts wide outer inners kinds
     → Pass concepts inclusions wide choose (Quiet wide) before after changed

@@ -52,6 +52,8 @@ pub record Known (atoms : List ℕ) : Type 0 where
 
 -- the word has just the bits that the word `part` of the column of every atom has that is chosen at a place below n
 pub record Common (n : ℕ) (atoms : List ℕ) (choice : ℕ) (columns : List ℕ) (part word : ℕ) : Type 0 where
-  pub only : (k q : ℕ) → k < 64 → bit word k ≡ true → q < n → bit choice q ≡ true → bit (getD columns (getD atoms q 0 * 3 + part) 0) k ≡ true
+  pub only :
+      (k q : ℕ) → k < 64 → bit word k ≡ true → q < n → bit choice q ≡ true → bit (getD columns (getD atoms q 0 * 3 + part) 0) k ≡ true
   pub every :
-      (k : ℕ) → k < 64 → ((q : ℕ) → q < n → bit choice q ≡ true → bit (getD columns (getD atoms q 0 * 3 + part) 0) k ≡ true) → bit word k ≡ true
+      (k : ℕ) → k < 64 → ((q : ℕ) → q < n → bit choice q ≡ true → bit (getD columns (getD atoms q 0 * 3 + part) 0) k ≡ true)
+      → bit word k ≡ true

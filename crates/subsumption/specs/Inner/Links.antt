@@ -21,7 +21,8 @@ pub record Linkable (concepts columns : List ℕ) (counts : ℕ → Bool) (inner
 
 abbrev pub LinkedTo : List ℕ → (ℕ → ℕ → Bool) → ℕ → List ℕ → Type 0
 LinkedTo concepts wide f columns =
-    (e s y : ℕ) → e < countOf concepts → node concepts f ≡ existsAt s y → Linkable concepts columns (λ r. wide r s) y e → Into (countOf concepts) columns e f
+    (e s y : ℕ) → e < countOf concepts → node concepts f ≡ existsAt s y → Linkable concepts columns (λ r. wide r s) y e
+    → Into (countOf concepts) columns e f
 
 abbrev pub AllLinked : List ℕ → (ℕ → ℕ → Bool) → List ℕ → Type 0
 AllLinked concepts wide columns = (f : ℕ) → f < countOf concepts → LinkedTo concepts wide f columns
@@ -104,5 +105,6 @@ pub record Sorted (concepts : List ℕ) (wide : ℕ → ℕ → Bool) (outer inn
   pub outer-only : (x e : ℕ) → e < 192 → has outer e x ≡ true → WithInner concepts (countOf concepts) x e
   pub outer-every : (x e : ℕ) → WithInner concepts (countOf concepts) x e → has outer e x ≡ true
   pub inners-every : (x e : ℕ) → WithInner concepts (countOf concepts) x e → has inners x 0 ≡ true
-  pub kinds-only : (s e : ℕ) → s < 100 → e < 192 → has kinds e s ≡ true → (r : ℕ) × (wide r s ≡ true) × WithRole concepts (countOf concepts) r e
+  pub kinds-only :
+      (s e : ℕ) → s < 100 → e < 192 → has kinds e s ≡ true → (r : ℕ) × (wide r s ≡ true) × WithRole concepts (countOf concepts) r e
   pub kinds-every : (s e r : ℕ) → s < 100 → wide r s ≡ true → WithRole concepts (countOf concepts) r e → has kinds e s ≡ true

@@ -22,7 +22,8 @@ pub record Prepared (concepts inclusions roles : List ℕ) (variables : ℕ) (id
 -- Whatever questions they are accepted with.
 abbrev pub ForAccepted : List ℕ → List ℕ → List ℕ → ℕ → List ℕ → (Tables → Type 0) → Type 0
 ForAccepted concepts inclusions roles variables ids Holds =
-    (questions : List ℕ) → Accepted (tables concepts inclusions questions roles variables) ids → Holds (tables concepts inclusions questions roles variables)
+    (questions : List ℕ) → Accepted (tables concepts inclusions questions roles variables) ids
+    → Holds (tables concepts inclusions questions roles variables)
 
 -- Listing the atoms of tables with an asked pair.
 unfoldable pub askedFault : Tables → ℕ → ℕ → ℕ → Outcome

@@ -41,7 +41,8 @@ abbrev pub AscendedBy : ℕ → (ℕ → List ℕ) → ℕ → ℕ → List ℕ 
 AscendedBy count choose first j columns topAt = (i : ℕ) → i < count → has columns i j ≡ true
 AscendedBy count choose first j columns (nameAt n) = Into count columns j first × Into count columns first j
 AscendedBy count choose first j columns (existsAt r x) = Unit {0}
-AscendedBy count choose first j columns (andAt a b) = (i : ℕ) → i < count → has columns i a ≡ true → has columns i b ≡ true → has columns i j ≡ true
+AscendedBy count choose first j columns (andAt a b) =
+    (i : ℕ) → i < count → has columns i a ≡ true → has columns i b ≡ true → has columns i j ≡ true
 AscendedBy count choose first j columns (varAt k) =
     (i : ℕ) → i < count → ((p : ℕ) → List·Memᴰ p (choose k) → has columns i p ≡ true) → has columns i j ≡ true
 

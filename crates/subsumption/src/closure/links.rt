@@ -63,7 +63,8 @@ fn over(columns: &[u64], outer: &[u64], inners: &[u64], inner: usize) -> Words
     requires { ⌜ length (now outer) ≡ 576 ⌝ }
     requires { ⌜ length (now inners) ≡ 3 ⌝ }
     requires { ⌜ inner < 192 ⌝ }
-    ensures { λ r. ⌜ Union (before outer) (λ x. (has (before columns) x inner ≡ true) × (has (before inners) x 0 ≡ true)) (inThree (r .first) (r .second) (r .third)) ⌝ }
+    ensures { λ r. ⌜ Union (before outer) (λ x. (has (before columns) x inner ≡ true) × (has (before inners) x 0 ≡ true))
+        (inThree (r .first) (r .second) (r .third)) ⌝ }
 {
     let at = inner * 3;
     let first = columns[at] & inners[0];

@@ -29,7 +29,8 @@ pub fn put(sets: &mut [u64], to: usize, first: u64, second: u64, third: u64)
 // The set with all those, from the set `from` on, that the word picks.
 fn join(sets: &[u64], from: usize, word: u64, set: Words) -> Words
     requires { ⌜ from * 3 + 192 ≤ length (now sets) ⌝ }
-    ensures { λ r. ⌜ Joins (before sets) from word (inThree (set .first) (set .second) (set .third)) (inThree (r .first) (r .second) (r .third)) ⌝ }
+    ensures { λ r. ⌜ Joins (before sets) from word (inThree (set .first) (set .second) (set .third))
+        (inThree (r .first) (r .second) (r .third)) ⌝ }
 {
     let mut first = set.first;
     let mut second = set.second;

@@ -63,8 +63,12 @@ pub record Readable (problem : List ℕ) (count : ℕ) : Type 0 where
 -- the rows and columns are those of the subsumption table under the assignment that chooses nothing
 pub record LinesOf (t : Tables) (sets : List ℕ) : Type 0 where
   pub long : length sets ≡ 1152
-  pub above : (i j : ℕ) → i < countOf (t .concepts) → j < countOf (t .concepts) → (onLine sets (lineAt false i) j ≡ true) ↔ Subsumed t (nothing t) i j
-  pub below : (i j : ℕ) → i < countOf (t .concepts) → j < countOf (t .concepts) → (onLine sets (lineAt true j) i ≡ true) ↔ Subsumed t (nothing t) i j
+  pub above :
+      (i j : ℕ) → i < countOf (t .concepts) → j < countOf (t .concepts) → (onLine sets (lineAt false i) j ≡ true)
+      ↔ Subsumed t (nothing t) i j
+  pub below :
+      (i j : ℕ) → i < countOf (t .concepts) → j < countOf (t .concepts) → (onLine sets (lineAt true j) i ≡ true)
+      ↔ Subsumed t (nothing t) i j
 
 -- the lines outside a stretch of words are as before
 abbrev pub Outside : ℕ → ℕ → List ℕ → List ℕ → Type 0
@@ -91,7 +95,8 @@ fitsIn problem into count right j e = both (isOpen problem j) (both (ltb e count
 pub record FitsNoted (problem into : List ℕ) (count : ℕ) (right : Bool) (before after : List ℕ) : Type 0 where
   pub long : length after ≡ length before
   pub here :
-      (j q : ℕ) → j < count → q < 192 → onLine after (fitAt right j) q ≡ or (fitsIn problem into count right j q) (onLine before (fitAt right j) q)
+      (j q : ℕ) → j < count → q < 192
+      → onLine after (fitAt right j) q ≡ or (fitsIn problem into count right j q) (onLine before (fitAt right j) q)
   pub there : Outside (fitAt right 0) (fitAt right 192) before after
 
 -- a variable-free top or conjunction
@@ -150,7 +155,8 @@ pub record NextNew (sets problem : List ℕ) (count at : ℕ) (wanted : List ℕ
   pub within : found ≤ count
   pub closer : found < count → isCloser problem found ≡ true
   pub fresh : found < count → onLine sets at found ≡ false
-  pub quiet : (e : ℕ) → from ≤ e → e < found → isCloser problem e ≡ true → onLine sets at e ≡ false → Covered sets problem (onLine wanted 0) e
+  pub quiet :
+      (e : ℕ) → from ≤ e → e < found → isCloser problem e ≡ true → onLine sets at e ≡ false → Covered sets problem (onLine wanted 0) e
 
 pub record Kept (problem : List ℕ) (at e : ℕ) (before after wanted more : List ℕ) : Type 0 where
   pub filled : Filled at (λ q. eqb q e) before after

@@ -13,7 +13,8 @@ use Rattle.matching.specs.Inner.Search.Interval.{IntervalOf}
 use Rattle.matching.specs.Inner.Search.Nogoods.{lowAt, highAt, Nogoods}
 use Rattle.matching.specs.Inner.Search.Solve.{Refuted}
 
--- The nogood at place c is around the low side and leaves out of the high one no more than these pairs of variable k, none of them met before.
+-- The nogood at place c is around the low side and leaves out of the high one no more than these pairs of variable k, none of them
+-- met before.
 pub record Need (store : List ℕ) (c : ℕ) (high low : List ℕ) (k met wanted : ℕ) : Type 0 where
   pub above : Within (lowAt store c) low
   pub wants : (l q : ℕ) → takes high l q ≡ true → (takes (highAt store c) l q ≡ true) ⊎ ((l ≡ k) × (bit wanted q ≡ true))

@@ -17,10 +17,12 @@ use Rattle.matching.specs.Inner.Search.Nogoods.{Nogoods}
 pub record FirstIn (t : Tables) (problem low high choice : List ℕ) : Type 0 where
   pub solution : SolutionIn t problem low high choice
   pub first :
-      (other : List ℕ) → assignmentFault t other ≡ Done → Between (take (t .variables) low) (take (t .variables) high) other → Meets t problem other
+      (other : List ℕ) → assignmentFault t other ≡ Done → Between (take (t .variables) low) (take (t .variables) high) other
+      → Meets t problem other
       → (other ≡ take (t .variables) choice) ⊎ Earlier (take (t .variables) choice) other
 
 -- The same of whatever tables the sets and numbers are, from a known solution.
 abbrev pub FirstOf : List ℕ → List ℕ → List ℕ → List ℕ → List ℕ → List ℕ → List ℕ → Type 0
 FirstOf sets problem low high store known choice =
-    (t : Tables) → Problem t sets problem → IntervalOf t low high → Nogoods t problem store → SolutionIn t problem low high known → FirstIn t problem low high choice
+    (t : Tables) → Problem t sets problem → IntervalOf t low high → Nogoods t problem store → SolutionIn t problem low high known
+    → FirstIn t problem low high choice

@@ -26,7 +26,8 @@ ValueRead sets problem values right i w = ReadBy (heldAt problem i) sets values 
 
 abbrev pub BelowAll : List ℕ → List ℕ → ℕ → Words → Type 0
 BelowAll sets problem choice w =
-    (c : ℕ) → c < 192 → (inWords w c ≡ true) ↔ ((q : ℕ) → q < 64 → bit choice q ≡ true → onLine sets (lineAt true (atomAt problem q)) c ≡ true)
+    (c : ℕ) → c < 192 → (inWords w c ≡ true)
+    ↔ ((q : ℕ) → q < 64 → bit choice q ≡ true → onLine sets (lineAt true (atomAt problem q)) c ≡ true)
 
 -- the place of a chosen atom whose row has c
 pub record ChosenAbove (sets problem : List ℕ) (choice c : ℕ) : Type 0 where
@@ -63,9 +64,12 @@ Members problem w e answer = Decided (MembersOf (λ c. inWords w c ≡ true) (no
 -- c follows from the set by the rows of the tops and conjunctions that stand at a word
 pub data Follows (sets problem : List ℕ) (at : ℕ) (x : Words) : ℕ → Type 0 where
   by-set : (c : ℕ) → c < 192 → inWords x c ≡ true → Follows sets problem at x c
-  by-top : (e c : ℕ) → e < 192 → onLine sets at e ≡ true → node problem e ≡ topAt → c < 192 → onLine sets (lineAt false e) c ≡ true → Follows sets problem at x c
+  by-top :
+      (e c : ℕ) → e < 192 → onLine sets at e ≡ true → node problem e ≡ topAt → c < 192 → onLine sets (lineAt false e) c ≡ true
+      → Follows sets problem at x c
   by-and :
-      (e i j c : ℕ) → e < 192 → onLine sets at e ≡ true → node problem e ≡ andAt i j → Follows sets problem at x i → Follows sets problem at x j → c < 192
+      (e i j c : ℕ) → e < 192 → onLine sets at e ≡ true → node problem e ≡ andAt i j → Follows sets problem at x i
+      → Follows sets problem at x j → c < 192
       → onLine sets (lineAt false e) c ≡ true → Follows sets problem at x c
 
 -- the set and what follows from it, and no more
@@ -115,11 +119,14 @@ ValueOf false t assignment j set = Generates t assignment j set
 -- the values of the inner ids that hold a variable are made
 pub record InnerValued (right : Bool) (t : Tables) (assignment values : List ℕ) (j : ℕ) : Type 0 where
   pub inner :
-      (r i : ℕ) → node (t .concepts) j ≡ existsAt r i → hasVariable (tree (t .concepts) i) ≡ true → ValueOf right t assignment i (onLine values (i * 3))
+      (r i : ℕ) → node (t .concepts) j ≡ existsAt r i → hasVariable (tree (t .concepts) i) ≡ true
+      → ValueOf right t assignment i (onLine values (i * 3))
   pub first :
-      (i k : ℕ) → node (t .concepts) j ≡ andAt i k → hasVariable (tree (t .concepts) i) ≡ true → ValueOf right t assignment i (onLine values (i * 3))
+      (i k : ℕ) → node (t .concepts) j ≡ andAt i k → hasVariable (tree (t .concepts) i) ≡ true
+      → ValueOf right t assignment i (onLine values (i * 3))
   pub second :
-      (i k : ℕ) → node (t .concepts) j ≡ andAt i k → hasVariable (tree (t .concepts) k) ≡ true → ValueOf right t assignment k (onLine values (k * 3))
+      (i k : ℕ) → node (t .concepts) j ≡ andAt i k → hasVariable (tree (t .concepts) k) ≡ true
+      → ValueOf right t assignment k (onLine values (k * 3))
 
 abbrev pub Valued : List ℕ → List ℕ → List ℕ → List ℕ → Bool → ℕ → Words → Type 0
 Valued sets problem values choice right j w =

@@ -124,26 +124,30 @@ abbrev pub Covered : List ℕ → List ℕ → (ℕ → Bool) → ℕ → Type 0
 Covered sets problem wanted e =
     (d : ℕ) → d < 192 → onLine sets (lineAt false e) d ≡ true → wanted d ≡ true → inMembers sets (node problem e) d ≡ true
 
--- What is asked of closed left values of question m: the right side, and the inner ids of existentials that fit one of the cone. With it are
--- wanted the members of the conjunctions that are kept. What is not kept brings nothing wanted.
+-- What is asked of closed left values of question m: the right side, and the inner ids of existentials that fit one of the cone.
+-- With it are wanted the members of the conjunctions that are kept. What is not kept brings nothing wanted.
 pub record Closers (sets problem : List ℕ) (count m : ℕ) : Type 0 where
   pub wanted : ℕ → Bool
   pub right : wanted (rightAt problem m) ≡ true
   pub inner :
-      (j e : ℕ) → j < 192 → e < 192 → onLine sets (coneAt m) j ≡ true → onLine sets (fitAt false j) e ≡ true → wanted (innerAt problem e) ≡ true
+      (j e : ℕ) → j < 192 → e < 192 → onLine sets (coneAt m) j ≡ true → onLine sets (fitAt false j) e ≡ true
+      → wanted (innerAt problem e) ≡ true
   pub only : (e : ℕ) → e < 192 → onLine sets (closersAt m) e ≡ true → (e < count) × (heldAt problem e ≡ false)
   pub members :
       (e i j : ℕ) → e < 192 → onLine sets (closersAt m) e ≡ true → node problem e ≡ andAt i j → (wanted i ≡ true) × (wanted j ≡ true)
   pub quiet :
-      (e : ℕ) → e < count → heldAt problem e ≡ false → closes (node problem e) ≡ true → onLine sets (closersAt m) e ≡ false → Covered sets problem wanted e
+      (e : ℕ) → e < count → heldAt problem e ≡ false → closes (node problem e) ≡ true → onLine sets (closersAt m) e ≡ false
+      → Covered sets problem wanted e
 
 -- a side of question m that holds a variable is in the cone, and with an id its inner ids that hold a variable
 pub record Cone (t : Tables) (sets : List ℕ) (m : ℕ) : Type 0 where
-  pub known : (i : ℕ) → i < 192 → onLine sets (coneAt m) i ≡ true → (i < countOf (t .concepts)) × (hasVariable (tree (t .concepts) i) ≡ true)
+  pub known :
+      (i : ℕ) → i < 192 → onLine sets (coneAt m) i ≡ true → (i < countOf (t .concepts)) × (hasVariable (tree (t .concepts) i) ≡ true)
   pub left : hasVariable (tree (t .concepts) (leftOf (t .questions) m)) ≡ true → onLine sets (coneAt m) (leftOf (t .questions) m) ≡ true
   pub right : hasVariable (tree (t .concepts) (rightOf (t .questions) m)) ≡ true → onLine sets (coneAt m) (rightOf (t .questions) m) ≡ true
   pub inner :
-      (i r j : ℕ) → i < 192 → onLine sets (coneAt m) i ≡ true → node (t .concepts) i ≡ existsAt r j → hasVariable (tree (t .concepts) j) ≡ true
+      (i r j : ℕ) → i < 192 → onLine sets (coneAt m) i ≡ true → node (t .concepts) i ≡ existsAt r j
+      → hasVariable (tree (t .concepts) j) ≡ true
       → onLine sets (coneAt m) j ≡ true
   pub first :
       (i j k : ℕ) → i < 192 → onLine sets (coneAt m) i ≡ true → node (t .concepts) i ≡ andAt j k → hasVariable (tree (t .concepts) j) ≡ true
@@ -163,6 +167,8 @@ pub record Problem (t : Tables) (sets problem : List ℕ) : Type 0 where
   pub right : (m : ℕ) → m < pairsOf (t .questions) → rightAt problem m ≡ rightOf (t .questions) m
   pub above : (i j : ℕ) → FreeId t i → FreeId t j → (onLine sets (lineAt false i) j ≡ true) ↔ Subsumed t (nothing t) i j
   pub below : (i j : ℕ) → FreeId t i → FreeId t j → (onLine sets (lineAt true j) i ≡ true) ↔ Subsumed t (nothing t) i j
-  pub fits : (right : Bool) (j e : ℕ) → j < countOf (t .concepts) → e < 192 → heldAt problem j ≡ true → (onLine sets (fitAt right j) e ≡ true) ↔ Fitting t right j e
+  pub fits :
+      (right : Bool) (j e : ℕ) → j < countOf (t .concepts) → e < 192 → heldAt problem j ≡ true
+      → (onLine sets (fitAt right j) e ≡ true) ↔ Fitting t right j e
   pub cones : (m : ℕ) → m < pairsOf (t .questions) → Cone t sets m
   pub closers : (m : ℕ) → m < pairsOf (t .questions) → Closers sets problem (countOf (t .concepts)) m

@@ -39,7 +39,8 @@ pub record SomeFailing (t : Tables) (problem assignment : List ℕ) (m : ℕ) : 
 
 abbrev pub Failing : List ℕ → List ℕ → List ℕ → ℕ → Type 0
 Failing sets problem choice m =
-    (t : Tables) → Problem t sets problem → assignmentFault t (take (t .variables) choice) ≡ Done → SomeFailing t problem (take (t .variables) choice) m
+    (t : Tables) → Problem t sets problem → assignmentFault t (take (t .variables) choice) ≡ Done
+    → SomeFailing t problem (take (t .variables) choice) m
 
 -- An interval around another that holds no solution.
 pub record Refuted (t : Tables) (problem low high low₁ high₁ : List ℕ) : Type 0 where
@@ -52,7 +53,8 @@ pub record Refuted (t : Tables) (problem low high low₁ high₁ : List ℕ) : T
 -- An asked question that fails at the low side gives an interval around it.
 abbrev pub RefutedBy : List ℕ → List ℕ → List ℕ → List ℕ → ℕ → List ℕ → List ℕ → Type 0
 RefutedBy sets problem full low m low₁ high₁ =
-    (t : Tables) → Problem t sets problem → m < pairsOf (t .questions) → AskedAt problem m → IntervalOf t low full → (HoldsAt t (take (t .variables) low) m → ⊥)
+    (t : Tables) → Problem t sets problem → m < pairsOf (t .questions) → AskedAt problem m → IntervalOf t low full
+    → (HoldsAt t (take (t .variables) low) m → ⊥)
     → Refuted t problem low low low₁ high₁
 
 -- A search's answer names no order: a solution between, or an interval around that holds none.
@@ -63,7 +65,8 @@ Answers t problem low high false low₁ high₁ = Refuted t problem low high low
 -- What a search in an interval gives of whatever tables the sets and numbers are: nogoods stay nogoods.
 abbrev pub Searched : List ℕ → List ℕ → List ℕ → List ℕ → List ℕ → List ℕ → List ℕ → (Tables → Type 0) → Type 0
 Searched sets problem full low high before after Given =
-    (t : Tables) → Problem t sets problem → IntervalOf t low high → IntervalOf t high full → Nogoods t problem before → Given t × Nogoods t problem after
+    (t : Tables) → Problem t sets problem → IntervalOf t low high → IntervalOf t high full → Nogoods t problem before → Given t
+    × Nogoods t problem after
 
 abbrev pub CanSplit : List ℕ → List ℕ → ℕ → Bool → Type 0
 CanSplit low high pair true = (pair < 512) × (undecided low high pair ≡ true)

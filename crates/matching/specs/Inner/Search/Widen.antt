@@ -20,5 +20,6 @@ pub record Mixed (a b mix : List ℕ) : Type 0 where
 -- A question that fails at the choice fails there too.
 abbrev pub StillFails : List ℕ → List ℕ → ℕ → List ℕ → List ℕ → List ℕ → Type 0
 StillFails sets problem m choice target failing =
-    (t : Tables) → Problem t sets problem → m < pairsOf (t .questions) → (full : List ℕ) → IntervalOf t choice full → IntervalOf t target full
+    (t : Tables) → Problem t sets problem → m < pairsOf (t .questions) → (full : List ℕ) → IntervalOf t choice full
+    → IntervalOf t target full
     → (HoldsAt t (take (t .variables) choice) m → ⊥) → HoldsAt t (take (t .variables) failing) m → ⊥

@@ -48,7 +48,8 @@ module _ (concepts inclusions into ids assignment : List ℕ) (marks : List Bool
   -- the pairs from one cell up to another are quiet
   pub record QuietFrom (from to : ℕ) : Type 0 where
     pub each :
-        (i j : ℕ) → i < countOf concepts → j < countOf concepts → from ≤ i * countOf concepts + j → i * countOf concepts + j < to → Quiet i j
+        (i j : ℕ) → i < countOf concepts → j < countOf concepts → from ≤ i * countOf concepts + j → i * countOf concepts + j < to
+        → Quiet i j
 
   -- a pair that is not marked, and is given
   pub record New (rule left right extra : ℕ) : Type 0 where
@@ -59,11 +60,15 @@ module _ (concepts inclusions into ids assignment : List ℕ) (marks : List Bool
 
   abbrev pub Tried : ℕ → ℕ → ℕ → Extra → Type 0
   Tried rule left right (At extra) = Gives rule left right extra
-  Tried rule left right None = (t : Tables) → Of t concepts inclusions into ids → (extra : ℕ) → byRule t assignment (seen (countOf concepts) marks) rule left right extra ≡ false
+  Tried rule left right None =
+      (t : Tables) → Of t concepts inclusions into ids → (extra : ℕ)
+      → byRule t assignment (seen (countOf concepts) marks) rule left right extra ≡ false
 
   abbrev pub Explained : ℕ → ℕ → Why → Type 0
   Explained left right (By rule extra) = Gives rule left right extra
-  Explained left right Unknown = (t : Tables) → Of t concepts inclusions into ids → (rule extra : ℕ) → byRule t assignment (seen (countOf concepts) marks) rule left right extra ≡ false
+  Explained left right Unknown =
+      (t : Tables) → Of t concepts inclusions into ids → (rule extra : ℕ)
+      → byRule t assignment (seen (countOf concepts) marks) rule left right extra ≡ false
 
   abbrev pub Tested : Next → Type 0
   Tested (Line rule left right extra) = New rule left right extra
