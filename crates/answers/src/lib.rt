@@ -7,13 +7,12 @@ use subsumption::VariableSet;
 use subsumption::refusal::Outcome;
 use subsumption::refusal::code_of;
 ghost use mathlib.Core.Path.{_≡_};
-ghost use lib.ListN.{length};
 ghost use Rattle.subsumption.specs.Lent.{lent, before, after};
 ghost use Rattle.subsumption.specs.Tables.{tree, variablesOf};
 ghost use Rattle.subsumption.specs.Atoms.{atoms};
 ghost use Rattle.subsumption.specs.Refusal.{replyWith, replyOf};
 ghost use Rattle.subsumption.specs.Check.{tableFault, pairFault};
-ghost use Rattle.subsumption.specs.Listing.{listingFault, listedIn};
+ghost use Rattle.subsumption.specs.Listing.{Lists};
 ghost use Rattle.subsumption.specs.Table.{Wrote};
 ghost use Rattle.subsumption.specs.Decide.{decisionReply, Decides};
 ghost use Rattle.answers.specs.Answer.{replied};
@@ -83,10 +82,7 @@ pub fn atoms(
     variables: u16,
     out: &mut [u16],
 ) -> Answer
-    ensures { λ a. ⌜ replied a ≡ replyWith (listingFault (lent concepts inclusions questions roles variables) (length (before out)))
-        (length (atoms (lent concepts inclusions questions roles variables))) ⌝ }
-    ensures { λ a. ⌜ after out ≡ listedIn (listingFault (lent concepts inclusions questions roles variables) (length (before out)))
-        (lent concepts inclusions questions roles variables) (before out) ⌝ }
+    ensures { λ a. ⌜ Lists (lent concepts inclusions questions roles variables) (before out) (after out) (replied a) ⌝ }
 {
     let answer = subsumption::list_atoms(concepts, inclusions, questions, roles, variables, out);
     match answer {

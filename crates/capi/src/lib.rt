@@ -3,20 +3,18 @@ use answers::Answer;
 use batches::Batch;
 use catalogue_answers::CatalogueAnswer;
 ghost use mathlib.Core.Path.{_≡_};
-ghost use lib.ListN.{length};
 ghost use Rattle.subsumption.specs.Lent.{lent, before, after};
 ghost use Rattle.subsumption.specs.Tables.{tree, variablesOf};
-ghost use Rattle.subsumption.specs.Atoms.{atoms, chosen};
 ghost use Rattle.subsumption.specs.Refusal.{replyWith, replyOf};
 ghost use Rattle.subsumption.specs.Check.{tableFault, pairFault};
-ghost use Rattle.subsumption.specs.Listing.{listingFault, listedIn};
+ghost use Rattle.subsumption.specs.Listing.{Lists};
 ghost use Rattle.subsumption.specs.Table.{Wrote};
 ghost use Rattle.subsumption.specs.Decide.{Decides};
 ghost use Rattle.matching.specs.Derivation.{checkingFault};
 ghost use Rattle.settings.specs.Settings.{lentSettings};
 ghost use Rattle.matching.specs.Find.{Finds};
 ghost use Rattle.matching.specs.Within.{FindsWithin};
-ghost use Rattle.matching.specs.Chosen.{choosingFault, chosenIn};
+ghost use Rattle.matching.specs.Chosen.{Chooses};
 ghost use Rattle.matching.specs.Writer.{Derives};
 ghost use Rattle.allowance.specs.Find.{FindsCounted};
 ghost use Rattle.groups.specs.Find.{FindsGroup};
@@ -53,10 +51,7 @@ pub extern "C" fn hc_atoms(
     variables: u16,
     out: &mut [u16],
 ) -> Answer
-    ensures { λ a. ⌜ replied a ≡ replyWith (listingFault (lent concepts inclusions questions roles variables) (length (before out)))
-        (length (atoms (lent concepts inclusions questions roles variables))) ⌝ }
-    ensures { λ a. ⌜ after out ≡ listedIn (listingFault (lent concepts inclusions questions roles variables) (length (before out)))
-        (lent concepts inclusions questions roles variables) (before out) ⌝ }
+    ensures { λ a. ⌜ Lists (lent concepts inclusions questions roles variables) (before out) (after out) (replied a) ⌝ }
 {
     answers::atoms(concepts, inclusions, questions, roles, variables, out)
 }
@@ -267,12 +262,8 @@ pub extern "C" fn hc_chosen(
     variable: u16,
     out: &mut [u16],
 ) -> Answer
-    ensures { λ a. ⌜ replied a ≡ replyWith
-        (choosingFault (lent concepts inclusions questions roles variables) (before assignment) variable (length (before out)))
-        (length (chosen (lent concepts inclusions questions roles variables) (before assignment) variable)) ⌝ }
-    ensures { λ a. ⌜ after out ≡ chosenIn
-        (choosingFault (lent concepts inclusions questions roles variables) (before assignment) variable (length (before out)))
-        (chosen (lent concepts inclusions questions roles variables) (before assignment) variable) (before out) ⌝ }
+    ensures { λ a. ⌜ Chooses (lent concepts inclusions questions roles variables) (before assignment) variable (before out)
+        (after out) (replied a) ⌝ }
 {
     matching_answers::chosen(
         concepts,

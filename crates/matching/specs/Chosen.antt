@@ -1,5 +1,6 @@
 -- Listing one variable's chosen ids (01, "Operations"): what it answers, the list that it hands back, and what the buffer then holds.
 use Prim.Native.Nat.{ℕ}
+use mathlib.Core.Path.{_≡_}
 use mathlib.Core.List.{List, _++_}
 use mathlib.Core.Bool.{not}
 use lib.Dec.{ltb}
@@ -8,7 +9,8 @@ use Rattle.subsumption.specs.declared.refusal.Refusal.the-variants.{Malformed}
 use Rattle.subsumption.specs.declared.refusal.Outcome.{Outcome}
 use Rattle.subsumption.specs.declared.refusal.Outcome.the-variants.{Done, Refused}
 use Rattle.subsumption.specs.Tables.{Tables}
-use Rattle.subsumption.specs.Refusal.{Reply, replyDone, replyRefused, orElse, refuseIf}
+use Rattle.subsumption.specs.Atoms.{chosen}
+use Rattle.subsumption.specs.Refusal.{Reply, replyDone, replyRefused, replyWith, orElse, refuseIf}
 use Rattle.subsumption.specs.Check.{limitFault, tableFault, assignmentFault, bufferFault}
 use Rattle.matching.specs.declared.chosen.Chosen.{Chosen}
 use Rattle.matching.specs.declared.chosen.Chosen.the-variants.{Ids, Rejected}
@@ -32,6 +34,11 @@ chosenReply (Rejected r) = replyRefused r
 unfoldable pub chosenIn : Outcome → List ℕ → List ℕ → List ℕ
 chosenIn Done ids before = ids ++ drop (length ids) before
 chosenIn (Refused r) ids before = before
+
+-- The reply and the buffer after it.
+pub record Chooses (t : Tables) (assignment : List ℕ) (k : ℕ) (before after : List ℕ) (reply : Reply) : Type 0 where
+  pub replied : reply ≡ replyWith (choosingFault t assignment k (length before)) (length (chosen t assignment k))
+  pub written : after ≡ chosenIn (choosingFault t assignment k (length before)) (chosen t assignment k) before
 
 -- What is handed back: the list; after a refusal the whole buffer, with its values.
 unfoldable pub handedBack : Outcome → List ℕ → List ℕ → List ℕ

@@ -13,7 +13,7 @@ ghost use Rattle.subsumption.specs.Lent.{lent, before, after};
 ghost use Rattle.subsumption.specs.Atoms.{pick, chosen};
 ghost use Rattle.subsumption.specs.Refusal.{replyWith, replyOf};
 ghost use Rattle.subsumption.specs.Inner.Atoms.{inFront};
-ghost use Rattle.matching.specs.Chosen.{choosingFault, chosenReply, chosenIn, handedBack};
+ghost use Rattle.matching.specs.Chosen.{choosingFault, chosenReply, chosenIn, handedBack, Chooses};
 ghost use Rattle.matching.specs.Inner.Chosen.{knownFault, earlierOf, toldOf};
 
 pub enum Chosen {
@@ -103,12 +103,8 @@ pub fn put_chosen(
     variable: u16,
     out: &mut [u16],
 ) -> Chosen
-    ensures { λ r. ⌜ chosenReply r ≡ replyWith
-        (choosingFault (lent concepts inclusions questions roles variables) (before assignment) variable (length (before out)))
-        (length (chosen (lent concepts inclusions questions roles variables) (before assignment) variable)) ⌝ }
-    ensures { λ r. ⌜ after out ≡ chosenIn
-        (choosingFault (lent concepts inclusions questions roles variables) (before assignment) variable (length (before out)))
-        (chosen (lent concepts inclusions questions roles variables) (before assignment) variable) (before out) ⌝ }
+    ensures { λ r. ⌜ Chooses (lent concepts inclusions questions roles variables) (before assignment) variable (before out)
+        (after out) (chosenReply r) ⌝ }
 {
     let mut ids = [0u16; ATOMS];
     let atoms = list_atoms(concepts, inclusions, questions, roles, variables, &mut ids);

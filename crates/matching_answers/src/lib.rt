@@ -5,14 +5,11 @@ use matching::Chosen;
 use matching::Match;
 use subsumption::refusal::Outcome;
 ghost use mathlib.Core.Path.{_≡_};
-ghost use lib.ListN.{length};
 ghost use Rattle.subsumption.specs.Lent.{lent, before, after};
-ghost use Rattle.subsumption.specs.Atoms.{chosen};
-ghost use Rattle.subsumption.specs.Refusal.{replyWith};
 ghost use Rattle.settings.specs.Settings.{lentSettings};
 ghost use Rattle.matching.specs.Find.{matchReply, Finds};
 ghost use Rattle.matching.specs.Within.{FindsWithin};
-ghost use Rattle.matching.specs.Chosen.{choosingFault, chosenIn};
+ghost use Rattle.matching.specs.Chosen.{Chooses};
 ghost use Rattle.answers.specs.Answer.{replied};
 
 // What a finder answered.
@@ -78,12 +75,8 @@ pub fn chosen(
     variable: u16,
     out: &mut [u16],
 ) -> Answer
-    ensures { λ a. ⌜ replied a ≡ replyWith
-        (choosingFault (lent concepts inclusions questions roles variables) (before assignment) variable (length (before out)))
-        (length (chosen (lent concepts inclusions questions roles variables) (before assignment) variable)) ⌝ }
-    ensures { λ a. ⌜ after out ≡ chosenIn
-        (choosingFault (lent concepts inclusions questions roles variables) (before assignment) variable (length (before out)))
-        (chosen (lent concepts inclusions questions roles variables) (before assignment) variable) (before out) ⌝ }
+    ensures { λ a. ⌜ Chooses (lent concepts inclusions questions roles variables) (before assignment) variable (before out)
+        (after out) (replied a) ⌝ }
 {
     let answer = matching::put_chosen(
         concepts,

@@ -14,9 +14,9 @@ use Rattle.subsumption.specs.declared.listing.Listed.{Listed}
 use Rattle.subsumption.specs.declared.listing.Listed.the-variants.{Atoms, Rejected}
 use Rattle.subsumption.specs.Tables.{Tables, tables, countOf}
 use Rattle.subsumption.specs.Atoms.{atoms}
-use Rattle.subsumption.specs.Refusal.{replyDone, replyWith, orElse}
+use Rattle.subsumption.specs.Refusal.{Reply, replyDone, replyRefused, replyWith, orElse}
 use Rattle.subsumption.specs.Check.{useFault, conceptFault, aloneFault, idFault, tableFault, pairFault, bufferFault}
-use Rattle.subsumption.specs.Listing.{listingFault, listedReply, listedIn}
+use Rattle.subsumption.specs.Listing.{listingFault, listedReply, listedIn, ListedBy}
 use Rattle.subsumption.specs.Inner.Listing.{Accepted, Prepared, usedFault, askedFault}
 use Rattle.subsumption.specs.Inner.Atoms.{markedIds, inFront}
 use Rattle.subsumption.specs.Inner.Check.{Used}
@@ -27,28 +27,23 @@ use Rattle.subsumption.proofs.Accepted.{wellFormed}
 
 -- ---- what is answered
 
--- The answer and the buffer by these checks.
-pub record ListedBy (t : Tables) (before after : List ℕ) (fault : Outcome) (r : Listed) : Type 0 where
-  pub replied : listedReply r ≡ replyWith fault (length (atoms t))
-  pub written : after ≡ listedIn fault t before
-
 module _ (t : Tables) (before : List ℕ) where
-  pub listing-refused : (r : Refusal) (fault : Outcome) → Refused r ≡ fault → ListedBy t before before fault (Rejected r)
+  pub listing-refused : (r : Refusal) (fault : Outcome) → Refused r ≡ fault → ListedBy t before before fault (replyRefused r)
   unfolding listedIn
-  listing-refused r fault e = subst (λ (f : Outcome). ListedBy t before before f (Rejected r)) e (record { replied = refl; written = refl })
+  listing-refused r fault e = subst (λ (f : Outcome). ListedBy t before before f (replyRefused r)) e (record { replied = refl; written = refl })
 
-  listing-done : (n : ℕ) (after : List ℕ) (fault : Outcome) → Done ≡ fault → n ≡ length (atoms t) → after ≡ inFront (atoms t) before → ListedBy t before after fault (Atoms n)
+  listing-done : (n : ℕ) (after : List ℕ) (fault : Outcome) → Done ≡ fault → n ≡ length (atoms t) → after ≡ inFront (atoms t) before → ListedBy t before after fault (replyDone n)
   unfolding listedIn
   listing-done n after fault e p q =
-      subst (λ (f : Outcome). ListedBy t before after f (Atoms n)) e (record { replied = ap replyDone p; written = q })
+      subst (λ (f : Outcome). ListedBy t before after f (replyDone n)) e (record { replied = ap replyDone p; written = q })
 
 -- ---- checks 5 to 8
 module _ (t : Tables) (before : List ℕ) (marks : List Bool) (x : Outcome) (u : Used t marks x) where
-  pub used-refused : (r : Refusal) → x ≡ Refused r → ListedBy t before before (usedFault t (length before)) (Rejected r)
+  pub used-refused : (r : Refusal) → x ≡ Refused r → ListedBy t before before (usedFault t (length before)) (replyRefused r)
   unfolding usedFault
   used-refused r e = listing-refused t before r _ (stops x _ _ r (u .answered) e)
 
-  pub used-short : x ≡ Done → length before < 64 → ListedBy t before before (usedFault t (length before)) (Rejected (BufferTooShort 64))
+  pub used-short : x ≡ Done → length before < 64 → ListedBy t before before (usedFault t (length before)) (replyRefused (BufferTooShort 64))
   unfolding usedFault bufferFault
   used-short e h = listing-refused t before _ _ (goes-on x _ _ _ (u .answered) e (refused-lt _ _ _ h))
 
@@ -60,7 +55,7 @@ module _ (t : Tables) (before : List ℕ) (marks : List Bool) (x : Outcome) (u :
 
   pub used-listed :
       (n : ℕ) (after : List ℕ) → x ≡ Done → 64 ≤ length before → n ≡ length (markedIds marks (countOf (t .concepts)))
-      → after ≡ inFront (markedIds marks (countOf (t .concepts))) before → ListedBy t before after (usedFault t (length before)) (Atoms n)
+      → after ≡ inFront (markedIds marks (countOf (t .concepts))) before → ListedBy t before after (usedFault t (length before)) (replyDone n)
   unfolding usedFault bufferFault
   used-listed n after e h p q =
       listing-done t before n after _ (goes-on x _ _ _ (u .answered) e (done-le _ _ _ h)) (p ∙ ap length (same-ids e))
@@ -78,15 +73,15 @@ module _ (t : Tables) (before : List ℕ) (x : Outcome) (ex : x ≡ conceptFault
   unfolding listingFault tableFault usedFault
   listing-order = regroup (conceptFault t) (idFault t) (useFault t) (bufferFault 64 (length before))
 
-  pub listing-concepts : (r : Refusal) → x ≡ Refused r → ListedBy t before before (listingFault t (length before)) (Rejected r)
+  pub listing-concepts : (r : Refusal) → x ≡ Refused r → ListedBy t before before (listingFault t (length before)) (replyRefused r)
   listing-concepts r h = listing-refused t before r _ (stops x _ _ r ex h ∙ sym listing-order)
 
   module _ (hx : x ≡ Done) (y : Outcome) (ey : y ≡ idFault t) where
-    pub listing-ids : (r : Refusal) → y ≡ Refused r → ListedBy t before before (listingFault t (length before)) (Rejected r)
+    pub listing-ids : (r : Refusal) → y ≡ Refused r → ListedBy t before before (listingFault t (length before)) (replyRefused r)
     listing-ids r h = listing-refused t before r _ (goes-on x _ _ _ ex hx (stops y _ _ r ey h) ∙ sym listing-order)
 
     pub listing-used :
-        (after : List ℕ) (r : Listed) → y ≡ Done → ListedBy t before after (usedFault t (length before)) r → ListedBy t before after (listingFault t (length before)) r
+        (after : List ℕ) (r : Reply) → y ≡ Done → ListedBy t before after (usedFault t (length before)) r → ListedBy t before after (listingFault t (length before)) r
     listing-used after r hy h =
         subst (λ (f : Outcome). ListedBy t before after f r) (goes-on x _ _ _ ex hx (goes-on y _ _ _ ey hy refl) ∙ sym listing-order) h
 
@@ -102,19 +97,19 @@ module _ (t : Tables) (before : List ℕ) (x : Outcome) (ex : x ≡ conceptFault
         go Done = regroup (aloneFault (t .concepts) left right) (idFault t) (useFault t) (bufferFault 64 (length before))
         go (Refused r) = refl
 
-    pub asked-concepts : (r : Refusal) → x ≡ Refused r → ListedBy t before before (askedFault t left right (length before)) (Rejected r)
+    pub asked-concepts : (r : Refusal) → x ≡ Refused r → ListedBy t before before (askedFault t left right (length before)) (replyRefused r)
     asked-concepts r h = listing-refused t before r _ (stops x _ _ r ex h ∙ sym asked-order)
 
     module _ (hx : x ≡ Done) (z : Outcome) (ez : z ≡ aloneFault (t .concepts) left right) where
-      pub asked-alone : (r : Refusal) → z ≡ Refused r → ListedBy t before before (askedFault t left right (length before)) (Rejected r)
+      pub asked-alone : (r : Refusal) → z ≡ Refused r → ListedBy t before before (askedFault t left right (length before)) (replyRefused r)
       asked-alone r h = listing-refused t before r _ (goes-on x _ _ _ ex hx (stops z _ _ r ez h) ∙ sym asked-order)
 
       module _ (hz : z ≡ Done) (y : Outcome) (ey : y ≡ idFault t) where
-        pub asked-ids : (r : Refusal) → y ≡ Refused r → ListedBy t before before (askedFault t left right (length before)) (Rejected r)
+        pub asked-ids : (r : Refusal) → y ≡ Refused r → ListedBy t before before (askedFault t left right (length before)) (replyRefused r)
         asked-ids r h = listing-refused t before r _ (goes-on x _ _ _ ex hx (goes-on z _ _ _ ez hz (stops y _ _ r ey h)) ∙ sym asked-order)
 
         pub asked-used :
-            (after : List ℕ) (r : Listed) → y ≡ Done → ListedBy t before after (usedFault t (length before)) r
+            (after : List ℕ) (r : Reply) → y ≡ Done → ListedBy t before after (usedFault t (length before)) r
             → ListedBy t before after (askedFault t left right (length before)) r
         asked-used after r hy h =
             subst (λ (f : Outcome). ListedBy t before after f r)

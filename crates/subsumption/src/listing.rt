@@ -12,10 +12,8 @@ ghost use mathlib.Core.Path.{_≡_};
 ghost use lib.ListN.{length};
 ghost use Rattle.subsumption.specs.Lent.{given, lent, before, after};
 ghost use Rattle.subsumption.specs.declared.refusal.Outcome.the-variants.{Done};
-ghost use Rattle.subsumption.specs.Atoms.{atoms};
-ghost use Rattle.subsumption.specs.Refusal.{replyWith};
 ghost use Rattle.subsumption.specs.Check.{conceptFault, idFault};
-ghost use Rattle.subsumption.specs.Listing.{listingFault, listedReply, listedIn};
+ghost use Rattle.subsumption.specs.Listing.{listedReply, ListedBy, Lists};
 ghost use Rattle.subsumption.specs.Inner.Listing.{usedFault, askedFault};
 
 pub enum Listed {
@@ -34,11 +32,8 @@ fn list_used(
 ) -> Listed
     requires { ⌜ conceptFault (given concepts inclusions questions roles variables) ≡ Done ⌝ }
     requires { ⌜ idFault (given concepts inclusions questions roles variables) ≡ Done ⌝ }
-    ensures { λ r. ⌜ listedReply r ≡ replyWith
-        (usedFault (lent concepts inclusions questions roles variables) (length (before out)))
-        (length (atoms (lent concepts inclusions questions roles variables))) ⌝ }
-    ensures { λ r. ⌜ after out ≡ listedIn (usedFault (lent concepts inclusions questions roles variables) (length (before out)))
-        (lent concepts inclusions questions roles variables) (before out) ⌝ }
+    ensures { λ r. ⌜ ListedBy (lent concepts inclusions questions roles variables) (before out) (after out)
+        (usedFault (lent concepts inclusions questions roles variables) (length (before out))) (listedReply r) ⌝ }
 {
     let mut marks = [false; CONCEPTS];
     let used = check_use(
@@ -67,11 +62,7 @@ pub fn list_atoms(
     variables: u16,
     out: &mut [u16],
 ) -> Listed
-    ensures { λ r. ⌜ listedReply r ≡ replyWith
-        (listingFault (lent concepts inclusions questions roles variables) (length (before out)))
-        (length (atoms (lent concepts inclusions questions roles variables))) ⌝ }
-    ensures { λ r. ⌜ after out ≡ listedIn (listingFault (lent concepts inclusions questions roles variables) (length (before out)))
-        (lent concepts inclusions questions roles variables) (before out) ⌝ }
+    ensures { λ r. ⌜ Lists (lent concepts inclusions questions roles variables) (before out) (after out) (listedReply r) ⌝ }
 {
     let rows = check_concepts(concepts, inclusions, questions, roles, variables);
     if let Outcome::Refused(r) = rows {
@@ -95,12 +86,8 @@ pub fn list_asked(
     right: u16,
     out: &mut [u16],
 ) -> Listed
-    ensures { λ r. ⌜ listedReply r ≡ replyWith
-        (askedFault (lent concepts inclusions questions roles variables) left right (length (before out)))
-        (length (atoms (lent concepts inclusions questions roles variables))) ⌝ }
-    ensures { λ r. ⌜ after out ≡ listedIn
-        (askedFault (lent concepts inclusions questions roles variables) left right (length (before out)))
-        (lent concepts inclusions questions roles variables) (before out) ⌝ }
+    ensures { λ r. ⌜ ListedBy (lent concepts inclusions questions roles variables) (before out) (after out)
+        (askedFault (lent concepts inclusions questions roles variables) left right (length (before out))) (listedReply r) ⌝ }
 {
     let rows = check_concepts(concepts, inclusions, questions, roles, variables);
     if let Outcome::Refused(r) = rows {

@@ -25,7 +25,7 @@ use Rattle.subsumption.proofs.Replies.{same-value, same-refusal, not-done}
 use Rattle.matching.specs.declared.chosen.Chosen.{Chosen}
 use Rattle.matching.specs.declared.chosen.Chosen.the-variants.{Ids, Rejected}
 use Rattle.matching.specs.declared.chosen.Told.{Told}
-use Rattle.matching.specs.Chosen.{variableFault, choosingFault, chosenReply, chosenIn, handedBack}
+use Rattle.matching.specs.Chosen.{variableFault, choosingFault, chosenReply, chosenIn, handedBack, Chooses}
 use Rattle.matching.proofs.ChosenLaws.Picked.{pick-length}
 use Rattle.matching.specs.Inner.Chosen.{knownFault, earlierOf, toldOf}
 
@@ -186,21 +186,20 @@ earlier-other r known code h e f = rw (h, ne-eqb (codeOf r .number) 1 (λ z. f (
 module _ (t : Tables) (assignment before : List ℕ) (k : ℕ) where
   pub choosing-rejected :
       (r q : Refusal) → Refused r ≡ tableFault t → q ≡ earlierOf r (ltb k (t .variables))
-      → (replyRefused q ≡ replyWith (choosingFault t assignment k (length before)) (length (chosen t assignment k)))
-      × (before ≡ chosenIn (choosingFault t assignment k (length before)) (chosen t assignment k) before)
+      → Chooses t assignment k before before (replyRefused q)
   choosing-rejected r q e h =
-      chosen-refused (chosen t assignment k) before q _ (ap Refused h ∙ choosing-refused t assignment k (length before) r (sym e))
+      let (x, y) = chosen-refused (chosen t assignment k) before q _ (ap Refused h ∙ choosing-refused t assignment k (length before) r (sym e)) in
+      record { replied = x; written = y }
 
   pub choosing-found :
       (ids after : List ℕ) (answer : Chosen) → Accepted t ids
       → chosenReply answer ≡ replyWith (knownFault (length ids) (t .variables) assignment k (length before)) (length (pick ids (getD assignment k 0)))
       → after ≡ chosenIn (knownFault (length ids) (t .variables) assignment k (length before)) (pick ids (getD assignment k 0)) before
-      → (chosenReply answer ≡ replyWith (choosingFault t assignment k (length before)) (length (chosen t assignment k)))
-      × (after ≡ chosenIn (choosingFault t assignment k (length before)) (chosen t assignment k) before)
+      → Chooses t assignment k before after (chosenReply answer)
   unfolding chosen
   choosing-found ids after answer a f g =
       let u = choosing-known t assignment k (length before) (a .passed) in
-      (f ∙ rw (a .listed, u) refl, g ∙ rw (a .listed, u) refl)
+      record { replied = f ∙ rw (a .listed, u) refl; written = g ∙ rw (a .listed, u) refl }
 
 -- ---- the list that is handed back
 pub record Handed (fault : Outcome) (ids before after : List ℕ) (told : Told) : Type 0 where

@@ -37,10 +37,9 @@ ghost use Prim.Native.Nat.{_<_};
 ghost use lib.ListN.{length};
 ghost use Rattle.matching.specs.Solving.{takes};
 ghost use Rattle.matching.specs.Inner.Search.Problem.{Shaped, questionCount};
-ghost use Rattle.matching.specs.Inner.Search.Interval.{undecided};
 ghost use Rattle.matching.specs.Inner.Search.Lent.{Lent};
 ghost use Rattle.matching.specs.Inner.Search.Nogoods.{Room};
-ghost use Rattle.matching.specs.Inner.Search.Solve.{FailingOf, Failing, RefutedBy, Searched, Answers, CanSplit, Recalled, Merged};
+ghost use Rattle.matching.specs.Inner.Search.Solve.{FailingOf, Failing, RefutedBy, Searched, Answers, Stepped, CanSplit, Recalled, Merged};
 ghost use Rattle.subsumption.specs.Lent.{before, after};
 
 const ALL: u64 = 18446744073709551615;
@@ -242,11 +241,7 @@ fn step_by_test(
 ) -> Step
     requires { ⌜ Lent (now sets) (now problem) (now store) (now scratch) ⌝ }
     requires { ⌜ (length full ≡ 8) × (length (interval .low) ≡ 8) × (length (interval .high) ≡ 8) ⌝ }
-    ensures { λ r. ⌜ (length (r .low) ≡ 8) × (length (r .high) ≡ 8) ⌝ }
-    ensures { λ _. ⌜ Room (after store) ⌝ }
-    ensures { λ r. ⌜ (r .done ≡ false → (r .pair < 512) × (undecided (interval .low) (interval .high) (r .pair) ≡ true)) ⌝ }
-    ensures { λ r. ⌜ Searched (before sets) (before problem) full (interval .low) (interval .high) (before store) (after store)
-        (λ t. r .done ≡ true → Answers t (before problem) (interval .low) (interval .high) (r .found) (r .low) (r .high)) ⌝ }
+    ensures { λ r. ⌜ Stepped (before sets) (before problem) full (interval .low) (interval .high) (before store) (after store) r ⌝ }
 {
     let low = interval.low;
     let high = interval.high;
@@ -317,11 +312,7 @@ fn step_by_choice(
 ) -> Step
     requires { ⌜ Lent (now sets) (now problem) (now store) (now scratch) ⌝ }
     requires { ⌜ (length full ≡ 8) × (length (interval .low) ≡ 8) × (length (interval .high) ≡ 8) ⌝ }
-    ensures { λ r. ⌜ (length (r .low) ≡ 8) × (length (r .high) ≡ 8) ⌝ }
-    ensures { λ _. ⌜ Room (after store) ⌝ }
-    ensures { λ r. ⌜ (r .done ≡ false → (r .pair < 512) × (undecided (interval .low) (interval .high) (r .pair) ≡ true)) ⌝ }
-    ensures { λ r. ⌜ Searched (before sets) (before problem) full (interval .low) (interval .high) (before store) (after store)
-        (λ t. r .done ≡ true → Answers t (before problem) (interval .low) (interval .high) (r .found) (r .low) (r .high)) ⌝ }
+    ensures { λ r. ⌜ Stepped (before sets) (before problem) full (interval .low) (interval .high) (before store) (after store) r ⌝ }
 {
     let hint = choose(store, scratch, interval);
     let known = look_up(store, hint.place, interval);
@@ -348,11 +339,7 @@ fn step_by_hint(
 ) -> Step
     requires { ⌜ Lent (now sets) (now problem) (now store) (now scratch) ⌝ }
     requires { ⌜ (length full ≡ 8) × (length (interval .low) ≡ 8) × (length (interval .high) ≡ 8) ⌝ }
-    ensures { λ r. ⌜ (length (r .low) ≡ 8) × (length (r .high) ≡ 8) ⌝ }
-    ensures { λ _. ⌜ Room (after store) ⌝ }
-    ensures { λ r. ⌜ (r .done ≡ false → (r .pair < 512) × (undecided (interval .low) (interval .high) (r .pair) ≡ true)) ⌝ }
-    ensures { λ r. ⌜ Searched (before sets) (before problem) full (interval .low) (interval .high) (before store) (after store)
-        (λ t. r .done ≡ true → Answers t (before problem) (interval .low) (interval .high) (r .found) (r .low) (r .high)) ⌝ }
+    ensures { λ r. ⌜ Stepped (before sets) (before problem) full (interval .low) (interval .high) (before store) (after store) r ⌝ }
 {
     let known = look_up(store, scratch[HINT] as usize, interval);
     let low = known.low;
@@ -374,11 +361,7 @@ fn step_by_clamp(
 ) -> Step
     requires { ⌜ Lent (now sets) (now problem) (now store) (now scratch) ⌝ }
     requires { ⌜ (length full ≡ 8) × (length (interval .low) ≡ 8) × (length (interval .high) ≡ 8) ⌝ }
-    ensures { λ r. ⌜ (length (r .low) ≡ 8) × (length (r .high) ≡ 8) ⌝ }
-    ensures { λ _. ⌜ Room (after store) ⌝ }
-    ensures { λ r. ⌜ (r .done ≡ false → (r .pair < 512) × (undecided (interval .low) (interval .high) (r .pair) ≡ true)) ⌝ }
-    ensures { λ r. ⌜ Searched (before sets) (before problem) full (interval .low) (interval .high) (before store) (after store)
-        (λ t. r .done ≡ true → Answers t (before problem) (interval .low) (interval .high) (r .found) (r .low) (r .high)) ⌝ }
+    ensures { λ r. ⌜ Stepped (before sets) (before problem) full (interval .low) (interval .high) (before store) (after store) r ⌝ }
 {
     let low = interval.low;
     let high = interval.high;
@@ -431,11 +414,7 @@ fn next_step(
 ) -> Step
     requires { ⌜ Lent (now sets) (now problem) (now store) (now scratch) ⌝ }
     requires { ⌜ (length full ≡ 8) × (length (interval .low) ≡ 8) × (length (interval .high) ≡ 8) ⌝ }
-    ensures { λ r. ⌜ (length (r .low) ≡ 8) × (length (r .high) ≡ 8) ⌝ }
-    ensures { λ _. ⌜ Room (after store) ⌝ }
-    ensures { λ r. ⌜ (r .done ≡ false → (r .pair < 512) × (undecided (interval .low) (interval .high) (r .pair) ≡ true)) ⌝ }
-    ensures { λ r. ⌜ Searched (before sets) (before problem) full (interval .low) (interval .high) (before store) (after store)
-        (λ t. r .done ≡ true → Answers t (before problem) (interval .low) (interval .high) (r .found) (r .low) (r .high)) ⌝ }
+    ensures { λ r. ⌜ Stepped (before sets) (before problem) full (interval .low) (interval .high) (before store) (after store) r ⌝ }
 {
     if !is_bounded(problem, full) {
         return step_by_hint(sets, problem, store, scratch, full, interval);

@@ -23,13 +23,13 @@ same-length : tie.Need-same-length
 same-length c = omega arith
 
 returns : tie.Need-returns
-returns c = (same-answer chosenReply _ (c .before .before .before .before .before .before .put-chosen .result) _ (c .answer-of .result) (c .before .before .before .before .before .before .put-chosen .ensures .0) (c .before .before .answer .given .1) (c .answer-of .ensures), c .before .before .before .before .before .before .put-chosen .ensures .1)
+returns c = record { replied = same-answer chosenReply _ (c .before .before .before .before .before .before .put-chosen .result) _ (c .answer-of .result) (c .before .before .before .before .before .before .put-chosen .ensures .replied) (c .before .before .answer .given .1) (c .answer-of .ensures); written = c .before .before .before .before .before .before .put-chosen .ensures .written }
 
 same-length-2 : tie.Need-same-length-2
 same-length-2 c = omega arith
 
 returns-2 : tie.Need-returns-2
-returns-2 c = (same-answer chosenReply _ (c .before .before .before .before .before .before .put-chosen .result) _ (c .answer-of2 .result) (c .before .before .before .before .before .before .put-chosen .ensures .0) (c .before .before .answer2 .given .1) (c .answer-of2 .ensures), c .before .before .before .before .before .before .put-chosen .ensures .1)
+returns-2 c = record { replied = same-answer chosenReply _ (c .before .before .before .before .before .before .put-chosen .result) _ (c .answer-of2 .result) (c .before .before .before .before .before .before .put-chosen .ensures .replied) (c .before .before .answer2 .given .1) (c .answer-of2 .ensures); written = c .before .before .before .before .before .before .put-chosen .ensures .written }
 
 pub chosen-spec : {M : Type 1} → statement M
 chosen-spec =

@@ -23,16 +23,16 @@ enum-known-listed-2 : tie.Need-enum-known-listed-2
 enum-known-listed-2 c = omega arith
 
 array-share-prefix-ids : tie.Need-array-share-prefix-ids
-array-share-prefix-ids c = omega (arith, tables-few _ (replicate 64 0) _ (c .before .before .before .before .list-atoms .result) refl (c .before .before .before .before .list-atoms .ensures .0) (c .before .before .before .before .list-atoms .ensures .1) _ (c .before .listed2 .given .1), c .before .before .before .before .list-atoms .kept .1 .1 .1 .1 .1 .0)
+array-share-prefix-ids c = omega (arith, tables-few _ (replicate 64 0) _ (c .before .before .before .before .list-atoms .result) refl (c .before .before .before .before .list-atoms .ensures .replied) (c .before .before .before .before .list-atoms .ensures .written) _ (c .before .listed2 .given .1), c .before .before .before .before .list-atoms .kept .1 .1 .1 .1 .1 .0)
 
 slice-aggregate-find-known : tie.Need-slice-aggregate-find-known
-slice-aggregate-find-known c = sym (length-take-le _ _ (omega (arith, tables-few _ (replicate 64 0) _ (c .before .before .before .before .before .list-atoms .result) refl (c .before .before .before .before .before .list-atoms .ensures .0) (c .before .before .before .before .before .list-atoms .ensures .1) _ (c .before .before .listed2 .given .1), c .before .before .before .before .before .list-atoms .kept .1 .1 .1 .1 .1 .0)))
+slice-aggregate-find-known c = sym (length-take-le _ _ (omega (arith, tables-few _ (replicate 64 0) _ (c .before .before .before .before .before .list-atoms .result) refl (c .before .before .before .before .before .list-atoms .ensures .replied) (c .before .before .before .before .before .list-atoms .ensures .written) _ (c .before .before .listed2 .given .1), c .before .before .before .before .before .list-atoms .kept .1 .1 .1 .1 .1 .0)))
 
 find-known-requires : tie.Need-find-known-requires
-find-known-requires c κs = tables-listed _ (replicate 64 0) _ (c .before .before .before .before .before .before .list-atoms .result) refl (c .before .before .before .before .before .before .list-atoms .ensures .0) (c .before .before .before .before .before .before .list-atoms .ensures .1) _ (c .before .before .before .listed2 .given .1)
+find-known-requires c κs = tables-listed _ (replicate 64 0) _ (c .before .before .before .before .before .before .list-atoms .result) refl (c .before .before .before .before .before .before .list-atoms .ensures .replied) (c .before .before .before .before .before .before .list-atoms .ensures .written) _ (c .before .before .before .listed2 .given .1)
 
 returns : tie.Need-returns
-returns c = tables-refuse _ _ _ (c .before .before .before .before .before .before .before .before .before .before .before .before .before .before .args .out .now) _ _ (c .refused .ensures) (tables-rejected _ (replicate 64 0) _ (c .before .before .before .before .before .list-atoms .result) refl (c .before .before .before .before .before .list-atoms .ensures .0) (c .before .before .before .before .before .list-atoms .ensures .1) _ (c .before .before .listed .given .1))
+returns c = tables-refuse _ _ _ (c .before .before .before .before .before .before .before .before .before .before .before .before .before .before .args .out .now) _ _ (c .refused .ensures) (tables-rejected _ (replicate 64 0) _ (c .before .before .before .before .before .list-atoms .result) refl (c .before .before .before .before .before .list-atoms .ensures .replied) (c .before .before .before .before .before .list-atoms .ensures .written) _ (c .before .before .listed .given .1))
 
 same-length : tie.Need-same-length
 same-length c = omega arith

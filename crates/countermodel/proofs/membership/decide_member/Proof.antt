@@ -9,19 +9,19 @@ use Rattle.countermodel.proofs.membership.decide_member.Statement.{stat
 use Rattle.countermodel.proofs.membership.decide_member.Tie as tie
 
 array-share-prefix-ids : tie.Need-array-share-prefix-ids
-array-share-prefix-ids c = omega (arith, tables-few _ (replicate 64 0) _ (c .before .before .before .before .list-atoms .result) refl (c .before .before .before .before .list-atoms .ensures .0) (c .before .before .before .before .list-atoms .ensures .1) _ (c .before .listed2 .given .1), c .before .before .before .before .list-atoms .kept .1 .1 .1 .1 .1 .0)
+array-share-prefix-ids c = omega (arith, tables-few _ (replicate 64 0) _ (c .before .before .before .before .list-atoms .result) refl (c .before .before .before .before .list-atoms .ensures .replied) (c .before .before .before .before .list-atoms .ensures .written) _ (c .before .listed2 .given .1), c .before .before .before .before .list-atoms .kept .1 .1 .1 .1 .1 .0)
 
 slice-aggregate-decide-known : tie.Need-slice-aggregate-decide-known
-slice-aggregate-decide-known c = sym (length-take-le _ _ (omega (arith, tables-few _ (replicate 64 0) _ (c .before .before .before .before .before .list-atoms .result) refl (c .before .before .before .before .before .list-atoms .ensures .0) (c .before .before .before .before .before .list-atoms .ensures .1) _ (c .before .before .listed2 .given .1), c .before .before .before .before .before .list-atoms .kept .1 .1 .1 .1 .1 .0)))
+slice-aggregate-decide-known c = sym (length-take-le _ _ (omega (arith, tables-few _ (replicate 64 0) _ (c .before .before .before .before .before .list-atoms .result) refl (c .before .before .before .before .before .list-atoms .ensures .replied) (c .before .before .before .before .before .list-atoms .ensures .written) _ (c .before .before .listed2 .given .1), c .before .before .before .before .before .list-atoms .kept .1 .1 .1 .1 .1 .0)))
 
 decide-known-requires : tie.Need-decide-known-requires
-decide-known-requires c κs = listing _ _ _ _ _ _ (tables-listed _ (replicate 64 0) _ (c .before .before .before .before .before .list-atoms .result) refl (c .before .before .before .before .before .list-atoms .ensures .0) (c .before .before .before .before .before .list-atoms .ensures .1) _ (c .before .before .listed2 .given .1))
+decide-known-requires c κs = listing _ _ _ _ _ _ (tables-listed _ (replicate 64 0) _ (c .before .before .before .before .before .list-atoms .result) refl (c .before .before .before .before .before .list-atoms .ensures .replied) (c .before .before .before .before .before .list-atoms .ensures .written) _ (c .before .before .listed2 .given .1))
 
 returns : tie.Need-returns
-returns c = tables-refused _ _ _ _ _ _ _ (tables-rejected _ (replicate 64 0) _ (c .before .before .before .before .list-atoms .result) refl (c .before .before .before .before .list-atoms .ensures .0) (c .before .before .before .before .list-atoms .ensures .1) _ (c .before .listed .given .1))
+returns c = tables-refused _ _ _ _ _ _ _ (tables-rejected _ (replicate 64 0) _ (c .before .before .before .before .list-atoms .result) refl (c .before .before .before .before .list-atoms .ensures .replied) (c .before .before .before .before .list-atoms .ensures .written) _ (c .before .listed .given .1))
 
 returns-2 : tie.Need-returns-2
-returns-2 c = c .decide-known .ensures _ _ _ (tables-listed _ (replicate 64 0) _ (c .before .before .before .before .before .before .list-atoms .result) refl (c .before .before .before .before .before .before .list-atoms .ensures .0) (c .before .before .before .before .before .before .list-atoms .ensures .1) _ (c .before .before .before .listed2 .given .1))
+returns-2 c = c .decide-known .ensures _ _ _ (tables-listed _ (replicate 64 0) _ (c .before .before .before .before .before .before .list-atoms .result) refl (c .before .before .before .before .before .before .list-atoms .ensures .replied) (c .before .before .before .before .before .before .list-atoms .ensures .written) _ (c .before .before .before .listed2 .given .1))
 
 pub decide-member-spec : {M : Type 1} → statement M
 decide-member-spec =

@@ -30,16 +30,16 @@ enum-known-listed-2 : tie.Need-enum-known-listed-2
 enum-known-listed-2 c = search needs
 
 array-share-prefix-ids : tie.Need-array-share-prefix-ids
-array-share-prefix-ids c = omega (arith, tables-few _ (replicate 64 0) _ (c .before .before .before .before .list-atoms .result) refl (c .before .before .before .before .list-atoms .ensures .0) (c .before .before .before .before .list-atoms .ensures .1) _ (c .before .listed2 .given .1), c .before .before .before .before .list-atoms .kept .1 .1 .1 .1 .1 .0)
+array-share-prefix-ids c = omega (arith, tables-few _ (replicate 64 0) _ (c .before .before .before .before .list-atoms .result) refl (c .before .before .before .before .list-atoms .ensures .replied) (c .before .before .before .before .list-atoms .ensures .written) _ (c .before .listed2 .given .1), c .before .before .before .before .list-atoms .kept .1 .1 .1 .1 .1 .0)
 
 slice-aggregate-find-placed : tie.Need-slice-aggregate-find-placed
-slice-aggregate-find-placed c = sym (length-take-le _ _ (omega (arith, tables-few _ (replicate 64 0) _ (c .before .before .before .before .before .list-atoms .result) refl (c .before .before .before .before .before .list-atoms .ensures .0) (c .before .before .before .before .before .list-atoms .ensures .1) _ (c .before .before .listed2 .given .1), c .before .before .before .before .before .list-atoms .kept .1 .1 .1 .1 .1 .0)))
+slice-aggregate-find-placed c = sym (length-take-le _ _ (omega (arith, tables-few _ (replicate 64 0) _ (c .before .before .before .before .before .list-atoms .result) refl (c .before .before .before .before .before .list-atoms .ensures .replied) (c .before .before .before .before .before .list-atoms .ensures .written) _ (c .before .before .listed2 .given .1), c .before .before .before .before .before .list-atoms .kept .1 .1 .1 .1 .1 .0)))
 
 find-placed-requires : tie.Need-find-placed-requires
-find-placed-requires c κs = (tables-listed _ (replicate 64 0) _ (c .before .before .before .before .before .before .list-atoms .result) refl (c .before .before .before .before .before .before .list-atoms .ensures .0) (c .before .before .before .before .before .before .list-atoms .ensures .1) _ (c .before .before .before .listed2 .given .1), omega (arith, c .before .before .before .before .before .before .before .before .if1 .left))
+find-placed-requires c κs = (tables-listed _ (replicate 64 0) _ (c .before .before .before .before .before .before .list-atoms .result) refl (c .before .before .before .before .before .before .list-atoms .ensures .replied) (c .before .before .before .before .before .before .list-atoms .ensures .written) _ (c .before .before .before .listed2 .given .1), omega (arith, c .before .before .before .before .before .before .before .before .if1 .left))
 
 returns-2 : tie.Need-returns-2
-returns-2 c = tables-refuse _ _ _ (c .before .before .before .before .before .before .before .before .before .before .before .before .before .before .args .out .now) _ (omega (arith, c .before .before .before .before .before .before .if1 .left)) (tables-rejected _ (replicate 64 0) _ (c .before .before .before .before .list-atoms .result) refl (c .before .before .before .before .list-atoms .ensures .0) (c .before .before .before .before .list-atoms .ensures .1) _ (c .before .listed .given .1))
+returns-2 c = tables-refuse _ _ _ (c .before .before .before .before .before .before .before .before .before .before .before .before .before .before .args .out .now) _ (omega (arith, c .before .before .before .before .before .before .if1 .left)) (tables-rejected _ (replicate 64 0) _ (c .before .before .before .before .list-atoms .result) refl (c .before .before .before .before .list-atoms .ensures .replied) (c .before .before .before .before .list-atoms .ensures .written) _ (c .before .listed .given .1))
 
 same-length : tie.Need-same-length
 same-length c = search needs

@@ -23,22 +23,22 @@ enum-known-listed-2 : tie.Need-enum-known-listed-2
 enum-known-listed-2 c = search needs
 
 array-share-prefix-ids : tie.Need-array-share-prefix-ids
-array-share-prefix-ids c = omega (arith, tables-few _ (replicate 64 0) _ (c .before .before .before .before .list-atoms .result) refl (c .before .before .before .before .list-atoms .ensures .0) (c .before .before .before .before .list-atoms .ensures .1) _ (c .before .listed2 .given .1), c .before .before .before .before .list-atoms .kept .1 .1 .1 .1 .1 .0)
+array-share-prefix-ids c = omega (arith, tables-few _ (replicate 64 0) _ (c .before .before .before .before .list-atoms .result) refl (c .before .before .before .before .list-atoms .ensures .replied) (c .before .before .before .before .list-atoms .ensures .written) _ (c .before .listed2 .given .1), c .before .before .before .before .list-atoms .kept .1 .1 .1 .1 .1 .0)
 
 slice-aggregate-put-update : tie.Need-slice-aggregate-put-update
-slice-aggregate-put-update c = sym (length-take-le _ _ (omega (arith, tables-few _ (replicate 64 0) _ (c .before .before .before .before .before .list-atoms .result) refl (c .before .before .before .before .before .list-atoms .ensures .0) (c .before .before .before .before .before .list-atoms .ensures .1) _ (c .before .before .listed2 .given .1), c .before .before .before .before .before .list-atoms .kept .1 .1 .1 .1 .1 .0)))
+slice-aggregate-put-update c = sym (length-take-le _ _ (omega (arith, tables-few _ (replicate 64 0) _ (c .before .before .before .before .before .list-atoms .result) refl (c .before .before .before .before .before .list-atoms .ensures .replied) (c .before .before .before .before .before .list-atoms .ensures .written) _ (c .before .before .listed2 .given .1), c .before .before .before .before .before .list-atoms .kept .1 .1 .1 .1 .1 .0)))
 
 put-update-requires : tie.Need-put-update-requires
-put-update-requires c κs = prepared _ _ _ _ _ _ (tables-listed _ (replicate 64 0) _ (c .before .before .before .before .before .before .list-atoms .result) refl (c .before .before .before .before .before .before .list-atoms .ensures .0) (c .before .before .before .before .before .before .list-atoms .ensures .1) _ (c .before .before .before .listed2 .given .1))
+put-update-requires c κs = prepared _ _ _ _ _ _ (tables-listed _ (replicate 64 0) _ (c .before .before .before .before .before .before .list-atoms .result) refl (c .before .before .before .before .before .before .list-atoms .ensures .replied) (c .before .before .before .before .before .before .list-atoms .ensures .written) _ (c .before .before .before .listed2 .given .1))
 
 returns : tie.Need-returns
-returns c = update-refused _ _ _ _ (tables-rejected _ (replicate 64 0) _ (c .before .before .before .before .list-atoms .result) refl (c .before .before .before .before .list-atoms .ensures .0) (c .before .before .before .before .list-atoms .ensures .1) _ (c .before .listed .given .1))
+returns c = update-refused _ _ _ _ (tables-rejected _ (replicate 64 0) _ (c .before .before .before .before .list-atoms .result) refl (c .before .before .before .before .list-atoms .ensures .replied) (c .before .before .before .before .list-atoms .ensures .written) _ (c .before .listed .given .1))
 
 same-length : tie.Need-same-length
 same-length c = search needs
 
 returns-2 : tie.Need-returns-2
-returns-2 c = c .before .before .put-update .ensures _ (tables-listed _ (replicate 64 0) _ (c .before .before .before .before .before .before .before .before .before .list-atoms .result) refl (c .before .before .before .before .before .before .before .before .before .list-atoms .ensures .0) (c .before .before .before .before .before .before .before .before .before .list-atoms .ensures .1) _ (c .before .before .before .before .before .before .listed2 .given .1))
+returns-2 c = c .before .before .put-update .ensures _ (tables-listed _ (replicate 64 0) _ (c .before .before .before .before .before .before .before .before .before .list-atoms .result) refl (c .before .before .before .before .before .before .before .before .before .list-atoms .ensures .replied) (c .before .before .before .before .before .before .before .before .before .list-atoms .ensures .written) _ (c .before .before .before .before .before .before .listed2 .given .1))
 
 pub update-table-spec : {M : Type 1} → statement M
 update-table-spec =

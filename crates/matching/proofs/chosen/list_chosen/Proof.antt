@@ -12,10 +12,10 @@ tell-requires : tie.Need-tell-requires
 tell-requires c κs = search needs
 
 slice-aggregate-result : tie.Need-slice-aggregate-result
-slice-aggregate-result c = handed _ _ _ _ (c .before .before .before .before .put-chosen .result) _ (c .before .before .before .before .put-chosen .ensures .0) (c .before .before .before .before .put-chosen .ensures .1) (c .before .tell .ensures) .long
+slice-aggregate-result c = handed _ _ _ _ (c .before .before .before .before .put-chosen .result) _ (c .before .before .before .before .put-chosen .ensures .replied) (c .before .before .before .before .put-chosen .ensures .written) (c .before .tell .ensures) .long
 
 returns : tie.Need-returns
-returns c = let h = handed _ _ _ _ (c .before .before .before .before .put-chosen .result) _ (c .before .before .before .before .put-chosen .ensures .0) (c .before .before .before .before .put-chosen .ensures .1) (c .before .tell .ensures) in (h .back, (h .number, h .place))
+returns c = let h = handed _ _ _ _ (c .before .before .before .before .put-chosen .result) _ (c .before .before .before .before .put-chosen .ensures .replied) (c .before .before .before .before .put-chosen .ensures .written) (c .before .tell .ensures) in (h .back, (h .number, h .place))
 
 pub list-chosen-spec : {M : Type 1} → statement M
 list-chosen-spec =

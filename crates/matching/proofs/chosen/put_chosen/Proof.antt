@@ -28,22 +28,22 @@ enum-known-atoms-2 : tie.Need-enum-known-atoms-2
 enum-known-atoms-2 c = omega arith
 
 array-share-prefix-ids : tie.Need-array-share-prefix-ids
-array-share-prefix-ids c = omega (arith, tables-few _ (replicate 64 0) _ (c .before .before .before .before .list-atoms .result) refl (c .before .before .before .before .list-atoms .ensures .0) (c .before .before .before .before .list-atoms .ensures .1) _ (c .before .atoms2 .given .1), c .before .before .before .before .list-atoms .kept .1 .1 .1 .1 .1 .0)
+array-share-prefix-ids c = omega (arith, tables-few _ (replicate 64 0) _ (c .before .before .before .before .list-atoms .result) refl (c .before .before .before .before .list-atoms .ensures .replied) (c .before .before .before .before .list-atoms .ensures .written) _ (c .before .atoms2 .given .1), c .before .before .before .before .list-atoms .kept .1 .1 .1 .1 .1 .0)
 
 slice-aggregate-put-known : tie.Need-slice-aggregate-put-known
-slice-aggregate-put-known c = sym (length-take-le _ _ (omega (arith, tables-few _ (replicate 64 0) _ (c .before .before .before .before .before .list-atoms .result) refl (c .before .before .before .before .before .list-atoms .ensures .0) (c .before .before .before .before .before .list-atoms .ensures .1) _ (c .before .before .atoms2 .given .1), c .before .before .before .before .before .list-atoms .kept .1 .1 .1 .1 .1 .0)))
+slice-aggregate-put-known c = sym (length-take-le _ _ (omega (arith, tables-few _ (replicate 64 0) _ (c .before .before .before .before .before .list-atoms .result) refl (c .before .before .before .before .before .list-atoms .ensures .replied) (c .before .before .before .before .before .list-atoms .ensures .written) _ (c .before .before .atoms2 .given .1), c .before .before .before .before .before .list-atoms .kept .1 .1 .1 .1 .1 .0)))
 
 put-known-requires : tie.Need-put-known-requires
-put-known-requires c κs = few-atoms _ _ _ _ _ (prepared _ _ _ _ _ _ (tables-listed _ (replicate 64 0) _ (c .before .before .before .before .before .before .list-atoms .result) refl (c .before .before .before .before .before .before .list-atoms .ensures .0) (c .before .before .before .before .before .before .list-atoms .ensures .1) _ (c .before .before .before .atoms2 .given .1)))
+put-known-requires c κs = few-atoms _ _ _ _ _ (prepared _ _ _ _ _ _ (tables-listed _ (replicate 64 0) _ (c .before .before .before .before .before .before .list-atoms .result) refl (c .before .before .before .before .before .before .list-atoms .ensures .replied) (c .before .before .before .before .before .before .list-atoms .ensures .written) _ (c .before .before .before .atoms2 .given .1)))
 
 returns : tie.Need-returns
-returns c = choosing-rejected _ _ _ _ _ _ (tables-rejected _ (replicate 64 0) _ (c .before .before .before .before .before .list-atoms .result) refl (c .before .before .before .before .before .list-atoms .ensures .0) (c .before .before .before .before .before .list-atoms .ensures .1) _ (c .before .before .atoms .given .1)) (c .refused-with .ensures)
+returns c = choosing-rejected _ _ _ _ _ _ (tables-rejected _ (replicate 64 0) _ (c .before .before .before .before .before .list-atoms .result) refl (c .before .before .before .before .before .list-atoms .ensures .replied) (c .before .before .before .before .before .list-atoms .ensures .written) _ (c .before .before .atoms .given .1)) (c .refused-with .ensures)
 
 same-length : tie.Need-same-length
 same-length c = omega arith
 
 returns-2 : tie.Need-returns-2
-returns-2 c = choosing-found _ _ (c .before .before .before .before .before .before .before .before .before .before .before .before .before .before .before .before .before .args .out .now) _ _ _ (c .before .before .put-known .result) (tables-listed _ (replicate 64 0) _ (c .before .before .before .before .before .before .before .before .before .list-atoms .result) refl (c .before .before .before .before .before .before .before .before .before .list-atoms .ensures .0) (c .before .before .before .before .before .before .before .before .before .list-atoms .ensures .1) _ (c .before .before .before .before .before .before .atoms2 .given .1)) (c .before .before .put-known .ensures .0) (c .before .before .put-known .ensures .1)
+returns-2 c = choosing-found _ _ (c .before .before .before .before .before .before .before .before .before .before .before .before .before .before .before .before .before .args .out .now) _ _ _ (c .before .before .put-known .result) (tables-listed _ (replicate 64 0) _ (c .before .before .before .before .before .before .before .before .before .list-atoms .result) refl (c .before .before .before .before .before .before .before .before .before .list-atoms .ensures .replied) (c .before .before .before .before .before .before .before .before .before .list-atoms .ensures .written) _ (c .before .before .before .before .before .before .atoms2 .given .1)) (c .before .before .put-known .ensures .0) (c .before .before .put-known .ensures .1)
 
 pub put-chosen-spec : {M : Type 1} → statement M
 put-chosen-spec =

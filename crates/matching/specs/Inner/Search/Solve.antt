@@ -7,12 +7,13 @@ use lib.ListN.{length, take}
 use Rattle.subsumption.specs.declared.refusal.Outcome.the-variants.{Done}
 use Rattle.subsumption.specs.Tables.{Tables, pairsOf, rightOf, tree, hasVariable}
 use Rattle.subsumption.specs.Check.{assignmentFault}
+use Rattle.matching.specs.declared.search.solve.Step.{Step}
 use Rattle.matching.specs.Among.{SolvesAmong}
 use Rattle.matching.specs.Inner.Search.{HoldsAt, Within, SolutionIn, NoSolution}
 use Rattle.matching.specs.Inner.Search.Problem.{Problem, AskedAt}
 use Rattle.matching.specs.Inner.Search.Pairs.{Changed, Joined, Met}
 use Rattle.matching.specs.Inner.Search.Interval.{IntervalOf, undecided}
-use Rattle.matching.specs.Inner.Search.Nogoods.{used, lowAt, highAt, Nogoods}
+use Rattle.matching.specs.Inner.Search.Nogoods.{used, lowAt, highAt, Nogoods, Room}
 
 -- The first question of a kind that fails under the assignment, or the number of questions if all of the kind hold.
 pub record FirstFailing (t : Tables) (assignment : List ℕ) (kind : ℕ → Type 0) (m : ℕ) : Type 0 where
@@ -67,6 +68,15 @@ abbrev pub Searched : List ℕ → List ℕ → List ℕ → List ℕ → List �
 Searched sets problem full low high before after Given =
     (t : Tables) → Problem t sets problem → IntervalOf t low high → IntervalOf t high full → Nogoods t problem before → Given t
     × Nogoods t problem after
+
+-- What a step of it gives: an answer where it is done, else a pair of the interval that is not decided; what is kept stays in its room.
+abbrev pub Stepped : List ℕ → List ℕ → List ℕ → List ℕ → List ℕ → List ℕ → List ℕ → Step → Type 0
+Stepped sets problem full low high before after step =
+    ((length (step .low) ≡ 8) × (length (step .high) ≡ 8))
+    × Room after
+    × (step .done ≡ false → (step .pair < 512) × (undecided low high (step .pair) ≡ true))
+    × Searched sets problem full low high before after
+    (λ t. step .done ≡ true → Answers t problem low high (step .found) (step .low) (step .high))
 
 abbrev pub CanSplit : List ℕ → List ℕ → ℕ → Bool → Type 0
 CanSplit low high pair true = (pair < 512) × (undecided low high pair ≡ true)

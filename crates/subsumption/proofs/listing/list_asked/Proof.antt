@@ -15,7 +15,7 @@ enum-known-rows : tie.Need-enum-known-rows
 enum-known-rows c = search needs
 
 returns : tie.Need-returns
-returns c = let h = asked-concepts _ _ _ (c .before .before .before .check-concepts .ensures) _ _ _ (c .before .rows .given .1) in (h .replied, h .written)
+returns c = asked-concepts _ _ _ (c .before .before .before .check-concepts .ensures) _ _ _ (c .before .rows .given .1)
 
 enum-told : tie.Need-enum-told
 enum-told c = search needs
@@ -27,7 +27,7 @@ enum-known-alone : tie.Need-enum-known-alone
 enum-known-alone c = search needs
 
 returns-2 : tie.Need-returns-2
-returns-2 c = let h = asked-alone _ _ _ (c .before .before .before .before .before .before .check-concepts .ensures) _ _ (c .before .before .before .before .enum-told .given .1) _ (c .before .before .before .check-alone .ensures) _ (c .before .alone .given .1) in (h .replied, h .written)
+returns-2 c = asked-alone _ _ _ (c .before .before .before .before .before .before .check-concepts .ensures) _ _ (c .before .before .before .before .enum-told .given .1) _ (c .before .before .before .check-alone .ensures) _ (c .before .alone .given .1)
 
 enum-told-2 : tie.Need-enum-told-2
 enum-told-2 c = search needs
@@ -39,7 +39,7 @@ enum-known-ids : tie.Need-enum-known-ids
 enum-known-ids c = search needs
 
 returns-3 : tie.Need-returns-3
-returns-3 c = let h = asked-ids _ _ _ (c .before .before .before .before .before .before .before .before .before .check-concepts .ensures) _ _ (c .before .before .before .before .before .before .before .enum-told .given .1) _ (c .before .before .before .before .before .before .check-alone .ensures) (c .before .before .before .before .enum-told2 .given .1) _ (c .before .before .before .check-ids .ensures) _ (c .before .ids .given .1) in (h .replied, h .written)
+returns-3 c = asked-ids _ _ _ (c .before .before .before .before .before .before .before .before .before .check-concepts .ensures) _ _ (c .before .before .before .before .before .before .before .enum-told .given .1) _ (c .before .before .before .before .before .before .check-alone .ensures) (c .before .before .before .before .enum-told2 .given .1) _ (c .before .before .before .check-ids .ensures) _ (c .before .ids .given .1)
 
 enum-told-3 : tie.Need-enum-told-3
 enum-told-3 c = search needs
@@ -51,7 +51,7 @@ same-length : tie.Need-same-length
 same-length c = search needs
 
 returns-4 : tie.Need-returns-4
-returns-4 c = let h = asked-used _ (c .before .before .before .before .before .before .before .before .before .before .before .before .before .before .before .before .before .before .args .out .now) _ (c .before .before .before .before .before .before .before .before .before .before .before .before .check-concepts .ensures) _ _ (c .before .before .before .before .before .before .before .before .before .before .enum-told .given .1) _ (c .before .before .before .before .before .before .before .before .before .check-alone .ensures) (c .before .before .before .before .before .before .before .enum-told2 .given .1) _ (c .before .before .before .before .before .before .check-ids .ensures) _ (c .before .before .list-used .result) (c .before .before .before .before .enum-told3 .given .1) (record { replied = c .before .before .list-used .ensures .0; written = c .before .before .list-used .ensures .1 }) in (h .replied, h .written)
+returns-4 c = asked-used _ (c .before .before .before .before .before .before .before .before .before .before .before .before .before .before .before .before .before .before .args .out .now) _ (c .before .before .before .before .before .before .before .before .before .before .before .before .check-concepts .ensures) _ _ (c .before .before .before .before .before .before .before .before .before .before .enum-told .given .1) _ (c .before .before .before .before .before .before .before .before .before .check-alone .ensures) (c .before .before .before .before .before .before .before .enum-told2 .given .1) _ (c .before .before .before .before .before .before .check-ids .ensures) _ _ (c .before .before .before .before .enum-told3 .given .1) (c .before .before .list-used .ensures)
 
 pub list-asked-spec : {M : Type 1} → statement M
 list-asked-spec =

@@ -14,7 +14,7 @@ enum-known-rows : tie.Need-enum-known-rows
 enum-known-rows c = search needs
 
 returns : tie.Need-returns
-returns c = let h = listing-concepts _ _ _ (c .before .before .before .check-concepts .ensures) _ (c .before .rows .given .1) in (h .replied, h .written)
+returns c = listing-concepts _ _ _ (c .before .before .before .check-concepts .ensures) _ (c .before .rows .given .1)
 
 enum-told : tie.Need-enum-told
 enum-told c = search needs
@@ -26,7 +26,7 @@ enum-known-ids : tie.Need-enum-known-ids
 enum-known-ids c = search needs
 
 returns-2 : tie.Need-returns-2
-returns-2 c = let h = listing-ids _ _ _ (c .before .before .before .before .before .before .check-concepts .ensures) (c .before .before .before .before .enum-told .given .1) _ (c .before .before .before .check-ids .ensures) _ (c .before .ids .given .1) in (h .replied, h .written)
+returns-2 c = listing-ids _ _ _ (c .before .before .before .before .before .before .check-concepts .ensures) (c .before .before .before .before .enum-told .given .1) _ (c .before .before .before .check-ids .ensures) _ (c .before .ids .given .1)
 
 enum-told-2 : tie.Need-enum-told-2
 enum-told-2 c = search needs
@@ -38,7 +38,7 @@ same-length : tie.Need-same-length
 same-length c = search needs
 
 returns-3 : tie.Need-returns-3
-returns-3 c = let h = listing-used _ (c .before .before .before .before .before .before .before .before .before .before .before .before .before .before .before .args .out .now) _ (c .before .before .before .before .before .before .before .before .before .check-concepts .ensures) (c .before .before .before .before .before .before .before .enum-told .given .1) _ (c .before .before .before .before .before .before .check-ids .ensures) _ (c .before .before .list-used .result) (c .before .before .before .before .enum-told2 .given .1) (record { replied = c .before .before .list-used .ensures .0; written = c .before .before .list-used .ensures .1 }) in (h .replied, h .written)
+returns-3 c = listing-used _ (c .before .before .before .before .before .before .before .before .before .before .before .before .before .before .before .args .out .now) _ (c .before .before .before .before .before .before .before .before .before .check-concepts .ensures) (c .before .before .before .before .before .before .before .enum-told .given .1) _ (c .before .before .before .before .before .before .check-ids .ensures) _ _ (c .before .before .before .before .enum-told2 .given .1) (c .before .before .list-used .ensures)
 
 pub list-atoms-spec : {M : Type 1} → statement M
 list-atoms-spec =

@@ -17,13 +17,13 @@ enum-known-used : tie.Need-enum-known-used
 enum-known-used c = search needs
 
 returns : tie.Need-returns
-returns c = let h = used-refused _ _ _ _ (c .before .before .before .before .check-use .ensures) _ (c .before .used .given .1) in (h .replied, h .written)
+returns c = used-refused _ _ _ _ (c .before .before .before .before .check-use .ensures) _ (c .before .used .given .1)
 
 enum-told : tie.Need-enum-told
 enum-told c = search needs
 
 returns-2 : tie.Need-returns-2
-returns-2 c = let h = used-short _ _ _ _ (c .before .before .before .before .check-use .ensures) (c .before .enum-told .given .1) (c .if1 .taken) in (h .replied, h .written)
+returns-2 c = used-short _ _ _ _ (c .before .before .before .before .check-use .ensures) (c .before .enum-told .given .1) (c .if1 .taken)
 
 slice-aggregate-list-marks : tie.Need-slice-aggregate-list-marks
 slice-aggregate-list-marks c = search needs
@@ -35,7 +35,7 @@ same-length : tie.Need-same-length
 same-length c = search needs
 
 returns-3 : tie.Need-returns-3
-returns-3 c = let h = used-listed _ _ _ _ (c .before .before .before .before .before .before .before .before .before .check-use .ensures) _ _ (c .before .before .before .before .before .before .enum-told .given .1) (c .before .before .before .before .before .if1 .left) (c .before .before .list-marks .ensures .0) (c .before .before .list-marks .ensures .1) in (h .replied, h .written)
+returns-3 c = used-listed _ _ _ _ (c .before .before .before .before .before .before .before .before .before .check-use .ensures) _ _ (c .before .before .before .before .before .before .enum-told .given .1) (c .before .before .before .before .before .if1 .left) (c .before .before .list-marks .ensures .0) (c .before .before .list-marks .ensures .1)
 
 pub list-used-spec : {M : Type 1} → statement M
 list-used-spec =

@@ -24,19 +24,19 @@ enum-known-listed-2 : tie.Need-enum-known-listed-2
 enum-known-listed-2 c = search needs
 
 array-share-prefix-ids : tie.Need-array-share-prefix-ids
-array-share-prefix-ids c = omega (arith, asked-few _ _ _ (replicate 64 0) _ (c .before .before .before .before .list-asked .result) refl (c .before .before .before .before .list-asked .ensures .0) (c .before .before .before .before .list-asked .ensures .1) _ (c .before .listed2 .given .1), c .before .before .before .before .list-asked .kept .1 .1 .1 .1 .1 .1 .1 .0)
+array-share-prefix-ids c = omega (arith, asked-few _ _ _ (replicate 64 0) _ (c .before .before .before .before .list-asked .result) refl (c .before .before .before .before .list-asked .ensures .replied) (c .before .before .before .before .list-asked .ensures .written) _ (c .before .listed2 .given .1), c .before .before .before .before .list-asked .kept .1 .1 .1 .1 .1 .1 .1 .0)
 
 slice-aggregate-set-at : tie.Need-slice-aggregate-set-at
-slice-aggregate-set-at c = sym (length-take-le _ _ (omega (arith, asked-few _ _ _ (replicate 64 0) _ (c .before .before .before .before .before .list-asked .result) refl (c .before .before .before .before .before .list-asked .ensures .0) (c .before .before .before .before .before .list-asked .ensures .1) _ (c .before .before .listed2 .given .1), c .before .before .before .before .before .list-asked .kept .1 .1 .1 .1 .1 .1 .1 .0)))
+slice-aggregate-set-at c = sym (length-take-le _ _ (omega (arith, asked-few _ _ _ (replicate 64 0) _ (c .before .before .before .before .before .list-asked .result) refl (c .before .before .before .before .before .list-asked .ensures .replied) (c .before .before .before .before .before .list-asked .ensures .written) _ (c .before .before .listed2 .given .1), c .before .before .before .before .before .list-asked .kept .1 .1 .1 .1 .1 .1 .1 .0)))
 
 set-at-requires : tie.Need-set-at-requires
-set-at-requires c κs = (prepared _ _ _ _ _ _ (asked-listed _ _ _ (replicate 64 0) _ (c .before .before .before .before .before .list-asked .result) refl (c .before .before .before .before .before .list-asked .ensures .0) (c .before .before .before .before .before .list-asked .ensures .1) _ (c .before .before .listed2 .given .1)), pair-left _ _ _ (asked-passed _ _ _ (replicate 64 0) _ (c .before .before .before .before .before .list-asked .result) refl (c .before .before .before .before .before .list-asked .ensures .0) (c .before .before .before .before .before .list-asked .ensures .1) _ (c .before .before .listed2 .given .1)))
+set-at-requires c κs = (prepared _ _ _ _ _ _ (asked-listed _ _ _ (replicate 64 0) _ (c .before .before .before .before .before .list-asked .result) refl (c .before .before .before .before .before .list-asked .ensures .replied) (c .before .before .before .before .before .list-asked .ensures .written) _ (c .before .before .listed2 .given .1)), pair-left _ _ _ (asked-passed _ _ _ (replicate 64 0) _ (c .before .before .before .before .before .list-asked .result) refl (c .before .before .before .before .before .list-asked .ensures .replied) (c .before .before .before .before .before .list-asked .ensures .written) _ (c .before .before .listed2 .given .1)))
 
 returns : tie.Need-returns
-returns c = with-refused _ _ _ (asked-rejected _ _ _ (replicate 64 0) _ (c .before .before .before .before .list-asked .result) refl (c .before .before .before .before .list-asked .ensures .0) (c .before .before .before .before .list-asked .ensures .1) _ (c .before .listed .given .1))
+returns c = with-refused _ _ _ (asked-rejected _ _ _ (replicate 64 0) _ (c .before .before .before .before .list-asked .result) refl (c .before .before .before .before .list-asked .ensures .replied) (c .before .before .before .before .list-asked .ensures .written) _ (c .before .listed .given .1))
 
 returns-2 : tie.Need-returns-2
-returns-2 c = with-value _ _ _ (asked-passed _ _ _ (replicate 64 0) _ (c .before .before .before .before .before .before .list-asked .result) refl (c .before .before .before .before .before .before .list-asked .ensures .0) (c .before .before .before .before .before .before .list-asked .ensures .1) _ (c .before .before .before .listed2 .given .1)) (c .set-at .ensures)
+returns-2 c = with-value _ _ _ (asked-passed _ _ _ (replicate 64 0) _ (c .before .before .before .before .before .before .list-asked .result) refl (c .before .before .before .before .before .before .list-asked .ensures .replied) (c .before .before .before .before .before .before .list-asked .ensures .written) _ (c .before .before .before .listed2 .given .1)) (c .set-at .ensures)
 
 pub variables-in-spec : {M : Type 1} → statement M
 variables-in-spec =
