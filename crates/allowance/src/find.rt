@@ -130,7 +130,7 @@ fn find_set(
     }
 }
 
-// The rest of the checks, given the atoms of accepted tables, and then the walk.
+// Checks 19 and 8, and then the walk. A batch begins here with settings of its own.
 pub fn find_known(
     concepts: &[u16],
     inclusions: &[u16],

@@ -10,7 +10,9 @@ ghost use mathlib.Core.Path.{_≡_};
 ghost use Prim.Native.Nat.{_≤_};
 ghost use lib.ListN.{length};
 ghost use Rattle.matching.specs.Inner.Search.Problem.{Shaped};
+ghost use Rattle.matching.specs.Inner.Sizes.{scratchSize};
 ghost use Rattle.allowance.specs.Inner.Kept.{ringAt, FollowsIf, Recalled, Noted, Tried};
+ghost use Rattle.allowance.specs.Inner.Sizes.{keptSize};
 ghost use Rattle.subsumption.specs.Lent.{before, after};
 
 const RING: usize = 16;
@@ -51,7 +53,7 @@ fn follows(choice: [u64; 8], other: [u64; 8], right: bool, passed: bool) -> bool
 
 // Whether the outcome follows from a choice in its ring.
 fn is_known(kept: &[u64], choice: [u64; 8], right: bool, passed: bool) -> bool
-    requires { ⌜ (length (now kept) ≡ 516) × (length choice ≡ 8) ⌝ }
+    requires { ⌜ (length (now kept) ≡ keptSize) × (length choice ≡ 8) ⌝ }
     ensures { λ r. ⌜ Recalled (before kept) choice right passed r ⌝ }
 {
     let ring = ring_at(right, passed);
@@ -73,7 +75,7 @@ fn is_known(kept: &[u64], choice: [u64; 8], right: bool, passed: bool) -> bool
 
 // Notes a choice in a ring, in the place of the oldest.
 fn note(kept: &mut [u64], choice: [u64; 8], right: bool, passed: bool)
-    requires { ⌜ (length (now kept) ≡ 516) × (length choice ≡ 8) ⌝ }
+    requires { ⌜ (length (now kept) ≡ keptSize) × (length choice ≡ 8) ⌝ }
     ensures { λ _. ⌜ Noted (before kept) (after kept) choice right passed ⌝ }
 {
     let ring = ring_at(right, passed);
@@ -97,7 +99,7 @@ fn test(
     right: bool,
 ) -> bool
     requires { ⌜ Shaped (now sets) (now problem) ⌝ }
-    requires { ⌜ (length (now scratch) ≡ 16977) × (length (now kept) ≡ 516) ⌝ }
+    requires { ⌜ (length (now scratch) ≡ scratchSize) × (length (now kept) ≡ keptSize) ⌝ }
     requires { ⌜ length choice ≡ 8 ⌝ }
     ensures { λ r. ⌜ Tried (before sets) (before problem) choice right (before kept) (after kept) r ⌝ }
 {
@@ -120,7 +122,7 @@ pub fn holds(
     right: bool,
 ) -> bool
     requires { ⌜ Shaped (now sets) (now problem) ⌝ }
-    requires { ⌜ (length (now scratch) ≡ 16977) × (length (now kept) ≡ 516) ⌝ }
+    requires { ⌜ (length (now scratch) ≡ scratchSize) × (length (now kept) ≡ keptSize) ⌝ }
     requires { ⌜ length choice ≡ 8 ⌝ }
     ensures { λ r. ⌜ Tried (before sets) (before problem) choice right (before kept) (after kept) r ⌝ }
 {

@@ -14,7 +14,9 @@ ghost use mathlib.Core.Path.{_≡_};
 ghost use Prim.Native.Nat.{_*_, _≤_};
 ghost use lib.ListN.{length};
 ghost use Rattle.matching.specs.Inner.Search.Problem.{Shaped};
+ghost use Rattle.matching.specs.Inner.Sizes.{scratchSize};
 ghost use Rattle.allowance.specs.Inner.Walk.{OpenedBy, Walked};
+ghost use Rattle.allowance.specs.Inner.Sizes.{keptSize};
 ghost use Rattle.subsumption.specs.Lent.{before, after};
 
 // What was found, or that the allowance was spent, and how many open ones were met.
@@ -34,9 +36,9 @@ fn is_open(
     place: Place,
 ) -> bool
     requires { ⌜ Shaped (now sets) (now problem) ⌝ }
-    requires { ⌜ (length (now scratch) ≡ 16977) × (length (now kept) ≡ 516) ⌝ }
+    requires { ⌜ (length (now scratch) ≡ scratchSize) × (length (now kept) ≡ keptSize) ⌝ }
     requires { ⌜ (length permitted ≡ 8) × (length (place .low) ≡ 8) × (length (place .high) ≡ 8) ⌝ }
-    ensures { λ r. ⌜ length (after kept) ≡ 516 ⌝ }
+    ensures { λ r. ⌜ length (after kept) ≡ keptSize ⌝ }
     ensures { λ r. ⌜ OpenedBy (before sets) (before problem) permitted (place .low) (place .high) (before kept) (after kept) r ⌝ }
 {
     let low = place.low;

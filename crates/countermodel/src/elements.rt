@@ -16,6 +16,7 @@ ghost use Rattle.subsumption.specs.Lent.{before, after};
 ghost use Rattle.subsumption.specs.Tables.{countOf};
 ghost use Rattle.subsumption.specs.Table.{marked};
 ghost use Rattle.subsumption.specs.Inner.Roles.{LowRoles};
+ghost use Rattle.subsumption.specs.Inner.Sizes.{rolesSize, tableSize};
 ghost use Rattle.countermodel.specs.Rows.{joined};
 ghost use Rattle.countermodel.specs.Countermodel.{shownRows};
 ghost use Rattle.countermodel.specs.Inner.Show.{Checked, ForRoles, Put, namesOf, linksBy, linksOf};
@@ -23,7 +24,7 @@ ghost use Rattle.countermodel.specs.Inner.Show.{Checked, ForRoles, Put, 
 // The names of one element.
 fn put_names_of(concepts: &[u16], table: &[u8], i: usize, at: usize, out: &mut [u16]) -> usize
     requires { ⌜ Checked (now concepts) ⌝ }
-    requires { ⌜ length (now table) ≡ 4608 ⌝ }
+    requires { ⌜ length (now table) ≡ tableSize ⌝ }
     requires { ⌜ (i < countOf (now concepts)) × (at ≤ 16000000) ⌝ }
     ensures { λ r. ⌜ r ≤ at + 4000 ⌝ }
     ensures { λ r. ⌜ Put (before out) at (namesOf (before concepts) (marked (before table)) i) r (after out) ⌝ }
@@ -36,7 +37,7 @@ fn put_names_of(concepts: &[u16], table: &[u8], i: usize, at: usize, out: &mut [
 // The names of all elements, from the front of the buffer.
 fn put_names(concepts: &[u16], table: &[u8], out: &mut [u16]) -> usize
     requires { ⌜ Checked (now concepts) ⌝ }
-    requires { ⌜ length (now table) ≡ 4608 ⌝ }
+    requires { ⌜ length (now table) ≡ tableSize ⌝ }
     ensures { λ r. ⌜ r ≤ 768000 ⌝ }
     ensures { λ r. ⌜ Put (before out) 0 (joined (namesOf (before concepts) (marked (before table))) 0 (countOf (before concepts))) r
         (after out) ⌝ }
@@ -62,8 +63,8 @@ fn put_links_by(
     out: &mut [u16],
 ) -> usize
     requires { ⌜ Checked (now concepts) ⌝ }
-    requires { ⌜ length (now into) ≡ 200 ⌝ }
-    requires { ⌜ length (now table) ≡ 4608 ⌝ }
+    requires { ⌜ length (now into) ≡ rolesSize ⌝ }
+    requires { ⌜ length (now table) ≡ tableSize ⌝ }
     requires { ⌜ (i < countOf (now concepts)) × (role < 100) × (at ≤ 16000000) ⌝ }
     ensures { λ r. ⌜ r ≤ at + 768 ⌝ }
     ensures { λ r. ⌜ ForRoles (before into)
@@ -92,8 +93,8 @@ fn put_links_of(
     out: &mut [u16],
 ) -> usize
     requires { ⌜ Checked (now concepts) ⌝ }
-    requires { ⌜ length (now into) ≡ 200 ⌝ }
-    requires { ⌜ length (now table) ≡ 4608 ⌝ }
+    requires { ⌜ length (now into) ≡ rolesSize ⌝ }
+    requires { ⌜ length (now table) ≡ tableSize ⌝ }
     requires { ⌜ (i < countOf (now concepts)) × (at ≤ 15600000) ⌝ }
     ensures { λ r. ⌜ r ≤ at + 76800 ⌝ }
     ensures { λ r. ⌜ ForRoles (before into)
@@ -119,7 +120,7 @@ fn put_links_of(
 fn put_links(concepts: &[u16], roles: &[u16], table: &[u8], at: usize, out: &mut [u16]) -> usize
     requires { ⌜ Checked (now concepts) ⌝ }
     requires { ⌜ LowRoles (now roles) ⌝ }
-    requires { ⌜ length (now table) ≡ 4608 ⌝ }
+    requires { ⌜ length (now table) ≡ tableSize ⌝ }
     requires { ⌜ at ≤ 768000 ⌝ }
     ensures { λ r. ⌜ Put (before out) at
         (joined (linksOf (before concepts) (before roles) (marked (before table))) 0 (countOf (before concepts))) r (after out) ⌝ }
@@ -140,7 +141,7 @@ fn put_links(concepts: &[u16], roles: &[u16], table: &[u8], at: usize, out: &mut
 pub fn put_rows(concepts: &[u16], roles: &[u16], table: &[u8], out: &mut [u16]) -> usize
     requires { ⌜ Checked (now concepts) ⌝ }
     requires { ⌜ LowRoles (now roles) ⌝ }
-    requires { ⌜ length (now table) ≡ 4608 ⌝ }
+    requires { ⌜ length (now table) ≡ tableSize ⌝ }
     ensures { λ r. ⌜ Put (before out) 0 (shownRows (before concepts) (before roles) (marked (before table))) r (after out) ⌝ }
 {
     let end = put_names(concepts, table, out);

@@ -9,11 +9,12 @@ ghost use lib.ListN.{length, replicate};
 ghost use Rattle.subsumption.specs.Lent.{before, after};
 ghost use Rattle.subsumption.specs.Tables.{countOf};
 ghost use Rattle.subsumption.specs.Table.{marked};
+ghost use Rattle.subsumption.specs.Inner.Sizes.{rolesSize, tableSize};
 ghost use Rattle.countermodel.specs.Inner.Show.{Checked, ForRoles, NamesOf, LinksOf};
 
 // The concept i is below the concept j.
 pub fn is_marked(table: &[u8], i: usize, j: usize) -> bool
-    requires { ⌜ length (now table) ≡ 4608 ⌝ }
+    requires { ⌜ length (now table) ≡ tableSize ⌝ }
     requires { ⌜ (i < 192) × (j < 192) ⌝ }
     ensures { λ r. ⌜ r ≡ marked (before table) i j ⌝ }
 {
@@ -23,7 +24,7 @@ pub fn is_marked(table: &[u8], i: usize, j: usize) -> bool
 // Notes which names the element i bears.
 pub fn note_names(concepts: &[u16], table: &[u8], i: usize, names: &mut [bool])
     requires { ⌜ Checked (now concepts) ⌝ }
-    requires { ⌜ length (now table) ≡ 4608 ⌝ }
+    requires { ⌜ length (now table) ≡ tableSize ⌝ }
     requires { ⌜ i < countOf (now concepts) ⌝ }
     requires { ⌜ now names ≡ replicate 1000 false ⌝ }
     ensures { λ _. ⌜ NamesOf (before concepts) (marked (before table)) i (after names) ⌝ }
@@ -53,8 +54,8 @@ pub fn note_links(
     links: &mut [bool],
 )
     requires { ⌜ Checked (now concepts) ⌝ }
-    requires { ⌜ length (now into) ≡ 200 ⌝ }
-    requires { ⌜ length (now table) ≡ 4608 ⌝ }
+    requires { ⌜ length (now into) ≡ rolesSize ⌝ }
+    requires { ⌜ length (now table) ≡ tableSize ⌝ }
     requires { ⌜ (i < countOf (now concepts)) × (role < 100) ⌝ }
     requires { ⌜ now links ≡ replicate 192 false ⌝ }
     ensures { λ _. ⌜ ForRoles (before into) (λ roles. LinksOf (before concepts) roles (marked (before table)) i role (after links)) ⌝ }

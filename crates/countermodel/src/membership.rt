@@ -18,7 +18,7 @@ ghost use Rattle.subsumption.specs.Decide.{decisionReply};
 ghost use Rattle.countermodel.specs.Membership.{DecidesMember};
 ghost use Rattle.countermodel.specs.Inner.Membership.{Listing, ForListing};
 
-// The rest of the checks, given the atoms of accepted tables, and then the answer.
+// Check 9 and those of the given interpretation, and then the answer: what is left where the tables passed.
 fn decide_known(
     concepts: &[u16],
     ids: &[u16],

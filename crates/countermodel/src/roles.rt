@@ -10,12 +10,13 @@ ghost use lib.ListN.{length, replicate};
 ghost use Rattle.subsumption.specs.Lent.{before, after};
 ghost use Rattle.subsumption.specs.Tables.{countOf};
 ghost use Rattle.subsumption.specs.Table.{marked};
+ghost use Rattle.subsumption.specs.Inner.Sizes.{rolesSize, tableSize};
 ghost use Rattle.countermodel.specs.Inner.Show.{Checked, RolesOf, Widened, UsedRoles};
 
 // Notes the roles of the existentials that the element i is below.
 pub fn note_own(concepts: &[u16], table: &[u8], i: usize, own: &mut [bool])
     requires { ⌜ Checked (now concepts) ⌝ }
-    requires { ⌜ length (now table) ≡ 4608 ⌝ }
+    requires { ⌜ length (now table) ≡ tableSize ⌝ }
     requires { ⌜ i < countOf (now concepts) ⌝ }
     requires { ⌜ now own ≡ replicate 100 false ⌝ }
     ensures { λ _. ⌜ RolesOf (before concepts) (marked (before table)) i (after own) ⌝ }
@@ -37,7 +38,7 @@ pub fn note_own(concepts: &[u16], table: &[u8], i: usize, own: &mut [bool])
 
 // Marks the roles that the role r counts as.
 fn mark_wider(into: &[u64], r: usize, used: &mut [bool])
-    requires { ⌜ length (now into) ≡ 200 ⌝ }
+    requires { ⌜ length (now into) ≡ rolesSize ⌝ }
     requires { ⌜ r < 100 ⌝ }
     requires { ⌜ length (now used) ≡ 100 ⌝ }
     ensures { λ _. ⌜ Widened (before into) r (before used) (after used) ⌝ }
@@ -54,7 +55,7 @@ fn mark_wider(into: &[u64], r: usize, used: &mut [bool])
 
 // Marks the roles that an own role counts as.
 pub fn mark_used(into: &[u64], own: &[bool], used: &mut [bool])
-    requires { ⌜ length (now into) ≡ 200 ⌝ }
+    requires { ⌜ length (now into) ≡ rolesSize ⌝ }
     requires { ⌜ length (now own) ≡ 100 ⌝ }
     requires { ⌜ length (now used) ≡ 100 ⌝ }
     ensures { λ _. ⌜ UsedRoles (before into) (before own) (after used) ⌝ }

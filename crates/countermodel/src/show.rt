@@ -14,6 +14,7 @@ ghost use lib.ListN.{length};
 ghost use Rattle.subsumption.specs.Lent.{lent, before, after};
 ghost use Rattle.subsumption.specs.Table.{marked};
 ghost use Rattle.subsumption.specs.Inner.Roles.{LowRoles};
+ghost use Rattle.subsumption.specs.Inner.Sizes.{tableSize};
 ghost use Rattle.countermodel.specs.Countermodel.{shownRows};
 ghost use Rattle.countermodel.specs.Show.{shownReply, Shows};
 ghost use Rattle.countermodel.specs.Inner.Show.{Checked, Judged, Laid};
@@ -35,7 +36,7 @@ pub fn judge_pair(
     right: u16,
     table: &mut [u8],
 ) -> Outcome
-    requires { ⌜ length (now table) ≡ 4608 ⌝ }
+    requires { ⌜ length (now table) ≡ tableSize ⌝ }
     ensures { λ r. ⌜ Judged (lent concepts inclusions questions roles variables) (before assignment) left right (after table) r ⌝ }
 {
     let mut ids = [0u16; ATOMS];
@@ -74,7 +75,7 @@ pub fn judge_pair(
 fn show_known(concepts: &[u16], roles: &[u16], table: &[u8], out: &mut [u16]) -> Shown
     requires { ⌜ Checked (now concepts) ⌝ }
     requires { ⌜ LowRoles (now roles) ⌝ }
-    requires { ⌜ length (now table) ≡ 4608 ⌝ }
+    requires { ⌜ length (now table) ≡ tableSize ⌝ }
     ensures { λ r. ⌜ Laid (shownRows (before concepts) (before roles) (marked (before table))) (before out) (after out) (shownReply r) ⌝ }
 {
     let mut none = [0u16; 0];

@@ -38,7 +38,7 @@ fn refuse_place(
     Refusal::NoConcept(0)
 }
 
-// The rest of the checks, given the atoms of accepted tables and the place of a question, and then the search.
+// Checks 19 and 8, and then the search, which is asked the group's questions with the atoms of all.
 fn find_placed(
     concepts: &[u16],
     inclusions: &[u16],

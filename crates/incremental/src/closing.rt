@@ -20,6 +20,7 @@ ghost use Rattle.subsumption.specs.Roles.{wider};
 ghost use Rattle.subsumption.specs.Inner.Roles.{inSet, LowRoles};
 ghost use Rattle.subsumption.specs.Inner.Settling.{chooseFrom};
 ghost use Rattle.subsumption.specs.Inner.Closure.{Ready};
+ghost use Rattle.subsumption.specs.Inner.Sizes.{rolesSize};
 ghost use Rattle.square.specs.Inner.Square.{Square};
 ghost use Rattle.incremental.specs.Inner.Including.{Chain, Idle};
 ghost use Rattle.incremental.specs.Inner.Links.{Existentials};
@@ -49,7 +50,7 @@ fn round(
     requires { ⌜ Chain (now inclusions) (now chain) ⌝ }
     requires { ⌜ Idle (now inclusions) (now idle) ⌝ }
     requires { ⌜ length (now order) ≡ 192 ⌝ }
-    requires { ⌜ length (now into) ≡ 200 ⌝ }
+    requires { ⌜ length (now into) ≡ rolesSize ⌝ }
     requires { ⌜ Existentials (now concepts) (now outer) (now inners) (now roles) (countOf (now concepts)) ⌝ }
     requires { ⌜ Square (now square) ⌝ }
     ensures { λ r. ⌜ RoundPass (before concepts) (before inclusions) (inSet (before into))
@@ -96,7 +97,7 @@ fn rounds(
     requires { ⌜ pairsOf (now inclusions) ≤ 96 ⌝ }
     requires { ⌜ Chain (now inclusions) (now chain) ⌝ }
     requires { ⌜ Idle (now inclusions) (now idle) ⌝ }
-    requires { ⌜ length (now into) ≡ 200 ⌝ }
+    requires { ⌜ length (now into) ≡ rolesSize ⌝ }
     requires { ⌜ Existentials (now concepts) (now outer) (now inners) (now roles) (countOf (now concepts)) ⌝ }
     requires { ⌜ Square (now square) ⌝ }
     ensures { λ _. ⌜ Rounded (before concepts) (before inclusions) (inSet (before into))

@@ -11,6 +11,7 @@ ghost use Rattle.subsumption.specs.Lent.{before, after};
 ghost use Rattle.subsumption.specs.Tables.{countOf};
 ghost use Rattle.subsumption.specs.Inner.Links.{Inner};
 ghost use Rattle.subsumption.specs.Inner.Roles.{inSet};
+ghost use Rattle.subsumption.specs.Inner.Sizes.{rolesSize};
 ghost use Rattle.square.specs.Inner.Square.{Square};
 ghost use Rattle.incremental.specs.Inner.Marking.{inThree};
 ghost use Rattle.incremental.specs.Inner.Links.{Existentials, Joins, ByRole, ByInner, LinkPass};
@@ -76,7 +77,7 @@ fn join(sets: &[u64], from: usize, word: u64, set: Words) -> Words
 
 // The existentials whose role counts as that role.
 fn of_role(into: &[u64], roles: &[u64], role: usize) -> Words
-    requires { ⌜ length (now into) ≡ 200 ⌝ }
+    requires { ⌜ length (now into) ≡ rolesSize ⌝ }
     requires { ⌜ length (now roles) ≡ 384 ⌝ }
     requires { ⌜ role < 100 ⌝ }
     ensures { λ r. ⌜ ByRole (before into) (before roles) role (inThree (r .first) (r .second) (r .third)) ⌝ }
@@ -126,7 +127,7 @@ pub fn link_to(
 ) -> bool
     requires { ⌜ Inner (now concepts) ⌝ }
     requires { ⌜ Existentials (now concepts) (now outer) (now inners) (now roles) (countOf (now concepts)) ⌝ }
-    requires { ⌜ length (now into) ≡ 200 ⌝ }
+    requires { ⌜ length (now into) ≡ rolesSize ⌝ }
     requires { ⌜ Square (now square) ⌝ }
     requires { ⌜ f < countOf (now concepts) ⌝ }
     ensures { λ r. ⌜ LinkPass (before concepts) (inSet (before into)) f (before square) (after square) r ⌝ }

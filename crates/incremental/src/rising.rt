@@ -13,6 +13,7 @@ ghost use Rattle.subsumption.specs.Tables.{countOf};
 ghost use Rattle.subsumption.specs.Inner.Roles.{inSet};
 ghost use Rattle.subsumption.specs.Inner.Links.{Inner};
 ghost use Rattle.subsumption.specs.Inner.Settling.{Settleable, chooseFrom};
+ghost use Rattle.subsumption.specs.Inner.Sizes.{rolesSize};
 ghost use Rattle.square.specs.Inner.Square.{Square};
 ghost use Rattle.incremental.specs.Inner.Including.{Pairs};
 ghost use Rattle.incremental.specs.Inner.Links.{Existentials};
@@ -58,7 +59,7 @@ fn rise_column(
     requires { ⌜ Settleable (now concepts) (now atoms) (now choices) ⌝ }
     requires { ⌜ Pairs (countOf (now concepts)) (now inclusions) ⌝ }
     requires { ⌜ Inner (now concepts) ⌝ }
-    requires { ⌜ length (now into) ≡ 200 ⌝ }
+    requires { ⌜ length (now into) ≡ rolesSize ⌝ }
     requires { ⌜ Existentials (now concepts) (now outer) (now inners) (now roles) (countOf (now concepts)) ⌝ }
     requires { ⌜ Square (now square) ⌝ }
     requires { ⌜ j < countOf (now concepts) ⌝ }
@@ -88,7 +89,7 @@ pub fn rise(
     requires { ⌜ Settleable (now concepts) (now atoms) (now choices) ⌝ }
     requires { ⌜ Pairs (countOf (now concepts)) (now inclusions) ⌝ }
     requires { ⌜ Inner (now concepts) ⌝ }
-    requires { ⌜ length (now into) ≡ 200 ⌝ }
+    requires { ⌜ length (now into) ≡ rolesSize ⌝ }
     requires { ⌜ Existentials (now concepts) (now outer) (now inners) (now roles) (countOf (now concepts)) ⌝ }
     requires { ⌜ Square (now square) ⌝ }
     ensures { λ r. ⌜ AllRisen (before concepts) (before inclusions) (inSet (before into))

@@ -18,7 +18,7 @@ ghost use Rattle.incremental.specs.Update.{Updates};
 
 const MOST_VARIABLES: usize = 8;
 
-// The rest of the checks, given the atoms of accepted tables, and then the table.
+// Checks 9 and 8, and then the closing, with the atoms that were listed when the tables passed.
 fn put_update(
     concepts: &[u16],
     inclusions: &[u16],

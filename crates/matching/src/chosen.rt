@@ -48,7 +48,7 @@ fn put_picked(ids: &[u16], choice: u64, out: &mut [u16]) -> usize
     count
 }
 
-// The rest of the checks, given the atoms of accepted tables, and then the list.
+// The variable's number, checks 9 and 8, and then the list: what is left where the tables passed and their atoms are listed.
 fn put_known(
     ids: &[u16],
     variables: u16,

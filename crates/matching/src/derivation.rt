@@ -24,6 +24,7 @@ ghost use Rattle.subsumption.specs.Tables.{countOf};
 ghost use Rattle.subsumption.specs.Refusal.{replyOf, refuseIf};
 ghost use Rattle.subsumption.specs.Inner.Closure.{Ready};
 ghost use Rattle.subsumption.specs.Inner.Listing.{Prepared, ForAccepted};
+ghost use Rattle.subsumption.specs.Inner.Sizes.{rolesSize};
 ghost use Rattle.matching.specs.Derivation.{linesOf, noLines, lastFault, checkingFault};
 ghost use Rattle.matching.specs.Inner.Derivation.{MarksOf, LineTest, RulesTest};
 
@@ -38,7 +39,7 @@ fn line_follows(
     k: usize,
 ) -> bool
     requires { ⌜ Ready (now concepts) (now inclusions) (now atoms) (now assignment) ⌝ }
-    requires { ⌜ length (now into) ≡ 200 ⌝ }
+    requires { ⌜ length (now into) ≡ rolesSize ⌝ }
     requires { ⌜ MarksOf (countOf (now concepts)) (now marks) (now lines) k ⌝ }
     requires { ⌜ k < linesOf (now lines) ⌝ }
     ensures { λ r. ⌜ LineTest (before concepts) (before inclusions) (before into) (before atoms) (before assignment) (before lines) k r ⌝ }
@@ -79,7 +80,7 @@ fn check_lines(
     marks: &mut [bool],
 ) -> Outcome
     requires { ⌜ Ready (now concepts) (now inclusions) (now atoms) (now assignment) ⌝ }
-    requires { ⌜ length (now into) ≡ 200 ⌝ }
+    requires { ⌜ length (now into) ≡ rolesSize ⌝ }
     requires { ⌜ MarksOf (countOf (now concepts)) (now marks) (now lines) 0 ⌝ }
     ensures { λ r. ⌜ RulesTest (before concepts) (before inclusions) (before into) (before atoms) (before assignment) (before lines) r ⌝ }
 {
@@ -118,7 +119,7 @@ fn check_rules(
     lines: &[u16],
 ) -> Outcome
     requires { ⌜ Ready (now concepts) (now inclusions) (now atoms) (now assignment) ⌝ }
-    requires { ⌜ length (now into) ≡ 200 ⌝ }
+    requires { ⌜ length (now into) ≡ rolesSize ⌝ }
     ensures { λ r. ⌜ RulesTest (before concepts) (before inclusions) (before into) (before atoms) (before assignment) (before lines) r ⌝ }
 {
     let mut marks = [false; SQUARE];
@@ -164,7 +165,7 @@ fn check_last(left: u16, right: u16, lines: &[u16]) -> Outcome
     Outcome::Done
 }
 
-// The rest of the checks, given the atoms of accepted tables and an asked pair.
+// Checks 9 and 12. The tables and the pair have passed, and their atoms were listed with that, so no question is read again.
 fn check_known(
     concepts: &[u16],
     inclusions: &[u16],

@@ -32,6 +32,7 @@ ghost use Rattle.matching.specs.Inner.Within.{Counting, Asking, FoundIn,
 ghost use Rattle.matching.specs.Inner.Search.Problem.{Shaped};
 ghost use Rattle.matching.specs.Find.{matchReply};
 ghost use Rattle.matching.specs.Within.{FindsWithin};
+ghost use Rattle.matching.specs.Inner.Sizes.{problemSize};
 
 // Every question is asked.
 pub const ALL: u64 = 18446744073709551615;
@@ -70,7 +71,7 @@ fn search(sets: &[u64], problem: &[u16], permitted: [u64; 8]) -> Solution
 
 // Writes the largest counts into the problem.
 pub fn put_counts(problem: &mut [u16], largest: &[u16])
-    requires { ⌜ (length (now problem) ≡ 971) × (length (now largest) ≤ 8) ⌝ }
+    requires { ⌜ (length (now problem) ≡ problemSize) × (length (now largest) ≤ 8) ⌝ }
     ensures { λ _. ⌜ Counting (before largest) (before problem) (after problem) ⌝ }
 {
     copy_at(largest, problem, MOST);
@@ -78,7 +79,7 @@ pub fn put_counts(problem: &mut [u16], largest: &[u16])
 
 // Writes into the problem which questions are asked: those whose bit is set.
 pub fn put_asked(problem: &mut [u16], wanted: u64)
-    requires { ⌜ length (now problem) ≡ 971 ⌝ }
+    requires { ⌜ length (now problem) ≡ problemSize ⌝ }
     ensures { λ _. ⌜ Asking wanted (before problem) (after problem) ⌝ }
 {
     let mut m: usize = 0;
@@ -176,7 +177,7 @@ fn find_set(
     Match::Rejected(Refusal::NoAssignment)
 }
 
-// The rest of the checks, given the atoms of accepted tables, and then the search.
+// Checks 19 and 8, and then the search, over the atoms that were listed when the tables passed.
 pub fn find_known(
     concepts: &[u16],
     inclusions: &[u16],

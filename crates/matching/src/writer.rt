@@ -33,6 +33,7 @@ ghost use lib.ListN.{length};
 ghost use Rattle.subsumption.specs.Lent.{lent, before, after};
 ghost use Rattle.subsumption.specs.Tables.{both, countOf};
 ghost use Rattle.subsumption.specs.Inner.Listing.{Prepared, ForAccepted};
+ghost use Rattle.subsumption.specs.Inner.Sizes.{rolesSize};
 ghost use Rattle.matching.specs.Writer.{derivedReply, Derives};
 ghost use Rattle.matching.specs.Inner.Derivation.{seen};
 ghost use Rattle.matching.specs.Inner.Writer.{Grounds, inFront, LineWritten, RestKept, Blank, Asked, Written, WrittenTo, Begun, WrittenFor};
@@ -86,7 +87,7 @@ fn write_more(
     written: usize,
 ) -> usize
     requires { ⌜ Grounds (now concepts) (now inclusions) (now atoms) (now assignment) ⌝ }
-    requires { ⌜ length (now into) ≡ 200 ⌝ }
+    requires { ⌜ length (now into) ≡ rolesSize ⌝ }
     requires { ⌜ Asked (now concepts) (now inclusions) (now into) (now atoms) (now assignment) left right ⌝ }
     requires { ⌜ Written (now concepts) (now inclusions) (now into) (now atoms) (now assignment) (now marks) (now out) written ⌝ }
     requires { ⌜ seen (countOf (now concepts)) (now marks) left right ≡ false ⌝ }
@@ -133,7 +134,7 @@ fn write_tested(
     out: &mut [u16],
 ) -> usize
     requires { ⌜ Grounds (now concepts) (now inclusions) (now atoms) (now assignment) ⌝ }
-    requires { ⌜ length (now into) ≡ 200 ⌝ }
+    requires { ⌜ length (now into) ≡ rolesSize ⌝ }
     requires { ⌜ (left < countOf (now concepts)) × (right < countOf (now concepts)) ⌝ }
     requires { ⌜ Blank (countOf (now concepts)) (now marks) ⌝ }
     requires { ⌜ countOf (now concepts) * countOf (now concepts) * 4 ≤ length (now out) ⌝ }
@@ -174,7 +175,7 @@ fn write_proposed(
     out: &mut [u16],
 ) -> usize
     requires { ⌜ Grounds (now concepts) (now inclusions) (now atoms) (now assignment) ⌝ }
-    requires { ⌜ length (now into) ≡ 200 ⌝ }
+    requires { ⌜ length (now into) ≡ rolesSize ⌝ }
     requires { ⌜ (left < countOf (now concepts)) × (right < countOf (now concepts)) ⌝ }
     requires { ⌜ Blank (countOf (now concepts)) (now marks) ⌝ }
     requires { ⌜ countOf (now concepts) * countOf (now concepts) * 4 ≤ length (now out) ⌝ }
@@ -221,7 +222,7 @@ fn write_lines(
     out: &mut [u16],
 ) -> usize
     requires { ⌜ Grounds (now concepts) (now inclusions) (now atoms) (now assignment) ⌝ }
-    requires { ⌜ length (now into) ≡ 200 ⌝ }
+    requires { ⌜ length (now into) ≡ rolesSize ⌝ }
     requires { ⌜ Asked (now concepts) (now inclusions) (now into) (now atoms) (now assignment) left right ⌝ }
     requires { ⌜ Blank (countOf (now concepts)) (now marks) ⌝ }
     requires { ⌜ countOf (now concepts) * countOf (now concepts) * 4 ≤ length (now out) ⌝ }
@@ -270,7 +271,7 @@ fn put_lines(
     out: &mut [u16],
 ) -> usize
     requires { ⌜ Grounds (now concepts) (now inclusions) (now atoms) (now assignment) ⌝ }
-    requires { ⌜ length (now into) ≡ 200 ⌝ }
+    requires { ⌜ length (now into) ≡ rolesSize ⌝ }
     requires { ⌜ Asked (now concepts) (now inclusions) (now into) (now atoms) (now assignment) left right ⌝ }
     requires { ⌜ countOf (now concepts) * countOf (now concepts) * 4 ≤ length (now out) ⌝ }
     ensures { λ r. ⌜ WrittenFor (before concepts) (before inclusions) (before into) (before atoms) (before assignment) left right
@@ -292,7 +293,7 @@ fn put_lines(
     )
 }
 
-// The rest of the checks, given the atoms of accepted tables and an asked pair, and then the lines.
+// Checks 9 and 8, and then the lines. The tables and the pair have passed, so no question is read again.
 fn derive_known(
     concepts: &[u16],
     inclusions: &[u16],

@@ -1,4 +1,5 @@
 -- Definitions of private contracts: no operation's contract reaches them.
+pub mod Sizes
 pub mod Tables
 pub mod Atoms
 pub mod Twins

@@ -25,6 +25,7 @@ ghost use Rattle.subsumption.specs.Inner.Names.{Firsts};
 ghost use Rattle.subsumption.specs.Inner.Settling.{Settleable, chooseFrom, AllDescended, AllAscended};
 ghost use Rattle.subsumption.specs.Inner.Links.{Inner, Laid, AllLinked};
 ghost use Rattle.subsumption.specs.Inner.Closure.{Ready, LowPairs, SettlePass, IncludePass, RisePass, RoundPass, Closed};
+ghost use Rattle.subsumption.specs.Inner.Sizes.{columnsSize};
 
 // Of the existentials by role, the words: three a role.
 const KIND_WORDS: usize = 300;
@@ -32,7 +33,7 @@ const KIND_WORDS: usize = 300;
 // The inclusions: what is below a left side is below the right side.
 fn include_all(inclusions: &[u16], columns: &mut [u64]) -> bool
     requires { ⌜ LowPairs (now inclusions) ⌝ }
-    requires { ⌜ length (now columns) ≡ 576 ⌝ }
+    requires { ⌜ length (now columns) ≡ columnsSize ⌝ }
     ensures { λ r. ⌜ IncludePass (before inclusions) (before columns) (after columns) r ⌝ }
 {
     let count = inclusions.len() / 2;
@@ -51,7 +52,7 @@ fn include_all(inclusions: &[u16], columns: &mut [u64]) -> bool
 // The inclusions until they are quiet: a pass over them costs little beside one over the rows.
 fn include_until_quiet(inclusions: &[u16], columns: &mut [u64]) -> bool
     requires { ⌜ LowPairs (now inclusions) ⌝ }
-    requires { ⌜ length (now columns) ≡ 576 ⌝ }
+    requires { ⌜ length (now columns) ≡ columnsSize ⌝ }
     ensures { λ r. ⌜ IncludePass (before inclusions) (before columns) (after columns) r ⌝ }
 {
     let mut changed = false;
@@ -66,7 +67,7 @@ fn include_until_quiet(inclusions: &[u16], columns: &mut [u64]) -> bool
 // The steps that lead from a row to smaller ids, in falling order: what is below nested conjunctions comes to all members in one pass.
 fn fall(concepts: &[u16], atoms: &[u16], assignment: &[u64], columns: &mut [u64]) -> bool
     requires { ⌜ Settleable (now concepts) (now atoms) (now assignment) ⌝ }
-    requires { ⌜ length (now columns) ≡ 576 ⌝ }
+    requires { ⌜ length (now columns) ≡ columnsSize ⌝ }
     ensures { λ r. ⌜ SettlePass (before concepts) (chooseFrom (before atoms) (before assignment))
         (AllDescended (before concepts) (chooseFrom (before atoms) (before assignment)))
         (before columns) (after columns) r ⌝ }
@@ -97,7 +98,7 @@ fn rise(
     requires { ⌜ Firsts (now concepts) (now firsts) ⌝ }
     requires { ⌜ Inner (now concepts) ⌝ }
     requires { ⌜ Laid (now outer) (now inners) (now kinds) ⌝ }
-    requires { ⌜ length (now columns) ≡ 576 ⌝ }
+    requires { ⌜ length (now columns) ≡ columnsSize ⌝ }
     ensures { λ r. ⌜ RisePass (before concepts) (before outer) (before inners) (before kinds)
         (chooseFrom (before atoms) (before assignment))
         (λ wide l. AllAscended (before concepts) (before firsts) (chooseFrom (before atoms) (before assignment)) l
@@ -131,7 +132,7 @@ fn round(
     requires { ⌜ Ready (now concepts) (now inclusions) (now atoms) (now assignment) ⌝ }
     requires { ⌜ Firsts (now concepts) (now firsts) ⌝ }
     requires { ⌜ Laid (now outer) (now inners) (now kinds) ⌝ }
-    requires { ⌜ length (now columns) ≡ 576 ⌝ }
+    requires { ⌜ length (now columns) ≡ columnsSize ⌝ }
     ensures { λ r. ⌜ RoundPass (before concepts) (before inclusions) (before outer) (before inners) (before kinds)
         (chooseFrom (before atoms) (before assignment)) (before firsts) (before columns) (after columns) r ⌝ }
 {
@@ -161,7 +162,7 @@ pub fn close(
 )
     requires { ⌜ Ready (now concepts) (now inclusions) (now atoms) (now assignment) ⌝ }
     requires { ⌜ LowRoles (now roles) ⌝ }
-    requires { ⌜ length (now columns) ≡ 576 ⌝ }
+    requires { ⌜ length (now columns) ≡ columnsSize ⌝ }
     ensures { λ r. ⌜ Closed (before concepts) (before inclusions) (wider (before roles))
         (chooseFrom (before atoms) (before assignment)) (before columns) (after columns) ⌝ }
 {

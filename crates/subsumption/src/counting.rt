@@ -6,6 +6,7 @@ ghost use Rattle.subsumption.specs.Lent.{before};
 ghost use Rattle.subsumption.specs.Atoms.{bit};
 ghost use Rattle.subsumption.specs.Table.{counted, total};
 ghost use Rattle.subsumption.specs.Inner.Columns.{has};
+ghost use Rattle.subsumption.specs.Inner.Sizes.{columnsSize};
 
 // The ones among the lowest n bits of a word.
 fn ones_below(word: u64, n: usize) -> usize
@@ -29,7 +30,7 @@ fn past(n: usize, by: usize) -> usize
 
 // The ids below count that are in column j.
 fn ones_in(columns: &[u64], j: usize, count: usize) -> usize
-    requires { ⌜ length (now columns) ≡ 576 ⌝ }
+    requires { ⌜ length (now columns) ≡ columnsSize ⌝ }
     requires { ⌜ j < 192 ⌝ }
     requires { ⌜ count ≤ 192 ⌝ }
     ensures { λ r. ⌜ r ≡ counted (λ i. has (before columns) i j) count ⌝ }
@@ -42,7 +43,7 @@ fn ones_in(columns: &[u64], j: usize, count: usize) -> usize
 }
 
 pub fn count_pairs(columns: &[u64], count: usize) -> usize
-    requires { ⌜ length (now columns) ≡ 576 ⌝ }
+    requires { ⌜ length (now columns) ≡ columnsSize ⌝ }
     requires { ⌜ count ≤ 192 ⌝ }
     ensures { λ r. ⌜ r ≡ total (λ j. counted (λ i. has (before columns) i j) count) count ⌝ }
 {

@@ -20,7 +20,7 @@ pub enum Decision {
     Rejected(Refusal),
 }
 
-// The rest of the checks, given the atoms of accepted tables, and then the answer.
+// Check 9, and then the answer. The atoms were listed when the tables and the pair passed, so no question is read again.
 pub fn decide_known(
     concepts: &[u16],
     inclusions: &[u16],

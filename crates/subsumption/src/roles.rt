@@ -6,10 +6,11 @@ ghost use lib.ListN.{length, replicate};
 ghost use Rattle.subsumption.specs.Lent.{before, after};
 ghost use Rattle.subsumption.specs.Tables.{pairsOf};
 ghost use Rattle.subsumption.specs.Inner.Roles.{inSet, LowRoles, Started, Joined, Widened, RoleSets};
+ghost use Rattle.subsumption.specs.Inner.Sizes.{rolesSize};
 
 // The role r counts as the role s.
 pub fn counts(into: &[u64], r: usize, s: usize) -> bool
-    requires { ⌜ length (now into) ≡ 200 ⌝ }
+    requires { ⌜ length (now into) ≡ rolesSize ⌝ }
     requires { ⌜ (r < 100) × (s < 100) ⌝ }
     ensures { λ b. ⌜ b ≡ inSet (before into) r s ⌝ }
 {
@@ -18,7 +19,7 @@ pub fn counts(into: &[u64], r: usize, s: usize) -> bool
 
 // Each role counts as itself.
 fn start(into: &mut [u64])
-    requires { ⌜ now into ≡ replicate 200 0 ⌝ }
+    requires { ⌜ now into ≡ replicate rolesSize 0 ⌝ }
     ensures { λ _. ⌜ Started (after into) ⌝ }
 {
     let mut s: usize = 0;
@@ -30,7 +31,7 @@ fn start(into: &mut [u64])
 
 // What counts as one role counts as the other.
 fn join(into: &mut [u64], from: usize, to: usize)
-    requires { ⌜ length (now into) ≡ 200 ⌝ }
+    requires { ⌜ length (now into) ≡ rolesSize ⌝ }
     requires { ⌜ (from < 100) × (to < 100) ⌝ }
     ensures { λ _. ⌜ Joined (before into) (after into) from to ⌝ }
 {
@@ -42,7 +43,7 @@ fn join(into: &mut [u64], from: usize, to: usize)
 
 // One pair more: what counts as the narrow role counts as all that the wide one does. The narrow role's own set stays in its turn.
 fn widen(into: &mut [u64], narrow: usize, wide: usize)
-    requires { ⌜ length (now into) ≡ 200 ⌝ }
+    requires { ⌜ length (now into) ≡ rolesSize ⌝ }
     requires { ⌜ (narrow < 100) × (wide < 100) ⌝ }
     ensures { λ _. ⌜ Widened (before into) (after into) narrow wide ⌝ }
 {
@@ -58,7 +59,7 @@ fn widen(into: &mut [u64], narrow: usize, wide: usize)
 
 pub fn note_roles(roles: &[u16], into: &mut [u64])
     requires { ⌜ LowRoles (now roles) ⌝ }
-    requires { ⌜ now into ≡ replicate 200 0 ⌝ }
+    requires { ⌜ now into ≡ replicate rolesSize 0 ⌝ }
     ensures { λ _. ⌜ RoleSets (before roles) (after into) ⌝ }
 {
     start(into);

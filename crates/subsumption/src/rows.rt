@@ -6,6 +6,7 @@ ghost use lib.ListN.{length};
 ghost use Rattle.subsumption.specs.Lent.{before, after};
 ghost use Rattle.subsumption.specs.Table.{rowStart};
 ghost use Rattle.subsumption.specs.Inner.Rows.{exchanged, Transposed, BlockOf, BandOf, Banded, RowWritten, Written};
+ghost use Rattle.subsumption.specs.Inner.Sizes.{columnsSize};
 
 fn row_start(i: usize) -> usize
     requires { ⌜ i < 192 ⌝ }
@@ -50,7 +51,7 @@ fn transpose(x: u64) -> u64
 
 // Of the columns 8 a to 8 a + 7, the byte m of each.
 fn block(columns: &[u64], count: usize, m: usize, a: usize) -> u64
-    requires { ⌜ length (now columns) ≡ 576 ⌝ }
+    requires { ⌜ length (now columns) ≡ columnsSize ⌝ }
     requires { ⌜ (m < 24) × (a < 24) ⌝ }
     ensures { λ r. ⌜ BlockOf (before columns) count m a r ⌝ }
 {
@@ -70,7 +71,7 @@ fn block(columns: &[u64], count: usize, m: usize, a: usize) -> u64
 }
 
 fn fill_band(columns: &[u64], count: usize, m: usize, band: &mut [u64])
-    requires { ⌜ length (now columns) ≡ 576 ⌝ }
+    requires { ⌜ length (now columns) ≡ columnsSize ⌝ }
     requires { ⌜ m < 24 ⌝ }
     requires { ⌜ length (now band) ≡ 24 ⌝ }
     ensures { λ _. ⌜ BandOf (before columns) count m (after band) ⌝ }
@@ -86,7 +87,7 @@ fn fill_band(columns: &[u64], count: usize, m: usize, band: &mut [u64])
 
 // The band of row i: every eighth row starts a new one.
 fn renew_band(columns: &[u64], count: usize, i: usize, band: &mut [u64])
-    requires { ⌜ length (now columns) ≡ 576 ⌝ }
+    requires { ⌜ length (now columns) ≡ columnsSize ⌝ }
     requires { ⌜ i < 192 ⌝ }
     requires { ⌜ Banded (now columns) count i (now band) ⌝ }
     ensures { λ _. ⌜ BandOf (before columns) count (i / 8) (after band) ⌝ }
@@ -113,7 +114,7 @@ fn write_row(band: &[u64], i: usize, out: &mut [u8])
 }
 
 pub fn write_rows(columns: &[u64], count: usize, out: &mut [u8])
-    requires { ⌜ length (now columns) ≡ 576 ⌝ }
+    requires { ⌜ length (now columns) ≡ columnsSize ⌝ }
     requires { ⌜ (count ≤ 192) × (count * 24 ≤ length (now out)) ⌝ }
     ensures { λ r. ⌜ Written (before columns) count (before out) (after out) ⌝ }
 {

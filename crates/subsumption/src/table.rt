@@ -20,7 +20,7 @@ pub enum Tabled {
     Rejected(Refusal),
 }
 
-// The rest of the checks, given the atoms of accepted tables, and then the table.
+// Checks 9 and 8, and then the table. The atoms were listed when the tables passed, so no question is read again.
 fn put_table(
     concepts: &[u16],
     inclusions: &[u16],

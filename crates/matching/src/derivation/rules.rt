@@ -18,6 +18,7 @@ ghost use Rattle.subsumption.specs.Inner.Closure.{Ready};
 ghost use Rattle.subsumption.specs.Rules.{every, contains, sameName, isTop, onPicked, onBoth, onInner, onVariable};
 ghost use Rattle.matching.specs.Inner.Derivation.{Square, seen, nodeOf, KnownAtoms, Numbered, LowRole, ByRule};
 ghost use Rattle.subsumption.specs.Inner.Roles.{inSet};
+ghost use Rattle.subsumption.specs.Inner.Sizes.{rolesSize};
 
 // Rule 1.
 fn by_name(left: usize, right: usize, l: Row, r: Row) -> bool
@@ -82,7 +83,7 @@ fn by_both(marks: &[bool], count: usize, left: usize, r: Row) -> bool
 
 // Rule 5.
 fn by_inner(into: &[u64], marks: &[bool], count: usize, l: Row, r: Row) -> bool
-    requires { ⌜ length (now into) ≡ 200 ⌝ }
+    requires { ⌜ length (now into) ≡ rolesSize ⌝ }
     requires { ⌜ LowRole (nodeOf l) ⌝ }
     requires { ⌜ LowRole (nodeOf r) ⌝ }
     requires { ⌜ Square count (now marks) ⌝ }
@@ -239,7 +240,7 @@ pub fn by_rule(
     extra: usize,
 ) -> bool
     requires { ⌜ Ready (now concepts) (now inclusions) (now atoms) (now assignment) ⌝ }
-    requires { ⌜ length (now into) ≡ 200 ⌝ }
+    requires { ⌜ length (now into) ≡ rolesSize ⌝ }
     requires { ⌜ Square (countOf (now concepts)) (now marks) ⌝ }
     requires { ⌜ (left < countOf (now concepts)) × (right < countOf (now concepts)) ⌝ }
     ensures { λ x. ⌜ ByRule (before concepts) (before inclusions) (before into) (before atoms) (before assignment)

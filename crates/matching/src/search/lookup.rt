@@ -11,6 +11,7 @@ ghost use mathlib.Core.Path.{_≡_};
 ghost use Prim.Native.Nat.{_<_, _≤_};
 ghost use lib.ListN.{length};
 ghost use Rattle.matching.specs.Inner.Search.Nogoods.{Room};
+ghost use Rattle.matching.specs.Inner.Sizes.{scratchSize};
 
 const ALL: u64 = 18446744073709551615;
 
@@ -21,7 +22,7 @@ const LEFT: usize = 16;
 
 // Sets the bit of nogood c in the masks of the pairs of one word.
 fn note_word(scratch: &mut [u64], c: usize, word: u64, from: usize)
-    requires { ⌜ length (now scratch) ≡ 16977 ⌝ }
+    requires { ⌜ length (now scratch) ≡ scratchSize ⌝ }
     requires { ⌜ (c < 1024) × (from ≤ 14928) ⌝ }
 {
     let mut q = next_bit(word, 0);
@@ -34,7 +35,7 @@ fn note_word(scratch: &mut [u64], c: usize, word: u64, from: usize)
 
 // Notes nogood c in the masks, and its pairs among those that some nogood wants.
 pub fn note(scratch: &mut [u64], c: usize, full: [u64; 8], nogood: Interval)
-    requires { ⌜ length (now scratch) ≡ 16977 ⌝ }
+    requires { ⌜ length (now scratch) ≡ scratchSize ⌝ }
     requires { ⌜ c < 1024 ⌝ }
 {
     let low = nogood.low;
@@ -63,7 +64,7 @@ pub struct Weights {
 
 // With the masks of the pairs in the word that make a nogood dead.
 fn kill(scratch: &[u64], word: u64, from: usize, dead: u64) -> u64
-    requires { ⌜ length (now scratch) ≡ 16977 ⌝ }
+    requires { ⌜ length (now scratch) ≡ scratchSize ⌝ }
     requires { ⌜ from ≤ 14943 ⌝ }
 {
     let mut sum = dead;
@@ -82,7 +83,7 @@ pub struct Counted {
 }
 
 fn count(scratch: &[u64], word: u64, from: usize, before: Counted) -> Counted
-    requires { ⌜ length (now scratch) ≡ 16977 ⌝ }
+    requires { ⌜ length (now scratch) ≡ scratchSize ⌝ }
     requires { ⌜ from ≤ 14943 ⌝ }
 {
     let mut once = before.once;
@@ -105,7 +106,7 @@ fn weigh_variable(
     k: usize,
     before: Weights,
 ) -> Weights
-    requires { ⌜ length (now scratch) ≡ 16977 ⌝ }
+    requires { ⌜ length (now scratch) ≡ scratchSize ⌝ }
     requires { ⌜ (w < 16) × (k < 8) ⌝ }
 {
     let lows = interval.low;
@@ -144,7 +145,7 @@ fn weigh_variable(
 }
 
 fn weigh(scratch: &[u64], w: usize, interval: Interval) -> Weights
-    requires { ⌜ length (now scratch) ≡ 16977 ⌝ }
+    requires { ⌜ length (now scratch) ≡ scratchSize ⌝ }
     requires { ⌜ w < 16 ⌝ }
 {
     let mut weights = Weights {
@@ -208,7 +209,7 @@ fn present(w: usize, count: usize) -> u64
 
 pub fn choose(store: &[u64], scratch: &[u64], interval: Interval) -> Hint
     requires { ⌜ Room (now store) ⌝ }
-    requires { ⌜ length (now scratch) ≡ 16977 ⌝ }
+    requires { ⌜ length (now scratch) ≡ scratchSize ⌝ }
 {
     let count = store[0] as usize;
     let mut found = Hint {

@@ -15,6 +15,7 @@ ghost use Prim.Native.Nat.{_<_};
 ghost use lib.ListN.{length};
 ghost use Rattle.matching.specs.Inner.Search.Problem.{Shaped, heldAt, rightAt, questionCount, AskedAt};
 ghost use Rattle.matching.specs.Inner.Search.Narrow.{Narrowed};
+ghost use Rattle.matching.specs.Inner.Sizes.{scratchSize};
 ghost use Rattle.subsumption.specs.Lent.{before};
 
 // By one question and variable.
@@ -27,7 +28,7 @@ fn narrow_variable(
     full: [u64; 8],
 ) -> [u64; 8]
     requires { ⌜ Shaped (now sets) (now problem) ⌝ }
-    requires { ⌜ (length (now scratch) ≡ 16977) × (length full ≡ 8) ⌝ }
+    requires { ⌜ (length (now scratch) ≡ scratchSize) × (length full ≡ 8) ⌝ }
     requires { ⌜ (m < questionCount (now problem)) × (k < 8) ⌝ }
     requires { ⌜ AskedAt (now problem) m × (heldAt (now problem) (rightAt (now problem) m) ≡ true) ⌝ }
     ensures { λ r. ⌜ length r ≡ 8 ⌝ }
@@ -58,7 +59,7 @@ fn narrow_question(
     full: [u64; 8],
 ) -> [u64; 8]
     requires { ⌜ Shaped (now sets) (now problem) ⌝ }
-    requires { ⌜ (length (now scratch) ≡ 16977) × (length full ≡ 8) ⌝ }
+    requires { ⌜ (length (now scratch) ≡ scratchSize) × (length full ≡ 8) ⌝ }
     requires { ⌜ m < questionCount (now problem) ⌝ }
     ensures { λ r. ⌜ length r ≡ 8 ⌝ }
     ensures { λ r. ⌜ Narrowed (before sets) (before problem) full r ⌝ }
@@ -87,7 +88,7 @@ fn narrow_question(
 
 pub fn narrow(sets: &[u64], problem: &[u16], scratch: &mut [u64], full: [u64; 8]) -> [u64; 8]
     requires { ⌜ Shaped (now sets) (now problem) ⌝ }
-    requires { ⌜ (length (now scratch) ≡ 16977) × (length full ≡ 8) ⌝ }
+    requires { ⌜ (length (now scratch) ≡ scratchSize) × (length full ≡ 8) ⌝ }
     ensures { λ r. ⌜ length r ≡ 8 ⌝ }
     ensures { λ r. ⌜ Narrowed (before sets) (before problem) full r ⌝ }
 {

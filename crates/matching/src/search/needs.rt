@@ -15,6 +15,7 @@ ghost use lib.ListN.{length};
 ghost use Rattle.matching.specs.Inner.Search.Nogoods.{used, Room};
 ghost use Rattle.matching.specs.Inner.Search.Pairs.{Joined};
 ghost use Rattle.matching.specs.Inner.Search.Needs.{NeedAt, Kept, WantedOver};
+ghost use Rattle.matching.specs.Inner.Sizes.{problemSize};
 ghost use Rattle.subsumption.specs.Lent.{before};
 
 // The pairs of variable k that the nogood at place c wants one of, if it is a need and none of them was met before; else no pairs.
@@ -76,7 +77,7 @@ fn count_needs(
     interval: Interval,
     k: usize,
 ) -> Wanted
-    requires { ⌜ length (now problem) ≡ 971 ⌝ }
+    requires { ⌜ length (now problem) ≡ problemSize ⌝ }
     requires { ⌜ Room (now store) ⌝ }
     requires { ⌜ (length full ≡ 8) × (length (interval .low) ≡ 8) × (length (interval .high) ≡ 8) × (k < 8) ⌝ }
     ensures { λ r. ⌜ (length (r .low) ≡ 8) × (length (r .high) ≡ 8) ⌝ }
@@ -131,7 +132,7 @@ fn is_counted(most: u16, low: u64, high: u64) -> bool {
 
 // Of the first variable of which more is wanted.
 pub fn count_all(problem: &[u16], store: &[u64], full: [u64; 8], interval: Interval) -> Wanted
-    requires { ⌜ length (now problem) ≡ 971 ⌝ }
+    requires { ⌜ length (now problem) ≡ problemSize ⌝ }
     requires { ⌜ Room (now store) ⌝ }
     requires { ⌜ (length full ≡ 8) × (length (interval .low) ≡ 8) × (length (interval .high) ≡ 8) ⌝ }
     ensures { λ r. ⌜ (length (r .low) ≡ 8) × (length (r .high) ≡ 8) ⌝ }

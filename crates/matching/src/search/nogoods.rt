@@ -6,6 +6,7 @@ ghost use mathlib.Core.Path.{_≡_};
 ghost use Prim.Native.Nat.{_+_, _<_, _≤_};
 ghost use lib.ListN.{length};
 ghost use Rattle.matching.specs.Inner.Search.Nogoods.{words, used, lowAt, highAt, Room, Put, Added};
+ghost use Rattle.matching.specs.Inner.Sizes.{scratchSize};
 ghost use Rattle.subsumption.specs.Lent.{before, after};
 
 pub fn fetch(store: &[u64], at: usize) -> [u64; 8]
@@ -36,7 +37,7 @@ pub fn put(store: &mut [u64], at: usize, set: [u64; 8])
 pub fn add(store: &mut [u64], scratch: &mut [u64], most: u64, full: [u64; 8], nogood: Interval)
     requires { ⌜ Room (now store) ⌝ }
     requires { ⌜ most ≤ 1024 ⌝ }
-    requires { ⌜ length (now scratch) ≡ 16977 ⌝ }
+    requires { ⌜ length (now scratch) ≡ scratchSize ⌝ }
     requires { ⌜ (length (nogood .low) ≡ 8) × (length (nogood .high) ≡ 8) ⌝ }
     ensures { λ _. ⌜ Added (nogood .low) (nogood .high) (before store) (after store) ⌝ }
 {

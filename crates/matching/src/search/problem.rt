@@ -40,9 +40,11 @@ ghost use Rattle.subsumption.specs.Check.{tableFault};
 ghost use Rattle.subsumption.specs.Inner.Atoms.{Layered};
 ghost use Rattle.subsumption.specs.Inner.Listing.{Accepted};
 ghost use Rattle.subsumption.specs.Inner.Tables.{Rising};
+ghost use Rattle.subsumption.specs.Inner.Sizes.{rolesSize};
 ghost use Rattle.square.specs.Inner.Square.{onLine};
 ghost use Rattle.matching.specs.Inner.Search.Problem.{fitAt, coneAt, closersAt, questionCount, Numbers, Shaped, Covered, Problem};
 ghost use Rattle.matching.specs.Inner.Search.Making.{CopiedAt, HeldNoted, HintsNoted, NumbersOf, LinesOf, Readable, kindAt, fitsBy, isCloser, heldId, heldInside, Filled, FitsNoted, ConeNoted, NoCones, ConesNoted, Grew, WantsInner, AskedFor, NewAt, NextNew, Kept, KeptAll, ClosersNoted, NoClosers, AllClosers};
+ghost use Rattle.matching.specs.Inner.Sizes.{problemSize};
 
 // ---- the numbers
 pub fn copy_at(from: &[u16], to: &mut [u16], at: usize)
@@ -59,7 +61,7 @@ pub fn copy_at(from: &[u16], to: &mut [u16], at: usize)
 // A 1 for each id that holds a variable.
 fn note_held(concepts: &[u16], problem: &mut [u16])
     requires { ⌜ Layered (now concepts) ⌝ }
-    requires { ⌜ length (now problem) ≡ 971 ⌝ }
+    requires { ⌜ length (now problem) ≡ problemSize ⌝ }
     ensures { λ _. ⌜ HeldNoted (before concepts) (before problem) (after problem) ⌝ }
 {
     let mut marks = [false; CONCEPTS];
@@ -73,7 +75,7 @@ fn note_held(concepts: &[u16], problem: &mut [u16])
 
 // The variables of an id, a bit each, given those of smaller ids.
 fn variables_of(problem: &[u16], sets: &[u16], i: usize) -> u16
-    requires { ⌜ (length (now problem) ≡ 971) × (length (now sets) ≡ 192) × (i < 192) ⌝ }
+    requires { ⌜ (length (now problem) ≡ problemSize) × (length (now sets) ≡ 192) × (i < 192) ⌝ }
 {
     let kind = problem[i * 3];
     let a = problem[i * 3 + 1] as usize;
@@ -100,7 +102,7 @@ fn variables_of(problem: &[u16], sets: &[u16], i: usize) -> u16
 }
 
 fn note_variables(problem: &[u16], sets: &mut [u16])
-    requires { ⌜ (length (now problem) ≡ 971) × (length (now sets) ≡ 192) ⌝ }
+    requires { ⌜ (length (now problem) ≡ problemSize) × (length (now sets) ≡ 192) ⌝ }
 {
     let mut i: usize = 0;
     while i < CONCEPTS {
@@ -111,7 +113,7 @@ fn note_variables(problem: &[u16], sets: &mut [u16])
 
 // The variables of each question, a hint for narrowing and widening.
 fn note_holds(problem: &mut [u16])
-    requires { ⌜ length (now problem) ≡ 971 ⌝ }
+    requires { ⌜ length (now problem) ≡ problemSize ⌝ }
     ensures { λ _. ⌜ HintsNoted (before problem) (after problem) ⌝ }
 {
     let mut sets = [0u16; CONCEPTS];
@@ -135,7 +137,7 @@ fn note_holds(problem: &mut [u16])
 fn note_numbers(concepts: &[u16], questions: &[u16], ids: &[u16], problem: &mut [u16])
     requires { ⌜ Layered (now concepts) ⌝ }
     requires { ⌜ (length (now questions) ≤ 64) × (length (now ids) ≤ 64) ⌝ }
-    requires { ⌜ now problem ≡ replicate 971 0 ⌝ }
+    requires { ⌜ now problem ≡ replicate problemSize 0 ⌝ }
     ensures { λ _. ⌜ NumbersOf (before concepts) (before questions) (before ids) (after problem) ⌝ }
 {
     copy_at(concepts, problem, 0);
@@ -178,7 +180,7 @@ fn note_lines(
 // Whether the existential e holds no variable and fits the existential j.
 fn is_fitting(problem: &[u16], into: &[u64], count: usize, right: bool, j: usize, e: usize) -> bool
     requires { ⌜ Readable (now problem) count ⌝ }
-    requires { ⌜ length (now into) ≡ 200 ⌝ }
+    requires { ⌜ length (now into) ≡ rolesSize ⌝ }
     requires { ⌜ (j < count) × (e < count) × (kindAt (now problem) j ≡ 2) ⌝ }
     ensures { λ r. ⌜ r ≡ fitsBy (before problem) (before into) right j e ⌝ }
 {
@@ -198,7 +200,7 @@ fn is_fitting(problem: &[u16], into: &[u64], count: usize, right: bool, j: usize
 
 fn note_fit(problem: &[u16], into: &[u64], count: usize, right: bool, j: usize, sets: &mut [u64])
     requires { ⌜ Readable (now problem) count ⌝ }
-    requires { ⌜ length (now into) ≡ 200 ⌝ }
+    requires { ⌜ length (now into) ≡ rolesSize ⌝ }
     requires { ⌜ (j < count) × (kindAt (now problem) j ≡ 2) ⌝ }
     requires { ⌜ length (now sets) ≡ 2496 ⌝ }
     ensures { λ _. ⌜ Filled (fitAt right j) (λ q. both (ltb q count) (fitsBy (before problem) (before into) right j q))
@@ -217,7 +219,7 @@ fn note_fit(problem: &[u16], into: &[u64], count: usize, right: bool, j: usize, 
 
 fn note_fits(problem: &[u16], into: &[u64], count: usize, right: bool, sets: &mut [u64])
     requires { ⌜ Readable (now problem) count ⌝ }
-    requires { ⌜ length (now into) ≡ 200 ⌝ }
+    requires { ⌜ length (now into) ≡ rolesSize ⌝ }
     requires { ⌜ length (now sets) ≡ 2496 ⌝ }
     ensures { λ _. ⌜ FitsNoted (before problem) (before into) count right (before sets) (after sets) ⌝ }
 {
@@ -235,7 +237,7 @@ fn note_fits(problem: &[u16], into: &[u64], count: usize, right: bool, sets: &mu
 }
 
 fn is_closer(problem: &[u16], e: usize) -> bool
-    requires { ⌜ length (now problem) ≡ 971 ⌝ }
+    requires { ⌜ length (now problem) ≡ problemSize ⌝ }
     requires { ⌜ e < 192 ⌝ }
     ensures { λ r. ⌜ r ≡ isCloser (before problem) e ⌝ }
 {
@@ -250,7 +252,7 @@ fn is_closer(problem: &[u16], e: usize) -> bool
 
 // The id comes to the cone if it holds a variable.
 fn mark_held(problem: &[u16], sets: &mut [u64], at: usize, id: usize)
-    requires { ⌜ length (now problem) ≡ 971 ⌝ }
+    requires { ⌜ length (now problem) ≡ problemSize ⌝ }
     requires { ⌜ at + 3 ≤ length (now sets) ⌝ }
     requires { ⌜ id < 192 ⌝ }
     ensures { λ _. ⌜ Filled at (heldId (before problem) id) (before sets) (after sets) ⌝ }
@@ -262,7 +264,7 @@ fn mark_held(problem: &[u16], sets: &mut [u64], at: usize, id: usize)
 
 // The inner ids of an id of the cone.
 fn mark_inside(problem: &[u16], sets: &mut [u64], at: usize, i: usize)
-    requires { ⌜ length (now problem) ≡ 971 ⌝ }
+    requires { ⌜ length (now problem) ≡ problemSize ⌝ }
     requires { ⌜ at + 3 ≤ length (now sets) ⌝ }
     requires { ⌜ (i < 192) × Rising i (node (now problem) i) ⌝ }
     ensures { λ _. ⌜ Filled at (heldInside (before problem) i) (before sets) (after sets) ⌝ }
@@ -486,7 +488,7 @@ pub fn make_problem(
 )
     requires { ⌜ Accepted (given concepts inclusions questions roles variables) (now ids) ⌝ }
     requires { ⌜ now sets ≡ replicate 2496 0 ⌝ }
-    requires { ⌜ now problem ≡ replicate 971 0 ⌝ }
+    requires { ⌜ now problem ≡ replicate problemSize 0 ⌝ }
     ensures { λ _. ⌜ Shaped (after sets) (after problem) ⌝ }
     ensures { λ _. ⌜ Problem (lent concepts inclusions questions roles variables) (after sets) (after problem) ⌝ }
 {

@@ -40,6 +40,7 @@ ghost use Rattle.matching.specs.Inner.Search.Problem.{Shaped, questionCo
 ghost use Rattle.matching.specs.Inner.Search.Lent.{Lent};
 ghost use Rattle.matching.specs.Inner.Search.Nogoods.{Room};
 ghost use Rattle.matching.specs.Inner.Search.Solve.{FailingOf, Failing, RefutedBy, Searched, Answers, Stepped, CanSplit, Recalled, Merged};
+ghost use Rattle.matching.specs.Inner.Sizes.{problemSize, scratchSize};
 ghost use Rattle.subsumption.specs.Lent.{before, after};
 
 const ALL: u64 = 18446744073709551615;
@@ -67,7 +68,7 @@ pub fn failing_of(
     right: bool,
 ) -> usize
     requires { ⌜ Shaped (now sets) (now problem) ⌝ }
-    requires { ⌜ length (now scratch) ≡ 16977 ⌝ }
+    requires { ⌜ length (now scratch) ≡ scratchSize ⌝ }
     ensures { λ r. ⌜ FailingOf (before sets) (before problem) choice right r ⌝ }
 {
     let count = problem[QUESTION_COUNT] as usize;
@@ -93,7 +94,7 @@ pub fn failing_of(
 // An asked question that does not hold, or the number of all.
 fn failing(sets: &[u64], problem: &[u16], scratch: &mut [u64], choice: [u64; 8]) -> usize
     requires { ⌜ Shaped (now sets) (now problem) ⌝ }
-    requires { ⌜ length (now scratch) ≡ 16977 ⌝ }
+    requires { ⌜ length (now scratch) ≡ scratchSize ⌝ }
     ensures { λ r. ⌜ Failing (before sets) (before problem) choice r ⌝ }
 {
     let first = failing_of(sets, problem, scratch, choice, true);
@@ -113,7 +114,7 @@ fn refute(
     m: usize,
 ) -> Interval
     requires { ⌜ Shaped (now sets) (now problem) ⌝ }
-    requires { ⌜ (length (now scratch) ≡ 16977) × (m < questionCount (now problem)) ⌝ }
+    requires { ⌜ (length (now scratch) ≡ scratchSize) × (m < questionCount (now problem)) ⌝ }
     requires { ⌜ (length full ≡ 8) × (length low ≡ 8) ⌝ }
     ensures { λ r. ⌜ (length (r .low) ≡ 8) × (length (r .high) ≡ 8) ⌝ }
     ensures { λ r. ⌜ RefutedBy (before sets) (before problem) full low m (r .low) (r .high) ⌝ }
@@ -391,7 +392,7 @@ fn step_by_clamp(
 
 // A largest count may stop a variable that has something to take. A hint only.
 fn is_bounded(problem: &[u16], full: [u64; 8]) -> bool
-    requires { ⌜ length (now problem) ≡ 971 ⌝ }
+    requires { ⌜ length (now problem) ≡ problemSize ⌝ }
 {
     let mut k: usize = 0;
     while k < 8 {
@@ -430,7 +431,7 @@ fn next_step(
 
 // The next step looks at this nogood first.
 fn note_hint(scratch: &mut [u64], place: usize)
-    requires { ⌜ length (now scratch) ≡ 16977 ⌝ }
+    requires { ⌜ length (now scratch) ≡ scratchSize ⌝ }
 {
     scratch[HINT] = place as u64;
 }

@@ -10,6 +10,7 @@ ghost use Prim.Native.Nat.{_≤_, _<_};
 ghost use lib.ListN.{length};
 ghost use Rattle.matching.specs.Inner.Search.Problem.{Shaped};
 ghost use Rattle.matching.specs.Inner.Search.Widen.{Mixed, StillFails};
+ghost use Rattle.matching.specs.Inner.Sizes.{scratchSize};
 ghost use Rattle.subsumption.specs.Lent.{before};
 
 const ALL: u64 = 18446744073709551615;
@@ -115,7 +116,7 @@ fn widen_runs(
     target: [u64; 8],
 ) -> [u64; 8]
     requires { ⌜ Shaped (now sets) (now problem) ⌝ }
-    requires { ⌜ (length (now scratch) ≡ 16977) × (m < 32) ⌝ }
+    requires { ⌜ (length (now scratch) ≡ scratchSize) × (m < 32) ⌝ }
     requires { ⌜ (length choice ≡ 8) × (length target ≡ 8) ⌝ }
     ensures { λ r. ⌜ Mixed choice target r ⌝ }
     ensures { λ r. ⌜ StillFails (before sets) (before problem) m choice target r ⌝ }
@@ -156,7 +157,7 @@ pub fn widen(
     target: [u64; 8],
 ) -> [u64; 8]
     requires { ⌜ Shaped (now sets) (now problem) ⌝ }
-    requires { ⌜ (length (now scratch) ≡ 16977) × (m < 32) ⌝ }
+    requires { ⌜ (length (now scratch) ≡ scratchSize) × (m < 32) ⌝ }
     requires { ⌜ (length choice ≡ 8) × (length target ≡ 8) ⌝ }
     ensures { λ r. ⌜ Mixed choice target r ⌝ }
     ensures { λ r. ⌜ StillFails (before sets) (before problem) m choice target r ⌝ }

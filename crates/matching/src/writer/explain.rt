@@ -9,6 +9,7 @@ use subsumption::helpers::row_at;
 ghost use Prim.Native.Nat.{_<_, _≤_};
 ghost use Rattle.subsumption.specs.Lent.{before};
 ghost use Rattle.subsumption.specs.Tables.{countOf, pairsOf};
+ghost use Rattle.subsumption.specs.Inner.Sizes.{rolesSize};
 ghost use mathlib.Core.Path.{_≡_};
 ghost use lib.ListN.{length};
 ghost use Rattle.matching.specs.Inner.Derivation.{Square};
@@ -67,7 +68,7 @@ fn try_rule(
     right: usize,
 ) -> Extra
     requires { ⌜ Grounds (now concepts) (now inclusions) (now atoms) (now assignment) ⌝ }
-    requires { ⌜ length (now into) ≡ 200 ⌝ }
+    requires { ⌜ length (now into) ≡ rolesSize ⌝ }
     requires { ⌜ Square (countOf (now concepts)) (now marks) ⌝ }
     requires { ⌜ (left < countOf (now concepts)) × (right < countOf (now concepts)) ⌝ }
     requires { ⌜ rule < 9 ⌝ }
@@ -108,7 +109,7 @@ fn explain(
     right: usize,
 ) -> Why
     requires { ⌜ Grounds (now concepts) (now inclusions) (now atoms) (now assignment) ⌝ }
-    requires { ⌜ length (now into) ≡ 200 ⌝ }
+    requires { ⌜ length (now into) ≡ rolesSize ⌝ }
     requires { ⌜ Square (countOf (now concepts)) (now marks) ⌝ }
     requires { ⌜ (left < countOf (now concepts)) × (right < countOf (now concepts)) ⌝ }
     ensures { λ r. ⌜ Explained (before concepts) (before inclusions) (before into) (before atoms) (before assignment)
@@ -146,7 +147,7 @@ pub fn test_line(
     line: u64,
 ) -> Next
     requires { ⌜ Grounds (now concepts) (now inclusions) (now atoms) (now assignment) ⌝ }
-    requires { ⌜ length (now into) ≡ 200 ⌝ }
+    requires { ⌜ length (now into) ≡ rolesSize ⌝ }
     requires { ⌜ Square (countOf (now concepts)) (now marks) ⌝ }
     ensures { λ r. ⌜ Tested (before concepts) (before inclusions) (before into) (before atoms) (before assignment) (before marks) r ⌝ }
 {
@@ -198,7 +199,7 @@ pub fn next_line(
     from: usize,
 ) -> Next
     requires { ⌜ Grounds (now concepts) (now inclusions) (now atoms) (now assignment) ⌝ }
-    requires { ⌜ length (now into) ≡ 200 ⌝ }
+    requires { ⌜ length (now into) ≡ rolesSize ⌝ }
     requires { ⌜ Square (countOf (now concepts)) (now marks) ⌝ }
     ensures { λ r. ⌜ Found (before concepts) (before inclusions) (before into) (before atoms) (before assignment) (before marks) from r ⌝ }
 {

@@ -7,6 +7,7 @@ ghost use Rattle.subsumption.specs.Lent.{before, after};
 ghost use Rattle.subsumption.specs.Atoms.{pick};
 ghost use lib.ListN.{length};
 ghost use Rattle.subsumption.specs.Inner.Columns.{has, Absorbs, Takes, inThree, Known, Common};
+ghost use Rattle.subsumption.specs.Inner.Sizes.{columnsSize};
 
 const ALL: u64 = 18446744073709551615;
 
@@ -22,7 +23,7 @@ fn absorb(columns: &mut [u64], at: usize, add: u64) -> bool
 }
 
 pub fn take(columns: &mut [u64], to: usize, first: u64, second: u64, third: u64) -> bool
-    requires { ⌜ length (now columns) ≡ 576 ⌝ }
+    requires { ⌜ length (now columns) ≡ columnsSize ⌝ }
     requires { ⌜ to < 192 ⌝ }
     ensures { λ r. ⌜ Takes (before columns) (after columns) (λ j. j ≡ to) (inThree first second third) r ⌝ }
 {
@@ -34,7 +35,7 @@ pub fn take(columns: &mut [u64], to: usize, first: u64, second: u64, third: u64)
 
 // Everything known to be below `from` is below `to`.
 pub fn flow(columns: &mut [u64], from: usize, to: usize) -> bool
-    requires { ⌜ length (now columns) ≡ 576 ⌝ }
+    requires { ⌜ length (now columns) ≡ columnsSize ⌝ }
     requires { ⌜ (from < 192) × (to < 192) ⌝ }
     ensures { λ r. ⌜ Takes (before columns) (after columns) (λ j. j ≡ to) (λ i. has (before columns) i from ≡ true) r ⌝ }
 {
@@ -46,7 +47,7 @@ pub fn flow(columns: &mut [u64], from: usize, to: usize) -> bool
 
 // Everything known to be below both `left` and `right` is below `to`.
 pub fn meet(columns: &mut [u64], left: usize, right: usize, to: usize) -> bool
-    requires { ⌜ length (now columns) ≡ 576 ⌝ }
+    requires { ⌜ length (now columns) ≡ columnsSize ⌝ }
     requires { ⌜ (left < 192) × (right < 192) × (to < 192) ⌝ }
     ensures { λ r. ⌜ Takes (before columns) (after columns) (λ j. j ≡ to)
         (λ i. (has (before columns) i left ≡ true) × (has (before columns) i right ≡ true)) r ⌝ }
@@ -59,7 +60,7 @@ pub fn meet(columns: &mut [u64], left: usize, right: usize, to: usize) -> bool
 
 // Every id is below `to`.
 pub fn fill(columns: &mut [u64], to: usize) -> bool
-    requires { ⌜ length (now columns) ≡ 576 ⌝ }
+    requires { ⌜ length (now columns) ≡ columnsSize ⌝ }
     requires { ⌜ to < 192 ⌝ }
     ensures { λ r. ⌜ Takes (before columns) (after columns) (λ j. j ≡ to) (λ i. Unit {0}) r ⌝ }
 {
@@ -68,7 +69,7 @@ pub fn fill(columns: &mut [u64], to: usize) -> bool
 
 // An id is below itself.
 pub fn mark(columns: &mut [u64], id: usize) -> bool
-    requires { ⌜ length (now columns) ≡ 576 ⌝ }
+    requires { ⌜ length (now columns) ≡ columnsSize ⌝ }
     requires { ⌜ id < 192 ⌝ }
     ensures { λ r. ⌜ Takes (before columns) (after columns) (λ j. j ≡ id) (λ i. i ≡ id) r ⌝ }
 {
@@ -77,7 +78,7 @@ pub fn mark(columns: &mut [u64], id: usize) -> bool
 
 // Whether i is known to be below j.
 pub fn below(columns: &[u64], i: usize, j: usize) -> bool
-    requires { ⌜ length (now columns) ≡ 576 ⌝ }
+    requires { ⌜ length (now columns) ≡ columnsSize ⌝ }
     requires { ⌜ (i < 192) × (j < 192) ⌝ }
     ensures { λ r. ⌜ r ≡ has (before columns) i j ⌝ }
 {
@@ -93,7 +94,7 @@ pub struct Words {
 
 // The bits that the columns of all chosen atoms have.
 fn common(atoms: &[u16], choice: u64, columns: &[u64]) -> Words
-    requires { ⌜ length (now columns) ≡ 576 ⌝ }
+    requires { ⌜ length (now columns) ≡ columnsSize ⌝ }
     requires { ⌜ Known (now atoms) ⌝ }
     ensures { λ r. ⌜ Common (length (before atoms)) (before atoms) choice (before columns) 0 (r .first) ⌝ }
     ensures { λ r. ⌜ Common (length (before atoms)) (before atoms) choice (before columns) 1 (r .second) ⌝ }
@@ -123,7 +124,7 @@ fn common(atoms: &[u16], choice: u64, columns: &[u64]) -> Words
 
 // Everything known to be below all chosen atoms is below the variable `to`.
 pub fn gather(atoms: &[u16], choice: u64, columns: &mut [u64], to: usize) -> bool
-    requires { ⌜ length (now columns) ≡ 576 ⌝ }
+    requires { ⌜ length (now columns) ≡ columnsSize ⌝ }
     requires { ⌜ Known (now atoms) ⌝ }
     requires { ⌜ to < 192 ⌝ }
     ensures { λ r. ⌜ Takes (before columns) (after columns) (λ j. j ≡ to)
@@ -135,7 +136,7 @@ pub fn gather(atoms: &[u16], choice: u64, columns: &mut [u64], to: usize) -> boo
 
 // Everything known to be below the variable `from` is below all chosen atoms.
 pub fn spread(atoms: &[u16], choice: u64, columns: &mut [u64], from: usize) -> bool
-    requires { ⌜ length (now columns) ≡ 576 ⌝ }
+    requires { ⌜ length (now columns) ≡ columnsSize ⌝ }
     requires { ⌜ Known (now atoms) ⌝ }
     requires { ⌜ from < 192 ⌝ }
     ensures { λ r. ⌜ Takes (before columns) (after columns) (λ p. List·Memᴰ p (pick (before atoms) choice))

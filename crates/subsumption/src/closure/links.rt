@@ -14,13 +14,14 @@ ghost use lib.ListN.{length, replicate};
 ghost use Rattle.subsumption.specs.Inner.Columns.{has, inThree};
 ghost use Rattle.subsumption.specs.Inner.Links.{Inner, Union, Existentials, KindsTo, Laid, LinkedTo};
 ghost use Rattle.subsumption.specs.Inner.Closure.{LinkPass};
+ghost use Rattle.subsumption.specs.Inner.Sizes.{columnsSize, rolesSize};
 
 // Notes the existentials: those of each inner id, all inner ids, those of each role.
 pub fn note_existentials(concepts: &[u16], outer: &mut [u64], inners: &mut [u64], lines: &mut [u64])
     requires { ⌜ Inner (now concepts) ⌝ }
-    requires { ⌜ now outer ≡ replicate 576 0 ⌝ }
+    requires { ⌜ now outer ≡ replicate columnsSize 0 ⌝ }
     requires { ⌜ now inners ≡ replicate 3 0 ⌝ }
-    requires { ⌜ now lines ≡ replicate 576 0 ⌝ }
+    requires { ⌜ now lines ≡ replicate columnsSize 0 ⌝ }
     ensures { λ _. ⌜ Existentials (before concepts) (after outer) (after inners) (after lines) (countOf (before concepts)) ⌝ }
 {
     let count = concepts.len() / 3;
@@ -42,8 +43,8 @@ pub fn note_existentials(concepts: &[u16], outer: &mut [u64], inners: &mut [u64]
 
 // For each role the existentials whose role counts as it.
 pub fn note_kinds(into: &[u64], lines: &[u64], kinds: &mut [u64])
-    requires { ⌜ length (now into) ≡ 200 ⌝ }
-    requires { ⌜ length (now lines) ≡ 576 ⌝ }
+    requires { ⌜ length (now into) ≡ rolesSize ⌝ }
+    requires { ⌜ length (now lines) ≡ columnsSize ⌝ }
     requires { ⌜ length (now kinds) ≡ 300 ⌝ }
     ensures { λ _. ⌜ KindsTo (before into) (before lines) (after kinds) 100 ⌝ }
 {
@@ -59,8 +60,8 @@ pub fn note_kinds(into: &[u64], lines: &[u64], kinds: &mut [u64])
 
 // The existentials whose inner id is below that id.
 fn over(columns: &[u64], outer: &[u64], inners: &[u64], inner: usize) -> Words
-    requires { ⌜ length (now columns) ≡ 576 ⌝ }
-    requires { ⌜ length (now outer) ≡ 576 ⌝ }
+    requires { ⌜ length (now columns) ≡ columnsSize ⌝ }
+    requires { ⌜ length (now outer) ≡ columnsSize ⌝ }
     requires { ⌜ length (now inners) ≡ 3 ⌝ }
     requires { ⌜ inner < 192 ⌝ }
     ensures { λ r. ⌜ Union (before outer) (λ x. (has (before columns) x inner ≡ true) × (has (before inners) x 0 ≡ true))
@@ -84,7 +85,7 @@ pub fn link_to(
 ) -> bool
     requires { ⌜ Inner (now concepts) ⌝ }
     requires { ⌜ Laid (now outer) (now inners) (now kinds) ⌝ }
-    requires { ⌜ length (now columns) ≡ 576 ⌝ }
+    requires { ⌜ length (now columns) ≡ columnsSize ⌝ }
     requires { ⌜ f < countOf (now concepts) ⌝ }
     ensures { λ r. ⌜ LinkPass (before concepts) (before outer) (before inners) (before kinds)
         (λ wide. LinkedTo (before concepts) wide f) (before columns) (after columns) r ⌝ }

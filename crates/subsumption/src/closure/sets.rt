@@ -6,6 +6,7 @@ ghost use lib.ListN.{length};
 ghost use Rattle.subsumption.specs.Lent.{before, after};
 ghost use Rattle.subsumption.specs.Inner.Columns.{inThree};
 ghost use Rattle.subsumption.specs.Inner.Links.{Inserted, Put, Joins, Union};
+ghost use Rattle.subsumption.specs.Inner.Sizes.{columnsSize};
 
 pub fn insert(sets: &mut [u64], to: usize, id: usize)
     requires { ⌜ id < 192 ⌝ }
@@ -52,7 +53,7 @@ fn join(sets: &[u64], from: usize, word: u64, set: Words) -> Words
 
 // The union of all sets whose numbers the three words hold.
 pub fn union(sets: &[u64], first: u64, second: u64, third: u64) -> Words
-    requires { ⌜ length (now sets) ≡ 576 ⌝ }
+    requires { ⌜ length (now sets) ≡ columnsSize ⌝ }
     ensures { λ r. ⌜ Union (before sets) (inThree first second third) (inThree (r .first) (r .second) (r .third)) ⌝ }
 {
     let none = Words {

@@ -13,6 +13,7 @@ ghost use lib.ListN.{length};
 ghost use Rattle.subsumption.specs.Inner.Names.{Firsts};
 ghost use Rattle.subsumption.specs.Inner.Settling.{Settleable, Descended, Ascended, chooseFrom};
 ghost use Rattle.subsumption.specs.Inner.Closure.{SettlePass};
+ghost use Rattle.subsumption.specs.Inner.Sizes.{columnsSize};
 
 // The steps at the row j that lead to itself and to smaller ids.
 pub fn descend(
@@ -23,7 +24,7 @@ pub fn descend(
     j: usize,
 ) -> bool
     requires { ⌜ Settleable (now concepts) (now atoms) (now assignment) ⌝ }
-    requires { ⌜ length (now columns) ≡ 576 ⌝ }
+    requires { ⌜ length (now columns) ≡ columnsSize ⌝ }
     requires { ⌜ j < countOf (now concepts) ⌝ }
     ensures { λ r. ⌜ SettlePass (before concepts) (chooseFrom (before atoms) (before assignment))
         (Descended (before concepts) (chooseFrom (before atoms) (before assignment)) j)
@@ -58,7 +59,7 @@ pub fn ascend(
 ) -> bool
     requires { ⌜ Settleable (now concepts) (now atoms) (now assignment) ⌝ }
     requires { ⌜ Firsts (now concepts) (now firsts) ⌝ }
-    requires { ⌜ length (now columns) ≡ 576 ⌝ }
+    requires { ⌜ length (now columns) ≡ columnsSize ⌝ }
     requires { ⌜ j < countOf (now concepts) ⌝ }
     ensures { λ r. ⌜ SettlePass (before concepts) (chooseFrom (before atoms) (before assignment))
         (Ascended (before concepts) (before firsts) (chooseFrom (before atoms) (before assignment)) j)
