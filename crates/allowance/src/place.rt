@@ -34,103 +34,106 @@ fn with_bit(set: [u64; 8], p: usize, count: usize, taken: bool) -> [u64; 8]
     set
 }
 
-// The next pair left out.
-pub fn leave(place: Place, count: usize) -> Place
-    requires { ⌜ (length (place .low) ≡ 8) × (length (place .high) ≡ 8) ⌝ }
-    requires { ⌜ (count ≤ 64) × (place .settled < 8 * count) ⌝ }
-    ensures { λ r. ⌜ (r .low ≡ place .low) × (r .settled ≡ place .settled + 1) ⌝ }
-    ensures { λ r. ⌜ Changed (place .high) (r .high) (place .settled / count) (place .settled % count) false ⌝ }
-{
-    let low = place.low;
-    let high = place.high;
-    let fewer = with_bit(high, place.settled, count, false);
-    Place {
-        low,
-        high: fewer,
-        settled: place.settled + 1,
-    }
-}
-
-// The next pair taken, permitted or not.
-fn take(place: Place, count: usize) -> Place
-    requires { ⌜ (length (place .low) ≡ 8) × (length (place .high) ≡ 8) ⌝ }
-    requires { ⌜ (count ≤ 64) × (place .settled < 8 * count) ⌝ }
-    ensures { λ r. ⌜ r .settled ≡ place .settled + 1 ⌝ }
-    ensures { λ r. ⌜ Changed (place .low) (r .low) (place .settled / count) (place .settled % count) true ⌝ }
-    ensures { λ r. ⌜ Changed (place .high) (r .high) (place .settled / count) (place .settled % count) true ⌝ }
-{
-    let low = place.low;
-    let high = place.high;
-    let below = with_bit(low, place.settled, count, true);
-    let above = with_bit(high, place.settled, count, true);
-    Place {
-        low: below,
-        high: above,
-        settled: place.settled + 1,
-    }
-}
-
-// The last settled pair is taken.
-fn is_taken(place: Place, count: usize) -> bool
-    requires { ⌜ (count ≤ 64) × (0 < place .settled) × (place .settled ≤ 8 * count) ⌝ }
-    ensures { λ r. ⌜ r ≡ takes (place .low) ((place .settled - 1) / count) ((place .settled - 1) % count) ⌝ }
-{
-    let p = place.settled - 1;
-    let low = place.low;
-    has_bit(low[p / count], p % count)
-}
-
-// The last settled pair unsettled again.
-fn up(place: Place, permitted: [u64; 8], count: usize) -> Place
-    requires { ⌜ (length (place .low) ≡ 8) × (length (place .high) ≡ 8) ⌝ }
-    requires { ⌜ (count ≤ 64) × (0 < place .settled) × (place .settled ≤ 8 * count) ⌝ }
-    ensures { λ r. ⌜ r .settled ≡ place .settled - 1 ⌝ }
-    ensures { λ r. ⌜ Changed (place .low) (r .low) ((place .settled - 1) / count) ((place .settled - 1) % count) false ⌝ }
-    ensures { λ r. ⌜ Changed (place .high) (r .high) ((place .settled - 1) / count) ((place .settled - 1) % count)
-        (takes permitted ((place .settled - 1) / count) ((place .settled - 1) % count)) ⌝ }
-{
-    let p = place.settled - 1;
-    let low = place.low;
-    let high = place.high;
-    let may = has_bit(permitted[p / count], p % count);
-    let below = with_bit(low, p, count, false);
-    let above = with_bit(high, p, count, may);
-    Place {
-        low: below,
-        high: above,
-        settled: p,
-    }
-}
-
-// The next partial choice in the order that does not extend this one, if there is one.
+// What comes next, if anything does.
 pub struct Next {
     pub found: bool,
     pub place: Place,
 }
 
-pub fn next_sibling(place: Place, permitted: [u64; 8], count: usize) -> Next
-    requires { ⌜ (length (place .low) ≡ 8) × (length (place .high) ≡ 8) ⌝ }
-    requires { ⌜ (count ≤ 64) × (place .settled ≤ 8 * count) ⌝ }
-    ensures { λ r. ⌜ (length (r .place .low) ≡ 8) × (length (r .place .high) ≡ 8) ⌝ }
-    ensures { λ r. ⌜ r .place .settled ≤ 8 * count ⌝ }
-    ensures { λ r. ⌜ NextFrom count permitted (place .low) (place .high) (place .settled) (r .found) (r .place .low)
-        (r .place .high) (r .place .settled) ⌝ }
-{
-    let mut at = place;
-    while at.settled > 0 {
-        let taken = is_taken(at, count);
-        let parent = up(at, permitted, count);
-        at = parent;
-        if !taken {
-            let sibling = take(at, count);
-            return Next {
-                found: true,
-                place: sibling,
-            };
+impl Place {
+    // The next pair left out.
+    pub fn leave(self, count: usize) -> Place
+        requires { ⌜ (length (self .low) ≡ 8) × (length (self .high) ≡ 8) ⌝ }
+        requires { ⌜ (count ≤ 64) × (self .settled < 8 * count) ⌝ }
+        ensures { λ r. ⌜ (r .low ≡ self .low) × (r .settled ≡ self .settled + 1) ⌝ }
+        ensures { λ r. ⌜ Changed (self .high) (r .high) (self .settled / count) (self .settled % count) false ⌝ }
+    {
+        let low = self.low;
+        let high = self.high;
+        let fewer = with_bit(high, self.settled, count, false);
+        Place {
+            low,
+            high: fewer,
+            settled: self.settled + 1,
         }
     }
-    Next {
-        found: false,
-        place: at,
+
+    // The next pair taken, permitted or not.
+    fn take(self, count: usize) -> Place
+        requires { ⌜ (length (self .low) ≡ 8) × (length (self .high) ≡ 8) ⌝ }
+        requires { ⌜ (count ≤ 64) × (self .settled < 8 * count) ⌝ }
+        ensures { λ r. ⌜ r .settled ≡ self .settled + 1 ⌝ }
+        ensures { λ r. ⌜ Changed (self .low) (r .low) (self .settled / count) (self .settled % count) true ⌝ }
+        ensures { λ r. ⌜ Changed (self .high) (r .high) (self .settled / count) (self .settled % count) true ⌝ }
+    {
+        let low = self.low;
+        let high = self.high;
+        let below = with_bit(low, self.settled, count, true);
+        let above = with_bit(high, self.settled, count, true);
+        Place {
+            low: below,
+            high: above,
+            settled: self.settled + 1,
+        }
+    }
+
+    // The last settled pair is taken.
+    fn is_taken(self, count: usize) -> bool
+        requires { ⌜ (count ≤ 64) × (0 < self .settled) × (self .settled ≤ 8 * count) ⌝ }
+        ensures { λ r. ⌜ r ≡ takes (self .low) ((self .settled - 1) / count) ((self .settled - 1) % count) ⌝ }
+    {
+        let p = self.settled - 1;
+        let low = self.low;
+        has_bit(low[p / count], p % count)
+    }
+
+    // The last settled pair unsettled again.
+    fn up(self, permitted: [u64; 8], count: usize) -> Place
+        requires { ⌜ (length (self .low) ≡ 8) × (length (self .high) ≡ 8) ⌝ }
+        requires { ⌜ (count ≤ 64) × (0 < self .settled) × (self .settled ≤ 8 * count) ⌝ }
+        ensures { λ r. ⌜ r .settled ≡ self .settled - 1 ⌝ }
+        ensures { λ r. ⌜ Changed (self .low) (r .low) ((self .settled - 1) / count) ((self .settled - 1) % count) false ⌝ }
+        ensures { λ r. ⌜ Changed (self .high) (r .high) ((self .settled - 1) / count) ((self .settled - 1) % count)
+            (takes permitted ((self .settled - 1) / count) ((self .settled - 1) % count)) ⌝ }
+    {
+        let p = self.settled - 1;
+        let low = self.low;
+        let high = self.high;
+        let may = has_bit(permitted[p / count], p % count);
+        let below = with_bit(low, p, count, false);
+        let above = with_bit(high, p, count, may);
+        Place {
+            low: below,
+            high: above,
+            settled: p,
+        }
+    }
+
+    // The next partial choice in the order that does not extend this one, if there is one.
+    pub fn next_sibling(self, permitted: [u64; 8], count: usize) -> Next
+        requires { ⌜ (length (self .low) ≡ 8) × (length (self .high) ≡ 8) ⌝ }
+        requires { ⌜ (count ≤ 64) × (self .settled ≤ 8 * count) ⌝ }
+        ensures { λ r. ⌜ (length (r .place .low) ≡ 8) × (length (r .place .high) ≡ 8) ⌝ }
+        ensures { λ r. ⌜ r .place .settled ≤ 8 * count ⌝ }
+        ensures { λ r. ⌜ NextFrom count permitted (self .low) (self .high) (self .settled) (r .found) (r .place .low)
+            (r .place .high) (r .place .settled) ⌝ }
+    {
+        let mut at = self;
+        while at.settled > 0 {
+            let taken = at.is_taken(count);
+            let parent = at.up(permitted, count);
+            at = parent;
+            if !taken {
+                let sibling = at.take(count);
+                return Next {
+                    found: true,
+                    place: sibling,
+                };
+            }
+        }
+        Next {
+            found: false,
+            place: at,
+        }
     }
 }

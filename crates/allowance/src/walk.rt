@@ -3,8 +3,6 @@
 use crate::kept::KEPT;
 use crate::kept::holds;
 use crate::place::Place;
-use crate::place::leave;
-use crate::place::next_sibling;
 use matching::helpers::ASKED;
 use matching::helpers::MOST;
 use matching::helpers::SCRATCH;
@@ -97,11 +95,11 @@ pub fn walk(
                     met,
                 };
             }
-            let next = leave(place, count);
+            let next = place.leave(count);
             place = next;
             continue;
         }
-        let next = next_sibling(place, permitted, count);
+        let next = place.next_sibling(permitted, count);
         if !next.found {
             return Trail {
                 found: false,

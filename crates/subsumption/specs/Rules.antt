@@ -3,6 +3,7 @@ use Prim.Native.Nat.{ℕ, zero, suc}
 use mathlib.Core.List.{List, [], _∷_}
 use mathlib.Core.Bool.{Bool, true, false}
 use lib.Dec.{eqb, ltb}
+use lib.ListN.{getD}
 use Rattle.subsumption.specs.Tables.{Tables, or, both, Node, topAt, nameAt, existsAt, andAt, varAt, node, countOf, pairsOf, leftOf, rightOf}
 use Rattle.subsumption.specs.Atoms.{chosen}
 use Rattle.subsumption.specs.Roles.{wider}
@@ -73,24 +74,49 @@ onVariable test (existsAt r j) = false
 onVariable test (andAt i j) = false
 
 module _ (t : Tables) (assignment : List ℕ) (proved : ℕ → ℕ → Bool) where
-  -- What the rule asks of the line's left, right and extra.
-  unfoldable pub byRule : ℕ → ℕ → ℕ → ℕ → Bool
-  byRule zero left right extra = false
-  byRule (suc zero) left right extra =
-      both (eqb extra 0) (or (eqb left right) (sameName (node (t .concepts) left) (node (t .concepts) right)))
-  byRule (suc (suc zero)) left right extra = both (eqb extra 0) (isTop (node (t .concepts) right))
-  byRule (suc (suc (suc zero))) left right extra = onPicked extra (λ i. proved i right) (node (t .concepts) left)
-  byRule (suc (suc (suc (suc zero)))) left right extra = both (eqb extra 0) (onBoth (λ j. proved left j) (node (t .concepts) right))
-  byRule (suc (suc (suc (suc (suc zero))))) left right extra =
+  -- 1. Equal ids, or two name rows of one name.
+  abbrev pub rule1 : ℕ → ℕ → ℕ → Bool
+  rule1 left right extra = both (eqb extra 0) (or (eqb left right) (sameName (node (t .concepts) left) (node (t .concepts) right)))
+
+  -- 2. The right is top.
+  abbrev pub rule2 : ℕ → ℕ → ℕ → Bool
+  rule2 left right extra = both (eqb extra 0) (isTop (node (t .concepts) right))
+
+  -- 3. The left is "and": of its inner ids the one that the extra picks is below the right.
+  abbrev pub rule3 : ℕ → ℕ → ℕ → Bool
+  rule3 left right extra = onPicked extra (λ i. proved i right) (node (t .concepts) left)
+
+  -- 4. The right is "and": the left is below both inner ids.
+  abbrev pub rule4 : ℕ → ℕ → ℕ → Bool
+  rule4 left right extra = both (eqb extra 0) (onBoth (λ j. proved left j) (node (t .concepts) right))
+
+  -- 5. Two "some" rows, the left's role counts as the right's: inner below inner.
+  abbrev pub rule5 : ℕ → ℕ → ℕ → Bool
+  rule5 left right extra =
       both (eqb extra 0) (onInner (wider (t .roles)) proved (node (t .concepts) left) (node (t .concepts) right))
-  byRule (suc (suc (suc (suc (suc (suc zero)))))) left right extra =
+
+  -- 6. The extra is an inclusion's place: the left is below its left, and its right below the right.
+  abbrev pub rule6 : ℕ → ℕ → ℕ → Bool
+  rule6 left right extra =
       both (ltb extra (pairsOf (t .inclusions)))
       (both (proved left (leftOf (t .inclusions) extra)) (proved (rightOf (t .inclusions) extra) right))
-  byRule (suc (suc (suc (suc (suc (suc (suc zero))))))) left right extra =
+
+  -- 7. The left is a variable: the extra is the id of a chosen atom that is below the right.
+  abbrev pub rule7 : ℕ → ℕ → ℕ → Bool
+  rule7 left right extra =
       onVariable (λ k. both (contains extra (chosen t assignment k)) (proved extra right)) (node (t .concepts) left)
-  byRule (suc (suc (suc (suc (suc (suc (suc (suc zero)))))))) left right extra =
+
+  -- 8. The right is a variable: the left is below each chosen atom.
+  abbrev pub rule8 : ℕ → ℕ → ℕ → Bool
+  rule8 left right extra =
       both (eqb extra 0) (onVariable (λ k. every (λ p. proved left p) (chosen t assignment k)) (node (t .concepts) right))
-  byRule (suc (suc (suc (suc (suc (suc (suc (suc (suc rule))))))))) left right extra = false
+
+  abbrev pub noRule : ℕ → ℕ → ℕ → Bool
+  noRule left right extra = false
+
+  -- What the rule of that number asks of a line's left, right and extra.
+  unfoldable pub byRule : ℕ → ℕ → ℕ → ℕ → Bool
+  byRule rule = getD (noRule ∷ rule1 ∷ rule2 ∷ rule3 ∷ rule4 ∷ rule5 ∷ rule6 ∷ rule7 ∷ rule8 ∷ []) rule noRule
 
   -- A line is right when its left and right are entry ids and its rule's premises are proved.
   unfoldable pub follows : ℕ → ℕ → ℕ → ℕ → Bool

@@ -73,10 +73,10 @@ Searched sets problem full low high before after Given =
 abbrev pub Stepped : List ℕ → List ℕ → List ℕ → List ℕ → List ℕ → List ℕ → List ℕ → Step → Type 0
 Stepped sets problem full low high before after step =
     ((length (step .low) ≡ 8) × (length (step .high) ≡ 8))
-    × Room after
-    × (step .done ≡ false → (step .pair < 512) × (undecided low high (step .pair) ≡ true))
+    × (Room after
+    × ((step .done ≡ false → (step .pair < 512) × (undecided low high (step .pair) ≡ true))
     × Searched sets problem full low high before after
-    (λ t. step .done ≡ true → Answers t problem low high (step .found) (step .low) (step .high))
+    (λ t. step .done ≡ true → Answers t problem low high (step .found) (step .low) (step .high))))
 
 abbrev pub CanSplit : List ℕ → List ℕ → ℕ → Bool → Type 0
 CanSplit low high pair true = (pair < 512) × (undecided low high pair ≡ true)

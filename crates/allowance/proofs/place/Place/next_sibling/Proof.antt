@@ -5,8 +5,8 @@ use Prim.Native.Nat.{_*_, _≤_}
 use native.Mathlib.Omega.{arith}
 use lib.ListN.{length}
 use Rattle.allowance.proofs.PlaceLaws.{Climbs, climbs-none, climbed-top, climbed-up, climbed-aside}
-use Rattle.allowance.proofs.place.next_sibling.Statement.{statement}
-use Rattle.allowance.proofs.place.next_sibling.Tie as tie
+use Rattle.allowance.proofs.place.Place.next_sibling.Statement.{statement}
+use Rattle.allowance.proofs.place.Place.next_sibling.Tie as tie
 
 abbrev Inv-loop : tie.InvT-loop
 Inv-loop permitted count at₀ at =
