@@ -231,11 +231,12 @@ pub fn items(text: &str) -> Vec<Item> {
     found
 }
 
-/// The clauses of the functions of a file of `src/`.
+/// The clauses of the functions of a file of `src/`, each on one line: all from the line of its ⌜ to that of its ⌝.
 pub fn clauses(text: &str) -> BTreeMap<String, String> {
     let mut found = BTreeMap::new();
     let mut name = None;
     let mut clause = String::new();
+    let mut goes_on = false;
     for line in text.lines() {
         let start = line.strip_prefix("pub fn ").or_else(|| line.strip_prefix("pub extern \"C\" fn "));
         if let Some(rest) = start {
@@ -244,13 +245,15 @@ pub fn clauses(text: &str) -> BTreeMap<String, String> {
             clause.clear();
         }
         if line == "{" {
+            assert!(!goes_on, "a clause without an end: {}", clause);
             if let Some(name) = name.take() {
                 found.insert(name, clause.clone());
             }
         }
-        if name.is_some() && line.contains('⌜') || line.trim_start().starts_with('(') {
-            clause += line;
-            clause += "\n";
+        if name.is_some() && (goes_on || line.contains('⌜')) {
+            goes_on = line.rfind('⌜') > line.rfind('⌝') || goes_on && !line.contains('⌝');
+            clause += line.trim();
+            clause += if goes_on { " " } else { "\n" };
         }
     }
     found

@@ -118,6 +118,8 @@ fn contracts_are_compared() {
     assert_eq!(plain.passes_on(), Some("y::g"));
     for (clause, body, passed) in [
         ("ensures { λ  s. ⌜ Is a s ⌝ }", "    y::g(a, b)", Some("y::g")),
+        ("ensures { λ  s. ⌜ Is a\n        s ⌝ }", "    y::g(a)", Some("y::g")),
+        ("ensures { λ r. ⌜ Is a r\n        × Is r r ⌝ }", "    y::g(a)", Some("y::g")),
         ("ensures { λ r. ⌜ Is a a ⌝ }", "    y::g(z::h(a))", None),
         ("requires { ⌜ Is a a ⌝ }\n    ensures { λ r. ⌜ Is a r ⌝ }", "    y::g(1 + a)", None),
         (
