@@ -94,9 +94,27 @@ const PROGRAM: &[(&str, &str, &str)] =
 
 pub type Imports = BTreeMap<String, Name>;
 
+/// The line `module _ .. where` over definitions, which binds names for them, and its place in the file.
+#[derive(Clone)]
+pub struct Section {
+    at: usize,
+    line: String,
+}
+
+/// A definition of a file, with the names that it defines.
 pub struct Item {
     pub names: Vec<String>,
+    pub section: Option<Section>,
+    /// Its lines, without comments.
     pub text: String,
+}
+
+impl Item {
+    /// What it cites, by the names that are known in its file.
+    fn cites(&self, known: &Imports) -> BTreeSet<Name> {
+        let bound = self.section.as_ref().map_or("", |section| &section.line);
+        resolve(&format!("{}\n{}", bound, self.text), known)
+    }
 }
 
 pub fn crates_dir() -> PathBuf {
@@ -199,33 +217,35 @@ fn constructors(line: &str) -> Vec<String> {
     names.split_whitespace().map(str::to_string).collect()
 }
 
-/// The definitions of a file of `specs/`, each with what its section binds.
+/// The definitions of a file of `specs/`, each with its section.
 pub fn items(text: &str) -> Vec<Item> {
     let mut found: Vec<Item> = Vec::new();
-    let mut section = String::new();
+    let mut section = None;
     let mut in_data = false;
-    for line in text.lines() {
+    for (at, line) in text.lines().enumerate() {
         if line.starts_with("module _") {
-            section = line.to_string();
+            assert!(line.ends_with(" where"), "more than a line: {}", line);
+            section = Some(Section { at, line: line.to_string() });
             continue;
         }
         if !line.is_empty() && !line.starts_with(' ') {
-            section = String::new();
+            section = None;
         }
         if line.starts_with("use ") || line.trim_start().starts_with("--") {
             continue;
         }
         if let Some(name) = head(line) {
             in_data = line.trim_start().starts_with("pub data ");
-            found.push(Item { names: vec![name.to_string()], text: section.clone() });
+            let (names, section) = (vec![name.to_string()], section.clone());
+            found.push(Item { names, section, text: String::new() });
         } else if in_data {
             if let Some(item) = found.last_mut() {
                 item.names.extend(constructors(line));
             }
         }
         if let Some(item) = found.last_mut() {
-            item.text += "\n";
             item.text += line;
+            item.text += "\n";
         }
     }
     found
@@ -291,19 +311,22 @@ pub fn resolve(text: &str, imports: &Imports) -> BTreeSet<Name> {
     words(text).iter().filter_map(|word| imports.get(word)).cloned().collect()
 }
 
+/// What the contracts of the functions of a file of `src/` cite, by function.
+fn cited_in(of: &str, module: &str) -> BTreeMap<String, BTreeSet<Name>> {
+    let text = read(&crates_dir().join(of).join("src").join(format!("{}.rt", module)));
+    let brought = imports(&text);
+    let cited = |(function, clause): (String, String)| (function, resolve(&clause, &brought));
+    clauses(&text).into_iter().map(cited).collect()
+}
+
 /// What the contracts of the public operations cite.
 fn cited_by_operations() -> BTreeSet<Name> {
     let mut found = BTreeSet::new();
     for of in crate_names() {
         for (module, name) in operations(&of) {
-            let path = crates_dir().join(&of).join("src").join(format!("{}.rt", module));
-            let text = read(&path);
-            let brought = imports(&text);
-            for (function, clause) in clauses(&text) {
-                if name.is_empty() || function == name {
-                    found.extend(resolve(&clause, &brought));
-                }
-            }
+            let cited = cited_in(&of, &module).into_iter();
+            let asked = cited.filter(|(function, _)| name.is_empty() || *function == name);
+            found.extend(asked.flat_map(|(_, names)| names));
         }
     }
     found
@@ -326,6 +349,10 @@ fn cited_by(sentence: &Sentence) -> BTreeSet<Name> {
     resolve(&signature.join("\n"), &imports(&text))
 }
 
+fn cited_by_sentences() -> BTreeSet<Name> {
+    SENTENCES.iter().flat_map(cited_by).collect()
+}
+
 /// All crates: one may have operations and no definitions, as `capi`, or definitions and no code, as `cards`.
 pub fn crate_names() -> Vec<String> {
     let mut found: Vec<String> = fs::read_dir(crates_dir())
@@ -336,15 +363,24 @@ pub fn crate_names() -> Vec<String> {
     found
 }
 
+struct Definition {
+    cites: BTreeSet<Name>,
+    /// How many lines it has, without empty ones.
+    lines: usize,
+    /// The place of its section in its file.
+    section: Option<usize>,
+}
+
 /// The definitions of all `specs/`, each with those that it cites. Constructors stand for their type.
+#[derive(Default)]
 pub struct Definitions {
-    cites: BTreeMap<Name, BTreeSet<Name>>,
+    by_name: BTreeMap<Name, Definition>,
     type_of: BTreeMap<Name, Name>,
 }
 
 impl Definitions {
     pub fn of_all_crates() -> Definitions {
-        let mut all = Definitions { cites: BTreeMap::new(), type_of: BTreeMap::new() };
+        let mut all = Definitions::default();
         for of in crate_names() {
             let folder = crates_dir().join(&of).join("specs");
             for path in files(&folder, "antt") {
@@ -356,7 +392,8 @@ impl Definitions {
         all
     }
 
-    fn add(&mut self, of: &str, module: &str, text: &str) {
+    /// Adds those of a file.
+    pub fn add(&mut self, of: &str, module: &str, text: &str) {
         let items = items(text);
         let mut known = imports(text);
         for item in &items {
@@ -369,35 +406,47 @@ impl Definitions {
         }
         for item in &items {
             let name = Name { of: of.into(), module: module.into(), name: item.names[0].clone() };
-            let cited = resolve(&item.text, &known);
-            self.cites.insert(name, cited);
+            let lines = item.text.lines().filter(|line| !line.trim().is_empty()).count();
+            let section = item.section.as_ref().map(|section| section.at);
+            self.by_name.insert(name, Definition { cites: item.cites(&known), lines, section });
         }
     }
 
     pub fn all(&self) -> BTreeSet<Name> {
-        self.cites.keys().cloned().collect()
+        self.by_name.keys().cloned().collect()
     }
 
     /// The definitions that the public contracts and the sentences reach.
     pub fn reached(&self) -> BTreeSet<Name> {
-        let sentences = SENTENCES.iter().flat_map(cited_by);
-        self.reached_from(cited_by_operations().into_iter().chain(sentences).collect())
+        self.reached_from(cited_by_operations().into_iter().chain(cited_by_sentences()))
     }
 
     /// The definitions that one sentence reaches.
     pub fn reached_by(&self, sentence: &Sentence) -> BTreeSet<Name> {
-        self.reached_from(cited_by(sentence).into_iter().collect())
+        self.reached_from(cited_by(sentence))
     }
 
-    fn reached_from(&self, mut open: Vec<Name>) -> BTreeSet<Name> {
+    /// The definitions that these names are of, and all that they cite, further and further.
+    pub fn reached_from(&self, names: impl IntoIterator<Item = Name>) -> BTreeSet<Name> {
+        let mut open: Vec<Name> = names.into_iter().collect();
         let mut found = BTreeSet::new();
         while let Some(name) = open.pop() {
             let name = self.type_of.get(&name).unwrap_or_else(|| panic!("no definition {:?}", name)).clone();
             if found.insert(name.clone()) {
-                open.extend(self.cites[&name].iter().cloned());
+                open.extend(self.by_name[&name].cites.iter().cloned());
             }
         }
         found
+    }
+
+    /// The lines of definitions: without imports, comments and empty lines. A section's line counts once, with those that stand in it.
+    pub fn lines(&self, names: &BTreeSet<Name>) -> usize {
+        let own: usize = names.iter().map(|name| self.by_name[name].lines).sum();
+        let section = |name: &Name| {
+            let at = self.by_name[name].section?;
+            Some((name.of.clone(), name.module.clone(), at))
+        };
+        own + names.iter().filter_map(section).collect::<BTreeSet<_>>().len()
     }
 }
 

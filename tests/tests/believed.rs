@@ -33,6 +33,71 @@ fn the_readme_says_how_much_there_is_to_believe() {
     assert!(readme.contains(&wanted), "README.md does not say that there are {} to believe", wanted);
 }
 
+const KINDS: &str = "\
+-- Kinds.
+use Prim.Native.Nat.{ℕ}
+
+pub data Kind : Type 0 where
+  -- two of them
+  one two : Kind
+  deriving Discrete as kind-discrete
+
+module _ (k : Kind) where
+  -- It does not cite what stands beside it, here only: beside.
+  unfoldable pub inside : ℕ → ℕ
+
+  inside n = n
+
+  abbrev pub beside : Kind
+  beside = k
+
+module _ (n : ℕ) where
+  abbrev pub counted : ℕ
+  counted = n
+abbrev pub plain : ℕ
+plain = 0
+";
+
+const USES: &str = "\
+use Rattle.x.specs.Kinds.{two, inside as within, beside, counted}
+use Rattle.x.specs.Kinds.{plain}
+use Rattle.x.specs.declared.kinds.Code.{Code}
+
+pub record Is (n : ℕ) : Type 0 where
+  pub kind : two ≡ beside two
+  pub code : Code
+
+-- plain
+abbrev pub Was : ℕ → Type 0
+Was n =
+    within two n ≡ n × Is n
+";
+
+/// Each definition that the names lead to counts once, and so does the line of a section.
+#[test]
+fn lines_are_counted_along_the_names() {
+    let mut definitions = Definitions::default();
+    definitions.add("x", "Kinds", KINDS);
+    definitions.add("y", "Uses", USES);
+    let lines = |names: &[(&str, &str, &str)]| {
+        let name = |(of, module, name): &(&str, &str, &str)| Name {
+            of: of.to_string(),
+            module: module.to_string(),
+            name: name.to_string(),
+        };
+        definitions.lines(&definitions.reached_from(names.iter().map(name)))
+    };
+    assert_eq!(lines(&[]), 0);
+    assert_eq!(lines(&[("x", "Kinds", "plain")]), 2);
+    assert_eq!(lines(&[("x", "Kinds", "Kind")]), 3);
+    assert_eq!(lines(&[("x", "Kinds", "one"), ("x", "Kinds", "kind-discrete")]), 3);
+    assert_eq!(lines(&[("x", "Kinds", "counted")]), 3);
+    assert_eq!(lines(&[("x", "Kinds", "inside")]), 3 + 3);
+    assert_eq!(lines(&[("x", "Kinds", "inside"), ("x", "Kinds", "beside")]), 3 + 5);
+    assert_eq!(lines(&[("y", "Uses", "Is")]), 3 + 3 + 3);
+    assert_eq!(lines(&[("y", "Uses", "Was"), ("x", "Kinds", "plain")]), 3 + 3 + 3 + 5 + 2);
+}
+
 /// A clause runs from ⌜ to ⌝, whatever its lines begin with; what stands in a body is none.
 #[test]
 fn clauses_are_read_to_their_end() {
