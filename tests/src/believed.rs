@@ -1,7 +1,7 @@
 //! What a reader must believe: the definitions that the contracts of the public operations and the sentences of the scope reach.
 //!
 //! A contract cites definitions of `specs/`, and these cite others. This module reads the sources as text, follows the names, and so
-//! tells the definitions that are reached from those that only private contracts use.
+//! tells the definitions that are reached from those that only private contracts use, and counts their lines.
 
 use std::collections::{BTreeMap, BTreeSet};
 use std::ffi::OsStr;
@@ -91,6 +91,22 @@ pub const SENTENCES: &[Sentence] = &[
 /// The functions of a program that stand for it, since a program passes nothing on.
 const PROGRAM: &[(&str, &str, &str)] =
     &[("hermitcasket", "answer", "answer"), ("hermitcasket", "parts", "put_part"), ("hermitcasket_owl", "answer", "answer")];
+
+/// 01's eight operations: check, list the atoms, table, decide, find, chosen, derive, check a derivation.
+const EIGHT: [&str; 8] = [
+    "hc_check",
+    "hc_atoms",
+    "hc_subsumption_table",
+    "hc_subsumed",
+    "hc_match",
+    "hc_chosen",
+    "hc_derive",
+    "hc_check_derivation",
+];
+
+/// The row of SENTENCES.
+const LAWS: &str =
+    "the laws beside them, in further lines: small edits, renumbering, sample cards and others";
 
 pub type Imports = BTreeMap<String, Name>;
 
@@ -332,6 +348,14 @@ fn cited_by_operations() -> BTreeSet<Name> {
     found
 }
 
+/// What the contracts of both programs cite.
+fn cited_by_programs() -> BTreeSet<Name> {
+    let cited = |(of, module, function): &(&str, &str, &str)| {
+        cited_in(of, module).remove(*function).expect("a program's function")
+    };
+    PROGRAM.iter().flat_map(cited).collect()
+}
+
 /// What a sentence cites: the law's signature runs to the line that starts its proof, or to what that unfolds.
 fn cited_by(sentence: &Sentence) -> BTreeSet<Name> {
     let path = crates_dir().join(sentence.of).join(format!("proofs/{}.antt", sentence.file));
@@ -448,16 +472,28 @@ impl Definitions {
         };
         own + names.iter().filter_map(section).collect::<BTreeSet<_>>().len()
     }
-}
 
-/// The lines of the files at the top of `specs/`, without empty ones: what there is to read.
-pub fn lines_to_believe() -> usize {
-    let lines = |path: &Path| read(path).lines().filter(|line| !line.is_empty()).count();
-    crate_names()
-        .iter()
-        .flat_map(|of| files(&crates_dir().join(of).join("specs"), "antt"))
-        .filter(|path| !path.to_string_lossy().contains("/Inner"))
-        .filter(|path| path.file_name() != Some(OsStr::new("Lib.antt")))
-        .map(|path| lines(&path))
-        .sum()
+    /// What one may want to believe, and how many lines of definitions that reaches. Declared types of the code are not counted.
+    pub fn table(&self) -> Vec<(String, usize)> {
+        let lines = |names: &BTreeSet<Name>| self.lines(&self.reached_from(names.iter().cloned()));
+        let none = Name { of: "matching".into(), module: "Find".into(), name: "NoneSolves".into() };
+        let none = lines(&BTreeSet::from([none]));
+        let exports = cited_in("capi", "lib");
+        let eight = EIGHT.iter().flat_map(|name| exports[*name].clone()).collect();
+        let eight_names = format!("`{}`", EIGHT.join("`, `"));
+        let every: BTreeSet<Name> = exports.values().flatten().cloned().collect();
+        let promised: BTreeSet<Name> = every.iter().cloned().chain(cited_by_programs()).collect();
+        let said = promised.iter().cloned().chain(cited_by_sentences()).collect();
+        let all = self.lines(&self.reached());
+        let rows = [
+            ("a \"none\": no replacement of any size (`NoneSolves`)", none),
+            ("all that `hc_match` promises", lines(&exports["hc_match"])),
+            (eight_names.as_str(), lines(&eight)),
+            ("every function for C and Rust", lines(&every)),
+            ("these and both programs", lines(&promised)),
+            (LAWS, lines(&said) - lines(&promised)),
+            ("everything, also the operations as Rattle code calls them", all),
+        ];
+        rows.iter().map(|(what, lines)| (what.to_string(), *lines)).collect()
+    }
 }

@@ -2,7 +2,7 @@
 
 use std::collections::BTreeSet;
 
-use hermitcasket_tests::believed::{clauses, lines_to_believe, Definitions, Name};
+use hermitcasket_tests::believed::{clauses, Definitions, Name};
 
 fn list(names: &BTreeSet<&Name>) -> String {
     let rows = names.iter().map(|name| format!("  {} {}.{}", name.of, name.module, name.name));
@@ -26,11 +26,26 @@ fn what_is_not_reached_stands_in_the_private_module() {
     assert!(open.is_empty(), "no public contract reaches these at the top of specs/:\n{}", list(&open));
 }
 
+/// README.md has the table, which `--nocapture` prints.
 #[test]
 fn the_readme_says_how_much_there_is_to_believe() {
-    let readme = include_str!("../../README.md");
-    let wanted = format!("{} lines", lines_to_believe());
-    assert!(readme.contains(&wanted), "README.md does not say that there are {} to believe", wanted);
+    let rows = Definitions::of_all_crates().table();
+    let rows: String =
+        rows.iter().map(|(what, lines)| format!("| {} | {} |\n", what, lines)).collect();
+    let table = format!("\n| what you have to believe | lines |\n|---|---|\n{}\n", rows);
+    println!("{}", table);
+    let is_there = include_str!("../../README.md").contains(&table);
+    assert!(is_there, "README.md has another table than\n{}", table);
+}
+
+/// Each of the first five is part of the next, and everything of all.
+#[test]
+fn who_wants_more_has_more_to_believe() {
+    let lines: Vec<usize> =
+        Definitions::of_all_crates().table().iter().map(|(_, lines)| *lines).collect();
+    assert_eq!(lines.len(), 7);
+    assert!(lines[..5].windows(2).all(|two| two[0] < two[1]), "{:?}", lines);
+    assert!(lines[4] + lines[5] <= lines[6] && lines[5] > 0, "{:?}", lines);
 }
 
 const KINDS: &str = "\
