@@ -17,11 +17,13 @@ use subsumption::list_atoms;
 use subsumption::refusal::Outcome;
 use subsumption::refusal::Refusal;
 ghost use mathlib.Core.Path.{_≡_};
-ghost use Rattle.subsumption.specs.Lent.{given, lent, before, after};
+ghost use Rattle.subsumption.specs.Lent.{lent, before, after};
+ghost use Rattle.subsumption.specs.Inner.Lent.{given};
 ghost use Rattle.subsumption.specs.declared.refusal.Outcome.the-variants.{Done};
 ghost use Rattle.subsumption.specs.Refusal.{replyRefused};
 ghost use Rattle.subsumption.specs.Inner.Listing.{Accepted};
-ghost use Rattle.settings.specs.Settings.{givenSettings, lentSettings, settingsFault};
+ghost use Rattle.settings.specs.Settings.{lentSettings, settingsFault};
+ghost use Rattle.settings.specs.Inner.Lent.{givenSettings};
 ghost use Rattle.allowance.specs.Find.{countedReply, FindsCounted};
 ghost use Rattle.allowance.specs.Inner.Find.{WalkedBy};
 

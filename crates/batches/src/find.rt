@@ -133,8 +133,8 @@ fn find_each(
     out: &mut [u64],
 ) -> Batch
     requires { ⌜ batchFault (now lengths) (now shares) (length (now questions)) ≡ Done ⌝ }
-    ensures { λ r. ⌜ Ran (lent concepts inclusions questions roles variables) (before lengths) (before shares) (before out)
-        (after out) r ⌝ }
+    ensures { λ r. ⌜ Ran (lent concepts inclusions questions roles variables) (before lengths) (before shares)
+        (before out) (after out) r ⌝ }
 {
     let mut numbers = [0u16; TABLES];
     let mut places = [0u64; TABLES];
@@ -187,8 +187,8 @@ pub fn find_batch(
     shares: &[u32],
     out: &mut [u64],
 ) -> Batch
-    ensures { λ r. ⌜ FindsBatch (lent concepts inclusions questions roles variables) (before lengths) (before shares) (before out)
-        (after out) r ⌝ }
+    ensures { λ r. ⌜ FindsBatch (lent concepts inclusions questions roles variables) (before lengths) (before shares)
+        (before out) (after out) r ⌝ }
 {
     let checked = check_batch(lengths, shares, questions.len());
     match checked {

@@ -99,8 +99,8 @@ pub fn show_countermodel(
     right: u16,
     out: &mut [u16],
 ) -> Shown
-    ensures { λ r. ⌜ Shows (lent concepts inclusions questions roles variables) (before assignment) left right (before out)
-        (after out) (shownReply r) ⌝ }
+    ensures { λ r. ⌜ Shows (lent concepts inclusions questions roles variables) (before assignment) left right
+        (before out) (after out) (shownReply r) ⌝ }
 {
     let mut table = [0u8; TABLE_BYTES];
     let judged = judge_pair(

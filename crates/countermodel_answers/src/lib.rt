@@ -21,8 +21,8 @@ pub fn show(
     right: u16,
     out: &mut [u16],
 ) -> Answer
-    ensures { λ a. ⌜ Shows (lent concepts inclusions questions roles variables) (before assignment) left right (before out)
-        (after out) (replied a) ⌝ }
+    ensures { λ a. ⌜ Shows (lent concepts inclusions questions roles variables) (before assignment) left right
+        (before out) (after out) (replied a) ⌝ }
 {
     let answer = countermodel::show_countermodel(
         concepts,

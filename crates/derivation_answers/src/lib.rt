@@ -22,8 +22,8 @@ pub fn derive(
     right: u16,
     out: &mut [u16],
 ) -> Answer
-    ensures { λ a. ⌜ Derives (lent concepts inclusions questions roles variables) (before assignment) left right (before out)
-        (after out) (replied a) ⌝ }
+    ensures { λ a. ⌜ Derives (lent concepts inclusions questions roles variables) (before assignment) left right
+        (before out) (after out) (replied a) ⌝ }
 {
     let answer = matching::derive(
         concepts,

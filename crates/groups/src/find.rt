@@ -10,7 +10,8 @@ use subsumption::refusal::Outcome;
 use subsumption::refusal::Refusal;
 ghost use mathlib.Core.Path.{_≡_};
 ghost use Prim.Native.Nat.{_<_};
-ghost use Rattle.subsumption.specs.Lent.{given, lent, before, after};
+ghost use Rattle.subsumption.specs.Lent.{lent, before, after};
+ghost use Rattle.subsumption.specs.Inner.Lent.{given};
 ghost use Rattle.subsumption.specs.declared.refusal.Outcome.the-variants.{Refused};
 ghost use Rattle.subsumption.specs.declared.refusal.Refusal.the-variants.{NoConcept};
 ghost use Rattle.subsumption.specs.Tables.{pairsOf};
@@ -53,8 +54,8 @@ fn find_placed(
 ) -> Match
     requires { ⌜ Accepted (given concepts inclusions questions roles variables) (now ids) ⌝ }
     requires { ⌜ m < pairsOf (now questions) ⌝ }
-    ensures { λ r. ⌜ FindsGroup (lent concepts inclusions questions roles variables) (lentSettings permitted largest) m (before out)
-        (after out) (matchReply r) ⌝ }
+    ensures { λ r. ⌜ FindsGroup (lent concepts inclusions questions roles variables) (lentSettings permitted largest) m
+        (before out) (after out) (matchReply r) ⌝ }
 {
     let group = group_of(
         concepts,
@@ -92,8 +93,8 @@ pub fn find_group(
     m: u16,
     out: &mut [u64],
 ) -> Match
-    ensures { λ r. ⌜ FindsGroup (lent concepts inclusions questions roles variables) (lentSettings permitted largest) m (before out)
-        (after out) (matchReply r) ⌝ }
+    ensures { λ r. ⌜ FindsGroup (lent concepts inclusions questions roles variables) (lentSettings permitted largest) m
+        (before out) (after out) (matchReply r) ⌝ }
 {
     if (m as usize) >= questions.len() / 2 {
         return Match::Rejected(refuse_place(concepts, inclusions, questions, roles, variables));

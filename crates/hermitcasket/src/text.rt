@@ -14,7 +14,8 @@ ghost use lib.ListN.{length};
 ghost use Rattle.numerals.specs.Lines.{conceptsKey};
 ghost use Rattle.hermitcasket.specs.Text.{readLines, rowAt, pairAt, sectionAt, rolesAt, judge};
 ghost use Rattle.hermitcasket.specs.Inner.Text.{partOf, PartFits, Counts, Sectioned, Ends, Last, faultOf, judgedBy, ReadFits, TablesRead};
-ghost use Rattle.subsumption.specs.Lent.{given, before, after};
+ghost use Rattle.subsumption.specs.Lent.{before, after};
+ghost use Rattle.subsumption.specs.Inner.Lent.{given};
 
 // The length of the lines, or the place where the earliest faulty one starts.
 pub enum Lines {

@@ -183,8 +183,8 @@ pub fn include_row(
     requires { ⌜ length (now done) ≡ 3 ⌝ }
     requires { ⌜ (i < count) × (first < count) × (second < count) × (third < count) ⌝ }
     ensures { λ r. ⌜ IncludePass count (before inclusions)
-        (λ s. DoneRows count (before inclusions) s (before done) → IncludeAt count (before inclusions) (inRow s) i) (before square)
-        (after square) r ⌝ }
+        (λ s. DoneRows count (before inclusions) s (before done) → IncludeAt count (before inclusions) (inRow s) i)
+        (before square) (after square) r ⌝ }
 {
     let mut covered = [idle[0], idle[1], idle[2]];
     cover(square, done, &mut covered, first, i);

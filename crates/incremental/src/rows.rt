@@ -31,8 +31,8 @@ pub fn close_rows(
     requires { ⌜ Idle (now inclusions) (now idle) ⌝ }
     requires { ⌜ length (now order) ≡ 192 ⌝ }
     requires { ⌜ Square (now square) ⌝ }
-    ensures { λ r. ⌜ RowsPass (before concepts) (before inclusions) (chooseFrom (before atoms) (before choices)) (before square)
-        (after square) r ⌝ }
+    ensures { λ r. ⌜ RowsPass (before concepts) (before inclusions) (chooseFrom (before atoms) (before choices))
+        (before square) (after square) r ⌝ }
 {
     let count = concepts.len() / 3;
     let mut done = [0u64; 3];

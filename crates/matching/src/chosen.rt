@@ -103,8 +103,8 @@ pub fn put_chosen(
     variable: u16,
     out: &mut [u16],
 ) -> Chosen
-    ensures { λ r. ⌜ Chooses (lent concepts inclusions questions roles variables) (before assignment) variable (before out)
-        (after out) (chosenReply r) ⌝ }
+    ensures { λ r. ⌜ Chooses (lent concepts inclusions questions roles variables) (before assignment) variable
+        (before out) (after out) (chosenReply r) ⌝ }
 {
     let mut ids = [0u16; ATOMS];
     let atoms = list_atoms(concepts, inclusions, questions, roles, variables, &mut ids);

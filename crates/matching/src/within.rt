@@ -22,12 +22,14 @@ use subsumption::refusal::Refusal;
 ghost use mathlib.Core.Path.{_≡_};
 ghost use Prim.Native.Nat.{_≤_};
 ghost use lib.ListN.{length};
-ghost use Rattle.subsumption.specs.Lent.{given, lent, before, after};
+ghost use Rattle.subsumption.specs.Lent.{lent, before, after};
+ghost use Rattle.subsumption.specs.Inner.Lent.{given};
 ghost use Rattle.subsumption.specs.declared.refusal.Outcome.the-variants.{Done};
 ghost use mathlib.Core.Bool.{true};
 ghost use Rattle.subsumption.specs.Atoms.{bit};
 ghost use Rattle.subsumption.specs.Inner.Listing.{Accepted};
-ghost use Rattle.settings.specs.Settings.{givenSettings, lentSettings, settingsFault};
+ghost use Rattle.settings.specs.Settings.{lentSettings, settingsFault};
+ghost use Rattle.settings.specs.Inner.Lent.{givenSettings};
 ghost use Rattle.matching.specs.Inner.Within.{Counting, Asking, FoundIn, FoundAmong, FindsAmong, Copied};
 ghost use Rattle.matching.specs.Inner.Search.Problem.{Shaped};
 ghost use Rattle.matching.specs.Find.{matchReply};
@@ -223,8 +225,8 @@ pub fn find_within(
     largest: &[u16],
     out: &mut [u64],
 ) -> Match
-    ensures { λ r. ⌜ FindsWithin (lent concepts inclusions questions roles variables) (lentSettings permitted largest) (before out)
-        (after out) (matchReply r) ⌝ }
+    ensures { λ r. ⌜ FindsWithin (lent concepts inclusions questions roles variables) (lentSettings permitted largest)
+        (before out) (after out) (matchReply r) ⌝ }
 {
     let mut ids = [0u16; ATOMS];
     let listed = list_atoms(concepts, inclusions, questions, roles, variables, &mut ids);

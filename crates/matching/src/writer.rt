@@ -359,8 +359,8 @@ pub fn derive(
     right: u16,
     out: &mut [u16],
 ) -> Derived
-    ensures { λ r. ⌜ Derives (lent concepts inclusions questions roles variables) (before assignment) left right (before out)
-        (after out) (derivedReply r) ⌝ }
+    ensures { λ r. ⌜ Derives (lent concepts inclusions questions roles variables) (before assignment) left right
+        (before out) (after out) (derivedReply r) ⌝ }
 {
     let mut ids = [0u16; ATOMS];
     let listed = list_asked(

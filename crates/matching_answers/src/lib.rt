@@ -48,8 +48,8 @@ pub fn find_within(
     largest: &[u16],
     out: &mut [u64],
 ) -> Answer
-    ensures { λ a. ⌜ FindsWithin (lent concepts inclusions questions roles variables) (lentSettings permitted largest) (before out)
-        (after out) (replied a) ⌝ }
+    ensures { λ a. ⌜ FindsWithin (lent concepts inclusions questions roles variables) (lentSettings permitted largest)
+        (before out) (after out) (replied a) ⌝ }
 {
     let answer = matching::find_within(
         concepts,
@@ -75,8 +75,8 @@ pub fn chosen(
     variable: u16,
     out: &mut [u16],
 ) -> Answer
-    ensures { λ a. ⌜ Chooses (lent concepts inclusions questions roles variables) (before assignment) variable (before out)
-        (after out) (replied a) ⌝ }
+    ensures { λ a. ⌜ Chooses (lent concepts inclusions questions roles variables) (before assignment) variable
+        (before out) (after out) (replied a) ⌝ }
 {
     let answer = matching::put_chosen(
         concepts,

@@ -92,8 +92,8 @@ fn step_word(
     place: usize,
 ) -> Next
     requires { ⌜ FitsSomehow reader (now frames) (now pending) (now rows) ⌝ }
-    ensures { λ next. ⌜ StepsOnWord reader place word (before frames) (after frames) (before pending) (after pending) (before rows)
-        (after rows) next ⌝ }
+    ensures { λ next. ⌜ StepsOnWord reader place word (before frames) (after frames) (before pending) (after pending)
+        (before rows) (after rows) next ⌝ }
 {
     if ITEM < reader.want {
         return take_role(frames, reader, word, place);
@@ -120,8 +120,8 @@ fn close_bracket(
     place: usize,
 ) -> Next
     requires { ⌜ Fits reader (now frames) (now pending) (now rows) (now inclusions) ⌝ }
-    ensures { λ next. ⌜ Steps reader place closing (before frames) (before frames) (before pending) (after pending) (before rows)
-        (after rows) (before inclusions) (after inclusions) next ⌝ }
+    ensures { λ next. ⌜ Steps reader place closing (before frames) (before frames) (before pending) (after pending)
+        (before rows) (after rows) (before inclusions) (after inclusions) next ⌝ }
 {
     if reader.want != ITEM {
         return Next::Stop(Refusal::BadSyntax(place));

@@ -7,8 +7,7 @@ use lib.Dec.{eqb, ltb}
 use lib.ListN.{length, getD}
 use Rattle.subsumption.specs.declared.refusal.Refusal.the-variants.{BadSettings}
 use Rattle.subsumption.specs.declared.refusal.Outcome.{Outcome}
-use denote.Ref.{now}
-use Rattle.subsumption.specs.Lent.{before, Slice, Slices}
+use Rattle.subsumption.specs.Lent.{before, Slices}
 use Rattle.subsumption.specs.Tables.{Tables, or}
 use Rattle.subsumption.specs.Atoms.{atoms, bit}
 use Rattle.subsumption.specs.Table.{counted}
@@ -22,10 +21,7 @@ pub record Settings : Type 0 where
 abbrev pub settings : List ℕ → List ℕ → Settings
 settings permitted largest = record { permitted = permitted; largest = largest }
 
--- The settings that an operation is lent: in a `requires`, and in an `ensures`, as they were at the call.
-abbrev pub givenSettings : Slice → Slice → Settings
-givenSettings permitted largest = settings (now permitted) (now largest)
-
+-- The settings that an operation is lent, as they were at the call.
 abbrev pub lentSettings : Slices → Slices → Settings
 lentSettings permitted largest = settings (before permitted) (before largest)
 

@@ -1,5 +1,6 @@
 -- Definitions of private contracts: no operation's contract reaches them.
 pub mod Sizes
+pub mod Lent
 pub mod Tables
 pub mod Atoms
 pub mod Twins

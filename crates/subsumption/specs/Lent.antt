@@ -13,17 +13,11 @@ before x = now (x .entry)
 abbrev pub after : {A B : Type 0} → Both A (RefT B) → B
 after x = now (x .exit)
 
--- A slice of numbers, as a `requires` sees it, and as an `ensures` does.
-abbrev pub Slice : Type 0
-Slice = RefT (List ℕ)
-
+-- A slice of numbers.
 abbrev pub Slices : Type 0
-Slices = Both Slice Slice
+Slices = Both (RefT (List ℕ)) (RefT (List ℕ))
 
--- The tables that an operation is lent: in a `requires`, and in an `ensures`, as they were at the call.
-abbrev pub given : Slice → Slice → Slice → Slice → ℕ → Tables
-given concepts inclusions questions roles variables = tables (now concepts) (now inclusions) (now questions) (now roles) variables
-
+-- The tables that an operation is lent, as they were at the call.
 abbrev pub lent : Slices → Slices → Slices → Slices → ℕ → Tables
 lent concepts inclusions questions roles variables =
     tables (before concepts) (before inclusions) (before questions) (before roles) variables
