@@ -9,12 +9,12 @@ use Rattle.subsumption.specs.declared.refusal.Outcome.{Outcome}
 use Rattle.subsumption.specs.declared.refusal.Outcome.TheVariants.{Done, Refused}
 use Rattle.subsumption.specs.declared.refusal.Refusal.TheVariants.{NoAssignment}
 use Rattle.subsumption.specs.Tables.{Tables}
-use Rattle.subsumption.specs.Refusal.{Reply, replyDone}
+use Rattle.subsumption.specs.Refusal.{Reply, reply_done}
 use Rattle.settings.specs.Settings.{Settings}
-use Rattle.matching.specs.Within.{withinFault, FirstWithin, FilledWithin}
+use Rattle.matching.specs.Within.{within_fault, FirstWithin, FilledWithin}
 use Rattle.matching.proofs.EarlierLaws.{one-first}
 use Rattle.allowance.specs.Count.{CountOf, Counts, Exceeds}
-use Rattle.allowance.specs.Find.{replyCounted, FindsCountedAfter, FindsCounted}
+use Rattle.allowance.specs.Find.{reply_counted, FindsCountedAfter, FindsCounted}
 use Rattle.allowance.proofs.CountLaws.{count-unique, exceeds-less}
 
 -- ---- there is one first assignment within the settings
@@ -35,14 +35,14 @@ module _ (t : Tables) (s : Settings) where
       → FindsCountedAfter f t s b before after₂ reply₂ → a ≤ b → (reply.number ≡ 14 → ⊥) → (reply₂ ≡ reply) × (after₂ ≡ after)
   larger-after (Refused r) a b before after after₂ reply reply₂ (e, k) (e₂, k₂) l n = (e₂ ∙ sym e, k₂ ∙ sym k)
   larger-after Done a b before after after₂ reply reply₂ (inl (e, (x, c))) (inl (e₂, (x₂, c₂))) l n =
-      (e₂ ∙ ap replyDone (count-unique t s _ _ c₂.counted c.counted) ∙ sym e, filled-unique before after after₂ x x₂)
+      (e₂ ∙ ap reply_done (count-unique t s _ _ c₂.counted c.counted) ∙ sym e, filled-unique before after after₂ x x₂)
   larger-after Done a b before after after₂ reply reply₂ (inl (e, (x, c))) (inr (inl (e₂, (x₂, c₂)))) l n =
       absurd (x₂.none _ x.first.accepted x.first.heeds x.first.solves)
   larger-after Done a b before after after₂ reply reply₂ (inl (e, (x, c))) (inr (inr (e₂, x₂))) l n = not-over a b _ c x₂.over l
   larger-after Done a b before after after₂ reply reply₂ (inr (inl (e, (x, c)))) (inl (e₂, (x₂, c₂))) l n =
       absurd (x.none _ x₂.first.accepted x₂.first.heeds x₂.first.solves)
   larger-after Done a b before after after₂ reply reply₂ (inr (inl (e, (x, c)))) (inr (inl (e₂, (x₂, c₂)))) l n =
-      (e₂ ∙ ap (replyCounted NoAssignment) (count-unique t s _ _ c₂.counted c.counted) ∙ sym e, x₂.kept ∙ sym x.kept)
+      (e₂ ∙ ap (reply_counted NoAssignment) (count-unique t s _ _ c₂.counted c.counted) ∙ sym e, x₂.kept ∙ sym x.kept)
   larger-after Done a b before after after₂ reply reply₂ (inr (inl (e, (x, c)))) (inr (inr (e₂, x₂))) l n = not-over a b _ c x₂.over l
   larger-after Done a b before after after₂ reply reply₂ (inr (inr (e, x))) y l n = absurd (n (ap (λ (z : Reply). z.number) e))
 
@@ -50,7 +50,7 @@ module _ (t : Tables) (s : Settings) where
   pub larger-allowance :
       (a b : ℕ) (before after after₂ : List ℕ) (reply reply₂ : Reply) → FindsCounted t s a before after reply → FindsCounted t s b before after₂ reply₂
       → a ≤ b → (reply.number ≡ 14 → ⊥) → (reply₂ ≡ reply) × (after₂ ≡ after)
-  larger-allowance a b before = larger-after (withinFault t s (length before)) a b before
+  larger-allowance a b before = larger-after (within_fault t s (length before)) a b before
 
   counted-after :
       (f : Outcome) (a : ℕ) (before after after₂ : List ℕ) (reply reply₂ : Reply) → FindsCountedAfter f t s a before after reply
@@ -68,7 +68,7 @@ module _ (t : Tables) (s : Settings) where
   pub counted-unique :
       (a : ℕ) (before after after₂ : List ℕ) (reply reply₂ : Reply) → FindsCounted t s a before after reply → FindsCounted t s a before after₂ reply₂
       → (reply₂ ≡ reply) × (after₂ ≡ after)
-  counted-unique a before = counted-after (withinFault t s (length before)) a before
+  counted-unique a before = counted-after (within_fault t s (length before)) a before
 
   spent-after :
       (a : ℕ) (before after : List ℕ) (reply : Reply) → FindsCountedAfter Done t s a before after reply → (n : ℕ) → CountOf t s n
@@ -85,7 +85,7 @@ module _ (t : Tables) (s : Settings) where
 
   -- The allowance is spent exactly where the count is over it.
   pub spent-exactly :
-      (a : ℕ) (before after : List ℕ) (reply : Reply) → withinFault t s (length before) ≡ Done → FindsCounted t s a before after reply → (n : ℕ)
+      (a : ℕ) (before after : List ℕ) (reply : Reply) → within_fault t s (length before) ≡ Done → FindsCounted t s a before after reply → (n : ℕ)
       → CountOf t s n → (reply.number ≡ 14) ↔ (a < n)
   spent-exactly a before after reply h x =
       spent-after a before after reply (subst (λ (z : Outcome). FindsCountedAfter z t s a before after reply) h x)

@@ -14,15 +14,15 @@ use Rattle.subsumption.specs.declared.refusal.Refusal.{Refusal}
 use Rattle.subsumption.specs.declared.refusal.Refusal.TheVariants.{BufferTooShort, NoAssignment, AllowanceSpent}
 use Rattle.subsumption.specs.Tables.{Tables}
 use Rattle.subsumption.specs.Atoms.{atoms, bit}
-use Rattle.subsumption.specs.Check.{tableFault, bufferFault}
-use Rattle.subsumption.specs.Refusal.{Reply, replyDone, replyRefused}
+use Rattle.subsumption.specs.Check.{table_fault, buffer_fault}
+use Rattle.subsumption.specs.Refusal.{Reply, reply_done, reply_refused}
 use Rattle.subsumption.specs.Inner.Listing.{Accepted}
 use Rattle.subsumption.proofs.Refusals.{stops, goes_on, done-le, refused-lt}
-use Rattle.subsumption.proofs.Accepted.{wellFormed}
-use Rattle.settings.specs.Settings.{Settings, settingsFault}
+use Rattle.subsumption.proofs.Accepted.{well_formed}
+use Rattle.settings.specs.Settings.{Settings, settings_fault}
 use Rattle.settings.specs.Inner.Check.{Loaded}
 use Rattle.settings.proofs.SettingsLaws.{settings-long}
-use Rattle.matching.specs.Within.{withinFault, FirstWithin}
+use Rattle.matching.specs.Within.{within_fault, FirstWithin}
 use Rattle.matching.specs.Inner.Search.Problem.{Problem}
 use Rattle.matching.specs.Inner.Within.{Counting, Asking, Copied}
 use Rattle.matching.proofs.SearchLaws.Problem.{problem-kept}
@@ -32,7 +32,7 @@ use Rattle.matching.proofs.SubstitutionLaws.Locality.{none-by-substitution}
 use Rattle.matching.proofs.WithinLaws.{asked-bit, written-front, written-most, heeds-all, front-copied, rest-kept}
 use Rattle.allowance.specs.Partial.{Completed}
 use Rattle.allowance.specs.Count.{CountOf, answered, unanswered}
-use Rattle.allowance.specs.Find.{replyCounted, FindsCountedAfter, FindsCounted}
+use Rattle.allowance.specs.Find.{reply_counted, FindsCountedAfter, FindsCounted}
 use Rattle.allowance.specs.Inner.Place.{At}
 use Rattle.allowance.specs.Inner.Walk.{Lent, WalkedTo}
 use Rattle.allowance.specs.Inner.Find.{FirstCounted, NoneCounted, WalkedBy}
@@ -41,36 +41,36 @@ use Rattle.allowance.proofs.FindLaws.{first-within, none_within}
 -- ---- what the walk is lent
 module _ (t : Tables) (ids : List ℕ) (a : Accepted t ids) where
   pub ids-few : length ids ≤ 64
-  ids-few = omega (arith, ap length a.listed, (wellFormed t a.passed).few-atoms)
+  ids-few = omega (arith, ap length a.listed, (well_formed t a.passed).few-atoms)
 
   pub pairs-few : t.variables * length ids ≤ 8 * length ids
-  pairs-few = mul-le-mul_right {m = t.variables} {n = 8} (length ids) (wellFormed t a.passed).few-variables
+  pairs-few = mul-le-mul_right {m = t.variables} {n = 8} (length ids) (well_formed t a.passed).few-variables
 
 pub lent :
-    (t : Tables) (s : Settings) (ids sets before counted problem permitted : List ℕ) → Accepted t ids → settingsFault t s ≡ Done → Problem t sets before
+    (t : Tables) (s : Settings) (ids sets before counted problem permitted : List ℕ) → Accepted t ids → settings_fault t s ≡ Done → Problem t sets before
     → Counting s.largest before counted → Asking 18446744073709551615 counted problem → Loaded s.permitted permitted
     → Lent t s sets problem permitted (length ids)
 lent t s ids sets before counted problem permitted a ok c counting asking loaded =
     record {
       problem-of = problem-kept before problem (written-front s.largest before counted problem _ counting asking) t sets c;
-      all_asked = λ m l. (asked-bit _ counted problem asking m (omega (arith, (wellFormed t a.passed).few-questions))).1 (all_asked t a.passed m l);
+      all_asked = λ m l. (asked-bit _ counted problem asking m (omega (arith, (well_formed t a.passed).few-questions))).1 (all_asked t a.passed m l);
       set = ok;
       loaded = loaded;
       counts =
           λ k l.
           written-most s.largest before counted problem _ counting asking k (omega (arith, (settings-long t s ok).1))
-          (omega (arith, (wellFormed t a.passed).few-variables));
+          (omega (arith, (well_formed t a.passed).few-variables));
       many = sym (ap length a.listed);
     }
 
 -- the words of a partial choice, the unsettled atoms left out, are an assignment
 low-completed :
-    (t : Tables) (permitted low high : List ℕ) (p : List Bool) → tableFault t ≡ Done → At t.variables (length (atoms t)) permitted low high p
+    (t : Tables) (permitted low high : List ℕ) (p : List Bool) → table_fault t ≡ Done → At t.variables (length (atoms t)) permitted low high p
     → Completed t p (λ k q. false) (take t.variables low)
 low-completed t permitted low high p h w =
     record {
       accepted =
-          accept t _ (length-take-le _ low (omega (arith, w.low-long, (wellFormed t h).few-variables)))
+          accept t _ (length-take-le _ low (omega (arith, w.low-long, (well_formed t h).few-variables)))
           (λ k l. below-bits _ _ (λ q e. (w.low-known k q (front-known t.variables low k q e).1).1));
       taken = λ k q l m. ap (λ (z : ℕ). bit z q) (get_or-take _ low k 0 l) ∙ w.low-taken k q l m;
     }
@@ -94,60 +94,60 @@ module _ (t : Tables) (s : Settings) (sets problem permitted : List ℕ) (count 
       record { none = λ other a h y. none_within t s other a h y met x; counted = unanswered met x; enough = e }
 
 -- ---- the answer
-module _ (t : Tables) (s : Settings) (allowance : ℕ) (before : List ℕ) (r : Refusal) (reply : Reply) (is : reply ≡ replyRefused r) where
-  refuses : Refused r ≡ withinFault t s (length before) → FindsCounted t s allowance before before reply
+module _ (t : Tables) (s : Settings) (allowance : ℕ) (before : List ℕ) (r : Refusal) (reply : Reply) (is : reply ≡ reply_refused r) where
+  refuses : Refused r ≡ within_fault t s (length before) → FindsCounted t s allowance before before reply
   refuses e = subst (λ (f : Outcome). FindsCountedAfter f t s allowance before before reply) e (is, refl)
 
-  pub tables-refuse : Refused r ≡ tableFault t → FindsCounted t s allowance before before reply
-  unfolding withinFault
+  pub tables-refuse : Refused r ≡ table_fault t → FindsCounted t s allowance before before reply
+  unfolding within_fault
   tables-refuse e = refuses (stops (Refused r) _ _ r e refl)
 
-  pub settings-refuse : tableFault t ≡ Done → Refused r ≡ settingsFault t s → FindsCounted t s allowance before before reply
-  unfolding withinFault
+  pub settings-refuse : table_fault t ≡ Done → Refused r ≡ settings_fault t s → FindsCounted t s allowance before before reply
+  unfolding within_fault
   settings-refuse h e = refuses (goes_on Done _ _ _ (sym h) refl (stops (Refused r) _ _ r e refl))
 
 pub buffer-refuses :
-    (t : Tables) (s : Settings) (allowance : ℕ) (before : List ℕ) (reply : Reply) → reply ≡ replyRefused (BufferTooShort t.variables) → tableFault t ≡ Done
-    → settingsFault t s ≡ Done → length before < t.variables → FindsCounted t s allowance before before reply
-unfolding withinFault bufferFault
+    (t : Tables) (s : Settings) (allowance : ℕ) (before : List ℕ) (reply : Reply) → reply ≡ reply_refused (BufferTooShort t.variables) → table_fault t ≡ Done
+    → settings_fault t s ≡ Done → length before < t.variables → FindsCounted t s allowance before before reply
+unfolding within_fault buffer_fault
 buffer-refuses t s allowance before reply is h g l =
     refuses t s allowance before _ reply is
     (goes_on Done _ _ _ (sym h) refl (goes_on Done _ _ _ (sym g) refl (refused-lt (length before) t.variables _ l)))
 
-module _ (t : Tables) (s : Settings) (allowance : ℕ) (before : List ℕ) (ok : tableFault t ≡ Done) (set : settingsFault t s ≡ Done) (room : t.variables ≤ length before)
+module _ (t : Tables) (s : Settings) (allowance : ℕ) (before : List ℕ) (ok : table_fault t ≡ Done) (set : settings_fault t s ≡ Done) (room : t.variables ≤ length before)
     (found spent : Bool) (choice : List ℕ) (met : ℕ) (walked : WalkedBy t s allowance found spent choice met) where
-  passed : Done ≡ withinFault t s (length before)
-  unfolding withinFault bufferFault
+  passed : Done ≡ within_fault t s (length before)
+  unfolding within_fault buffer_fault
   passed = goes_on Done _ _ Done (sym ok) refl (goes_on Done _ _ Done (sym set) refl (done-le (length before) t.variables _ room))
 
-  pub counted-filled : (after : List ℕ) → found ≡ true → Copied t.variables choice before after → FindsCounted t s allowance before after (replyDone met)
+  pub counted-filled : (after : List ℕ) → found ≡ true → Copied t.variables choice before after → FindsCounted t s allowance before after (reply_done met)
   counted-filled after e c =
       let f : FirstCounted t s allowance choice met = subst (λ (z : Bool). WalkedBy t s allowance z spent choice met) e walked in
-      subst (λ (z : Outcome). FindsCountedAfter z t s allowance before after (replyDone met)) passed
+      subst (λ (z : Outcome). FindsCountedAfter z t s allowance before after (reply_done met)) passed
       (inl (
         refl,
         (
           record {
             size = c.size;
-            first = subst (FirstWithin t s) (sym (front-copied t choice before after c f.long (wellFormed t ok).few-variables room)) f.first;
+            first = subst (FirstWithin t s) (sym (front-copied t choice before after c f.long (well_formed t ok).few-variables room)) f.first;
             rest = rest-kept t choice before after c;
           },
           record { counted = f.counted; enough = f.enough },
         ),
       ))
 
-  pub counted-spent : found ≡ false → spent ≡ true → FindsCounted t s allowance before before (replyCounted AllowanceSpent met)
+  pub counted-spent : found ≡ false → spent ≡ true → FindsCounted t s allowance before before (reply_counted AllowanceSpent met)
   counted-spent e f =
       let x : WalkedBy t s allowance false true choice met =
       subst (λ (z : Bool). WalkedBy t s allowance false z choice met) f (subst (λ (z : Bool). WalkedBy t s allowance z spent choice met) e walked) in
-      subst (λ (z : Outcome). FindsCountedAfter z t s allowance before before (replyCounted AllowanceSpent met)) passed
-      (inr (inr (ap (replyCounted AllowanceSpent) x.1, record { over = x.0; kept = refl })))
+      subst (λ (z : Outcome). FindsCountedAfter z t s allowance before before (reply_counted AllowanceSpent met)) passed
+      (inr (inr (ap (reply_counted AllowanceSpent) x.1, record { over = x.0; kept = refl })))
 
-  pub counted_none : found ≡ false → spent ≡ false → FindsCounted t s allowance before before (replyCounted NoAssignment met)
+  pub counted_none : found ≡ false → spent ≡ false → FindsCounted t s allowance before before (reply_counted NoAssignment met)
   counted_none e f =
       let x : NoneCounted t s allowance met =
       subst (λ (z : Bool). WalkedBy t s allowance false z choice met) f (subst (λ (z : Bool). WalkedBy t s allowance z spent choice met) e walked) in
-      subst (λ (z : Outcome). FindsCountedAfter z t s allowance before before (replyCounted NoAssignment met)) passed
+      subst (λ (z : Outcome). FindsCountedAfter z t s allowance before before (reply_counted NoAssignment met)) passed
       (inr (inl (
         refl,
         (

@@ -9,36 +9,36 @@ use Rattle.subsumption.specs.declared.refusal.Refusal.TheVariants.{NoAssignment}
 use Rattle.subsumption.specs.declared.refusal.Outcome.{Outcome}
 use Rattle.subsumption.specs.declared.refusal.Outcome.TheVariants.{Done, Refused}
 use Rattle.subsumption.specs.Tables.{Tables}
-use Rattle.subsumption.specs.Refusal.{Reply, replyDone, or_else}
-use Rattle.subsumption.specs.Check.{tableFault, bufferFault}
+use Rattle.subsumption.specs.Refusal.{Reply, reply_done, or_else}
+use Rattle.subsumption.specs.Check.{table_fault, buffer_fault}
 use Rattle.subsumption.proofs.Refusals.{both-done, done-le}
 use Rattle.subsumption.proofs.Replies.{is_refused, not_done}
-use Rattle.settings.specs.Settings.{Settings, settingsFault}
-use Rattle.matching.specs.Find.{SomeSolves, findingFault, FindsAfter, Finds}
-use Rattle.matching.specs.Within.{FirstWithin, FilledWithin, NoneWithin, withinFault, FindsWithinAfter, FindsWithin}
+use Rattle.settings.specs.Settings.{Settings, settings_fault}
+use Rattle.matching.specs.Find.{SomeSolves, finding_fault, FindsAfter, Finds}
+use Rattle.matching.specs.Within.{FirstWithin, FilledWithin, NoneWithin, within_fault, FindsWithinAfter, FindsWithin}
 use Rattle.allowance.specs.Find.{FindsCountedAfter, FindsCounted}
 
 -- ---- something was found
 module _ (t : Tables) (before after : List ℕ) (reply : Reply) where
-  pub found_some : Finds t before after reply → reply ≡ replyDone 0 → SomeSolves t
-  found_some = go (findingFault t (length before))
+  pub found_some : Finds t before after reply → reply ≡ reply_done 0 → SomeSolves t
+  found_some = go (finding_fault t (length before))
     where
-      go : (o : Outcome) → FindsAfter o t before after reply → reply ≡ replyDone 0 → SomeSolves t
+      go : (o : Outcome) → FindsAfter o t before after reply → reply ≡ reply_done 0 → SomeSolves t
       go Done (inl (e, f)) d = f.some
       go Done (inr (e, f)) d = not_done NoAssignment 0 (sym e ∙ d)
       go (Refused r) (e, _) d = not_done r 0 (sym e ∙ d)
 
   module _ (s : Settings) where
-    pub filled-first : FindsWithin t s before after reply → reply ≡ replyDone 0 → FirstWithin t s (take t.variables after)
-    filled-first = go (withinFault t s (length before))
+    pub filled-first : FindsWithin t s before after reply → reply ≡ reply_done 0 → FirstWithin t s (take t.variables after)
+    filled-first = go (within_fault t s (length before))
       where
-        go : (o : Outcome) → FindsWithinAfter o t s before after reply → reply ≡ replyDone 0 → FirstWithin t s (take t.variables after)
+        go : (o : Outcome) → FindsWithinAfter o t s before after reply → reply ≡ reply_done 0 → FirstWithin t s (take t.variables after)
         go Done (inl (e, f)) d = f.first
         go Done (inr (e, f)) d = not_done NoAssignment 0 (sym e ∙ d)
         go (Refused r) (e, _) d = not_done r 0 (sym e ∙ d)
 
     pub counted-first : (allowance : ℕ) → FindsCounted t s allowance before after reply → reply.number ≡ 0 → FirstWithin t s (take t.variables after)
-    counted-first allowance = go (withinFault t s (length before))
+    counted-first allowance = go (within_fault t s (length before))
       where
         go : (o : Outcome) → FindsCountedAfter o t s allowance before after reply → reply.number ≡ 0 → FirstWithin t s (take t.variables after)
         go Done (inl (e, (f, _))) d = f.first
@@ -50,18 +50,18 @@ module _ (t : Tables) (before after : List ℕ) (reply : Reply) where
 pub passes : (a b : Outcome) → a ≡ Done → b ≡ Done → or_else a b ≡ Done
 passes a b e f = sym (both-done a a b b refl e refl f)
 
-module _ (t : Tables) (before after : List ℕ) (reply : Reply) (ok : tableFault t ≡ Done) (room : t.variables ≤ length before) where
-  room-passes : bufferFault t.variables (length before) ≡ Done
-  unfolding bufferFault
+module _ (t : Tables) (before after : List ℕ) (reply : Reply) (ok : table_fault t ≡ Done) (room : t.variables ≤ length before) where
+  room-passes : buffer_fault t.variables (length before) ≡ Done
+  unfolding buffer_fault
   room-passes = sym (done-le (length before) t.variables _ room)
 
   pub found-cases : Finds t before after reply → FindsAfter Done t before after reply
-  unfolding findingFault
+  unfolding finding_fault
   found-cases = subst (λ (z : Outcome). FindsAfter z t before after reply) (passes _ _ ok room-passes)
 
-  module _ (s : Settings) (set : settingsFault t s ≡ Done) where
-    pub checks-pass : withinFault t s (length before) ≡ Done
-    unfolding withinFault
+  module _ (s : Settings) (set : settings_fault t s ≡ Done) where
+    pub checks-pass : within_fault t s (length before) ≡ Done
+    unfolding within_fault
     checks-pass = passes _ _ ok (passes _ _ set room-passes)
 
     pub within-cases : FindsWithin t s before after reply → FindsWithinAfter Done t s before after reply

@@ -9,7 +9,7 @@ use lib.ListN.{length}
 use Rattle.subsumption.specs.Tables.{Tables}
 use Rattle.subsumption.proofs.Bools.{le-or-lt}
 use Rattle.settings.specs.Settings.{Settings}
-use Rattle.allowance.specs.Partial.{pairs, Open, allPartials}
+use Rattle.allowance.specs.Partial.{pairs, Open, all_partials}
 use Rattle.allowance.specs.Count.{Stretch, none, opened, shut, CountOf, answered, unanswered, Exceeds}
 use Rattle.allowance.proofs.OrderLaws.{partials-short}
 
@@ -35,7 +35,7 @@ module _ (t : Tables) (settings : Settings) where
   met-first xs s after n w a (opened y rest m l o x) = met-open y _ (suc m) l o (met-first rest s after m w a x)
   met-first xs s after n w a (shut y rest m o x) = met-shut y _ (suc m) o (met-first rest s after m w a x)
 
-  count-met : (n : ℕ) → CountOf t settings n → Met t settings (allPartials t) n
+  count-met : (n : ℕ) → CountOf t settings n → Met t settings (all_partials t) n
   count-met n (answered m s a) =
       subst (λ (z : List (List Bool)). Met t settings z (suc m)) (sym a.order) (met-first _ s _ m a.whole a.is_open a.stretch)
   count-met n (unanswered m x) = met_all _ m x
@@ -120,9 +120,9 @@ module _ (t : Tables) (settings : Settings) where
       l n (first-behind s xs n n f (shut s _ n is-shut f.stretch)))
 
   pub count-exists : ((n : ℕ) → CountOf t settings n → ⊥) → ⊥
-  unfolding allPartials
+  unfolding all_partials
   count-exists k =
-      ends (allPartials t) (λ x m. omega (arith, partials-short (pairs t) [] x m)) (λ n x. k n (unanswered n x))
+      ends (all_partials t) (λ x m. omega (arith, partials-short (pairs t) [] x m)) (λ n x. k n (unanswered n x))
       (λ n f.
       k (suc n)
       (answered n f.here

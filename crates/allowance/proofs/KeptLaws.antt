@@ -9,11 +9,11 @@ use lib.ListN.{length, get_or, set, take, replicate, length-set, length-replicat
 use lib.Seq.{get_or-set_same, get_or-set_other}
 use Rattle.subsumption.specs.declared.refusal.Outcome.TheVariants.{Done}
 use Rattle.subsumption.specs.Tables.{Tables}
-use Rattle.subsumption.specs.Check.{tableFault}
+use Rattle.subsumption.specs.Check.{table_fault}
 use Rattle.subsumption.proofs.Bools.{last-cases, le-or-lt}
-use Rattle.subsumption.proofs.Accepted.{wellFormed}
+use Rattle.subsumption.proofs.Accepted.{well_formed}
 use Rattle.matching.specs.Inner.Search.{Decided, Within}
-use Rattle.matching.specs.Inner.Search.Problem.{questionCount}
+use Rattle.matching.specs.Inner.Search.Problem.{question_count}
 use Rattle.matching.specs.Inner.Search.Nogoods.{words, Put}
 use Rattle.matching.specs.Inner.Search.Solve.{FailingOf}
 use Rattle.matching.proofs.SearchLaws.Monotone.{monotone, antitone, left-free}
@@ -21,10 +21,10 @@ use Rattle.matching.proofs.SearchLaws.Fronts.{front-within}
 use Rattle.matching.proofs.SearchLaws.Nogoods.{words_are, words_same}
 use Rattle.matching.proofs.SearchLaws.Solve.{is-question}
 use Rattle.allowance.specs.Partial.{Asked}
-use Rattle.allowance.specs.Inner.Kept.{ringAt, noted, inRing, Told, Kept, Easier, Follows, FollowsIf, Among, Recalled, Noted, Tried}
+use Rattle.allowance.specs.Inner.Kept.{ring_at, noted, in_ring, Told, Kept, Easier, Follows, FollowsIf, Among, Recalled, Noted, Tried}
 
 -- ---- the rings
-ring-low : (right passed : Bool) → ringAt right passed ≤ 387
+ring-low : (right passed : Bool) → ring_at right passed ≤ 387
 ring-low false false = omega arith
 ring-low false true = omega arith
 ring-low true false = omega arith
@@ -34,7 +34,7 @@ abbrev Apart : ℕ → ℕ → Type 0
 Apart a b = (a + 129 ≤ b) ⊎ (b + 129 ≤ a)
 
 -- two rings are the same or apart
-rings : (r p right passed : Bool) → ((r ≡ right) × (p ≡ passed)) ⊎ Apart (ringAt r p) (ringAt right passed)
+rings : (r p right passed : Bool) → ((r ≡ right) × (p ≡ passed)) ⊎ Apart (ring_at r p) (ring_at right passed)
 rings false false false false = inl (refl, refl)
 rings false true false true = inl (refl, refl)
 rings true false true false = inl (refl, refl)
@@ -57,9 +57,9 @@ same_or_not m n = ⊎_elim (λ (x : m ≤ n). ⊎_elim inl (λ y. inr (λ e. ome
 
 -- ---- a choice noted in the place of the oldest
 module _ (before mid choice : List ℕ) (right passed : Bool) (long : length before ≡ 516) (eight : length choice ≡ 8)
-    (put : Put (ringAt right passed + noted before right passed % 16 * 8) choice before mid) (v : ℕ) (few : v ≤ noted before right passed + 1) where
+    (put : Put (ring_at right passed + noted before right passed % 16 * 8) choice before mid) (v : ℕ) (few : v ≤ noted before right passed + 1) where
   abbrev ring : ℕ
-  ring = ringAt right passed
+  ring = ring_at right passed
 
   abbrev oldest : ℕ
   oldest = noted before right passed % 16
@@ -77,41 +77,41 @@ module _ (before mid choice : List ℕ) (right passed : Bool) (long : length bef
   untouched : (p : ℕ) → (p ≡ ring + 128 → ⊥) → (p < ring + oldest * 8) ⊎ (ring + oldest * 8 + 8 ≤ p) → get_or after p 0 ≡ get_or before p 0
   untouched p n o = get_or-set_other mid _ p v 0 n ∙ put.there p o
 
-  new : inRing after right passed oldest ≡ choice
+  new : in_ring after right passed oldest ≡ choice
   new =
       sym
       (words_are after choice _ (omega (arith, after-long, ring-low right passed)) eight
       (λ k l. sym (get_or-set_other mid _ _ v 0 (λ e. omega arith) ∙ put.here k l)))
 
-  old : (i : ℕ) → i < 16 → (i ≡ oldest → ⊥) → inRing after right passed i ≡ inRing before right passed i
+  old : (i : ℕ) → i < 16 → (i ≡ oldest → ⊥) → in_ring after right passed i ≡ in_ring before right passed i
   old i l n =
       words_same after before _ (omega (arith, after-long, ring-low right passed)) (omega (arith, long, ring-low right passed))
       (λ (p : ℕ) (a : ring + i * 8 ≤ p) (b : p < ring + i * 8 + 8).
       untouched p (λ e. omega arith) (⊎_elim (λ (x : oldest ≤ i). inr (omega (arith, n))) (λ x. inl (omega arith)) (le-or-lt oldest i)))
 
   -- the other rings
-  far : (r p : Bool) → Apart (ringAt r p) ring → (q : ℕ) → ringAt r p ≤ q → q < ringAt r p + 129 → get_or after q 0 ≡ get_or before q 0
+  far : (r p : Bool) → Apart (ring_at r p) ring → (q : ℕ) → ring_at r p ≤ q → q < ring_at r p + 129 → get_or after q 0 ≡ get_or before q 0
   far r p a q l m = untouched q (λ e. ⊎_elim (λ x. omega arith) (λ x. omega arith) a) (⊎_elim (λ x. inl (omega arith)) (λ x. inr (omega arith)) a)
 
   abbrev Stays : Bool → Bool → Type 0
   Stays r p =
       (i : ℕ) → i < 16 → i < noted after r p
-      → ((i < noted before r p) × (inRing after r p i ≡ inRing before r p i)) ⊎ ((r ≡ right) × (p ≡ passed) × (inRing after r p i ≡ choice))
+      → ((i < noted before r p) × (in_ring after r p i ≡ in_ring before r p i)) ⊎ ((r ≡ right) × (p ≡ passed) × (in_ring after r p i ≡ choice))
 
   stays_here : Stays right passed
   stays_here i l m =
-      ⊎_elim (λ (e : i ≡ oldest). inr (refl, refl, ap (inRing after right passed) e ∙ new)) (λ n. inl (omega (arith, counted, n), old i l n))
+      ⊎_elim (λ (e : i ≡ oldest). inr (refl, refl, ap (in_ring after right passed) e ∙ new)) (λ n. inl (omega (arith, counted, n), old i l n))
       (same_or_not i oldest)
 
-  stays-far : (r p : Bool) → Apart (ringAt r p) ring → Stays r p
+  stays-far : (r p : Bool) → Apart (ring_at r p) ring → Stays r p
   stays-far r p x i l m =
       inl (
         subst (λ (z : ℕ). i < z) (far r p x _ (omega arith) (omega arith)) m,
         words_same after before _ (omega (arith, after-long, ring-low r p)) (omega (arith, long, ring-low r p))
-            (λ (q : ℕ) (a : ringAt r p + i * 8 ≤ q) (b : q < ringAt r p + i * 8 + 8). far r p x q (omega arith) (omega arith)),
+            (λ (q : ℕ) (a : ring_at r p + i * 8 ≤ q) (b : q < ring_at r p + i * 8 + 8). far r p x q (omega arith) (omega arith)),
       )
 
-  noted_one : Noted before (set mid (ringAt right passed + 128) v) choice right passed
+  noted_one : Noted before (set mid (ring_at right passed + 128) v) choice right passed
   noted_one =
       record {
         long = after-long;
@@ -128,14 +128,14 @@ module _ (before mid choice : List ℕ) (right passed : Bool) (long : length bef
       Put (ring + get_or before (ring + 128) 0 % 16 * 8) choice before mid → (v : ℕ) → v ≤ get_or before (ring + 128) 0 + 1
       → Noted before (set mid (ring + 128) v) choice right passed
 
-  pub noted-at : (ring : ℕ) → ring ≡ ringAt right passed → NotedAt ring
+  pub noted-at : (ring : ℕ) → ring ≡ ring_at right passed → NotedAt ring
   noted-at ring e = subst NotedAt (sym e) (λ put v few. noted_one before mid choice right passed long eight put v few)
 
 -- ---- what is kept tells
-module _ (t : Tables) (h : tableFault t ≡ Done) where
+module _ (t : Tables) (h : table_fault t ≡ Done) where
   asked-easier : (right : Bool) (a b : List ℕ) → Easier right a b → Asked t right (take t.variables b) → Asked t right (take t.variables a)
-  asked-easier true a b w s m l e = antitone t (wellFormed t h) _ _ (front-within t.variables a b w) _ _ (left-free t h m l e) (s m l e)
-  asked-easier false a b w s m l e = monotone t (wellFormed t h) _ _ (front-within t.variables b a w) _ _ e (s m l e)
+  asked-easier true a b w s m l e = antitone t (well_formed t h) _ _ (front-within t.variables a b w) _ _ (left-free t h m l e) (s m l e)
+  asked-easier false a b w s m l e = monotone t (well_formed t h) _ _ (front-within t.variables b a w) _ _ e (s m l e)
 
   told-follows :
       (right passed : Bool) (choice other : List ℕ) → Follows right passed choice other → Told t right passed other
@@ -160,7 +160,7 @@ follows-unlike true false false choice other e w = absurd (true≢false e)
 follows-unlike false right passed choice other e w = tt
 
 pub recalled-at :
-    (kept choice other : List ℕ) (b right passed : Bool) (ring i : ℕ) → ring ≡ ringAt right passed → i < 16 → i < get_or kept (ring + 128) 0
+    (kept choice other : List ℕ) (b right passed : Bool) (ring i : ℕ) → ring ≡ ring_at right passed → i < 16 → i < get_or kept (ring + 128) 0
     → other ≡ words kept (ring + i * 8) → FollowsIf b right passed choice other → b ≡ true → Among kept choice right passed
 recalled-at kept choice other true right passed ring i e l m o f x =
     record {
@@ -178,7 +178,7 @@ module _ (sets problem choice : List ℕ) (right : Bool) (kept : List ℕ) where
 
 -- ---- what is kept stays true
 pub kept-none : (t : Tables) → Kept t (replicate 516 0)
-kept-none t = record { long = length-replicate {A = ℕ} 516 0; each = λ r p i l m. absurd (omega (arith, get_or-replicate {A = ℕ} 516 (ringAt r p + 128) 0 0 (omega (arith, ring-low r p)))) }
+kept-none t = record { long = length-replicate {A = ℕ} 516 0; each = λ r p i l m. absurd (omega (arith, get_or-replicate {A = ℕ} 516 (ring_at r p + 128) 0 0 (omega (arith, ring-low r p)))) }
 
 kept-noted :
     (t : Tables) (before after choice : List ℕ) (right passed : Bool) → Kept t before → Told t right passed choice → Noted before after choice right passed
@@ -189,21 +189,21 @@ kept-noted t before after choice right passed k x n =
       each =
           λ r p i l m.
           ⊎_elim
-          (λ (y : (i < noted before r p) × (inRing after r p i ≡ inRing before r p i)). subst (Told t r p) (sym y.1) (k.each r p i l y.0))
-          (λ (y : (r ≡ right) × (p ≡ passed) × (inRing after r p i ≡ choice)).
-          subst (λ (z : Bool). Told t z p (inRing after r p i)) (sym y.0)
-          (subst (λ (z : Bool). Told t right z (inRing after r p i)) (sym y.1) (subst (Told t right passed) (sym y.2) x)))
+          (λ (y : (i < noted before r p) × (in_ring after r p i ≡ in_ring before r p i)). subst (Told t r p) (sym y.1) (k.each r p i l y.0))
+          (λ (y : (r ≡ right) × (p ≡ passed) × (in_ring after r p i ≡ choice)).
+          subst (λ (z : Bool). Told t z p (in_ring after r p i)) (sym y.0)
+          (subst (λ (z : Bool). Told t right z (in_ring after r p i)) (sym y.1) (subst (Told t right passed) (sym y.2) x)))
           (n.each r p i l m);
     }
 
 -- ---- a test
 module _ (sets problem choice : List ℕ) (right : Bool) (m : ℕ) (f : FailingOf sets problem choice right m) (before after : List ℕ) where
-  pub tried-passes : questionCount problem ≤ m → Noted before after choice right true → Tried sets problem choice right before after true
+  pub tried-passes : question_count problem ≤ m → Noted before after choice right true → Tried sets problem choice right before after true
   tried-passes l n t c all a k =
       let holds : Asked t right (take t.variables choice) = λ o x e. (f t c a).before o (omega (arith, c.questions)) (all o x, e) in
       (holds, kept-noted t before after choice right true k holds n)
 
-  pub tried-fails : m < questionCount problem → Noted before after choice right false → Tried sets problem choice right before after false
+  pub tried-fails : m < question_count problem → Noted before after choice right false → Tried sets problem choice right before after false
   tried-fails l n t c all a k =
       let at = is-question t sets problem c m l in
       let fails : Asked t right (take t.variables choice) → ⊥ = λ s. (f t c a).fails at (s m at ((f t c a).of-kind at).1) in

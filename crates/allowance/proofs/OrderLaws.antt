@@ -9,12 +9,12 @@ use native.Mathlib.Omega.{arith}
 use lib.ListN.{length, length-append}
 use Rattle.subsumption.specs.declared.refusal.Outcome.TheVariants.{Done}
 use Rattle.subsumption.specs.Tables.{Tables}
-use Rattle.subsumption.specs.Check.{tableFault}
+use Rattle.subsumption.specs.Check.{table_fault}
 use Rattle.settings.specs.Settings.{Settings}
 use Rattle.allowance.specs.Partial.{settled, pairs, Open, partials}
 use Rattle.allowance.specs.Count.{Stretch, none, opened, shut}
-use Rattle.allowance.specs.Inner.Place.{hasNext, next_of}
-use Rattle.allowance.proofs.PartialLaws.{settled-last, settled-other, up_to, upTo-length, upTo-settled, open-back}
+use Rattle.allowance.specs.Inner.Place.{has_next, next_of}
+use Rattle.allowance.proofs.PartialLaws.{settled-last, settled-other, up_to, up_to-length, up_to-settled, open-back}
 
 -- ---- stretches
 module _ (t : Tables) (settings : Settings) where
@@ -27,7 +27,7 @@ module _ (t : Tables) (settings : Settings) where
   stretch-open s l o = opened s _ _ l o none
 
   -- what extends one that is not open is not open either
-  pub shut-all : tableFault t ≡ Done → (r : ℕ) (s : List Bool) → (Open t settings s → ⊥) → Stretch t settings (partials r s) 0
+  pub shut-all : table_fault t ≡ Done → (r : ℕ) (s : List Bool) → (Open t settings s → ⊥) → Stretch t settings (partials r s) 0
   unfolding partials
   shut-all h zero s n = shut s _ _ n none
   shut-all h (suc r) s n =
@@ -41,16 +41,16 @@ pending r [] = []
 pending r (false ∷ s) = partials r (true ∷ s) ++ pending (suc r) s
 pending r (true ∷ s) = pending (suc r) s
 
-pub pending-none : (r : ℕ) (s : List Bool) → hasNext s ≡ false → pending r s ≡ []
-unfolding pending hasNext
+pub pending-none : (r : ℕ) (s : List Bool) → has_next s ≡ false → pending r s ≡ []
+unfolding pending has_next
 pending-none r [] e = refl
 pending-none r (false ∷ s) e = absurd (true≢false e)
 pending-none r (true ∷ s) e = pending-none (suc r) s e
 
 pub pending_next :
-    (r : ℕ) (s : List Bool) → hasNext s ≡ true
+    (r : ℕ) (s : List Bool) → has_next s ≡ true
     → (r₁ : ℕ) × (length (next_of s) + r₁ ≡ length s + r) × (pending r s ≡ partials r₁ (next_of s) ++ pending r₁ (next_of s))
-unfolding pending hasNext next_of
+unfolding pending has_next next_of
 pending_next r [] e = absurd (false≢true e)
 pending_next r (false ∷ s) e = (r, refl, refl)
 pending_next r (true ∷ s) e = let (r₁, l, f) = pending_next (suc r) s e in (r₁, omega arith, f)
@@ -69,7 +69,7 @@ unfolding partials
 some zero s = omega arith
 some (suc r) s = omega arith
 
-pub ahead-next : (r r₁ : ℕ) (s : List Bool) → hasNext s ≡ true → length (next_of s) + r₁ ≡ length s + r → ahead r₁ (next_of s) < ahead r s
+pub ahead-next : (r r₁ : ℕ) (s : List Bool) → has_next s ≡ true → length (next_of s) + r₁ ≡ length s + r → ahead r₁ (next_of s) < ahead r s
 unfolding ahead
 ahead-next r r₁ s e m =
     let (r₂, l, f) = pending_next r s e in
@@ -98,7 +98,7 @@ module _ (n : ℕ) where
               ∙ sym (append_assoc before (s ∷ []) _);
         }
 
-    pub reached-next : Reached n before r s → hasNext s ≡ true → (r₁ : ℕ) × Reached n (before ++ partials r s) r₁ (next_of s)
+    pub reached-next : Reached n before r s → has_next s ≡ true → (r₁ : ℕ) × Reached n (before ++ partials r s) r₁ (next_of s)
     reached-next p e =
         let (r₁, l, f) = pending_next r s e in (
           r₁,
@@ -108,7 +108,7 @@ module _ (n : ℕ) where
           },
         )
 
-    pub reached-last : Reached n before r s → hasNext s ≡ false → partials n [] ≡ before ++ partials r s
+    pub reached-last : Reached n before r s → has_next s ≡ false → partials n [] ≡ before ++ partials r s
     reached-last p e =
         p.order ∙ ap (λ (z : List (List Bool)). before ++ (partials r s ++ z)) (pending-none r s e)
         ∙ ap (λ (z : List (List Bool)). before ++ z) (append-nil (partials r s))
@@ -192,11 +192,11 @@ bool_cases false h k = k refl
 module _ (f g : ℕ → Bool) (n : ℕ) where
   same-below : (s : List Bool) → Agrees f s → Agrees g s → (p : ℕ) → p < length s → f p ≡ g p
   same-below s h i p l =
-      sym (upTo-settled f (length s) false p l) ∙ ap (λ (z : List Bool). settled z false p) (sym h ∙ i) ∙ upTo-settled g (length s) false p l
+      sym (up_to-settled f (length s) false p l) ∙ ap (λ (z : List Bool). settled z false p) (sym h ∙ i) ∙ up_to-settled g (length s) false p l
 
   half_of : (r : ℕ) (b : Bool) (s : List Bool) → length s < n → Memᴰ (up_to f n) (partials r (b ∷ s)) → f (length s) ≡ b
   half_of r b s l h =
-      sym (upTo-settled f n false (length s) l) ∙ partials-extend r (b ∷ s) _ false (length s) h (omega arith) ∙ settled-last b s false _ refl
+      sym (up_to-settled f n false (length s) l) ∙ partials-extend r (b ∷ s) _ false (length s) h (omega arith) ∙ settled-last b s false _ refl
 
   abbrev Placed : List (List Bool) → Type 0
   Placed before = Memᴰ (up_to g n) before ⊎ ((up_to g n ≡ up_to f n) ⊎ Later f g)
@@ -209,7 +209,7 @@ module _ (f g : ℕ → Bool) (n : ℕ) where
       → partials r s ≡ before ++ (up_to f n ∷ after) → Placed before
   unfolding partials
   placed zero s before after m h i e = inr (inl (sym (agrees-all g s n i m) ∙ agrees-all f s n h m))
-  placed (suc r) s [] after m h i e = let x : s ≡ up_to f n = cc e in absurd (omega (arith, ap length x, upTo-length f n))
+  placed (suc r) s [] after m h i e = let x : s ≡ up_to f n = cc e in absurd (omega (arith, ap length x, up_to-length f n))
   placed (suc r) s (y ∷ before) after m h i e =
       let x : partials r (false ∷ s) ++ partials r (true ∷ s) ≡ before ++ (up_to f n ∷ after) = cc e in
       let less : length s < n = omega arith in

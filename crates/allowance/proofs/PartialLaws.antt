@@ -9,18 +9,18 @@ use native.Mathlib.Nat.{mul-le-mul_right, suc-mul, mul-zero, mod-lt, div-lt_iff_
 use lib.ListN.{length}
 use borrow.Author.Tests.{eq-eqb, ne_eqb}
 use Rattle.subsumption.specs.declared.refusal.Outcome.TheVariants.{Done}
-use Rattle.subsumption.specs.Tables.{Tables, left_of, rightOf, tree, hasVariable}
+use Rattle.subsumption.specs.Tables.{Tables, left_of, right_of, tree, has_variable}
 use Rattle.subsumption.specs.Atoms.{atoms}
 use Rattle.subsumption.specs.Subsumption.{Subsumed}
-use Rattle.subsumption.specs.Check.{tableFault, assignmentFault}
+use Rattle.subsumption.specs.Check.{table_fault, assignment_fault}
 use Rattle.subsumption.proofs.Bools.{same_bool, eq-or-ne, last-cases}
-use Rattle.subsumption.proofs.Accepted.{wellFormed}
+use Rattle.subsumption.proofs.Accepted.{well_formed}
 use Rattle.settings.specs.Settings.{Settings, Heeds}
 use Rattle.settings.proofs.SizeLaws.{size-le}
 use Rattle.matching.specs.Solving.{Solves, takes}
 use Rattle.matching.proofs.SearchLaws.Monotone.{Larger, monotone, antitone, left-free}
 use Rattle.matching.proofs.SearchLaws.Fronts.{accepted-bits, same_taken}
-use Rattle.matching.proofs.SubstitutionLaws.Assigning.{assignmentOf, assignmentOf-accepted, assignmentOf-bit}
+use Rattle.matching.proofs.SubstitutionLaws.Assigning.{assignment_of, assignment_of-accepted, assignment_of-bit}
 use Rattle.matching.proofs.DerivationLaws.Cells.{cell_row, cell-column}
 use Rattle.allowance.specs.Partial.{settled, pairs, Completed, Open}
 
@@ -52,36 +52,36 @@ unfoldable pub up_to : (ℕ → Bool) → ℕ → List Bool
 up_to f zero = []
 up_to f (suc n) = f n ∷ up_to f n
 
-pub upTo-length : (f : ℕ → Bool) (n : ℕ) → length (up_to f n) ≡ n
+pub up_to-length : (f : ℕ → Bool) (n : ℕ) → length (up_to f n) ≡ n
 unfolding up_to
-upTo-length f zero = refl
-upTo-length f (suc n) = ap suc (upTo-length f n)
+up_to-length f zero = refl
+up_to-length f (suc n) = ap suc (up_to-length f n)
 
-pub upTo-settled : (f : ℕ → Bool) (n : ℕ) (rest : Bool) (p : ℕ) → p < n → settled (up_to f n) rest p ≡ f p
+pub up_to-settled : (f : ℕ → Bool) (n : ℕ) (rest : Bool) (p : ℕ) → p < n → settled (up_to f n) rest p ≡ f p
 unfolding up_to
-upTo-settled f zero rest p l = absurd (omega arith)
-upTo-settled f (suc n) rest p l =
-    ⊎_elim (λ (e : p ≡ n). settled-last _ _ rest p (e ∙ sym (upTo-length f n)) ∙ ap f (sym e))
-    (λ m. settled-other _ _ rest p (λ e. omega (arith, upTo-length f n)) ∙ upTo-settled f n rest p m)
+up_to-settled f zero rest p l = absurd (omega arith)
+up_to-settled f (suc n) rest p l =
+    ⊎_elim (λ (e : p ≡ n). settled-last _ _ rest p (e ∙ sym (up_to-length f n)) ∙ ap f (sym e))
+    (λ m. settled-other _ _ rest p (λ e. omega (arith, up_to-length f n)) ∙ up_to-settled f n rest p m)
     (last-cases p n l)
 
-pub upTo-same : (s : List Bool) (f : ℕ → Bool) → ((p : ℕ) → p < length s → f p ≡ settled s false p) → up_to f (length s) ≡ s
+pub up_to-same : (s : List Bool) (f : ℕ → Bool) → ((p : ℕ) → p < length s → f p ≡ settled s false p) → up_to f (length s) ≡ s
 unfolding up_to
-upTo-same [] f h = refl
-upTo-same (b ∷ s) f h =
+up_to-same [] f h = refl
+up_to-same (b ∷ s) f h =
     ap₂ ◌∷◌ (h (length s) (omega arith) ∙ settled-last b s false _ refl)
-    (upTo-same s f (λ p l. h p (omega arith) ∙ settled-other b s false p (λ e. omega arith)))
+    (up_to-same s f (λ p l. h p (omega arith) ∙ settled-other b s false p (λ e. omega arith)))
 
 -- whether the pair at this place is taken, of so many atoms a variable
-abbrev pub takenAt : List ℕ → ℕ → ℕ → Bool
-takenAt assignment count p = takes assignment (p / count) (p % count)
+abbrev pub taken_at : List ℕ → ℕ → ℕ → Bool
+taken_at assignment count p = takes assignment (p / count) (p % count)
 
-pub takenAt-pair : (assignment : List ℕ) (count k q : ℕ) → q < count → takenAt assignment count (k * count + q) ≡ takes assignment k q
-takenAt-pair assignment count k q l = ap₂ (takes assignment) (cell_row count k q l) (cell-column count k q l)
+pub taken_at-pair : (assignment : List ℕ) (count k q : ℕ) → q < count → taken_at assignment count (k * count + q) ≡ takes assignment k q
+taken_at-pair assignment count k q l = ap₂ (takes assignment) (cell_row count k q l) (cell-column count k q l)
 
 -- ---- completing
 pub accepted-same :
-    (t : Tables) (a b : List ℕ) → assignmentFault t a ≡ Done → assignmentFault t b ≡ Done
+    (t : Tables) (a b : List ℕ) → assignment_fault t a ≡ Done → assignment_fault t b ≡ Done
     → ((k q : ℕ) → k < t.variables → q < length (atoms t) → takes a k q ≡ takes b k q) → a ≡ b
 accepted-same t a b h l f =
     same_taken t a b h l
@@ -93,11 +93,11 @@ pub completed-same : (t : Tables) (s : List Bool) (rest : ℕ → ℕ → Bool) 
 completed-same t s rest a b c d = accepted-same t a b c.accepted d.accepted (λ k q l m. c.taken k q l m ∙ sym (d.taken k q l m))
 
 complete : Tables → List Bool → (ℕ → ℕ → Bool) → List ℕ
-complete t s rest = assignmentOf t (λ k q. settled s (rest k q) (k * length (atoms t) + q))
+complete t s rest = assignment_of t (λ k q. settled s (rest k q) (k * length (atoms t) + q))
 
 completed : (t : Tables) (s : List Bool) (rest : ℕ → ℕ → Bool) → Completed t s rest (complete t s rest)
 unfolding complete
-completed t s rest = record { accepted = assignmentOf-accepted t _; taken = λ k q l m. assignmentOf-bit t _ k q l m }
+completed t s rest = record { accepted = assignment_of-accepted t _; taken = λ k q l m. assignment_of-bit t _ k q l m }
 
 -- ---- one pair less
 module _ (t : Tables) (settings : Settings) (b : Bool) (s : List Bool) (o : Open t settings (b ∷ s)) where
@@ -123,7 +123,7 @@ module _ (t : Tables) (settings : Settings) (b : Bool) (s : List Bool) (o : Open
       (λ i. sym (settled-other b s _ p i) ∙ f) (eq-or-ne p (length s))
 
   -- what is open stays open with one pair less settled: its low side takes less, its high side more
-  pub open-back : tableFault t ≡ Done → Open t settings s
+  pub open-back : table_fault t ≡ Done → Open t settings s
   open-back h =
       let low = complete t s (λ k q. false) in
       let high = complete t s (takes settings.permitted) in
@@ -136,8 +136,8 @@ module _ (t : Tables) (settings : Settings) (b : Bool) (s : List Bool) (o : Open
         taken = completed t s _;
         heeds =
             record { permitted = λ k q e. o.heeds.permitted k q (less k q e); few = λ k. omega (arith, o.heeds.few k, size-le _ _ (less k)) };
-        fewer = λ m l e. antitone t (wellFormed t h) low o.low less _ _ (left-free t h m l e) (o.fewer m l e);
-        more = λ m l e. monotone t (wellFormed t h) o.high high more _ _ e (o.more m l e);
+        fewer = λ m l e. antitone t (well_formed t h) low o.low less _ _ (left-free t h m l e) (o.fewer m l e);
+        more = λ m l e. monotone t (well_formed t h) o.high high more _ _ e (o.more m l e);
       }
 
 -- ---- whole ones, that settle every pair
@@ -155,9 +155,9 @@ pair-known variables count p l =
 -- what is settled can be read off the assignment
 pub read_back :
     (variables count : ℕ) (a : List ℕ) (s : List Bool) → length s ≤ variables * count
-    → ((k q : ℕ) → k < variables → q < count → takes a k q ≡ settled s false (k * count + q)) → up_to (takenAt a count) (length s) ≡ s
+    → ((k q : ℕ) → k < variables → q < count → takes a k q ≡ settled s false (k * count + q)) → up_to (taken_at a count) (length s) ≡ s
 read_back variables count a s few h =
-    upTo-same s _ (λ p l. let (m, n) = pair-known variables count p (omega arith) in h _ _ m n ∙ ap (settled s false) (div-add-mod' p count))
+    up_to-same s _ (λ p l. let (m, n) = pair-known variables count p (omega arith) in h _ _ m n ∙ ap (settled s false) (div-add-mod' p count))
 
 module _ (t : Tables) (settings : Settings) (s : List Bool) (whole : length s ≡ pairs t) where
   -- it leaves nothing unsettled
@@ -174,16 +174,16 @@ module _ (t : Tables) (settings : Settings) (s : List Bool) (whole : length s �
     whole-heeds o = subst (Heeds settings) (completed-same t s _ _ _ o.left_out c) o.heeds
 
     pub whole-solves : Open t settings s → Solves t a
-    whole-solves o m l = go (hasVariable (tree t.concepts (rightOf t.questions m))) refl
+    whole-solves o m l = go (has_variable (tree t.concepts (right_of t.questions m))) refl
       where
         go :
-            (b : Bool) → hasVariable (tree t.concepts (rightOf t.questions m)) ≡ b
-            → Subsumed t a (left_of t.questions m) (rightOf t.questions m)
+            (b : Bool) → has_variable (tree t.concepts (right_of t.questions m)) ≡ b
+            → Subsumed t a (left_of t.questions m) (right_of t.questions m)
         go true e =
-            subst (λ (z : List ℕ). Subsumed t z (left_of t.questions m) (rightOf t.questions m)) (completed-same t s _ _ _ o.left_out c)
+            subst (λ (z : List ℕ). Subsumed t z (left_of t.questions m) (right_of t.questions m)) (completed-same t s _ _ _ o.left_out c)
             (o.fewer m l e)
         go false e =
-            subst (λ (z : List ℕ). Subsumed t z (left_of t.questions m) (rightOf t.questions m))
+            subst (λ (z : List ℕ). Subsumed t z (left_of t.questions m) (right_of t.questions m))
             (completed-same t s _ _ _ o.taken (whole-completed a _ _ c)) (o.more m l e)
 
     pub whole_open : Heeds settings a → Solves t a → Open t settings s
@@ -198,16 +198,16 @@ module _ (t : Tables) (settings : Settings) (s : List Bool) (whole : length s �
           more = λ m l e. x m l;
         }
 
-    pub whole-read : up_to (takenAt a (length (atoms t))) (pairs t) ≡ s
-    whole-read = subst (λ (z : ℕ). up_to (takenAt a (length (atoms t))) z ≡ s) whole (read_back t.variables (length (atoms t)) a s (omega arith) c.taken)
+    pub whole-read : up_to (taken_at a (length (atoms t))) (pairs t) ≡ s
+    whole-read = subst (λ (z : ℕ). up_to (taken_at a (length (atoms t))) z ≡ s) whole (read_back t.variables (length (atoms t)) a s (omega arith) c.taken)
 
 -- the whole partial choice of an assignment
 pub read-completed :
-    (t : Tables) (a : List ℕ) → assignmentFault t a ≡ Done → Completed t (up_to (takenAt a (length (atoms t))) (pairs t)) (λ k q. false) a
+    (t : Tables) (a : List ℕ) → assignment_fault t a ≡ Done → Completed t (up_to (taken_at a (length (atoms t))) (pairs t)) (λ k q. false) a
 read-completed t a h =
     record {
       accepted = h;
       taken =
           λ k q l m.
-          sym (upTo-settled _ (pairs t) false _ (pair-below t.variables (length (atoms t)) k q l m) ∙ takenAt-pair a (length (atoms t)) k q m);
+          sym (up_to-settled _ (pairs t) false _ (pair-below t.variables (length (atoms t)) k q l m) ∙ taken_at-pair a (length (atoms t)) k q m);
     }

@@ -13,7 +13,7 @@ use Rattle.matching.specs.Inner.Search.Pairs.{Changed}
 use Rattle.matching.proofs.SearchLaws.Interval.{at_pair}
 use Rattle.matching.proofs.DerivationLaws.Cells.{cell_row, cell-column}
 use Rattle.allowance.specs.Partial.{settled}
-use Rattle.allowance.specs.Inner.Place.{Side, Words, hasNext, next_of, NextAt}
+use Rattle.allowance.specs.Inner.Place.{Side, Words, has_next, next_of, NextAt}
 use Rattle.allowance.proofs.PartialLaws.{settled-last, settled-other, settled-rest, pair-known}
 
 pub pair-low : (count p : ℕ) → count ≤ 64 → p < 8 * count → (p / count < 8) × (p % count < 64)
@@ -118,7 +118,7 @@ pub record Climbed (count : ℕ) (permitted low high : List ℕ) (many : ℕ) (s
   pub here : List Bool
   pub words : Words count permitted low high here
   pub long : length here ≡ many
-  pub same-has : hasNext here ≡ hasNext s
+  pub same-has : has_next here ≡ has_next s
   pub same_next : next_of here ≡ next_of s
 
 abbrev pub Climbs : ℕ → List ℕ → List ℕ → List ℕ → ℕ → List ℕ → List ℕ → ℕ → Type 0
@@ -129,22 +129,22 @@ pub climbs-none : (count : ℕ) (permitted low high : List ℕ) (many : ℕ) →
 climbs-none count permitted low high many s w e = record { here = s; words = w; long = e; same-has = refl; same_next = refl }
 
 module _ (count : ℕ) (permitted low high : List ℕ) (many : ℕ) (s : List Bool) (c : Climbed count permitted low high many s) where
-  pub climbed-top : many ≤ 0 → hasNext s ≡ false
-  unfolding hasNext
+  pub climbed-top : many ≤ 0 → has_next s ≡ false
+  unfolding has_next
   climbed-top l = go c.here c.long c.same-has
     where
-      go : (h : List Bool) → length h ≡ many → hasNext h ≡ hasNext s → hasNext s ≡ false
+      go : (h : List Bool) → length h ≡ many → has_next h ≡ has_next s → has_next s ≡ false
       go [] e f = sym f
       go (b ∷ h) e f = absurd (omega arith)
 
   module _ (n : ℕ) (i : n ≡ many - 1) (l : 0 < many) (low₁ high₁ : List ℕ) (d : Changed low low₁ ((many - 1) / count) ((many - 1) % count) false)
       (g : Changed high high₁ ((many - 1) / count) ((many - 1) % count) (takes permitted ((many - 1) / count) ((many - 1) % count))) where
     pub climbed-up : takes low ((many - 1) / count) ((many - 1) % count) ≡ true → Climbed count permitted low₁ high₁ n s
-    unfolding hasNext next_of
+    unfolding has_next next_of
     climbed-up t = go c.here c.words c.long c.same-has c.same_next
       where
         go :
-            (h : List Bool) → Words count permitted low high h → length h ≡ many → hasNext h ≡ hasNext s → next_of h ≡ next_of s
+            (h : List Bool) → Words count permitted low high h → length h ≡ many → has_next h ≡ has_next s → next_of h ≡ next_of s
             → Climbed count permitted low₁ high₁ n s
         go [] w e x y = absurd (omega arith)
         go (false ∷ h) w e x y =
@@ -161,13 +161,13 @@ module _ (count : ℕ) (permitted low high : List ℕ) (many : ℕ) (s : List Bo
     pub climbed-aside :
         takes low ((many - 1) / count) ((many - 1) % count) ≡ false → (low₂ high₂ : List ℕ) (m : ℕ) → m ≡ n + 1
         → Changed low₁ low₂ (n / count) (n % count) true → Changed high₁ high₂ (n / count) (n % count) true
-        → (hasNext s ≡ true) × NextAt count permitted low₂ high₂ m s
-    unfolding hasNext next_of
+        → (has_next s ≡ true) × NextAt count permitted low₂ high₂ m s
+    unfolding has_next next_of
     climbed-aside t low₂ high₂ m f a b = go c.here c.words c.long c.same-has c.same_next
       where
         go :
-            (h : List Bool) → Words count permitted low high h → length h ≡ many → hasNext h ≡ hasNext s → next_of h ≡ next_of s
-            → (hasNext s ≡ true) × NextAt count permitted low₂ high₂ m s
+            (h : List Bool) → Words count permitted low high h → length h ≡ many → has_next h ≡ has_next s → next_of h ≡ next_of s
+            → (has_next s ≡ true) × NextAt count permitted low₂ high₂ m s
         go [] w e x y = absurd (omega arith)
         go (true ∷ h) w e x y =
             absurd (true≢false (sym (words_last count permitted low high h (many - 1) (omega arith) (omega (arith, w.few)) true w) ∙ t))

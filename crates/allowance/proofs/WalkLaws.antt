@@ -11,10 +11,10 @@ use lib.Seq.{get_or-take, length-take-le}
 use Rattle.subsumption.specs.declared.refusal.Outcome.TheVariants.{Done}
 use Rattle.subsumption.specs.Tables.{Tables}
 use Rattle.subsumption.specs.Atoms.{bit}
-use Rattle.subsumption.specs.Check.{tableFault, assignmentFault}
+use Rattle.subsumption.specs.Check.{table_fault, assignment_fault}
 use Rattle.subsumption.proofs.Bools.{le-or-lt}
 use Rattle.subsumption.proofs.Bits.{bit-of-zero}
-use Rattle.subsumption.proofs.Accepted.{wellFormed}
+use Rattle.subsumption.proofs.Accepted.{well_formed}
 use Rattle.settings.specs.Settings.{Settings, Heeds, size}
 use Rattle.settings.specs.Inner.Counts.{Over, Counted}
 use Rattle.settings.proofs.SettingsLaws.{settings-long, settings-below}
@@ -26,12 +26,12 @@ use Rattle.matching.specs.Inner.Search.Pairs.{Changed}
 use Rattle.matching.proofs.SearchLaws.Counts.{counts_same, few-front}
 use Rattle.matching.proofs.SearchLaws.Interval.{decided-true, decided-false, low-accepted}
 use Rattle.matching.proofs.SearchLaws.Fronts.{below-bits, front-known, front-takes, accepted-bits, accept}
-use Rattle.allowance.specs.Partial.{settled, pairs, Completed, Asked, Open, partials, allPartials}
+use Rattle.allowance.specs.Partial.{settled, pairs, Completed, Asked, Open, partials, all_partials}
 use Rattle.allowance.specs.Count.{Stretch, none, Answered, Exceeds}
-use Rattle.allowance.specs.Inner.Place.{At, Words, hasNext, next_of, NextAt, NextFrom}
+use Rattle.allowance.specs.Inner.Place.{At, Words, has_next, next_of, NextAt, NextFrom}
 use Rattle.allowance.specs.Inner.Kept.{Kept, Tried}
 use Rattle.allowance.specs.Inner.Walk.{Lent, OpenedBy, Walked}
-use Rattle.allowance.proofs.PartialLaws.{settled-rest, settled-known, completed-same, up_to, upTo-length, takenAt, read_back}
+use Rattle.allowance.proofs.PartialLaws.{settled-rest, settled-known, completed-same, up_to, up_to-length, taken_at, read_back}
 use Rattle.allowance.proofs.OrderLaws.{stretch-join, stretch-open, shut-all, ahead, ahead-extend, ahead-next, Reached, reached-start, reached-extend, reached-next, reached-last, reached-here}
 use Rattle.allowance.proofs.PlaceLaws.{words-none, words-leave}
 
@@ -42,7 +42,7 @@ not-that false h = refl
 
 module _ (t : Tables) (settings : Settings) (sets problem permitted : List ℕ) (count : ℕ) (lent : Lent t settings sets problem permitted count) where
   few-variables : t.variables ≤ 8
-  few-variables = (wellFormed t lent.problem-of.passed).few-variables
+  few-variables = (well_formed t lent.problem-of.passed).few-variables
 
   permitted-same : (k q : ℕ) → takes permitted k q ≡ takes settings.permitted k q
   permitted-same k q = ap (λ (z : ℕ). bit z q) (lent.loaded.same k)
@@ -181,10 +181,10 @@ module _ (t : Tables) (settings : Settings) (sets problem permitted : List ℕ) 
           idle = λ k q l x. omega (arith, (permitted-known k q x).0);
         }
 
-    low-passes : Within low permitted → assignmentFault t (take t.variables low) ≡ Done
+    low-passes : Within low permitted → assignment_fault t (take t.variables low) ≡ Done
     low-passes w = low-accepted t lent.problem-of.passed low permitted (interval low a.low-long w)
 
-    high-passes : Within low permitted → assignmentFault t (take t.variables high) ≡ Done
+    high-passes : Within low permitted → assignment_fault t (take t.variables high) ≡ Done
     high-passes w = low-accepted t lent.problem-of.passed high permitted (interval high a.high-long within)
       where
         within : Within high permitted
@@ -231,16 +231,16 @@ module _ (sets problem permitted low high before : List ℕ) where
 
 -- ---- how far the walk is
 -- the partial choice, read off the words
-abbrev pub readOff : ℕ → List ℕ → ℕ → List Bool
-readOff count low many = up_to (takenAt low count) many
+abbrev pub read_off : ℕ → List ℕ → ℕ → List Bool
+read_off count low many = up_to (taken_at low count) many
 
-read_same : (count : ℕ) (permitted low high : List ℕ) (s : List Bool) (n : ℕ) → Words count permitted low high s → length s ≡ n → readOff count low n ≡ s
+read_same : (count : ℕ) (permitted low high : List ℕ) (s : List Bool) (n : ℕ) → Words count permitted low high s → length s ≡ n → read_off count low n ≡ s
 read_same count permitted low high s n w e =
-    subst (λ (z : ℕ). readOff count low z ≡ s) e (read_back 8 count low s w.few (λ k q l m. w.low-side.taken k q m))
+    subst (λ (z : ℕ). read_off count low z ≡ s) e (read_back 8 count low s w.few (λ k q l m. w.low-side.taken k q m))
 
 -- the words are those of a partial choice of no more than all pairs
 pub record Standing (count all : ℕ) (permitted low high : List ℕ) (many : ℕ) : Type 0 where
-  pub words : Words count permitted low high (readOff count low many)
+  pub words : Words count permitted low high (read_off count low many)
   pub few : many ≤ all
 
 standing_by :
@@ -270,46 +270,46 @@ standing-none count all permitted e =
 
 -- where it comes to with one more pair left out, and with the next one that does not extend it; each time fewer are ahead
 module _ (count all : ℕ) (permitted low high : List ℕ) (many : ℕ) (x : Standing count all permitted low high many) (low₁ high₁ : List ℕ) (many₁ : ℕ) where
-  long : length (readOff count low many) ≡ many
-  long = upTo-length _ many
+  long : length (read_off count low many) ≡ many
+  long = up_to-length _ many
 
   module _ (l : many < all) (m : all ≤ 8 * count) (e : low₁ ≡ low) (f : many₁ ≡ many + 1) (c : Changed high high₁ (many / count) (many % count) false) where
-    leave-words : Words count permitted low₁ high₁ (false ∷ readOff count low many)
-    leave-words = words-leave count permitted low high (readOff count low many) many long (omega arith) low₁ high₁ x.words e c
+    leave-words : Words count permitted low₁ high₁ (false ∷ read_off count low many)
+    leave-words = words-leave count permitted low high (read_off count low many) many long (omega arith) low₁ high₁ x.words e c
 
     pub leave-standing : Standing count all permitted low₁ high₁ many₁
-    leave-standing = standing_by count all permitted low₁ high₁ (false ∷ readOff count low many) many₁ leave-words (omega (arith, long)) (omega arith)
+    leave-standing = standing_by count all permitted low₁ high₁ (false ∷ read_off count low many) many₁ leave-words (omega (arith, long)) (omega arith)
 
-    pub leave-read : readOff count low₁ many₁ ≡ false ∷ readOff count low many
-    leave-read = read_same count permitted low₁ high₁ (false ∷ readOff count low many) many₁ leave-words (omega (arith, long))
+    pub leave-read : read_off count low₁ many₁ ≡ false ∷ read_off count low many
+    leave-read = read_same count permitted low₁ high₁ (false ∷ read_off count low many) many₁ leave-words (omega (arith, long))
 
-    pub leave-less : ahead (all - many₁) (readOff count low₁ many₁) < ahead (all - many) (readOff count low many)
+    pub leave-less : ahead (all - many₁) (read_off count low₁ many₁) < ahead (all - many) (read_off count low many)
     leave-less =
         let g : suc (all - many₁) ≡ all - many = omega arith in
-        subst (λ (z : List Bool). ahead (all - many₁) z < ahead (all - many) (readOff count low many)) (sym leave-read)
-        (subst (λ (z : ℕ). ahead (all - many₁) (false ∷ readOff count low many) < ahead z (readOff count low many)) g
-        (ahead-extend (all - many₁) (readOff count low many)))
+        subst (λ (z : List Bool). ahead (all - many₁) z < ahead (all - many) (read_off count low many)) (sym leave-read)
+        (subst (λ (z : ℕ). ahead (all - many₁) (false ∷ read_off count low many) < ahead z (read_off count low many)) g
+        (ahead-extend (all - many₁) (read_off count low many)))
 
   module _ (found : Bool) (n : NextFrom count permitted low high many found low₁ high₁ many₁) where
-    pub next-has : found ≡ hasNext (readOff count low many)
-    next-has = (n (readOff count low many) x.words long).0
+    pub next-has : found ≡ has_next (read_off count low many)
+    next-has = (n (read_off count low many) x.words long).0
 
     module _ (e : found ≡ true) where
-      next-at : NextAt count permitted low₁ high₁ many₁ (readOff count low many)
-      next-at = (n (readOff count low many) x.words long).1 e
+      next-at : NextAt count permitted low₁ high₁ many₁ (read_off count low many)
+      next-at = (n (read_off count low many) x.words long).1 e
 
       pub next-standing : Standing count all permitted low₁ high₁ many₁
       next-standing =
-          standing_by count all permitted low₁ high₁ (next_of (readOff count low many)) many₁ next-at.words next-at.many (omega (arith, next-at.many, next-short (readOff count low many), long, x.few))
+          standing_by count all permitted low₁ high₁ (next_of (read_off count low many)) many₁ next-at.words next-at.many (omega (arith, next-at.many, next-short (read_off count low many), long, x.few))
 
-      pub next-read : readOff count low₁ many₁ ≡ next_of (readOff count low many)
-      next-read = read_same count permitted low₁ high₁ (next_of (readOff count low many)) many₁ next-at.words next-at.many
+      pub next-read : read_off count low₁ many₁ ≡ next_of (read_off count low many)
+      next-read = read_same count permitted low₁ high₁ (next_of (read_off count low many)) many₁ next-at.words next-at.many
 
-      pub next-less : ahead (all - many₁) (readOff count low₁ many₁) < ahead (all - many) (readOff count low many)
+      pub next-less : ahead (all - many₁) (read_off count low₁ many₁) < ahead (all - many) (read_off count low many)
       next-less =
-          subst (λ (z : List Bool). ahead (all - many₁) z < ahead (all - many) (readOff count low many)) (sym next-read)
-          (ahead-next (all - many) (all - many₁) (readOff count low many) (sym next-has ∙ e)
-          (omega (arith, next-at.many, next-short (readOff count low many), long, x.few)))
+          subst (λ (z : List Bool). ahead (all - many₁) z < ahead (all - many) (read_off count low many)) (sym next-read)
+          (ahead-next (all - many) (all - many₁) (read_off count low many) (sym next-has ∙ e)
+          (omega (arith, next-at.many, next-short (read_off count low many), long, x.few)))
 
 -- the order up to where the walk is, of it so many open, without an answer
 pub record Progress (t : Tables) (settings : Settings) (s : List Bool) (met : ℕ) : Type 0 where
@@ -337,30 +337,30 @@ module _ (t : Tables) (settings : Settings) where
             }
 
     progress-spent : Open t settings s → Exceeds t settings met
-    unfolding allPartials
+    unfolding all_partials
     progress-spent o =
         let (after, e) = reached-here (pairs t) p.before p.unsettled s p.reached in
         record { before = p.before; here = s; after = after; order = e; stretch = p.stretch; is_open = o }
 
     progress-found : length s ≡ pairs t → Open t settings s → Answered t settings met s
-    unfolding allPartials
+    unfolding all_partials
     progress-found l o =
         let (after, e) = reached-here (pairs t) p.before p.unsettled s p.reached in
         record { before = p.before; after = after; order = e; stretch = p.stretch; whole = l; is_open = o }
 
-    module _ (h : tableFault t ≡ Done) (n : Open t settings s → ⊥) where
+    module _ (h : table_fault t ≡ Done) (n : Open t settings s → ⊥) where
       more : Stretch t settings (p.before ++ partials p.unsettled s) met
       more =
           subst (Stretch t settings (p.before ++ partials p.unsettled s)) (omega arith)
           (stretch-join t settings _ _ met 0 p.stretch (shut-all t settings h p.unsettled s n))
 
-      progress-next : hasNext s ≡ true → Progress t settings (next_of s) met
+      progress-next : has_next s ≡ true → Progress t settings (next_of s) met
       progress-next e =
           let (r, x) = reached-next (pairs t) p.before p.unsettled s p.reached e in
           record { before = p.before ++ partials p.unsettled s; unsettled = r; reached = x; stretch = more }
 
-      progress-last : hasNext s ≡ false → Stretch t settings (allPartials t) met
-      unfolding allPartials
+      progress-last : has_next s ≡ false → Stretch t settings (all_partials t) met
+      unfolding all_partials
       progress-last e =
           subst (λ (z : List (List Bool)). Stretch t settings z met) (sym (reached-last (pairs t) p.before p.unsettled s p.reached e)) more
 
@@ -369,7 +369,7 @@ module _ (t : Tables) (settings : Settings) where
 abbrev pub Goes : List ℕ → List ℕ → List ℕ → ℕ → ℕ → List ℕ → List ℕ → ℕ → ℕ → Type 0
 Goes sets problem permitted count all kept low many met =
     (t : Tables) (settings : Settings) → Lent t settings sets problem permitted count → t.variables * count ≡ all
-    → Progress t settings (readOff count low many) met × Kept t kept
+    → Progress t settings (read_off count low many) met × Kept t kept
 
 pub goes_none :
     (sets problem permitted : List ℕ) (count all : ℕ) (kept low : List ℕ) → ((t : Tables) → Kept t kept) → Goes sets problem permitted count all kept low 0 0
@@ -383,26 +383,26 @@ module _ (sets problem permitted : List ℕ) (count all : ℕ) (low high : List 
     all-pairs : pairs t ≡ all
     all-pairs = ap (λ (z : ℕ). t.variables * z) lent.many ∙ e
 
-    words : At t.variables count permitted low high (readOff count low many)
+    words : At t.variables count permitted low high (read_off count low many)
     words =
-        words-at t settings sets problem permitted count lent low high (readOff count low many) (omega (arith, x.few, upTo-length (takenAt low count) many)) x.words
+        words-at t settings sets problem permitted count lent low high (read_off count low many) (omega (arith, x.few, up_to-length (taken_at low count) many)) x.words
 
-    tested : Decided (Open t settings (readOff count low many)) answer × Kept t kept₁
+    tested : Decided (Open t settings (read_off count low many)) answer × Kept t kept₁
     tested = by count t settings _ lent words (g t settings lent e).1
 
   pub goes-leave :
-      answer ≡ true → many < all → (low₁ : List ℕ) (many₁ : ℕ) → readOff count low₁ many₁ ≡ false ∷ readOff count low many
+      answer ≡ true → many < all → (low₁ : List ℕ) (many₁ : ℕ) → read_off count low₁ many₁ ≡ false ∷ read_off count low many
       → Goes sets problem permitted count all kept₁ low₁ many₁ (met + 1)
   goes-leave a l low₁ many₁ f t settings lent e = (
     subst (λ (z : List Bool). Progress t settings z (met + 1)) (sym f)
         (progress-open t settings _ met (g t settings lent e).0
-        (omega (arith, upTo-length (takenAt low count) many, all-pairs t settings lent e))
+        (omega (arith, up_to-length (taken_at low count) many, all-pairs t settings lent e))
         (decided-true _ answer (tested t settings lent e).0 a)),
     (tested t settings lent e).1,
   )
 
   pub goes-next :
-      answer ≡ false → (low₁ : List ℕ) (many₁ : ℕ) → hasNext (readOff count low many) ≡ true → readOff count low₁ many₁ ≡ next_of (readOff count low many)
+      answer ≡ false → (low₁ : List ℕ) (many₁ : ℕ) → has_next (read_off count low many) ≡ true → read_off count low₁ many₁ ≡ next_of (read_off count low many)
       → Goes sets problem permitted count all kept₁ low₁ many₁ met
   goes-next a low₁ many₁ h f t settings lent e = (
     subst (λ (z : List Bool). Progress t settings z met) (sym f)
@@ -418,7 +418,7 @@ module _ (sets problem permitted : List ℕ) (count all : ℕ) (low high : List 
     )
 
     pub walked_none :
-        answer ≡ false → met ≤ allowance → hasNext (readOff count low many) ≡ false → Walked sets problem permitted count all allowance false false low met
+        answer ≡ false → met ≤ allowance → has_next (read_off count low many) ≡ false → Walked sets problem permitted count all allowance false false low met
     walked_none a l h t settings lent e = (
       progress-last t settings _ met (g t settings lent e).0 lent.problem-of.passed (decided-false _ answer (tested t settings lent e).0 a) h,
       l,
@@ -428,12 +428,12 @@ module _ (sets problem permitted : List ℕ) (count all : ℕ) (low high : List 
     walked-found a l m t settings lent e = (
       record {
         high = high;
-        s = readOff count low many;
+        s = read_off count low many;
         before = met;
         counted = omega arith;
         words = words t settings lent e;
         first =
-            progress-found t settings _ met (g t settings lent e).0 (upTo-length (takenAt low count) many ∙ m ∙ sym (all-pairs t settings lent e))
+            progress-found t settings _ met (g t settings lent e).0 (up_to-length (taken_at low count) many ∙ m ∙ sym (all-pairs t settings lent e))
             (decided-true _ answer (tested t settings lent e).0 a);
       },
       l,

@@ -2,7 +2,7 @@
 use Rattle.std.specs.Prelude.{ℕ, suc, ◌<◌, ◌≤◌, ◌≡◌, List, [], ◌∷◌, ◌++◌, Bool, length}
 use Rattle.subsumption.specs.Tables.{Tables}
 use Rattle.settings.specs.Settings.{Settings}
-use Rattle.allowance.specs.Partial.{pairs, Open, allPartials}
+use Rattle.allowance.specs.Partial.{pairs, Open, all_partials}
 
 -- A stretch of the order without an answer, so many of it open. An answer is open and settles every pair.
 pub data Stretch (t : Tables) (settings : Settings) : List (List Bool) → ℕ → Type 0 where
@@ -18,14 +18,14 @@ pub data Stretch (t : Tables) (settings : Settings) : List (List Bool) → ℕ �
 pub record Answered (t : Tables) (settings : Settings) (n : ℕ) (s : List Bool) : Type 0 where
   pub before : List (List Bool)
   pub after : List (List Bool)
-  pub order : allPartials t ≡ before ++ (s ∷ after)
+  pub order : all_partials t ≡ before ++ (s ∷ after)
   pub stretch : Stretch t settings before n
   pub whole : length s ≡ pairs t
   pub is_open : Open t settings s
 
 pub data CountOf (t : Tables) (settings : Settings) : ℕ → Type 0 where
   answered : (n : ℕ) (s : List Bool) → Answered t settings n s → CountOf t settings (suc n)
-  unanswered : (n : ℕ) → Stretch t settings (allPartials t) n → CountOf t settings n
+  unanswered : (n : ℕ) → Stretch t settings (all_partials t) n → CountOf t settings n
 
 -- This is the count, and it is no more than the allowance.
 pub record Counts (t : Tables) (settings : Settings) (allowance count : ℕ) : Type 0 where
@@ -37,6 +37,6 @@ pub record Exceeds (t : Tables) (settings : Settings) (allowance : ℕ) : Type 0
   pub before : List (List Bool)
   pub here : List Bool
   pub after : List (List Bool)
-  pub order : allPartials t ≡ before ++ (here ∷ after)
+  pub order : all_partials t ≡ before ++ (here ∷ after)
   pub stretch : Stretch t settings before allowance
   pub is_open : Open t settings here

@@ -5,25 +5,25 @@ use Rattle.subsumption.specs.declared.refusal.Refusal.TheVariants.{NoAssignment,
 use Rattle.subsumption.specs.declared.refusal.Outcome.{Outcome}
 use Rattle.subsumption.specs.declared.refusal.Outcome.TheVariants.{Done, Refused}
 use Rattle.subsumption.specs.Tables.{Tables}
-use Rattle.subsumption.specs.Refusal.{Reply, replyDone, replyRefused, code_of}
+use Rattle.subsumption.specs.Refusal.{Reply, reply_done, reply_refused, code_of}
 use Rattle.settings.specs.Settings.{Settings}
 use Rattle.matching.specs.declared.find.Match.{Match}
 use Rattle.matching.specs.declared.find.Match.TheVariants.{Filled, Rejected}
 use Rattle.allowance.specs.declared.find.Counted.{Counted}
-use Rattle.matching.specs.Within.{withinFault, FilledWithin, NoneWithin}
+use Rattle.matching.specs.Within.{within_fault, FilledWithin, NoneWithin}
 use Rattle.allowance.specs.Count.{Counts, Exceeds}
 
 -- A refusal that comes with a count.
-abbrev pub replyCounted : Refusal → ℕ → Reply
-replyCounted r count = record { number = (code_of r).number; place = (code_of r).place; value = count }
+abbrev pub reply_counted : Refusal → ℕ → Reply
+reply_counted r count = record { number = (code_of r).number; place = (code_of r).place; value = count }
 
 -- The value is the count: with a refusal other than 10 and 14 it is 0.
-abbrev pub replyBy : Match → ℕ → Reply
-replyBy Filled count = replyDone count
-replyBy (Rejected r) count = replyCounted r count
+abbrev pub reply_by : Match → ℕ → Reply
+reply_by Filled count = reply_done count
+reply_by (Rejected r) count = reply_counted r count
 
-abbrev pub countedReply : Counted → Reply
-countedReply counted = replyBy counted.answer counted.count
+abbrev pub counted_reply : Counted → Reply
+counted_reply counted = reply_by counted.answer counted.count
 
 -- The count is over the allowance; nothing is written.
 pub record Spends (t : Tables) (settings : Settings) (allowance : ℕ) (before after : List ℕ) : Type 0 where
@@ -32,12 +32,12 @@ pub record Spends (t : Tables) (settings : Settings) (allowance : ℕ) (before a
 
 abbrev pub FindsCountedAfter : Outcome → Tables → Settings → ℕ → List ℕ → List ℕ → Reply → Type 0
 FindsCountedAfter Done t settings allowance before after reply =
-    ((reply ≡ replyDone reply.value) × (FilledWithin t settings before after × Counts t settings allowance reply.value))
-    ⊎ (((reply ≡ replyCounted NoAssignment reply.value)
+    ((reply ≡ reply_done reply.value) × (FilledWithin t settings before after × Counts t settings allowance reply.value))
+    ⊎ (((reply ≡ reply_counted NoAssignment reply.value)
     × (NoneWithin t settings before after × Counts t settings allowance reply.value))
-    ⊎ ((reply ≡ replyCounted AllowanceSpent allowance) × Spends t settings allowance before after))
-FindsCountedAfter (Refused r) t settings allowance before after reply = (reply ≡ replyRefused r) × (after ≡ before)
+    ⊎ ((reply ≡ reply_counted AllowanceSpent allowance) × Spends t settings allowance before after))
+FindsCountedAfter (Refused r) t settings allowance before after reply = (reply ≡ reply_refused r) × (after ≡ before)
 
 abbrev pub FindsCounted : Tables → Settings → ℕ → List ℕ → List ℕ → Reply → Type 0
 FindsCounted t settings allowance before after reply =
-    FindsCountedAfter (withinFault t settings (length before)) t settings allowance before after reply
+    FindsCountedAfter (within_fault t settings (length before)) t settings allowance before after reply

@@ -1,10 +1,10 @@
 -- Partial choices (02, A.4): what they settle, their order, and which are open.
 use Rattle.std.specs.Prelude.{ℕ, zero, suc, ◌+◌, ◌*◌, ◌<◌, ◌≡◌, List, [], ◌∷◌, ◌++◌, Bool, true, false, cond, eqb, length}
 use Rattle.subsumption.specs.declared.refusal.Outcome.TheVariants.{Done}
-use Rattle.subsumption.specs.Tables.{Tables, pairsOf, left_of, rightOf, tree, hasVariable}
+use Rattle.subsumption.specs.Tables.{Tables, pairs_of, left_of, right_of, tree, has_variable}
 use Rattle.subsumption.specs.Atoms.{atoms}
 use Rattle.subsumption.specs.Subsumption.{Subsumed}
-use Rattle.subsumption.specs.Check.{assignmentFault}
+use Rattle.subsumption.specs.Check.{assignment_fault}
 use Rattle.settings.specs.Settings.{Settings, Heeds}
 use Rattle.matching.specs.Solving.{takes}
 
@@ -20,15 +20,15 @@ pairs t = t.variables * length (atoms t)
 
 -- The assignment that takes what is settled so, and of the unsettled atoms those that `rest` says.
 pub record Completed (t : Tables) (s : List Bool) (rest : ℕ → ℕ → Bool) (assignment : List ℕ) : Type 0 where
-  pub accepted : assignmentFault t assignment ≡ Done
+  pub accepted : assignment_fault t assignment ≡ Done
   pub taken :
       (k q : ℕ) → k < t.variables → q < length (atoms t) → takes assignment k q ≡ settled s (rest k q) (k * length (atoms t) + q)
 
 -- The questions of one kind hold: those whose right side holds a variable, or those whose right side holds none.
 abbrev pub Asked : Tables → Bool → List ℕ → Type 0
 Asked t right assignment =
-    (m : ℕ) → m < pairsOf t.questions → hasVariable (tree t.concepts (rightOf t.questions m)) ≡ right
-    → Subsumed t assignment (left_of t.questions m) (rightOf t.questions m)
+    (m : ℕ) → m < pairs_of t.questions → has_variable (tree t.concepts (right_of t.questions m)) ≡ right
+    → Subsumed t assignment (left_of t.questions m) (right_of t.questions m)
 
 -- Open: what is taken is within the settings, the questions without a variable on the right hold with the permitted unsettled atoms
 -- taken, and the others with them left out.
@@ -47,5 +47,5 @@ unfoldable pub partials : ℕ → List Bool → List (List Bool)
 partials zero s = s ∷ []
 partials (suc rest) s = s ∷ (partials rest (false ∷ s) ++ partials rest (true ∷ s))
 
-unfoldable pub allPartials : Tables → List (List Bool)
-allPartials t = partials (pairs t) []
+unfoldable pub all_partials : Tables → List (List Bool)
+all_partials t = partials (pairs t) []

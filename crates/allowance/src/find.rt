@@ -1,13 +1,13 @@
 // Finding the first assignment within settings on an allowance of decisions.
 ghost use Rattle.std.specs.Prelude.{◌≡◌};
-ghost use Rattle.subsumption.specs.Lent.{lent, before, after};
+ghost use Rattle.subsumption.specs.Lent.{lent};
 ghost use Rattle.subsumption.specs.Inner.Lent.{given};
 ghost use Rattle.subsumption.specs.declared.refusal.Outcome.TheVariants.{Done};
-ghost use Rattle.subsumption.specs.Refusal.{replyRefused};
+ghost use Rattle.subsumption.specs.Refusal.{reply_refused};
 ghost use Rattle.subsumption.specs.Inner.Listing.{Accepted};
-ghost use Rattle.settings.specs.Settings.{lentSettings, settingsFault};
-ghost use Rattle.settings.specs.Inner.Lent.{givenSettings};
-ghost use Rattle.allowance.specs.Find.{countedReply, FindsCounted};
+ghost use Rattle.settings.specs.Settings.{lent_settings, settings_fault};
+ghost use Rattle.settings.specs.Inner.Lent.{given_settings};
+ghost use Rattle.allowance.specs.Find.{counted_reply, FindsCounted};
 ghost use Rattle.allowance.specs.Inner.Find.{WalkedBy};
 
 use crate::walk::{Trail, walk};
@@ -26,7 +26,7 @@ pub struct Counted {
 }
 
 pub fn refused(r: Refusal) -> Counted
-    ensures { countedReply result ≡ replyRefused r }
+    ensures { counted_reply result ≡ reply_refused r }
 {
     Counted {
         answer: Match::Rejected(r),
@@ -47,8 +47,8 @@ fn walk_known(
     allowance: u32,
 ) -> Trail
     requires accepted { Accepted (given concepts inclusions questions roles variables) ids.now }
-    requires largest_value { settingsFault (given concepts inclusions questions roles variables) (givenSettings permitted largest) ≡ Done }
-    ensures { WalkedBy (lent concepts inclusions questions roles variables) (lentSettings permitted largest) allowance
+    requires largest_value { settings_fault (given concepts inclusions questions roles variables) (given_settings permitted largest) ≡ Done }
+    ensures { WalkedBy (lent concepts inclusions questions roles variables) (lent_settings permitted largest) allowance
         result.found result.spent result.choice result.met }
 {
     let mut sets = [0u64; SETS];
@@ -84,9 +84,9 @@ fn find_set(
     out: &mut [u64],
 ) -> Counted
     requires accepted { Accepted (given concepts inclusions questions roles variables) ids.now }
-    requires largest_value { settingsFault (given concepts inclusions questions roles variables) (givenSettings permitted largest) ≡ Done }
-    ensures { FindsCounted (lent concepts inclusions questions roles variables) (lentSettings permitted largest) allowance
-        (before out) (after out) (countedReply result) }
+    requires largest_value { settings_fault (given concepts inclusions questions roles variables) (given_settings permitted largest) ≡ Done }
+    ensures { FindsCounted (lent concepts inclusions questions roles variables) (lent_settings permitted largest) allowance
+        out.old out.new (counted_reply result) }
 {
     let wanted = variables as usize;
     if out.len() < wanted {
@@ -130,8 +130,8 @@ pub fn find_known(
     out: &mut [u64],
 ) -> Counted
     requires { Accepted (given concepts inclusions questions roles variables) ids.now }
-    ensures { FindsCounted (lent concepts inclusions questions roles variables) (lentSettings permitted largest) allowance
-        (before out) (after out) (countedReply result) }
+    ensures { FindsCounted (lent concepts inclusions questions roles variables) (lent_settings permitted largest) allowance
+        out.old out.new (counted_reply result) }
 {
     let checked = check_settings(permitted, largest, variables, ids.len());
     match checked {
@@ -156,8 +156,8 @@ pub fn find_counted(
     allowance: u32,
     out: &mut [u64],
 ) -> Counted
-    ensures { FindsCounted (lent concepts inclusions questions roles variables) (lentSettings permitted largest) allowance
-        (before out) (after out) (countedReply result) }
+    ensures { FindsCounted (lent concepts inclusions questions roles variables) (lent_settings permitted largest) allowance
+        out.old out.new (counted_reply result) }
 {
     let mut ids = [0u16; ATOMS];
     let listed = list_atoms(concepts, inclusions, questions, roles, variables, &mut ids);

@@ -3,10 +3,9 @@
 // every harder one. For each kind and outcome there is a ring of the last sixteen choices that were tested.
 ghost use Rattle.std.specs.Prelude.{◌≡◌, ◌≤◌, length};
 ghost use Rattle.matching.specs.Inner.Search.Problem.{Shaped};
-ghost use Rattle.matching.specs.Inner.Sizes.{scratchSize};
-ghost use Rattle.allowance.specs.Inner.Kept.{ringAt, FollowsIf, Recalled, Noted, Tried};
-ghost use Rattle.allowance.specs.Inner.Sizes.{keptSize};
-ghost use Rattle.subsumption.specs.Lent.{before, after};
+ghost use Rattle.matching.specs.Inner.Sizes.{scratch_size};
+ghost use Rattle.allowance.specs.Inner.Kept.{ring_at, FollowsIf, Recalled, Noted, Tried};
+ghost use Rattle.allowance.specs.Inner.Sizes.{kept_size};
 
 use matching::helpers::{QUESTION_COUNT, failing_of, fetch, is_within, put};
 
@@ -21,7 +20,7 @@ pub const KEPT: usize = 516;
 
 // Where the ring of a kind and an outcome starts.
 fn ring_at(right: bool, passed: bool) -> usize
-    ensures { (result ≡ ringAt right passed) × (result ≤ 387) }
+    ensures { (result ≡ ring_at right passed) × (result ≤ 387) }
 {
     if right {
         if passed {
@@ -48,8 +47,8 @@ fn follows(choice: [u64; 8], other: [u64; 8], right: bool, passed: bool) -> bool
 
 // Whether the outcome follows from a choice in its ring.
 fn is_known(kept: &[u64], choice: [u64; 8], right: bool, passed: bool) -> bool
-    requires { (length kept.now ≡ keptSize) × (length choice ≡ 8) }
-    ensures { Recalled (before kept) choice right passed result }
+    requires { (length kept.now ≡ kept_size) × (length choice ≡ 8) }
+    ensures { Recalled kept.now choice right passed result }
 {
     let ring = ring_at(right, passed);
     let noted = kept[ring + NOTED];
@@ -70,8 +69,8 @@ fn is_known(kept: &[u64], choice: [u64; 8], right: bool, passed: bool) -> bool
 
 // Notes a choice in a ring, in the place of the oldest.
 fn note(kept: &mut [u64], choice: [u64; 8], right: bool, passed: bool)
-    requires { (length kept.old ≡ keptSize) × (length choice ≡ 8) }
-    ensures { Noted (before kept) (after kept) choice right passed }
+    requires { (length kept.old ≡ kept_size) × (length choice ≡ 8) }
+    ensures { Noted kept.old kept.new choice right passed }
 {
     let ring = ring_at(right, passed);
     let noted = kept[ring + NOTED];
@@ -94,9 +93,9 @@ fn test(
     right: bool,
 ) -> bool
     requires shaped { Shaped sets.now problem.now }
-    requires scratch_len { (length scratch.old ≡ scratchSize) × (length kept.old ≡ keptSize) }
+    requires scratch_len { (length scratch.old ≡ scratch_size) × (length kept.old ≡ kept_size) }
     requires choice_len { length choice ≡ 8 }
-    ensures { Tried (before sets) (before problem) choice right (before kept) (after kept) result }
+    ensures { Tried sets.now problem.now choice right kept.old kept.new result }
 {
     let m = failing_of(sets, problem, scratch, choice, right);
     if m < problem[QUESTION_COUNT] as usize {
@@ -117,9 +116,9 @@ pub fn holds(
     right: bool,
 ) -> bool
     requires shaped { Shaped sets.now problem.now }
-    requires scratch_len { (length scratch.old ≡ scratchSize) × (length kept.old ≡ keptSize) }
+    requires scratch_len { (length scratch.old ≡ scratch_size) × (length kept.old ≡ kept_size) }
     requires choice_len { length choice ≡ 8 }
-    ensures { Tried (before sets) (before problem) choice right (before kept) (after kept) result }
+    ensures { Tried sets.now problem.now choice right kept.old kept.new result }
 {
     if is_known(kept, choice, right, true) {
         return true;

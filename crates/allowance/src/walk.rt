@@ -2,10 +2,9 @@
 // extends it.
 ghost use Rattle.std.specs.Prelude.{◌≡◌, ◌*◌, ◌≤◌, length};
 ghost use Rattle.matching.specs.Inner.Search.Problem.{Shaped};
-ghost use Rattle.matching.specs.Inner.Sizes.{scratchSize};
+ghost use Rattle.matching.specs.Inner.Sizes.{scratch_size};
 ghost use Rattle.allowance.specs.Inner.Walk.{OpenedBy, Walked};
-ghost use Rattle.allowance.specs.Inner.Sizes.{keptSize};
-ghost use Rattle.subsumption.specs.Lent.{before, after};
+ghost use Rattle.allowance.specs.Inner.Sizes.{kept_size};
 
 use crate::kept::{KEPT, holds};
 use crate::place::Place;
@@ -30,10 +29,10 @@ fn is_open(
     place: Place,
 ) -> bool
     requires shaped { Shaped sets.now problem.now }
-    requires scratch_len { (length scratch.old ≡ scratchSize) × (length kept.old ≡ keptSize) }
+    requires scratch_len { (length scratch.old ≡ scratch_size) × (length kept.old ≡ kept_size) }
     requires permitted_len { (length permitted ≡ 8) × (length place.low ≡ 8) × (length place.high ≡ 8) }
-    ensures kept_len { length (after kept) ≡ keptSize }
-    ensures opened_by { OpenedBy (before sets) (before problem) permitted place.low place.high (before kept) (after kept) result }
+    ensures kept_len { length kept.new ≡ kept_size }
+    ensures opened_by { OpenedBy sets.now problem.now permitted place.low place.high kept.old kept.new result }
 {
     let low = place.low;
     let high = place.high;
@@ -60,7 +59,7 @@ pub fn walk(
 ) -> Trail
     requires shaped { Shaped sets.now problem.now }
     requires permitted_len { (length permitted ≡ 8) × (count ≤ 64) × (pairs ≤ 8 * count) }
-    ensures { Walked (before sets) (before problem) permitted count pairs allowance result.found result.spent result.choice result.met }
+    ensures { Walked sets.now problem.now permitted count pairs allowance result.found result.spent result.choice result.met }
 {
     let mut scratch = [0u64; SCRATCH];
     let mut kept = [0u64; KEPT];

@@ -1,14 +1,14 @@
 // Answers in the numbers of the C interface: those of the operations of `subsumption`. Each function calls one operation and turns
 // its answer into numbers. They stand in small crates, so that a wrong one is soon refused.
 ghost use Rattle.std.specs.Prelude.{◌≡◌};
-ghost use Rattle.subsumption.specs.Lent.{lent, before, after};
-ghost use Rattle.subsumption.specs.Tables.{tree, variablesOf};
+ghost use Rattle.subsumption.specs.Lent.{lent};
+ghost use Rattle.subsumption.specs.Tables.{tree, variables_of};
 ghost use Rattle.subsumption.specs.Atoms.{atoms};
-ghost use Rattle.subsumption.specs.Refusal.{replyWith, replyOf};
-ghost use Rattle.subsumption.specs.Check.{tableFault, pairFault};
+ghost use Rattle.subsumption.specs.Refusal.{reply_with, reply_of};
+ghost use Rattle.subsumption.specs.Check.{table_fault, pair_fault};
 ghost use Rattle.subsumption.specs.Listing.{Lists};
 ghost use Rattle.subsumption.specs.Table.{Wrote};
-ghost use Rattle.subsumption.specs.Decide.{decisionReply, Decides};
+ghost use Rattle.subsumption.specs.Decide.{decision_reply, Decides};
 ghost use Rattle.answers.specs.Answer.{replied};
 
 use subsumption::refusal::{Outcome, code_of};
@@ -25,7 +25,7 @@ pub struct Answer {
 
 // What an operation answered, in the header's numbers.
 pub fn answer_of(outcome: Outcome, value: u64) -> Answer
-    ensures { replied result ≡ replyWith outcome value }
+    ensures { replied result ≡ reply_with outcome value }
 {
     match outcome {
         Outcome::Done => Answer {
@@ -48,7 +48,7 @@ pub fn answer_of(outcome: Outcome, value: u64) -> Answer
 
 // A decision: 1 for yes, 0 for no.
 pub fn decided(answer: Decision) -> Answer
-    ensures { replied result ≡ decisionReply answer }
+    ensures { replied result ≡ decision_reply answer }
 {
     match answer {
         Decision::Rejected(r) => answer_of(Outcome::Refused(r), 0),
@@ -65,7 +65,7 @@ pub fn check(
     roles: &[u16],
     variables: u16,
 ) -> Answer
-    ensures { replied result ≡ replyOf (tableFault (lent concepts inclusions questions roles variables)) }
+    ensures { replied result ≡ reply_of (table_fault (lent concepts inclusions questions roles variables)) }
 {
     let checked = subsumption::check_tables(concepts, inclusions, questions, roles, variables);
     answer_of(checked, 0)
@@ -80,7 +80,7 @@ pub fn atoms(
     variables: u16,
     out: &mut [u16],
 ) -> Answer
-    ensures { Lists (lent concepts inclusions questions roles variables) (before out) (after out) (replied result) }
+    ensures { Lists (lent concepts inclusions questions roles variables) out.old out.new (replied result) }
 {
     let answer = subsumption::list_atoms(concepts, inclusions, questions, roles, variables, out);
     match answer {
@@ -98,8 +98,8 @@ pub fn blanks(
     variables: u16,
     id: u16,
 ) -> Answer
-    ensures { replied result ≡ replyWith (pairFault (lent concepts inclusions questions roles variables) id id)
-        (variablesOf (tree (before concepts) id)) }
+    ensures { replied result ≡ reply_with (pair_fault (lent concepts inclusions questions roles variables) id id)
+        (variables_of (tree concepts.now id)) }
 {
     let answer = subsumption::variables_in(concepts, inclusions, questions, roles, variables, id);
     match answer {
@@ -118,7 +118,7 @@ pub fn subsumption_table(
     assignment: &[u64],
     out: &mut [u8],
 ) -> Answer
-    ensures { Wrote (lent concepts inclusions questions roles variables) (before assignment) (before out) (after out) (replied result) }
+    ensures { Wrote (lent concepts inclusions questions roles variables) assignment.now out.old out.new (replied result) }
 {
     let answer = subsumption::write_table(
         concepts, inclusions, questions, roles, variables, assignment, out,
@@ -140,7 +140,7 @@ pub fn subsumed(
     left: u16,
     right: u16,
 ) -> Answer
-    ensures { Decides (lent concepts inclusions questions roles variables) (before assignment) left right (replied result) }
+    ensures { Decides (lent concepts inclusions questions roles variables) assignment.now left right (replied result) }
 {
     let answer = subsumption::decide_pair(
         concepts, inclusions, questions, roles, variables, assignment, left, right,

@@ -15,7 +15,7 @@ use Rattle.subsumption.specs.declared.refusal.Outcome.TheVariants.{Done, Refused
 use Rattle.subsumption.specs.Refusal.{first_at}
 use Rattle.subsumption.proofs.Bools.{or-first, or-second, or-skip, or-false, last-cases}
 use Rattle.subsumption.proofs.Refusals.{stops, goes_on, refused-if, done-if, passed_first, passed-second, passed-if, passed-at}
-use Rattle.batches.specs.Batch.{total, leftAfter, misshapen, batchFault}
+use Rattle.batches.specs.Batch.{total, left_after, misshapen, batch_fault}
 
 -- ---- sums
 pub total-none : (numbers : List ℕ) → total numbers 0 ≡ 0
@@ -35,48 +35,48 @@ total-le numbers k (suc n) h =
     (λ l. omega (arith, total-le numbers k n (omega arith))) (last-cases k (suc n) (omega arith))
 
 -- ---- what is left over
-pub left-none : (shares counts : List ℕ) → leftAfter shares counts 0 ≡ 0
-unfolding leftAfter
+pub left-none : (shares counts : List ℕ) → left_after shares counts 0 ≡ 0
+unfolding left_after
 left-none shares counts = refl
 
 pub left-more :
-    (shares counts : List ℕ) (k : ℕ) → leftAfter shares counts (k + 1) ≡ leftAfter shares counts k + get_or shares k 0 - get_or counts k 0
-unfolding leftAfter
+    (shares counts : List ℕ) (k : ℕ) → left_after shares counts (k + 1) ≡ left_after shares counts k + get_or shares k 0 - get_or counts k 0
+unfolding left_after
 left-more shares counts k = rw add-one
 
 -- it goes by the counts before
 pub left-same :
-    (shares counts other : List ℕ) (k : ℕ) → ((j : ℕ) → j < k → get_or counts j 0 ≡ get_or other j 0) → leftAfter shares counts k ≡ leftAfter shares other k
-unfolding leftAfter
+    (shares counts other : List ℕ) (k : ℕ) → ((j : ℕ) → j < k → get_or counts j 0 ≡ get_or other j 0) → left_after shares counts k ≡ left_after shares other k
+unfolding left_after
 left-same shares counts other zero h = refl
 left-same shares counts other (suc k) h =
     ap₂ (λ (a : ℕ) (b : ℕ). a + get_or shares k 0 - b) (left-same shares counts other k (λ j l. h j (omega arith))) (h k (omega arith))
 
 -- ---- the check
 module _ (lengths shares : List ℕ) (size : ℕ) where
-  pub too_many : 8 < length lengths → Refused (BadBatch 8) ≡ batchFault lengths shares size
-  unfolding batchFault misshapen
+  pub too_many : 8 < length lengths → Refused (BadBatch 8) ≡ batch_fault lengths shares size
+  unfolding batch_fault misshapen
   too_many h = stops _ _ _ _ (refused-if _ _ (or-first _ _ (lt-ltb _ _ h))) refl
 
-  pub other-shares : (length shares ≡ length lengths → ⊥) → Refused (BadBatch 8) ≡ batchFault lengths shares size
-  unfolding batchFault misshapen
+  pub other-shares : (length shares ≡ length lengths → ⊥) → Refused (BadBatch 8) ≡ batch_fault lengths shares size
+  unfolding batch_fault misshapen
   other-shares h = stops _ _ _ _ (refused-if _ _ (or-second _ _ (or-first _ _ (ap not (ne_eqb _ _ h))))) refl
 
-  pub other-sum : (total lengths (length lengths) ≡ size → ⊥) → Refused (BadBatch 8) ≡ batchFault lengths shares size
-  unfolding batchFault misshapen
+  pub other-sum : (total lengths (length lengths) ≡ size → ⊥) → Refused (BadBatch 8) ≡ batch_fault lengths shares size
+  unfolding batch_fault misshapen
   other-sum h = stops _ _ _ _ (refused-if _ _ (or-second _ _ (or-second _ _ (ap not (ne_eqb _ _ h))))) refl
 
   pub shaped-goes-on :
       (r : Outcome) → length lengths ≤ 8 → length shares ≡ length lengths → total lengths (length lengths) ≡ size
-      → r ≡ first_at BadBatch (λ k. ltb 1000000 (get_or shares k 0)) 0 (length lengths) → r ≡ batchFault lengths shares size
-  unfolding batchFault misshapen
+      → r ≡ first_at BadBatch (λ k. ltb 1000000 (get_or shares k 0)) 0 (length lengths) → r ≡ batch_fault lengths shares size
+  unfolding batch_fault misshapen
   shaped-goes-on r few e f h =
       goes_on Done _ _ _ (done-if _ _ (or-skip _ _ (le-ltb _ _ few) ∙ or-skip _ _ (ap not (eq-eqb _ _ e)) ∙ ap not (eq-eqb _ _ f))) refl h
 
 -- ---- what it shows
-module _ (lengths shares : List ℕ) (size : ℕ) (h : batchFault lengths shares size ≡ Done) where
+module _ (lengths shares : List ℕ) (size : ℕ) (h : batch_fault lengths shares size ≡ Done) where
   shaped : misshapen lengths shares size ≡ false
-  unfolding batchFault
+  unfolding batch_fault
   shaped = passed-if _ _ (passed_first _ _ h)
 
   pub few-tables : length lengths ≤ 8
@@ -92,7 +92,7 @@ module _ (lengths shares : List ℕ) (size : ℕ) (h : batchFault lengths shares
   whole_sum = eqb-true _ _ (not-false _ (or-false _ _ (or-false _ _ shaped).1).1)
 
   pub share-few : (k : ℕ) → k < length lengths → get_or shares k 0 ≤ 1000000
-  unfolding batchFault
+  unfolding batch_fault
   share-few k l = ltb-false _ _ (passed-at BadBatch (λ j. ltb 1000000 (get_or shares j 0)) 0 _ (passed-second _ _ h) k (omega arith) (omega arith))
 
   -- the questions of table k end within the slice

@@ -14,11 +14,11 @@ use Rattle.subsumption.specs.Tables.{Tables, tables}
 use Rattle.subsumption.specs.Atoms.{atoms}
 use Rattle.subsumption.specs.Refusal.{Reply, code_of}
 use Rattle.subsumption.specs.Inner.Listing.{Accepted}
-use Rattle.subsumption.proofs.Accepted.{wellFormed}
+use Rattle.subsumption.proofs.Accepted.{well_formed}
 use Rattle.settings.specs.Settings.{Settings, settings}
 use Rattle.matching.specs.declared.find.Match.{Match}
 use Rattle.matching.specs.declared.find.Match.TheVariants.{Filled, Rejected}
-use Rattle.matching.specs.Within.{withinFault}
+use Rattle.matching.specs.Within.{within_fault}
 use Rattle.matching.specs.Inner.Find.{Full}
 use Rattle.matching.proofs.FindLaws.{permitted-of, largest-of}
 use Rattle.allowance.specs.Find.{FindsCountedAfter, FindsCounted}
@@ -32,7 +32,7 @@ module _ (t : Tables) (ids : List ℕ) (a : Accepted t ids) (count : ℕ) (e : c
   whole = subst (λ (z : ℕ). Full z all) (e ∙ ap length a.listed) full
 
   few : t.variables ≤ 8
-  few = (wellFormed t a.passed).few-variables
+  few = (well_formed t a.passed).few-variables
 
   permits-all : take t.variables all ≡ replicate t.variables (2 ^ length (atoms t) - 1)
   permits-all =
@@ -104,7 +104,7 @@ module _ (t : Tables) (s : Settings) (allowance : ℕ) (before after : List ℕ)
 
   -- no more is used than the allowance
   pub count-within : FindsCounted t s allowance before after reply → reply.value ≤ allowance
-  count-within = within-after (withinFault t s (length before))
+  count-within = within-after (within_fault t s (length before))
 
   unused-after :
       (f : Outcome) → FindsCountedAfter f t s allowance before after reply → (reply.number ≡ 0 → ⊥) → (reply.number ≡ 10 → ⊥)
@@ -118,7 +118,7 @@ module _ (t : Tables) (s : Settings) (allowance : ℕ) (before after : List ℕ)
   pub count-unused :
       FindsCounted t s allowance before after reply → (reply.number ≡ 0 → ⊥) → (reply.number ≡ 10 → ⊥) → (reply.number ≡ 14 → ⊥)
       → reply.value ≡ 0
-  count-unused = unused-after (withinFault t s (length before))
+  count-unused = unused-after (within_fault t s (length before))
 
   kept-after : (f : Outcome) → FindsCountedAfter f t s allowance before after reply → (reply.number ≡ 0 → ⊥) → after ≡ before
   kept-after (Refused r) (e, k) a = k
@@ -128,4 +128,4 @@ module _ (t : Tables) (s : Settings) (allowance : ℕ) (before after : List ℕ)
 
   -- with a refusal nothing is written
   pub refused-kept : FindsCounted t s allowance before after reply → (reply.number ≡ 0 → ⊥) → after ≡ before
-  refused-kept = kept-after (withinFault t s (length before))
+  refused-kept = kept-after (within_fault t s (length before))

@@ -11,19 +11,19 @@ use Rattle.subsumption.specs.declared.refusal.Outcome.{Outcome}
 use Rattle.subsumption.specs.declared.refusal.Outcome.TheVariants.{Done, Refused}
 use Rattle.subsumption.specs.declared.refusal.Code.{Code}
 use Rattle.subsumption.specs.Tables.{Tables, tables}
-use Rattle.subsumption.specs.Refusal.{Reply, replyDone, code_of}
+use Rattle.subsumption.specs.Refusal.{Reply, reply_done, code_of}
 use Rattle.subsumption.proofs.Bools.{le-or-lt, last-cases}
 use Rattle.allowance.specs.Find.{FindsCounted}
 use Rattle.batches.specs.declared.find.Batch.{Batch}
-use Rattle.batches.specs.Batch.{total, questionsOf, tables_of, unrestricted, stretch, leftAfter, amount, batchFault}
+use Rattle.batches.specs.Batch.{total, questions_of, tables_of, unrestricted, stretch, left_after, amount, batch_fault}
 use Rattle.batches.specs.Find.{Ran, FindsBatchAfter, FindsBatch}
 use Rattle.batches.specs.Inner.Find.{FindsAt}
 use Rattle.batches.proofs.BatchLaws.{total-none, total-more, left-none, left-more, left-same}
 use Rattle.batches.proofs.StretchLaws.{stretch-same, drop-same, earlier-kept, later-kept}
 use Rattle.batches.proofs.FindLaws.{Answer, answer-same, count-within}
 
-abbrev replyIn : List ℕ → List ℕ → List ℕ → ℕ → Reply
-replyIn numbers places counts k = record { number = get_or numbers k 0; place = get_or places k 0; value = get_or counts k 0 }
+abbrev reply_in : List ℕ → List ℕ → List ℕ → ℕ → Reply
+reply_in numbers places counts k = record { number = get_or numbers k 0; place = get_or places k 0; value = get_or counts k 0 }
 
 pub record RanTo (t : Tables) (lengths shares before after numbers places counts : List ℕ) (start left k : ℕ) : Type 0 where
   pub within : k ≤ length lengths
@@ -33,10 +33,10 @@ pub record RanTo (t : Tables) (lengths shares before after numbers places counts
   pub each :
       (j : ℕ) → j < k
       → FindsCounted (tables_of t lengths j) (unrestricted (tables_of t lengths j)) (amount shares counts j) (stretch t.variables before j)
-      (stretch t.variables after j) (replyIn numbers places counts j)
-  pub none : (j : ℕ) → k ≤ j → replyIn numbers places counts j ≡ replyDone 0
+      (stretch t.variables after j) (reply_in numbers places counts j)
+  pub none : (j : ℕ) → k ≤ j → reply_in numbers places counts j ≡ reply_done 0
   pub started : start ≡ total lengths k
-  pub left_over : left ≡ leftAfter shares counts k
+  pub left_over : left ≡ left_after shares counts k
   pub few : left ≤ k * 1000000
   pub size : length after ≡ length before
   pub later : (p : ℕ) → k * t.variables ≤ p → get_or after p 0 ≡ get_or before p 0
@@ -77,32 +77,32 @@ module _
   abbrev counts₁ : List ℕ
   counts₁ = set counts k count
 
-  its-questions : take (start + get_or lengths k 0 - start) (drop start t.questions) ≡ questionsOf t.questions lengths k
-  unfolding questionsOf
+  its-questions : take (start + get_or lengths k 0 - start) (drop start t.questions) ≡ questions_of t.questions lengths k
+  unfolding questions_of
   its-questions = ap₂ (λ (a : ℕ) (b : ℕ). take a (drop b t.questions)) long s.started
     where
       long : start + get_or lengths k 0 - start ≡ get_or lengths k 0
       long = omega arith
 
-  left-kept : (j : ℕ) → j ≤ k → leftAfter shares counts₁ j ≡ leftAfter shares counts j
+  left-kept : (j : ℕ) → j ≤ k → left_after shares counts₁ j ≡ left_after shares counts j
   left-kept j l = left-same shares counts₁ counts j (λ i m. get_or-set_other counts k i count 0 (λ e. omega arith))
 
   its-amount : left + get_or shares k 0 ≡ amount shares counts₁ k
   its-amount = ap (λ (z : ℕ). z + get_or shares k 0) (s.left_over ∙ sym (left-kept k (omega arith)))
 
-  reply-here : replyIn numbers₁ places₁ counts₁ k ≡ reply
+  reply-here : reply_in numbers₁ places₁ counts₁ k ≡ reply
   reply-here =
       reply-same _ _ _ _ _ _ (get_or-set_same numbers k number 0 (omega (arith, s.numbers-long)))
       (get_or-set_same places k place 0 (omega (arith, s.places-long))) (get_or-set_same counts k count 0 (omega (arith, s.counts-long))) ∙ sym e
 
-  reply-other : (j : ℕ) → (j ≡ k → ⊥) → replyIn numbers₁ places₁ counts₁ j ≡ replyIn numbers places counts j
+  reply-other : (j : ℕ) → (j ≡ k → ⊥) → reply_in numbers₁ places₁ counts₁ j ≡ reply_in numbers places counts j
   reply-other j n =
       reply-same _ _ _ _ _ _ (get_or-set_other numbers k j number 0 n) (get_or-set_other places k j place 0 n) (get_or-set_other counts k j count 0 n)
 
   abbrev AnswerAt : ℕ → Type 0
   AnswerAt j =
-      Answer t (questionsOf t.questions lengths j) (amount shares counts₁ j) (stretch t.variables before j) (stretch t.variables after₁ j)
-      (replyIn numbers₁ places₁ counts₁ j)
+      Answer t (questions_of t.questions lengths j) (amount shares counts₁ j) (stretch t.variables before j) (stretch t.variables after₁ j)
+      (reply_in numbers₁ places₁ counts₁ j)
 
   here : AnswerAt k
   here =
@@ -111,7 +111,7 @@ module _
 
   old : (j : ℕ) → j < k → AnswerAt j
   old j l =
-      answer-same t (questionsOf t.questions lengths j) _ _ _ (stretch t.variables before j) _ _ _ _ _ refl
+      answer-same t (questions_of t.questions lengths j) _ _ _ (stretch t.variables before j) _ _ _ _ _ refl
       (ap (λ (z : ℕ). z + get_or shares j 0) (sym (left-kept j (omega arith)))) refl
       (sym (earlier-kept t.variables k after after₁ x.only j l)) (sym (reply-other j (λ e. omega arith))) (s.each j l)
 
@@ -152,7 +152,7 @@ ran-all t lengths shares before after numbers places counts start left k s h =
       place = refl;
       each = λ j l. s.each j (omega arith);
       none = λ j l. s.none j (omega (arith, s.within));
-      left = s.left_over ∙ ap (leftAfter shares counts) whole;
+      left = s.left_over ∙ ap (left_after shares counts) whole;
       size = s.size;
       rest = drop-same _ after before s.size (λ p l. s.later p (subst (λ (z : ℕ). z * t.variables ≤ p) (sym whole) l));
     }
@@ -163,12 +163,12 @@ ran-all t lengths shares before after numbers places counts start left k s h =
 -- ---- the answer after the check
 module _ (t : Tables) (lengths shares before : List ℕ) where
   pub batch-ran :
-      (after : List ℕ) (b : Batch) → batchFault lengths shares (length t.questions) ≡ Done → Ran t lengths shares before after b
+      (after : List ℕ) (b : Batch) → batch_fault lengths shares (length t.questions) ≡ Done → Ran t lengths shares before after b
       → FindsBatch t lengths shares before after b
   batch-ran after b h = subst (λ (z : Outcome). FindsBatchAfter z t lengths shares before after b) (sym h)
 
   pub batch-refused :
-      (r : Refusal) (code : Code) → Refused r ≡ batchFault lengths shares (length t.questions) → code ≡ code_of r
+      (r : Refusal) (code : Code) → Refused r ≡ batch_fault lengths shares (length t.questions) → code ≡ code_of r
       → FindsBatch t lengths shares before before
       (record { number = code.number; place = code.place; left = 0; numbers = replicate 8 0; places = replicate 8 0; counts = replicate 8 0 })
   batch-refused r code h e =

@@ -4,7 +4,7 @@ use Rattle.subsumption.specs.declared.refusal.Refusal.TheVariants.{BadBatch}
 use Rattle.subsumption.specs.declared.refusal.Outcome.{Outcome}
 use Rattle.subsumption.specs.Tables.{Tables, tables, or}
 use Rattle.subsumption.specs.Atoms.{atoms}
-use Rattle.subsumption.specs.Refusal.{or_else, refuseIf, first_at}
+use Rattle.subsumption.specs.Refusal.{or_else, refuse_if, first_at}
 use Rattle.settings.specs.Settings.{Settings, settings}
 
 -- The sum of the first n numbers.
@@ -13,11 +13,11 @@ total numbers zero = 0
 total numbers (suc n) = total numbers n + get_or numbers n 0
 
 -- The question tables lie one after another; these are the tables with the questions of table k.
-unfoldable pub questionsOf : List ℕ → List ℕ → ℕ → List ℕ
-questionsOf questions lengths k = take (get_or lengths k 0) (drop (total lengths k) questions)
+unfoldable pub questions_of : List ℕ → List ℕ → ℕ → List ℕ
+questions_of questions lengths k = take (get_or lengths k 0) (drop (total lengths k) questions)
 
 abbrev pub tables_of : Tables → List ℕ → ℕ → Tables
-tables_of t lengths k = tables t.concepts t.inclusions (questionsOf t.questions lengths k) t.roles t.variables
+tables_of t lengths k = tables t.concepts t.inclusions (questions_of t.questions lengths k) t.roles t.variables
 
 -- All atoms are permitted to every variable, and 64 of them.
 unfoldable pub unrestricted : Tables → Settings
@@ -28,19 +28,19 @@ unfoldable pub stretch : ℕ → List ℕ → ℕ → List ℕ
 stretch variables buffer k = take variables (drop (k * variables) buffer)
 
 -- What the first k tables leave over of their shares, given how much each used; and what table k may use.
-unfoldable pub leftAfter : List ℕ → List ℕ → ℕ → ℕ
-leftAfter shares counts zero = 0
-leftAfter shares counts (suc k) = leftAfter shares counts k + get_or shares k 0 - get_or counts k 0
+unfoldable pub left_after : List ℕ → List ℕ → ℕ → ℕ
+left_after shares counts zero = 0
+left_after shares counts (suc k) = left_after shares counts k + get_or shares k 0 - get_or counts k 0
 
 abbrev pub amount : List ℕ → List ℕ → ℕ → ℕ
-amount shares counts k = leftAfter shares counts k + get_or shares k 0
+amount shares counts k = left_after shares counts k + get_or shares k 0
 
 -- Check 20: more than eight tables, another number of shares, or lengths that do not add up; then a share over a million.
 unfoldable pub misshapen : List ℕ → List ℕ → ℕ → Bool
 misshapen lengths shares size =
     or (ltb 8 (length lengths)) (or (not (eqb (length shares) (length lengths))) (not (eqb (total lengths (length lengths)) size)))
 
-unfoldable pub batchFault : List ℕ → List ℕ → ℕ → Outcome
-batchFault lengths shares size =
-    or_else (refuseIf (misshapen lengths shares size) (BadBatch 8))
+unfoldable pub batch_fault : List ℕ → List ℕ → ℕ → Outcome
+batch_fault lengths shares size =
+    or_else (refuse_if (misshapen lengths shares size) (BadBatch 8))
     (first_at BadBatch (λ k. ltb 1000000 (get_or shares k 0)) 0 (length lengths))

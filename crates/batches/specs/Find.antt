@@ -4,14 +4,14 @@ use Rattle.subsumption.specs.declared.refusal.Refusal.{Refusal}
 use Rattle.subsumption.specs.declared.refusal.Outcome.{Outcome}
 use Rattle.subsumption.specs.declared.refusal.Outcome.TheVariants.{Done, Refused}
 use Rattle.subsumption.specs.Tables.{Tables}
-use Rattle.subsumption.specs.Refusal.{Reply, replyDone, code_of}
+use Rattle.subsumption.specs.Refusal.{Reply, reply_done, code_of}
 use Rattle.allowance.specs.Find.{FindsCounted}
 use Rattle.batches.specs.declared.find.Batch.{Batch}
-use Rattle.batches.specs.Batch.{tables_of, unrestricted, stretch, leftAfter, amount, batchFault}
+use Rattle.batches.specs.Batch.{tables_of, unrestricted, stretch, left_after, amount, batch_fault}
 
 -- What table k is told: the value is its count.
-abbrev pub replyAt : Batch → ℕ → Reply
-replyAt b k = record { number = get_or b.numbers k 0; place = get_or b.places k 0; value = get_or b.counts k 0 }
+abbrev pub reply_at : Batch → ℕ → Reply
+reply_at b k = record { number = get_or b.numbers k 0; place = get_or b.places k 0; value = get_or b.counts k 0 }
 
 -- Each table has the answer that it has alone, with its share and what those before it left over, on its stretch of the buffer.
 pub record Ran (t : Tables) (lengths shares before after : List ℕ) (b : Batch) : Type 0 where
@@ -20,9 +20,9 @@ pub record Ran (t : Tables) (lengths shares before after : List ℕ) (b : Batch)
   pub each :
       (k : ℕ) → k < length lengths
       → FindsCounted (tables_of t lengths k) (unrestricted (tables_of t lengths k)) (amount shares b.counts k)
-      (stretch t.variables before k) (stretch t.variables after k) (replyAt b k)
-  pub none : (k : ℕ) → length lengths ≤ k → replyAt b k ≡ replyDone 0
-  pub left : b.left ≡ leftAfter shares b.counts (length lengths)
+      (stretch t.variables before k) (stretch t.variables after k) (reply_at b k)
+  pub none : (k : ℕ) → length lengths ≤ k → reply_at b k ≡ reply_done 0
+  pub left : b.left ≡ left_after shares b.counts (length lengths)
   pub size : length after ≡ length before
   pub rest : drop (length lengths * t.variables) after ≡ drop (length lengths * t.variables) before
 
@@ -30,7 +30,7 @@ pub record Ran (t : Tables) (lengths shares before after : List ℕ) (b : Batch)
 pub record Refuses (r : Refusal) (before after : List ℕ) (b : Batch) : Type 0 where
   pub number : b.number ≡ (code_of r).number
   pub place : b.place ≡ (code_of r).place
-  pub none : (k : ℕ) → replyAt b k ≡ replyDone 0
+  pub none : (k : ℕ) → reply_at b k ≡ reply_done 0
   pub left : b.left ≡ 0
   pub kept : after ≡ before
 
@@ -40,4 +40,4 @@ FindsBatchAfter (Refused r) t lengths shares before after b = Refuses r before a
 
 abbrev pub FindsBatch : Tables → List ℕ → List ℕ → List ℕ → List ℕ → Batch → Type 0
 FindsBatch t lengths shares before after b =
-    FindsBatchAfter (batchFault lengths shares (length t.questions)) t lengths shares before after b
+    FindsBatchAfter (batch_fault lengths shares (length t.questions)) t lengths shares before after b

@@ -1,7 +1,6 @@
 // The check of a batch.
 ghost use Rattle.std.specs.Prelude.{◌≡◌, ◌≤◌, length};
-ghost use Rattle.batches.specs.Batch.{total, batchFault};
-ghost use Rattle.subsumption.specs.Lent.{before};
+ghost use Rattle.batches.specs.Batch.{total, batch_fault};
 
 use subsumption::refusal::{Outcome, Refusal};
 
@@ -12,7 +11,7 @@ const SHARE: u32 = 1000000;
 // The sum of the lengths.
 fn sum_of(lengths: &[u16]) -> usize
     requires { length lengths.now ≤ 8 }
-    ensures { result ≡ total (before lengths) (length (before lengths)) }
+    ensures { result ≡ total lengths.now (length lengths.now) }
 {
     let mut sum: usize = 0;
     let mut k: usize = 0;
@@ -25,7 +24,7 @@ fn sum_of(lengths: &[u16]) -> usize
 
 // Check 20, given how many numbers the question tables have together.
 pub fn check_batch(lengths: &[u16], shares: &[u32], size: usize) -> Outcome
-    ensures { result ≡ batchFault (before lengths) (before shares) size }
+    ensures { result ≡ batch_fault lengths.now shares.now size }
 {
     let count = lengths.len();
     if count > TABLES {

@@ -1,9 +1,9 @@
 // Finding an assignment for each table of a batch.
 ghost use Rattle.std.specs.Prelude.{◌≡◌, ◌<◌, min, length};
-ghost use Rattle.subsumption.specs.Lent.{lent, before, after};
+ghost use Rattle.subsumption.specs.Lent.{lent};
 ghost use Rattle.subsumption.specs.declared.refusal.Outcome.TheVariants.{Done};
-ghost use Rattle.allowance.specs.Find.{countedReply, FindsCounted};
-ghost use Rattle.batches.specs.Batch.{unrestricted, batchFault};
+ghost use Rattle.allowance.specs.Find.{counted_reply, FindsCounted};
+ghost use Rattle.batches.specs.Batch.{unrestricted, batch_fault};
 ghost use Rattle.batches.specs.Find.{FindsBatch, Ran};
 ghost use Rattle.batches.specs.Inner.Find.{FindsAt, Coded};
 
@@ -39,7 +39,7 @@ fn find_all_permitted(
     out: &mut [u64],
 ) -> Counted
     ensures { FindsCounted (lent concepts inclusions questions roles variables)
-        (unrestricted (lent concepts inclusions questions roles variables)) allowance (before out) (after out) (countedReply result) }
+        (unrestricted (lent concepts inclusions questions roles variables)) allowance out.old out.new (counted_reply result) }
 {
     let mut ids = [0u16; ATOMS];
     let listed = list_atoms(concepts, inclusions, questions, roles, variables, &mut ids);
@@ -86,7 +86,7 @@ fn find_at(
     out: &mut [u64],
 ) -> Counted
     requires { k < 8 }
-    ensures { FindsAt (lent concepts inclusions questions roles variables) allowance k (before out) (after out) (countedReply result) }
+    ensures { FindsAt (lent concepts inclusions questions roles variables) allowance k out.old out.new (counted_reply result) }
 {
     let width = variables as usize;
     let size = out.len();
@@ -127,9 +127,9 @@ fn find_each(
     shares: &[u32],
     out: &mut [u64],
 ) -> Batch
-    requires { batchFault lengths.now shares.now (length questions.now) ≡ Done }
-    ensures { Ran (lent concepts inclusions questions roles variables) (before lengths) (before shares)
-        (before out) (after out) result }
+    requires { batch_fault lengths.now shares.now (length questions.now) ≡ Done }
+    ensures { Ran (lent concepts inclusions questions roles variables) lengths.now shares.now
+        out.old out.new result }
 {
     let mut numbers = [0u16; TABLES];
     let mut places = [0u64; TABLES];
@@ -182,8 +182,8 @@ pub fn find_batch(
     shares: &[u32],
     out: &mut [u64],
 ) -> Batch
-    ensures { FindsBatch (lent concepts inclusions questions roles variables) (before lengths) (before shares)
-        (before out) (after out) result }
+    ensures { FindsBatch (lent concepts inclusions questions roles variables) lengths.now shares.now
+        out.old out.new result }
 {
     let checked = check_batch(lengths, shares, questions.len());
     match checked {

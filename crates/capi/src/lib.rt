@@ -1,14 +1,14 @@
 // The operations for C and Rust. No logic of its own: each export passes on the answer in numbers that the crates of answers give.
 ghost use Rattle.std.specs.Prelude.{◌≡◌};
-ghost use Rattle.subsumption.specs.Lent.{lent, before, after};
-ghost use Rattle.subsumption.specs.Tables.{tree, variablesOf};
-ghost use Rattle.subsumption.specs.Refusal.{replyWith, replyOf};
-ghost use Rattle.subsumption.specs.Check.{tableFault, pairFault};
+ghost use Rattle.subsumption.specs.Lent.{lent};
+ghost use Rattle.subsumption.specs.Tables.{tree, variables_of};
+ghost use Rattle.subsumption.specs.Refusal.{reply_with, reply_of};
+ghost use Rattle.subsumption.specs.Check.{table_fault, pair_fault};
 ghost use Rattle.subsumption.specs.Listing.{Lists};
 ghost use Rattle.subsumption.specs.Table.{Wrote};
 ghost use Rattle.subsumption.specs.Decide.{Decides};
-ghost use Rattle.matching.specs.Derivation.{checkingFault};
-ghost use Rattle.settings.specs.Settings.{lentSettings};
+ghost use Rattle.matching.specs.Derivation.{checking_fault};
+ghost use Rattle.settings.specs.Settings.{lent_settings};
 ghost use Rattle.matching.specs.Find.{Finds};
 ghost use Rattle.matching.specs.Within.{FindsWithin};
 ghost use Rattle.matching.specs.Chosen.{Chooses};
@@ -22,7 +22,7 @@ ghost use Rattle.incremental.specs.Update.{Updates};
 ghost use Rattle.renumbering.specs.Renumber.{Renumbers};
 ghost use Rattle.owl.specs.Read.{ReadsCatalogue};
 ghost use Rattle.answers.specs.Answer.{replied};
-ghost use Rattle.catalogue_answers.specs.Answer.{repliedTables};
+ghost use Rattle.catalogue_answers.specs.Answer.{replied_tables};
 
 use answers::Answer;
 use batches::Batch;
@@ -37,7 +37,7 @@ pub extern "C" fn hc_check(
     roles: &[u16],
     variables: u16,
 ) -> Answer
-    ensures { replied result ≡ replyOf (tableFault (lent concepts inclusions questions roles variables)) }
+    ensures { replied result ≡ reply_of (table_fault (lent concepts inclusions questions roles variables)) }
 {
     answers::check(concepts, inclusions, questions, roles, variables)
 }
@@ -52,7 +52,7 @@ pub extern "C" fn hc_atoms(
     variables: u16,
     out: &mut [u16],
 ) -> Answer
-    ensures { Lists (lent concepts inclusions questions roles variables) (before out) (after out) (replied result) }
+    ensures { Lists (lent concepts inclusions questions roles variables) out.old out.new (replied result) }
 {
     answers::atoms(concepts, inclusions, questions, roles, variables, out)
 }
@@ -67,8 +67,8 @@ pub extern "C" fn hc_blanks(
     variables: u16,
     id: u16,
 ) -> Answer
-    ensures { replied result ≡ replyWith (pairFault (lent concepts inclusions questions roles variables) id id)
-        (variablesOf (tree (before concepts) id)) }
+    ensures { replied result ≡ reply_with (pair_fault (lent concepts inclusions questions roles variables) id id)
+        (variables_of (tree concepts.now id)) }
 {
     answers::blanks(concepts, inclusions, questions, roles, variables, id)
 }
@@ -84,7 +84,7 @@ pub extern "C" fn hc_subsumption_table(
     assignment: &[u64],
     out: &mut [u8],
 ) -> Answer
-    ensures { Wrote (lent concepts inclusions questions roles variables) (before assignment) (before out) (after out) (replied result) }
+    ensures { Wrote (lent concepts inclusions questions roles variables) assignment.now out.old out.new (replied result) }
 {
     answers::subsumption_table(
         concepts, inclusions, questions, roles, variables, assignment, out,
@@ -103,7 +103,7 @@ pub extern "C" fn hc_subsumed(
     left: u16,
     right: u16,
 ) -> Answer
-    ensures { Decides (lent concepts inclusions questions roles variables) (before assignment) left right (replied result) }
+    ensures { Decides (lent concepts inclusions questions roles variables) assignment.now left right (replied result) }
 {
     answers::subsumed(
         concepts, inclusions, questions, roles, variables, assignment, left, right,
@@ -120,7 +120,7 @@ pub extern "C" fn hc_match(
     variables: u16,
     out: &mut [u64],
 ) -> Answer
-    ensures { Finds (lent concepts inclusions questions roles variables) (before out) (after out) (replied result) }
+    ensures { Finds (lent concepts inclusions questions roles variables) out.old out.new (replied result) }
 {
     matching_answers::find(concepts, inclusions, questions, roles, variables, out)
 }
@@ -137,8 +137,8 @@ pub extern "C" fn hc_match_within(
     largest: &[u16],
     out: &mut [u64],
 ) -> Answer
-    ensures { FindsWithin (lent concepts inclusions questions roles variables) (lentSettings permitted largest) (before out)
-        (after out) (replied result) }
+    ensures { FindsWithin (lent concepts inclusions questions roles variables) (lent_settings permitted largest) out.old
+        out.new (replied result) }
 {
     matching_answers::find_within(
         concepts, inclusions, questions, roles, variables, permitted, largest, out,
@@ -158,8 +158,8 @@ pub extern "C" fn hc_match_counted(
     allowance: u32,
     out: &mut [u64],
 ) -> Answer
-    ensures { FindsCounted (lent concepts inclusions questions roles variables) (lentSettings permitted largest) allowance
-        (before out) (after out) (replied result) }
+    ensures { FindsCounted (lent concepts inclusions questions roles variables) (lent_settings permitted largest) allowance
+        out.old out.new (replied result) }
 {
     finder_answers::find_counted(
         concepts, inclusions, questions, roles, variables, permitted, largest, allowance, out,
@@ -180,8 +180,8 @@ pub extern "C" fn hc_match_group(
     question: u16,
     out: &mut [u64],
 ) -> Answer
-    ensures { FindsGroup (lent concepts inclusions questions roles variables) (lentSettings permitted largest) question
-        (before out) (after out) (replied result) }
+    ensures { FindsGroup (lent concepts inclusions questions roles variables) (lent_settings permitted largest) question
+        out.old out.new (replied result) }
 {
     finder_answers::find_group(
         concepts, inclusions, questions, roles, variables, permitted, largest, question, out,
@@ -200,8 +200,8 @@ pub extern "C" fn hc_match_cards(
     shares: &[u32],
     out: &mut [u64],
 ) -> Batch
-    ensures { FindsBatch (lent concepts inclusions questions roles variables) (before lengths) (before shares) (before out)
-        (after out) result }
+    ensures { FindsBatch (lent concepts inclusions questions roles variables) lengths.now shares.now out.old
+        out.new result }
 {
     batches::find_batch(
         concepts, inclusions, questions, roles, variables, lengths, shares, out,
@@ -220,8 +220,8 @@ pub extern "C" fn hc_chosen(
     variable: u16,
     out: &mut [u16],
 ) -> Answer
-    ensures { Chooses (lent concepts inclusions questions roles variables) (before assignment) variable (before out)
-        (after out) (replied result) }
+    ensures { Chooses (lent concepts inclusions questions roles variables) assignment.now variable out.old
+        out.new (replied result) }
 {
     matching_answers::chosen(
         concepts, inclusions, questions, roles, variables, assignment, variable, out,
@@ -241,8 +241,8 @@ pub extern "C" fn hc_derive(
     right: u16,
     out: &mut [u16],
 ) -> Answer
-    ensures { Derives (lent concepts inclusions questions roles variables) (before assignment) left right (before out)
-        (after out) (replied result) }
+    ensures { Derives (lent concepts inclusions questions roles variables) assignment.now left right out.old
+        out.new (replied result) }
 {
     derivation_answers::derive(
         concepts, inclusions, questions, roles, variables, assignment, left, right, out,
@@ -262,8 +262,8 @@ pub extern "C" fn hc_check_derivation(
     right: u16,
     lines: &[u16],
 ) -> Answer
-    ensures { replied result ≡ replyOf
-        (checkingFault (lent concepts inclusions questions roles variables) (before assignment) left right (before lines)) }
+    ensures { replied result ≡ reply_of
+        (checking_fault (lent concepts inclusions questions roles variables) assignment.now left right lines.now) }
 {
     derivation_answers::check_derivation(
         concepts, inclusions, questions, roles, variables, assignment, left, right, lines,
@@ -283,8 +283,8 @@ pub extern "C" fn hc_show(
     right: u16,
     out: &mut [u16],
 ) -> Answer
-    ensures { Shows (lent concepts inclusions questions roles variables) (before assignment) left right (before out)
-        (after out) (replied result) }
+    ensures { Shows (lent concepts inclusions questions roles variables) assignment.now left right out.old
+        out.new (replied result) }
 {
     countermodel_answers::show(
         concepts, inclusions, questions, roles, variables, assignment, left, right, out,
@@ -305,8 +305,8 @@ pub extern "C" fn hc_belongs(
     concept: u16,
     element: u16,
 ) -> Answer
-    ensures { DecidesMember (lent concepts inclusions questions roles variables) (before assignment) size
-        (before rows) concept element (replied result) }
+    ensures { DecidesMember (lent concepts inclusions questions roles variables) assignment.now size
+        rows.now concept element (replied result) }
 {
     countermodel_answers::belongs(
         concepts, inclusions, questions, roles, variables, assignment, size, rows, concept, element,
@@ -324,7 +324,7 @@ pub extern "C" fn hc_update_table(
     told: &[u16],
     table: &mut [u8],
 ) -> Answer
-    ensures { Updates (lent concepts inclusions questions roles variables) (before told) (before table) (after table) (replied result) }
+    ensures { Updates (lent concepts inclusions questions roles variables) told.now table.old table.new (replied result) }
 {
     catalogue_answers::update_table(
         concepts, inclusions, questions, roles, variables, told, table,
@@ -344,8 +344,8 @@ pub extern "C" fn hc_renumber(
     inclusions_out: &mut [u16],
     questions_out: &mut [u16],
 ) -> Answer
-    ensures { Renumbers (lent concepts inclusions questions roles variables) (before order) (before concepts_out)
-        (after concepts_out) (before inclusions_out) (after inclusions_out) (before questions_out) (after questions_out)
+    ensures { Renumbers (lent concepts inclusions questions roles variables) order.now concepts_out.old
+        concepts_out.new inclusions_out.old inclusions_out.new questions_out.old questions_out.new
         (replied result) }
 {
     catalogue_answers::renumber(
@@ -368,8 +368,8 @@ pub extern "C" fn hc_read_owl(
     concepts: &mut [u16],
     inclusions: &mut [u16],
 ) -> CatalogueAnswer
-    ensures { ReadsCatalogue (before text) (before concepts) (after concepts) (before inclusions) (after inclusions)
-        (repliedTables result) }
+    ensures { ReadsCatalogue text.now concepts.old concepts.new inclusions.old inclusions.new
+        (replied_tables result) }
 {
     catalogue_answers::read_owl(text, concepts, inclusions)
 }

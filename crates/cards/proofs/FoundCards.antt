@@ -12,33 +12,33 @@ use borrow.Author.Tests.{eqb-true}
 use lib.ListN.{length}
 use Rattle.subsumption.specs.declared.refusal.Outcome.{Outcome}
 use Rattle.subsumption.specs.declared.refusal.Outcome.TheVariants.{Done}
-use Rattle.subsumption.specs.Tables.{Tables, tables, or, both, anyBelow, decode, node, shape, treeTo, tree, variablesOf, hasVariable, pairsOf}
-use Rattle.subsumption.specs.Roles.{widerTo, wider}
-use Rattle.subsumption.specs.Variables.{standsIn}
+use Rattle.subsumption.specs.Tables.{Tables, tables, or, both, any_below, decode, node, shape, tree_to, tree, variables_of, has_variable, pairs_of}
+use Rattle.subsumption.specs.Roles.{wider_to, wider}
+use Rattle.subsumption.specs.Variables.{stands_in}
 use Rattle.subsumption.specs.Table.{one, counted}
-use Rattle.subsumption.specs.Atoms.{inside, occursTo, occurs, isAtomic, inInclusion, inQuestion, stands, holds as holdsAtom, twin, isLowest, isAtom, keep, atoms, bit, pick, chosen}
-use Rattle.subsumption.specs.Rules.{every, contains, same_name, is_top, onPicked, onBoth, onInner, onVariable, byRule, follows}
+use Rattle.subsumption.specs.Atoms.{inside, occurs_to, occurs, is_atomic, in_inclusion, in_question, stands, holds as holdsAtom, twin, is_lowest, is_atom, keep, atoms, bit, pick, chosen}
+use Rattle.subsumption.specs.Rules.{every, contains, same_name, is_top, on_picked, on_both, on_inner, on_variable, by_rule, follows}
 use Rattle.subsumption.specs.Subsumption.{Interpretation, Reading, assigned, SubsumedBy}
-use Rattle.subsumption.specs.Refusal.{or_else, refuseIf, first_at}
-use Rattle.subsumption.specs.Check.{unfit, limitFault, rolesFault, malformedRow, malformed, malformedFault, forward, forwardFault, noConcept, pairsFault, inclusionFault, sidesFault, atomsFault, conceptFault, idFault, useFault, tableFault, assignmentFaultAt, assignmentFault}
-use Rattle.subsumption.proofs.Accepted.{wellFormed}
+use Rattle.subsumption.specs.Refusal.{or_else, refuse_if, first_at}
+use Rattle.subsumption.specs.Check.{unfit, limit_fault, roles_fault, malformed_row, malformed, malformed_fault, forward, forward_fault, no_concept, pairs_fault, inclusion_fault, sides_fault, atoms_fault, concept_fault, id_fault, use_fault, table_fault, assignment_fault_at, assignment_fault}
+use Rattle.subsumption.proofs.Accepted.{well_formed}
 use Rattle.subsumption.proofs.Membership.{subsumed-by-ground}
 use Rattle.subsumption.proofs.ModelRows.{gather}
-use Rattle.settings.specs.Settings.{Settings, settings, size, faultyAt, settingsFaultAt, settingsFault}
+use Rattle.settings.specs.Settings.{Settings, settings, size, faulty_at, settings_fault_at, settings_fault}
 use Rattle.matching.specs.Within.{FirstWithin}
 use Rattle.matching.specs.Among.{FirstAmong}
-use Rattle.matching.proofs.SubstitutionLaws.Members.{anyIn}
+use Rattle.matching.proofs.SubstitutionLaws.Members.{any_in}
 use Rattle.matching.proofs.SubstitutionLaws.Conjoined.{some-solves}
 use Rattle.matching.proofs.WithinLaws.{heeds-all}
 use Rattle.allowance.specs.Find.{FindsCountedAfter, FindsCounted}
 use Rattle.groups.specs.Group.{holds, Chain, Joined, InGroup}
 use Rattle.groups.proofs.FindLaws.{first-among-same}
-use Rattle.cards.specs.Samples.{Holds, card, I, J, notBelow, noFilling, filling, entries, house, looped, copied, narrowed, questions, cards, free}
+use Rattle.cards.specs.Samples.{Holds, card, I, J, not_below, no_filling, filling, entries, house, looped, copied, narrowed, questions, cards, free}
 use Rattle.cards.specs.Found.{tells, fills, Always, opposed, grouped, Found, FoundWithin, FoundCounted, FoundGroup}
-use Rattle.cards.proofs.SampleLaws.{all_below, built, markAt, lines, some, round, rounds, closedTest, same_list, allIn, before, allLists, assignments, sameBool, earlierTest, isDone, is-done, solvedBy, refuted, onIds, marks, misses, saysTest, test-says, cardTest, test-holds}
+use Rattle.cards.proofs.SampleLaws.{all_below, built, mark_at, lines, some, round, rounds, closed_test, same_list, all_in, before, all_lists, assignments, bools_agree, earlier_test, is_done, is-done, solved_by, refuted, on_ids, marks, misses, says_test, test-says, card_test, test-holds}
 use Rattle.cards.proofs.SampleCards.{every-card}
 use Rattle.cards.proofs.SampleCount.{card-h, unrestricted, sample-count}
-use Rattle.cards.proofs.AmongLaws.{heedsTest, askedTest, outTest, firstTest, first_passes, noneTest, none_passes}
+use Rattle.cards.proofs.AmongLaws.{heeds_test, asked_test, out_test, first_test, first_passes, none_test, none_passes}
 use Rattle.cards.proofs.JudgedCards.{nine-refused}
 use Rattle.cards.proofs.FoundLaws.{finds-first, finds-none, within_first, within_none, counted-first, counted-spent, group-first, group-none}
 
@@ -50,21 +50,21 @@ unfoldable few : Settings
 few = settings (7 ∷ []) (0 ∷ [])
 
 record Computed : Type 0 where
-  grouped-passes : isDone (tableFault grouped) ≡ true
-  left-ground : hasVariable (tree grouped.concepts 0) ≡ false
-  right-ground : hasVariable (tree grouped.concepts 3) ≡ false
-  third-fails : saysTest grouped 4 (notBelow (0 ∷ []) 0 3) ≡ true
-  barred-set : isDone (settingsFault (house questions) barred) ≡ true
-  few-set : isDone (settingsFault (house questions) few) ≡ true
-  free-set : isDone (settingsFault (house questions) free) ≡ true
-  grouped-set : isDone (settingsFault grouped free) ≡ true
-  opposed-set : isDone (settingsFault opposed free) ≡ true
-  barred-first : firstTest (house questions) barred (λ m. true) 4 (2 ∷ []) ≡ true
-  few-none : noneTest (house questions) few (λ m. true) 4 ≡ true
-  joined-first : firstTest grouped free (λ m. ltb m 2) 4 (4 ∷ []) ≡ true
+  grouped-passes : is_done (table_fault grouped) ≡ true
+  left-ground : has_variable (tree grouped.concepts 0) ≡ false
+  right-ground : has_variable (tree grouped.concepts 3) ≡ false
+  third-fails : says_test grouped 4 (not_below (0 ∷ []) 0 3) ≡ true
+  barred-set : is_done (settings_fault (house questions) barred) ≡ true
+  few-set : is_done (settings_fault (house questions) few) ≡ true
+  free-set : is_done (settings_fault (house questions) free) ≡ true
+  grouped-set : is_done (settings_fault grouped free) ≡ true
+  opposed-set : is_done (settings_fault opposed free) ≡ true
+  barred-first : first_test (house questions) barred (λ m. true) 4 (2 ∷ []) ≡ true
+  few-none : none_test (house questions) few (λ m. true) 4 ≡ true
+  joined-first : first_test grouped free (λ m. ltb m 2) 4 (4 ∷ []) ≡ true
 
 computed : Computed
-unfolding or both anyBelow decode node shape treeTo tree variablesOf hasVariable inside occursTo occurs isAtomic inInclusion inQuestion stands holdsAtom twin isLowest isAtom keep atoms bit pick chosen every contains same_name is_top onPicked onBoth onInner onVariable byRule follows or_else refuseIf first_at unfit limitFault rolesFault wider widerTo malformedRow malformed malformedFault forward forwardFault noConcept pairsFault inclusionFault sidesFault atomsFault conceptFault idFault useFault tableFault assignmentFaultAt assignmentFault gather entries house looped copied narrowed questions cards anyIn all_below built markAt lines some round rounds closedTest same_list allIn before allLists assignments sameBool earlierTest isDone solvedBy refuted onIds marks misses saysTest cardTest ℕ_discrete faultyAt settingsFaultAt settingsFault size counted one heedsTest askedTest outTest firstTest noneTest opposed grouped barred few
+unfolding or both any_below decode node shape tree_to tree variables_of has_variable inside occurs_to occurs is_atomic in_inclusion in_question stands holdsAtom twin is_lowest is_atom keep atoms bit pick chosen every contains same_name is_top on_picked on_both on_inner on_variable by_rule follows or_else refuse_if first_at unfit limit_fault roles_fault wider wider_to malformed_row malformed malformed_fault forward forward_fault no_concept pairs_fault inclusion_fault sides_fault atoms_fault concept_fault id_fault use_fault table_fault assignment_fault_at assignment_fault gather entries house looped copied narrowed questions cards any_in all_below built mark_at lines some round rounds closed_test same_list all_in before all_lists assignments bools_agree earlier_test is_done solved_by refuted on_ids marks misses says_test card_test ℕ_discrete faulty_at settings_fault_at settings_fault size counted one heeds_test asked_test out_test first_test none_test opposed grouped barred few
 computed =
     record {
       grouped-passes = refl;
@@ -94,8 +94,8 @@ ask-both :
     (t : Tables) (n : ℕ) → holds t 0 0 ≡ true → holds t n 0 ≡ true → InGroup t 0 n
 ask-both t n e f = inl (record { others = []; chain = record { variable = 0; first = e; second = f } })
 
-joined-with : (n : ℕ) → n < pairsOf grouped.questions → (ltb n 2 ≡ true) ↔ InGroup grouped 0 n
-unfolding holds standsIn tree treeTo shape node decode or house entries questions grouped
+joined-with : (n : ℕ) → n < pairs_of grouped.questions → (ltb n 2 ≡ true) ↔ InGroup grouped 0 n
+unfolding holds stands_in tree tree_to shape node decode or house entries questions grouped
 joined-with zero l = ((λ e. ask-both grouped 0 refl refl), (λ g. refl))
 joined-with (suc zero) l = ((λ e. ask-both grouped 1 refl refl), (λ g. refl))
 joined-with (suc (suc zero)) l = (
@@ -108,11 +108,11 @@ joined-with (suc (suc zero)) l = (
 joined-with (suc (suc (suc n))) l = absurd (omega arith)
 
 third-ground : (k : ℕ) → holds grouped 2 k ≡ false
-unfolding holds standsIn tree treeTo shape node decode or house entries questions grouped
+unfolding holds stands_in tree tree_to shape node decode or house entries questions grouped
 third-ground k = refl
 
-opposed-with : (n : ℕ) → n < pairsOf opposed.questions → InGroup opposed 0 n
-unfolding holds standsIn tree treeTo shape node decode or house entries questions opposed
+opposed-with : (n : ℕ) → n < pairs_of opposed.questions → InGroup opposed 0 n
+unfolding holds stands_in tree tree_to shape node decode or house entries questions opposed
 opposed-with zero l = ask-both opposed 0 refl refl
 opposed-with (suc zero) l = ask-both opposed 1 refl refl
 opposed-with (suc (suc n)) l = absurd (omega arith)
@@ -136,7 +136,7 @@ free-first =
       first = λ other e h x. card-h.1.first other e x;
     }
 
-card-i : Holds (card I opposed noFilling)
+card-i : Holds (card I opposed no_filling)
 unfolding cards opposed
 card-i = every-card _ (Memᴰ.tail (Memᴰ.tail (Memᴰ.tail (Memᴰ.tail (Memᴰ.tail (Memᴰ.tail (Memᴰ.tail (Memᴰ.tail (Memᴰ.head refl)))))))))
 
@@ -196,15 +196,15 @@ found-group =
       others = λ before after told room x.
           group-none opposed refl before after told card-i.0 room free (is-done _ computed.opposed-set) 0 (lit< tt) x
           (λ other e h y.
-          let s = some-solves opposed (wellFormed opposed card-i.0) other (λ m l. y m l (opposed-with m l)) in
+          let s = some-solves opposed (well_formed opposed card-i.0) other (λ m l. y m l (opposed-with m l)) in
           card-i.1 s.substitution s.solves);
     }
   where
-    ok : tableFault grouped ≡ Done
+    ok : table_fault grouped ≡ Done
     ok = is-done _ computed.grouped-passes
 
     -- the third question holds no variable, so it fails under every reading
     third-fails : (reading : Interpretation → Reading) → SubsumedBy grouped reading 0 3 → ⊥
     third-fails reading h =
-        (test-says grouped 4 ok (notBelow (0 ∷ []) 0 3) computed.third-fails).1
+        (test-says grouped 4 ok (not_below (0 ∷ []) 0 3) computed.third-fails).1
         (subsumed-by-ground grouped reading (assigned grouped (0 ∷ [])) 0 3 computed.left-ground computed.right-ground h)

@@ -8,11 +8,11 @@ use lib.ListN.{length, take, drop, take-append-drop}
 use Rattle.subsumption.specs.declared.refusal.Refusal.TheVariants.{NoAssignment}
 use Rattle.subsumption.specs.declared.refusal.Outcome.{Outcome}
 use Rattle.subsumption.specs.declared.refusal.Outcome.TheVariants.{Done}
-use Rattle.subsumption.specs.Tables.{Tables, pairsOf}
-use Rattle.subsumption.specs.Refusal.{Reply, replyDone, replyRefused}
-use Rattle.subsumption.specs.Check.{tableFault, assignmentFault}
-use Rattle.subsumption.proofs.Accepted.{wellFormed}
-use Rattle.settings.specs.Settings.{Settings, Heeds, settingsFault}
+use Rattle.subsumption.specs.Tables.{Tables, pairs_of}
+use Rattle.subsumption.specs.Refusal.{Reply, reply_done, reply_refused}
+use Rattle.subsumption.specs.Check.{table_fault, assignment_fault}
+use Rattle.subsumption.proofs.Accepted.{well_formed}
+use Rattle.settings.specs.Settings.{Settings, Heeds, settings_fault}
 use Rattle.matching.specs.Solving.{Substitution, Solves, SolvesBy, First}
 use Rattle.matching.specs.Find.{FindsAfter, Finds}
 use Rattle.matching.specs.Within.{FirstWithin, FindsWithinAfter, FindsWithin}
@@ -33,7 +33,7 @@ module _ (t : Tables) (one : t.variables ≡ 1) (before after : List ℕ) (told 
       (choice : ℕ) → take t.variables after ≡ choice ∷ [] → drop t.variables after ≡ drop t.variables before → after ≡ fills choice before
   put_first choice e f = sym (take-append-drop t.variables after) ∙ ap₂ ◌++◌ e (f ∙ ap (λ (z : ℕ). drop z before) one)
 
-  module _ (ok : tableFault t ≡ Done) (room : 1 ≤ length before) where
+  module _ (ok : table_fault t ≡ Done) (room : 1 ≤ length before) where
     -- ---- the first finder
     pub finds-first : (choice : ℕ) → First t (choice ∷ []) → Finds t before after told → (told ≡ tells 0 0 0) × (after ≡ fills choice before)
     finds-first choice f x = go (found-cases t before after told ok (omega arith) x)
@@ -44,7 +44,7 @@ module _ (t : Tables) (one : t.variables ≡ 1) (before after : List ℕ) (told 
           put_first choice
               (one-first _ _ (g.first.first _ f.accepted f.solves) (f.first _ g.first.accepted g.first.solves)) g.rest,
         )
-        go (inr (e, g)) = let s = some-solves t (wellFormed t ok) _ f.solves in absurd (g.none s.substitution s.solves)
+        go (inr (e, g)) = let s = some-solves t (well_formed t ok) _ f.solves in absurd (g.none s.substitution s.solves)
 
     pub finds-none : ((σ : Substitution t) → SolvesBy t σ → ⊥) → Finds t before after told → (told ≡ tells 10 0 0) × (after ≡ before)
     finds-none n x = go (found-cases t before after told ok (omega arith) x)
@@ -53,7 +53,7 @@ module _ (t : Tables) (one : t.variables ≡ 1) (before after : List ℕ) (told 
         go (inl (e, g)) = absurd (n g.some.substitution g.some.solves)
         go (inr (e, g)) = (e, g.kept)
 
-    module _ (s : Settings) (set : settingsFault t s ≡ Done) where
+    module _ (s : Settings) (set : settings_fault t s ≡ Done) where
       first-written : (choice : ℕ) (a : List ℕ) → FirstWithin t s (choice ∷ []) → FirstWithin t s a → a ≡ choice ∷ []
       first-written choice a f g =
           one-first _ _ (g.first _ f.accepted f.heeds f.solves) (f.first _ g.accepted g.heeds g.solves)
@@ -68,7 +68,7 @@ module _ (t : Tables) (one : t.variables ≡ 1) (before after : List ℕ) (told 
           go (inr (e, g)) = absurd (g.none _ f.accepted f.heeds f.solves)
 
       pub within_none :
-          ((other : List ℕ) → assignmentFault t other ≡ Done → Heeds s other → Solves t other → ⊥) → FindsWithin t s before after told
+          ((other : List ℕ) → assignment_fault t other ≡ Done → Heeds s other → Solves t other → ⊥) → FindsWithin t s before after told
           → (told ≡ tells 10 0 0) × (after ≡ before)
       within_none n x = go (within-cases t before after told ok (omega arith) s set x)
         where
@@ -89,7 +89,7 @@ module _ (t : Tables) (one : t.variables ≡ 1) (before after : List ℕ) (told 
           where
             go : FindsCountedAfter Done t s allowance before after told → (told ≡ tells 0 0 count) × (after ≡ fills choice before)
             go (inl (e, (g, d))) = (
-              e ∙ ap replyDone (count-unique t s _ _ d.counted c),
+              e ∙ ap reply_done (count-unique t s _ _ d.counted c),
               put_first choice (first-written choice _ f g.first) g.rest,
             )
             go (inr (inl (e, (g, d)))) = absurd (g.none _ f.accepted f.heeds f.solves)
@@ -104,7 +104,7 @@ module _ (t : Tables) (one : t.variables ≡ 1) (before after : List ℕ) (told 
             go (inr (inr (e, g))) = (e, g.kept)
 
       -- ---- of a group
-      module _ (m : ℕ) (asked : m < pairsOf t.questions) (x : FindsGroup t s m before after told) where
+      module _ (m : ℕ) (asked : m < pairs_of t.questions) (x : FindsGroup t s m before after told) where
         group-cases : FindsGroupAfter Done t s m before after told
         group-cases =
             subst (λ (z : Outcome). FindsGroupAfter z t s m before after told)

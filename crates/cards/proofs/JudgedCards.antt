@@ -5,24 +5,24 @@ use mathlib.Core.List.{[], ◌∷◌}
 use native.Mathlib.Decide.{ℕ_discrete}
 use Rattle.subsumption.specs.declared.refusal.Refusal.TheVariants.{Limit}
 use Rattle.subsumption.specs.declared.refusal.Outcome.TheVariants.{Done, Refused}
-use Rattle.subsumption.specs.Tables.{tables, or, both, anyBelow, decode, node, shape, treeTo, tree, variablesOf, hasVariable}
-use Rattle.subsumption.specs.Roles.{widerTo, wider}
-use Rattle.subsumption.specs.Atoms.{inside, occursTo, occurs, isAtomic, inInclusion, inQuestion, stands, holds, twin, isLowest, isAtom, keep, atoms, bit, pick, chosen}
-use Rattle.subsumption.specs.Rules.{every, contains, same_name, is_top, onPicked, onBoth, onInner, onVariable, byRule, follows}
-use Rattle.subsumption.specs.Refusal.{or_else, refuseIf, first_at}
-use Rattle.subsumption.specs.Check.{unfit, limitFault, rolesFault, malformedRow, malformed, malformedFault, forward, forwardFault, noConcept, pairsFault, aloneFault, inclusionFault, sidesFault, atomsFault, conceptFault, idFault, useFault, tableFault, pairFault, assignmentFaultAt, assignmentFault, bufferFault}
-use Rattle.subsumption.specs.Table.{rowStart, writingFault}
-use Rattle.subsumption.specs.Decide.{decidingFault}
+use Rattle.subsumption.specs.Tables.{tables, or, both, any_below, decode, node, shape, tree_to, tree, variables_of, has_variable}
+use Rattle.subsumption.specs.Roles.{wider_to, wider}
+use Rattle.subsumption.specs.Atoms.{inside, occurs_to, occurs, is_atomic, in_inclusion, in_question, stands, holds, twin, is_lowest, is_atom, keep, atoms, bit, pick, chosen}
+use Rattle.subsumption.specs.Rules.{every, contains, same_name, is_top, on_picked, on_both, on_inner, on_variable, by_rule, follows}
+use Rattle.subsumption.specs.Refusal.{or_else, refuse_if, first_at}
+use Rattle.subsumption.specs.Check.{unfit, limit_fault, roles_fault, malformed_row, malformed, malformed_fault, forward, forward_fault, no_concept, pairs_fault, alone_fault, inclusion_fault, sides_fault, atoms_fault, concept_fault, id_fault, use_fault, table_fault, pair_fault, assignment_fault_at, assignment_fault, buffer_fault}
+use Rattle.subsumption.specs.Table.{row_start, writing_fault}
+use Rattle.subsumption.specs.Decide.{deciding_fault}
 use Rattle.subsumption.proofs.ModelRows.{gather}
-use Rattle.settings.specs.Settings.{Settings, faultyAt, settingsFaultAt, settingsFault}
-use Rattle.matching.specs.Within.{withinFault}
-use Rattle.matching.specs.Derivation.{pair_at, provedBy, lineFollows, noLines, ruleFault, lastFault, derivationFault, checkingFault}
-use Rattle.matching.specs.Writer.{derivingFault}
+use Rattle.settings.specs.Settings.{Settings, faulty_at, settings_fault_at, settings_fault}
+use Rattle.matching.specs.Within.{within_fault}
+use Rattle.matching.specs.Derivation.{pair_at, proved_by, line_follows, no_lines, rule_fault, last_fault, derivation_fault, checking_fault}
+use Rattle.matching.specs.Writer.{deriving_fault}
 use Rattle.cards.specs.Samples.{entries, house, looped, copied, narrowed, questions, cards}
 use Rattle.cards.specs.Judged.{ruled, Examples, InOrder, Derived}
 
 pub examples : Examples
-unfolding or both anyBelow decode node shape treeTo tree variablesOf hasVariable inside occursTo occurs isAtomic inInclusion inQuestion stands holds twin isLowest isAtom keep atoms bit pick chosen every contains same_name is_top onPicked onBoth onInner onVariable byRule follows or_else refuseIf first_at unfit limitFault rolesFault wider widerTo malformedRow malformed malformedFault forward forwardFault noConcept pairsFault inclusionFault sidesFault atomsFault conceptFault idFault useFault tableFault assignmentFaultAt assignmentFault gather entries house looped copied narrowed questions cards ℕ_discrete aloneFault pairFault bufferFault rowStart writingFault decidingFault faultyAt settingsFaultAt settingsFault withinFault pair_at provedBy lineFollows noLines ruleFault lastFault derivationFault checkingFault derivingFault ruled
+unfolding or both any_below decode node shape tree_to tree variables_of has_variable inside occurs_to occurs is_atomic in_inclusion in_question stands holds twin is_lowest is_atom keep atoms bit pick chosen every contains same_name is_top on_picked on_both on_inner on_variable by_rule follows or_else refuse_if first_at unfit limit_fault roles_fault wider wider_to malformed_row malformed malformed_fault forward forward_fault no_concept pairs_fault inclusion_fault sides_fault atoms_fault concept_fault id_fault use_fault table_fault assignment_fault_at assignment_fault gather entries house looped copied narrowed questions cards ℕ_discrete alone_fault pair_fault buffer_fault row_start writing_fault deciding_fault faulty_at settings_fault_at settings_fault within_fault pair_at proved_by line_follows no_lines rule_fault last_fault derivation_fault checking_fault deriving_fault ruled
 examples =
     record {
       no-1 = refl;
@@ -38,7 +38,7 @@ examples =
     }
 
 pub in_order : InOrder
-unfolding or both anyBelow decode node shape treeTo tree variablesOf hasVariable inside occursTo occurs isAtomic inInclusion inQuestion stands holds twin isLowest isAtom keep atoms bit pick chosen every contains same_name is_top onPicked onBoth onInner onVariable byRule follows or_else refuseIf first_at unfit limitFault rolesFault wider widerTo malformedRow malformed malformedFault forward forwardFault noConcept pairsFault inclusionFault sidesFault atomsFault conceptFault idFault useFault tableFault assignmentFaultAt assignmentFault gather entries house looped copied narrowed questions cards ℕ_discrete aloneFault pairFault bufferFault rowStart writingFault decidingFault faultyAt settingsFaultAt settingsFault withinFault pair_at provedBy lineFollows noLines ruleFault lastFault derivationFault checkingFault derivingFault ruled
+unfolding or both any_below decode node shape tree_to tree variables_of has_variable inside occurs_to occurs is_atomic in_inclusion in_question stands holds twin is_lowest is_atom keep atoms bit pick chosen every contains same_name is_top on_picked on_both on_inner on_variable by_rule follows or_else refuse_if first_at unfit limit_fault roles_fault wider wider_to malformed_row malformed malformed_fault forward forward_fault no_concept pairs_fault inclusion_fault sides_fault atoms_fault concept_fault id_fault use_fault table_fault assignment_fault_at assignment_fault gather entries house looped copied narrowed questions cards ℕ_discrete alone_fault pair_fault buffer_fault row_start writing_fault deciding_fault faulty_at settings_fault_at settings_fault within_fault pair_at proved_by line_follows no_lines rule_fault last_fault derivation_fault checking_fault deriving_fault ruled
 in_order =
     record {
       first-1 = refl;
@@ -56,7 +56,7 @@ in_order =
     }
 
 pub derived : Derived
-unfolding or both anyBelow decode node shape treeTo tree variablesOf hasVariable inside occursTo occurs isAtomic inInclusion inQuestion stands holds twin isLowest isAtom keep atoms bit pick chosen every contains same_name is_top onPicked onBoth onInner onVariable byRule follows or_else refuseIf first_at unfit limitFault rolesFault wider widerTo malformedRow malformed malformedFault forward forwardFault noConcept pairsFault inclusionFault sidesFault atomsFault conceptFault idFault useFault tableFault assignmentFaultAt assignmentFault gather entries house looped copied narrowed questions cards ℕ_discrete aloneFault pairFault bufferFault rowStart writingFault decidingFault faultyAt settingsFaultAt settingsFault withinFault pair_at provedBy lineFollows noLines ruleFault lastFault derivationFault checkingFault derivingFault ruled
+unfolding or both any_below decode node shape tree_to tree variables_of has_variable inside occurs_to occurs is_atomic in_inclusion in_question stands holds twin is_lowest is_atom keep atoms bit pick chosen every contains same_name is_top on_picked on_both on_inner on_variable by_rule follows or_else refuse_if first_at unfit limit_fault roles_fault wider wider_to malformed_row malformed malformed_fault forward forward_fault no_concept pairs_fault inclusion_fault sides_fault atoms_fault concept_fault id_fault use_fault table_fault assignment_fault_at assignment_fault gather entries house looped copied narrowed questions cards ℕ_discrete alone_fault pair_fault buffer_fault row_start writing_fault deciding_fault faulty_at settings_fault_at settings_fault within_fault pair_at proved_by line_follows no_lines rule_fault last_fault derivation_fault checking_fault deriving_fault ruled
 derived =
     record {
       rule-1 = refl;
@@ -80,10 +80,10 @@ derived =
     }
 
 -- the checks of card A's pair, and of tables with nine variables
-pub asked-passes : decidingFault (house questions) (4 ∷ []) 2 3 ≡ Done
-unfolding or both anyBelow decode node shape treeTo tree variablesOf hasVariable inside occursTo occurs isAtomic inInclusion inQuestion stands holds twin isLowest isAtom keep atoms bit pick chosen every contains same_name is_top onPicked onBoth onInner onVariable byRule follows or_else refuseIf first_at unfit limitFault rolesFault wider widerTo malformedRow malformed malformedFault forward forwardFault noConcept pairsFault inclusionFault sidesFault atomsFault conceptFault idFault useFault tableFault assignmentFaultAt assignmentFault gather entries house looped copied narrowed questions cards ℕ_discrete aloneFault pairFault decidingFault
+pub asked-passes : deciding_fault (house questions) (4 ∷ []) 2 3 ≡ Done
+unfolding or both any_below decode node shape tree_to tree variables_of has_variable inside occurs_to occurs is_atomic in_inclusion in_question stands holds twin is_lowest is_atom keep atoms bit pick chosen every contains same_name is_top on_picked on_both on_inner on_variable by_rule follows or_else refuse_if first_at unfit limit_fault roles_fault wider wider_to malformed_row malformed malformed_fault forward forward_fault no_concept pairs_fault inclusion_fault sides_fault atoms_fault concept_fault id_fault use_fault table_fault assignment_fault_at assignment_fault gather entries house looped copied narrowed questions cards ℕ_discrete alone_fault pair_fault deciding_fault
 asked-passes = refl
 
-pub nine-refused : (s : Settings) (size : ℕ) → withinFault (tables [] [] [] [] 9) s size ≡ Refused (Limit 3)
-unfolding or both anyBelow decode node shape treeTo tree variablesOf hasVariable inside occursTo occurs isAtomic inInclusion inQuestion stands holds twin isLowest isAtom keep atoms bit pick chosen every contains same_name is_top onPicked onBoth onInner onVariable byRule follows or_else refuseIf first_at unfit limitFault rolesFault wider widerTo malformedRow malformed malformedFault forward forwardFault noConcept pairsFault inclusionFault sidesFault atomsFault conceptFault idFault useFault tableFault assignmentFaultAt assignmentFault gather entries house looped copied narrowed questions cards withinFault
+pub nine-refused : (s : Settings) (size : ℕ) → within_fault (tables [] [] [] [] 9) s size ≡ Refused (Limit 3)
+unfolding or both any_below decode node shape tree_to tree variables_of has_variable inside occurs_to occurs is_atomic in_inclusion in_question stands holds twin is_lowest is_atom keep atoms bit pick chosen every contains same_name is_top on_picked on_both on_inner on_variable by_rule follows or_else refuse_if first_at unfit limit_fault roles_fault wider wider_to malformed_row malformed malformed_fault forward forward_fault no_concept pairs_fault inclusion_fault sides_fault atoms_fault concept_fault id_fault use_fault table_fault assignment_fault_at assignment_fault gather entries house looped copied narrowed questions cards within_fault
 nine-refused s size = refl

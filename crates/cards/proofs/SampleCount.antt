@@ -9,17 +9,17 @@ use lib.ListN.{length, get_or}
 use Rattle.subsumption.specs.declared.refusal.Outcome.TheVariants.{Done}
 use Rattle.subsumption.specs.Tables.{both}
 use Rattle.subsumption.specs.Atoms.{bit}
-use Rattle.subsumption.specs.Check.{assignmentFault}
+use Rattle.subsumption.specs.Check.{assignment_fault}
 use Rattle.settings.specs.Settings.{Unrestricted}
 use Rattle.matching.proofs.WithinLaws.{heeds-all}
-use Rattle.allowance.specs.Partial.{pairs, Completed, Open, partials, allPartials}
+use Rattle.allowance.specs.Partial.{pairs, Completed, Open, partials, all_partials}
 use Rattle.allowance.specs.Count.{Stretch, none, opened, shut, CountOf, answered, Exceeds}
-use Rattle.allowance.proofs.PartialLaws.{up_to, takenAt, read-completed, whole-solves, whole_open, open-back}
-use Rattle.cards.specs.Samples.{Holds, card, D, G, H, notBelow, parts, filling, house, questions, cards, free}
-use Rattle.cards.proofs.SampleLaws.{all_below, allBelow-at}
+use Rattle.allowance.proofs.PartialLaws.{up_to, taken_at, read-completed, whole-solves, whole_open, open-back}
+use Rattle.cards.specs.Samples.{Holds, card, D, G, H, not_below, parts, filling, house, questions, cards, free}
+use Rattle.cards.proofs.SampleLaws.{all_below, all_below-at}
 use Rattle.cards.proofs.SampleCards.{every-card}
 
-card-d : Holds (card D (house questions) (notBelow (0 ∷ []) 5 3))
+card-d : Holds (card D (house questions) (not_below (0 ∷ []) 5 3))
 unfolding cards
 card-d = every-card _ (Memᴰ.tail (Memᴰ.tail (Memᴰ.tail (Memᴰ.head refl))))
 
@@ -42,16 +42,16 @@ unrestricted =
       all =
           λ k q l m.
           let e : k ≡ 0 = omega arith in
-          subst (λ (z : ℕ). bit (get_or (7 ∷ []) z 0) q ≡ true) (sym e) (allBelow-at 3 (λ p. bit 7 p) refl q (omega (arith, ap length card-g.1)));
+          subst (λ (z : ℕ). bit (get_or (7 ∷ []) z 0) q ≡ true) (sym e) (all_below-at 3 (λ p. bit 7 p) refl q (omega (arith, ap length card-g.1)));
       most = λ k l. let e : k ≡ 0 = omega arith in ap (λ (z : ℕ). get_or (64 ∷ []) z 0) e;
     }
 
 -- the whole partial choice of an assignment
-whole : (c : ℕ) (s : List Bool) → up_to (takenAt (c ∷ []) 3) 3 ≡ s → assignmentFault (house questions) (c ∷ []) ≡ Done → Completed (house questions) s (λ k q. false) (c ∷ [])
+whole : (c : ℕ) (s : List Bool) → up_to (taken_at (c ∷ []) 3) 3 ≡ s → assignment_fault (house questions) (c ∷ []) ≡ Done → Completed (house questions) s (λ k q. false) (c ∷ [])
 unfolding house
 whole c s e h =
     subst (λ (z : List Bool). Completed (house questions) z (λ k q. false) (c ∷ []))
-    (ap (λ (z : List ℕ). up_to (takenAt (c ∷ []) (length z)) (1 * length z)) card-g.1 ∙ e) (read-completed (house questions) (c ∷ []) h)
+    (ap (λ (z : List ℕ). up_to (taken_at (c ∷ []) (length z)) (1 * length z)) card-g.1 ∙ e) (read-completed (house questions) (c ∷ []) h)
 
 -- the answer takes id 3; leaving it out as well solves nothing
 open-answer : Open (house questions) free (true ∷ false ∷ false ∷ [])
@@ -80,8 +80,8 @@ before = [] ∷ (false ∷ []) ∷ (false ∷ false ∷ []) ∷ (false ∷ false
 after : List (List Bool)
 after = partials 1 (true ∷ false ∷ []) ++ partials 2 (true ∷ [])
 
-in_order : allPartials (house questions) ≡ before ++ ((true ∷ false ∷ false ∷ []) ∷ after)
-unfolding allPartials partials before after
+in_order : all_partials (house questions) ≡ before ++ ((true ∷ false ∷ false ∷ []) ∷ after)
+unfolding all_partials partials before after
 in_order = ap (λ (z : ℕ). partials z []) three
 
 stretch : Stretch (house questions) free before 3

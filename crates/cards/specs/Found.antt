@@ -10,7 +10,7 @@ use Rattle.matching.specs.Within.{FindsWithin}
 use Rattle.allowance.specs.Find.{FindsCounted}
 use Rattle.groups.specs.Find.{FindsGroup}
 use Rattle.batches.specs.declared.find.Batch.{Batch}
-use Rattle.batches.specs.Find.{replyAt, FindsBatch}
+use Rattle.batches.specs.Find.{reply_at, FindsBatch}
 use Rattle.cards.specs.Samples.{house, questions, free}
 
 -- A reply: number, place and value.
@@ -68,8 +68,8 @@ twice = house (5 ∷ 3 ∷ 2 ∷ 4 ∷ 5 ∷ 3 ∷ 2 ∷ 4 ∷ [])
 
 pub record FoundBatch (before after : List ℕ) (batch : Batch) : Type 0 where
   pub ran : (batch.number ≡ 0) × (batch.place ≡ 0)
-  pub first : replyAt batch 0 ≡ tells 0 0 4
-  pub second : replyAt batch 1 ≡ tells 0 0 4
+  pub first : reply_at batch 0 ≡ tells 0 0 4
+  pub second : reply_at batch 1 ≡ tells 0 0 4
   pub left : batch.left ≡ 0
   pub written : after ≡ 4 ∷ 4 ∷ drop 2 before
 

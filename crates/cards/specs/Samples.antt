@@ -4,29 +4,29 @@ use Rattle.subsumption.specs.declared.refusal.Outcome.TheVariants.{Done}
 use Rattle.subsumption.specs.Tables.{Tables, tables}
 use Rattle.subsumption.specs.Atoms.{atoms}
 use Rattle.subsumption.specs.Subsumption.{Subsumed}
-use Rattle.subsumption.specs.Check.{tableFault, assignmentFault}
+use Rattle.subsumption.specs.Check.{table_fault, assignment_fault}
 use Rattle.settings.specs.Settings.{Settings, settings}
 use Rattle.matching.specs.Solving.{Substitution, SolvesBy, First}
 
 -- What a card says of its tables: a pair is below under every accepted assignment, or under none; it is below under one assignment, or is
 -- not; which the atoms are; the first assignment that solves; that no substitution of any size solves (01: refusal 10).
 pub data Saying : Type 0 where
-  alwaysBelow : ℕ → ℕ → Saying
-  neverBelow : ℕ → ℕ → Saying
+  always_below : ℕ → ℕ → Saying
+  never_below : ℕ → ℕ → Saying
   below : List ℕ → ℕ → ℕ → Saying
-  notBelow : List ℕ → ℕ → ℕ → Saying
+  not_below : List ℕ → ℕ → ℕ → Saying
   parts : List ℕ → Saying
   filling : List ℕ → Saying
-  noFilling : Saying
+  no_filling : Saying
 
 abbrev pub Says : Tables → Saying → Type 0
-Says t (alwaysBelow i j) = (assignment : List ℕ) → assignmentFault t assignment ≡ Done → Subsumed t assignment i j
-Says t (neverBelow i j) = (assignment : List ℕ) → assignmentFault t assignment ≡ Done → Subsumed t assignment i j → ⊥
-Says t (below assignment i j) = (assignmentFault t assignment ≡ Done) × Subsumed t assignment i j
-Says t (notBelow assignment i j) = (assignmentFault t assignment ≡ Done) × (Subsumed t assignment i j → ⊥)
+Says t (always_below i j) = (assignment : List ℕ) → assignment_fault t assignment ≡ Done → Subsumed t assignment i j
+Says t (never_below i j) = (assignment : List ℕ) → assignment_fault t assignment ≡ Done → Subsumed t assignment i j → ⊥
+Says t (below assignment i j) = (assignment_fault t assignment ≡ Done) × Subsumed t assignment i j
+Says t (not_below assignment i j) = (assignment_fault t assignment ≡ Done) × (Subsumed t assignment i j → ⊥)
 Says t (parts ids) = atoms t ≡ ids
 Says t (filling assignment) = First t assignment
-Says t noFilling = (σ : Substitution t) → SolvesBy t σ → ⊥
+Says t no_filling = (σ : Substitution t) → SolvesBy t σ → ⊥
 
 -- The cards' letters.
 pub data Letter : Type 0 where
@@ -39,7 +39,7 @@ pub record Card : Type 0 where
 
 -- The tables are accepted, and what the card says is true.
 abbrev pub Holds : Card → Type 0
-Holds card = (tableFault card.tables ≡ Done) × Says card.tables card.saying
+Holds card = (table_fault card.tables ≡ Done) × Says card.tables card.saying
 
 -- The entries and the inclusion of the house text.
 unfoldable pub entries : List ℕ
@@ -69,21 +69,21 @@ card letter t saying = record { letter = letter; tables = t; saying = saying }
 -- The cards. A choice is written as its number: position 0 is id 0, position 1 is id 2, position 2 is id 3.
 unfoldable pub cards : List Card
 cards =
-    card A (house questions) (alwaysBelow 2 3)
-    ∷ card B (house questions) (neverBelow 3 2)
+    card A (house questions) (always_below 2 3)
+    ∷ card B (house questions) (never_below 3 2)
     ∷ card C (house questions) (below (4 ∷ []) 5 3)
-    ∷ card D (house questions) (notBelow (0 ∷ []) 5 3)
+    ∷ card D (house questions) (not_below (0 ∷ []) 5 3)
     ∷ card E (house questions) (below (0 ∷ []) 0 4)
     ∷ card F (house questions) (below (1 ∷ []) 4 0)
     ∷ card G (house questions) (parts (0 ∷ 2 ∷ 3 ∷ []))
     ∷ card H (house questions) (filling (4 ∷ []))
-    ∷ card I (house (5 ∷ 3 ∷ 0 ∷ 4 ∷ [])) noFilling
+    ∷ card I (house (5 ∷ 3 ∷ 0 ∷ 4 ∷ [])) no_filling
     ∷ card J (house []) (filling (0 ∷ []))
-    ∷ card K looped (alwaysBelow 0 2)
-    ∷ card L looped (neverBelow 1 0)
+    ∷ card K looped (always_below 0 2)
+    ∷ card L looped (never_below 1 0)
     ∷ card M copied (parts (0 ∷ 1 ∷ []))
-    ∷ card N narrowed (alwaysBelow 1 2)
-    ∷ card O narrowed (neverBelow 2 1)
+    ∷ card N narrowed (always_below 1 2)
+    ∷ card O narrowed (never_below 2 1)
     ∷ []
 
 -- Settings of the sample problem that permit every atom, and 64 of them (02, A.4: its count is 4).

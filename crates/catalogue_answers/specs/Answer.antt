@@ -2,6 +2,6 @@
 use Rattle.catalogue_answers.specs.declared.CatalogueAnswer.{CatalogueAnswer}
 use Rattle.owl.specs.Read.{CatalogueReply}
 
-abbrev pub repliedTables : CatalogueAnswer → CatalogueReply
-repliedTables answer =
+abbrev pub replied_tables : CatalogueAnswer → CatalogueReply
+replied_tables answer =
     record { number = answer.number; place = answer.place; concepts = answer.entries; inclusions = answer.inclusions }

@@ -3,10 +3,10 @@
 ghost use Rattle.std.specs.Prelude.{◌≡◌};
 ghost use Rattle.incremental.specs.Update.{Updates};
 ghost use Rattle.renumbering.specs.Renumber.{Renumbers};
-ghost use Rattle.owl.specs.Read.{catalogueReply, ReadsCatalogue};
+ghost use Rattle.owl.specs.Read.{catalogue_reply, ReadsCatalogue};
 ghost use Rattle.answers.specs.Answer.{replied};
-ghost use Rattle.catalogue_answers.specs.Answer.{repliedTables};
-ghost use Rattle.subsumption.specs.Lent.{lent, before, after};
+ghost use Rattle.catalogue_answers.specs.Answer.{replied_tables};
+ghost use Rattle.subsumption.specs.Lent.{lent};
 
 use answers::{Answer, answer_of};
 use owl::Catalogue;
@@ -32,7 +32,7 @@ pub fn update_table(
     told: &[u16],
     table: &mut [u8],
 ) -> Answer
-    ensures { Updates (lent concepts inclusions questions roles variables) (before told) (before table) (after table) (replied result) }
+    ensures { Updates (lent concepts inclusions questions roles variables) told.now table.old table.new (replied result) }
 {
     let updated = incremental::update_table(
         concepts, inclusions, questions, roles, variables, told, table,
@@ -52,8 +52,8 @@ pub fn renumber(
     inclusions_out: &mut [u16],
     questions_out: &mut [u16],
 ) -> Answer
-    ensures { Renumbers (lent concepts inclusions questions roles variables) (before order) (before concepts_out)
-        (after concepts_out) (before inclusions_out) (after inclusions_out) (before questions_out) (after questions_out)
+    ensures { Renumbers (lent concepts inclusions questions roles variables) order.now concepts_out.old
+        concepts_out.new inclusions_out.old inclusions_out.new questions_out.old questions_out.new
         (replied result) }
 {
     let renumbered = renumbering::renumber_tables(
@@ -72,7 +72,7 @@ pub fn renumber(
 
 // What was read, in the header's numbers.
 fn catalogue_of(catalogue: Catalogue) -> CatalogueAnswer
-    ensures { repliedTables result ≡ catalogueReply catalogue }
+    ensures { replied_tables result ≡ catalogue_reply catalogue }
 {
     match catalogue {
         Catalogue::Tables(entries, inclusions) => CatalogueAnswer {
@@ -97,8 +97,8 @@ fn catalogue_of(catalogue: Catalogue) -> CatalogueAnswer
 
 // Reads a catalogue in OWL functional syntax.
 pub fn read_owl(text: &[u8], concepts: &mut [u16], inclusions: &mut [u16]) -> CatalogueAnswer
-    ensures { ReadsCatalogue (before text) (before concepts) (after concepts) (before inclusions) (after inclusions)
-        (repliedTables result) }
+    ensures { ReadsCatalogue text.now concepts.old concepts.new inclusions.old inclusions.new
+        (replied_tables result) }
 {
     let read = owl::read_catalogue(text, concepts, inclusions);
     catalogue_of(read)

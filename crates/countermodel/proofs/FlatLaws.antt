@@ -58,10 +58,10 @@ flat-at (r ∷ rows) zero = refl
 flat-at (r ∷ rows) (suc p) = next_row r rows p ∙ flat-at rows p
 
 -- a record stands at a place, and what stands at a place is a record
-pub getD-in : (rows : List Row) (p : ℕ) → p < length rows → Memᴰ (get_or rows p no_row) rows
-getD-in [] p l = absurd (omega arith)
-getD-in (r ∷ rows) zero l = Memᴰ.head refl
-getD-in (r ∷ rows) (suc p) l = Memᴰ.tail (getD-in rows p (omega arith))
+pub get_or-in : (rows : List Row) (p : ℕ) → p < length rows → Memᴰ (get_or rows p no_row) rows
+get_or-in [] p l = absurd (omega arith)
+get_or-in (r ∷ rows) zero l = Memᴰ.head refl
+get_or-in (r ∷ rows) (suc p) l = Memᴰ.tail (get_or-in rows p (omega arith))
 
 pub place-of : {r : Row} {rows : List Row} → Memᴰ r rows → (p : ℕ) × (p < length rows) × (get_or rows p no_row ≡ r)
 place-of (Memᴰ.head e) = (0, omega arith, sym e)
@@ -79,6 +79,6 @@ module _ {A : Type 0} (says : Row → List A) (rows : List Row) where
   said-out {a} h =
       let (p, _, l, u) = joined-out _ 0 _ h in (
         get_or rows p no_row,
-        getD-in rows p (omega (arith, flat-count rows)),
+        get_or-in rows p (omega (arith, flat-count rows)),
         subst (λ (z : Row). Memᴰ a (says z)) (flat-at rows p) u,
       )

@@ -11,41 +11,41 @@ use lib.ListN.{length, get_or, set, length-set, replicate, length-replicate, get
 use lib.Seq.{get_or-set_same, get_or-set_other}
 use borrow.Author.Tests.{eq-eqb, ne_eqb}
 use Rattle.subsumption.specs.declared.tables.Row.{Row}
-use Rattle.subsumption.specs.Tables.{both, anyBelow, Node, name_at, existsAt, decode, node, count_of}
+use Rattle.subsumption.specs.Tables.{both, any_below, Node, name_at, exists_at, decode, node, count_of}
 use Rattle.subsumption.specs.Atoms.{bit}
 use Rattle.subsumption.specs.Roles.{wider}
-use Rattle.subsumption.specs.Table.{rowStart, marked}
+use Rattle.subsumption.specs.Table.{row_start, marked}
 use Rattle.subsumption.specs.Inner.Tables.{row_of}
-use Rattle.subsumption.specs.Inner.Atoms.{markAt}
+use Rattle.subsumption.specs.Inner.Atoms.{mark_at}
 use Rattle.subsumption.specs.Inner.Roles.{in_set, RoleSets}
 use Rattle.subsumption.proofs.Bools.{or-first, or-skip, both-none, both-skip, both-second, eq-or-ne}
 use Rattle.subsumption.proofs.Marks.{row-node, row-rising, exists_below}
-use Rattle.countermodel.specs.Countermodel.{isNamed, leadsTo, bears, isLinked}
+use Rattle.countermodel.specs.Countermodel.{is_named, leads_to, bears, is_linked}
 use Rattle.countermodel.specs.Inner.Show.{Checked, NamesOf, LinksOf, is_of, RolesOf}
 
 pub mark-read : (table : List ℕ) (i j : ℕ) → eqb (get_or table (i * 24 + j / 8) 0 / 2 ^ (j % 8) % 2) 1 ≡ marked table i j
-unfolding marked rowStart bit
+unfolding marked row_start bit
 mark-read table i j = refl
 
 -- ---- a scan of the rows: q is noted when i is below one of the first j rows that says q
 pub record NotedTo (size : ℕ) (says : ℕ → Node → Bool) (concepts : List ℕ) (marks : ℕ → ℕ → Bool) (i : ℕ) (noted : List Bool) (j : ℕ) : Type 0 where
   pub within : j ≤ count_of concepts
   pub long : length noted ≡ size
-  pub each : (q : ℕ) → q < size → markAt noted q ≡ anyBelow j (λ k. both (marks i k) (says q (node concepts k)))
+  pub each : (q : ℕ) → q < size → mark_at noted q ≡ any_below j (λ k. both (marks i k) (says q (node concepts k)))
 
 pub none-length : (size : ℕ) (noted : List Bool) → noted ≡ replicate size false → length noted ≡ size
 none-length size noted e = ap length e ∙ length-replicate size false
 
 module _ (size : ℕ) (says : ℕ → Node → Bool) (concepts : List ℕ) (marks : ℕ → ℕ → Bool) (i : ℕ) where
   pub noted-none : (noted : List Bool) → noted ≡ replicate size false → NotedTo size says concepts marks i noted 0
-  unfolding anyBelow
+  unfolding any_below
   noted-none noted e =
       subst (λ (z : List Bool). NotedTo size says concepts marks i z 0) (sym e)
       (record { within = omega arith; long = length-replicate size false; each = λ q h. get_or-replicate size q false false h })
 
   module _ (noted : List Bool) (j : ℕ) (N : NotedTo size says concepts marks i noted j) (h : j < count_of concepts) where
     skip : ((q : ℕ) → both (marks i j) (says q (node concepts j)) ≡ false) → NotedTo size says concepts marks i noted (j + 1)
-    unfolding anyBelow
+    unfolding any_below
     skip e = record { within = omega arith; long = N.long; each = λ q l. N.each q l ∙ rw add-one (sym (or-skip _ _ (e q))) }
 
     pub noted-silent : ((q : ℕ) → says q (node concepts j) ≡ false) → NotedTo size says concepts marks i noted (j + 1)
@@ -57,7 +57,7 @@ module _ (size : ℕ) (says : ℕ → Node → Bool) (concepts : List ℕ) (mark
     pub noted_more :
         (b : Bool) → b ≡ marks i j → b ≡ true → (p : ℕ) → p < size → ((q : ℕ) → says q (node concepts j) ≡ eqb q p)
         → NotedTo size says concepts marks i (set noted p true) (j + 1)
-    unfolding anyBelow
+    unfolding any_below
     noted_more b m f p l e =
         record {
           within = omega arith;
@@ -68,12 +68,12 @@ module _ (size : ℕ) (says : ℕ → Node → Bool) (concepts : List ℕ) (mark
         says_so : (q : ℕ) → both (marks i j) (says q (node concepts j)) ≡ eqb q p
         says_so q = both-skip _ _ (sym m ∙ f) ∙ e q
 
-        here : (q : ℕ) → q ≡ p → markAt (set noted p true) q ≡ anyBelow (j + 1) (λ k. both (marks i k) (says q (node concepts k)))
+        here : (q : ℕ) → q ≡ p → mark_at (set noted p true) q ≡ any_below (j + 1) (λ k. both (marks i k) (says q (node concepts k)))
         here q s =
-            ap (markAt (set noted p true)) s ∙ get_or-set_same noted p true false (omega (arith, N.long))
+            ap (mark_at (set noted p true)) s ∙ get_or-set_same noted p true false (omega (arith, N.long))
             ∙ rw add-one (sym (or-first _ _ (says_so q ∙ eq-eqb q p s)))
 
-        there : (q : ℕ) → q < size → (q ≡ p → ⊥) → markAt (set noted p true) q ≡ anyBelow (j + 1) (λ k. both (marks i k) (says q (node concepts k)))
+        there : (q : ℕ) → q < size → (q ≡ p → ⊥) → mark_at (set noted p true) q ≡ any_below (j + 1) (λ k. both (marks i k) (says q (node concepts k)))
         there q k n = get_or-set_other noted p q true false n ∙ N.each q k ∙ rw add-one (sym (or-skip _ _ (says_so q ∙ ne_eqb q p n)))
 
   -- all rows
@@ -85,8 +85,8 @@ module _ (size : ℕ) (says : ℕ → Node → Bool) (concepts : List ℕ) (mark
       subst (λ (z : ℕ). NotedTo size says concepts marks i noted z) e N
 
 -- ---- what a row says
-no_name : (q k a b : ℕ) → (k ≡ 1 → ⊥) → isNamed q (decode k a b) ≡ false
-unfolding isNamed decode
+no_name : (q k a b : ℕ) → (k ≡ 1 → ⊥) → is_named q (decode k a b) ≡ false
+unfolding is_named decode
 no_name q zero a b h = refl
 no_name q (suc zero) a b h = absurd (h refl)
 no_name q (suc (suc zero)) a b h = refl
@@ -103,8 +103,8 @@ no-role q (suc (suc (suc zero))) a b h = refl
 no-role q (suc (suc (suc (suc zero)))) a b h = refl
 no-role q (suc (suc (suc (suc (suc k))))) a b h = refl
 
-no-link : (roles : List ℕ) (s q k a b : ℕ) → (k ≡ 2 → ⊥) → leadsTo roles s q (decode k a b) ≡ false
-unfolding leadsTo decode
+no-link : (roles : List ℕ) (s q k a b : ℕ) → (k ≡ 2 → ⊥) → leads_to roles s q (decode k a b) ≡ false
+unfolding leads_to decode
 no-link roles s q zero a b h = refl
 no-link roles s q (suc zero) a b h = refl
 no-link roles s q (suc (suc zero)) a b h = absurd (h refl)
@@ -117,16 +117,16 @@ module _ (concepts : List ℕ) (j : ℕ) (row : Row) (e : row ≡ row_of concept
   unfolding decode
   row-name h = sym (row-node concepts j row e) ∙ rw (h, decode) refl
 
-  row-exists : row.kind ≡ 2 → node concepts j ≡ existsAt row.a row.b
+  row-exists : row.kind ≡ 2 → node concepts j ≡ exists_at row.a row.b
   unfolding decode
   row-exists h = sym (row-node concepts j row e) ∙ rw (h, decode) refl
 
-  pub not_named : (row.kind ≡ 1 → ⊥) → (q : ℕ) → isNamed q (node concepts j) ≡ false
-  not_named h q = ap (isNamed q) (sym (row-node concepts j row e)) ∙ no_name q row.kind row.a row.b h
+  pub not_named : (row.kind ≡ 1 → ⊥) → (q : ℕ) → is_named q (node concepts j) ≡ false
+  not_named h q = ap (is_named q) (sym (row-node concepts j row e)) ∙ no_name q row.kind row.a row.b h
 
-  pub named : row.kind ≡ 1 → (q : ℕ) → isNamed q (node concepts j) ≡ eqb q row.a
-  unfolding isNamed
-  named h q = ap (isNamed q) (row-name h)
+  pub named : row.kind ≡ 1 → (q : ℕ) → is_named q (node concepts j) ≡ eqb q row.a
+  unfolding is_named
+  named h q = ap (is_named q) (row-name h)
 
   pub name-low : Checked concepts → row.kind ≡ 1 → row.a < 1000
   name-low C h = C.low-names j row.a (row-name h)
@@ -144,30 +144,30 @@ module _ (concepts : List ℕ) (j : ℕ) (row : Row) (e : row ≡ row_of concept
   unfolding is_of
   of-role h q = ap (is_of q) (row-exists h)
 
-  pub not-linked : (roles : List ℕ) (s : ℕ) → (row.kind ≡ 2 → ⊥) → (q : ℕ) → leadsTo roles s q (node concepts j) ≡ false
-  not-linked roles s h q = ap (leadsTo roles s q) (sym (row-node concepts j row e)) ∙ no-link roles s q row.kind row.a row.b h
+  pub not-linked : (roles : List ℕ) (s : ℕ) → (row.kind ≡ 2 → ⊥) → (q : ℕ) → leads_to roles s q (node concepts j) ≡ false
+  not-linked roles s h q = ap (leads_to roles s q) (sym (row-node concepts j row e)) ∙ no-link roles s q row.kind row.a row.b h
 
   module _ (C : Checked concepts) (h : row.kind ≡ 2) (roles into : List ℕ) (R : RoleSets roles into) (s : ℕ) (l : s < 100) (w : Bool) (ew : w ≡ in_set into row.a s) where
     is-wider : w ≡ wider roles row.a s
     is-wider = ew ∙ R.each row.a s (role-low C h) l
 
-    pub not_wider : w ≡ false → (q : ℕ) → leadsTo roles s q (node concepts j) ≡ false
-    unfolding leadsTo
-    not_wider f q = ap (leadsTo roles s q) (row-exists h) ∙ both-none _ _ (sym is-wider ∙ f)
+    pub not_wider : w ≡ false → (q : ℕ) → leads_to roles s q (node concepts j) ≡ false
+    unfolding leads_to
+    not_wider f q = ap (leads_to roles s q) (row-exists h) ∙ both-none _ _ (sym is-wider ∙ f)
 
-    pub linked : w ≡ true → (q : ℕ) → leadsTo roles s q (node concepts j) ≡ eqb q row.b
-    unfolding leadsTo
-    linked f q = ap (leadsTo roles s q) (row-exists h) ∙ both-skip _ _ (sym is-wider ∙ f)
+    pub linked : w ≡ true → (q : ℕ) → leads_to roles s q (node concepts j) ≡ eqb q row.b
+    unfolding leads_to
+    linked f q = ap (leads_to roles s q) (row-exists h) ∙ both-skip _ _ (sym is-wider ∙ f)
 
 -- ---- all names, all roles, all links by a role
 module _ (concepts : List ℕ) (marks : ℕ → ℕ → Bool) (i : ℕ) (noted : List Bool) (j : ℕ) where
-  pub names-done : NotedTo 1000 isNamed concepts marks i noted j → count_of concepts ≤ j → NamesOf concepts marks i noted
+  pub names-done : NotedTo 1000 is_named concepts marks i noted j → count_of concepts ≤ j → NamesOf concepts marks i noted
   unfolding bears
   names-done N h = let A = noted-all _ _ _ _ _ noted j N h in record { long = A.long; each = A.each }
 
   pub roles-done : NotedTo 100 is_of concepts marks i noted j → count_of concepts ≤ j → RolesOf concepts marks i noted
   roles-done N h = let A = noted-all _ _ _ _ _ noted j N h in record { long = A.long; each = A.each }
 
-  pub links-done : (roles : List ℕ) (s : ℕ) → Checked concepts → NotedTo 192 (leadsTo roles s) concepts marks i noted j → count_of concepts ≤ j → LinksOf concepts roles marks i s noted
-  unfolding isLinked
+  pub links-done : (roles : List ℕ) (s : ℕ) → Checked concepts → NotedTo 192 (leads_to roles s) concepts marks i noted j → count_of concepts ≤ j → LinksOf concepts roles marks i s noted
+  unfolding is_linked
   links-done roles s C N h = let A = noted-all _ _ _ _ _ noted j N h in record { long = A.long; each = λ y l. A.each y (omega (arith, C.layered.few)) }

@@ -10,11 +10,11 @@ use lib.ListN.{length, set, length-append, length-set}
 use lib.Seq.{sets}
 use Rattle.subsumption.specs.Tables.{count_of}
 use Rattle.subsumption.specs.Atoms.{keep}
-use Rattle.subsumption.specs.Inner.Atoms.{markAt, markedIds}
+use Rattle.subsumption.specs.Inner.Atoms.{mark_at, marked_ids}
 use Rattle.subsumption.proofs.Lists.{keep-yes, keep-no}
 use Rattle.countermodel.specs.Rows.{joined}
-use Rattle.countermodel.specs.Countermodel.{bears, isLinked, names_at, linksAt, nameRows, linkRows, shownRows}
-use Rattle.countermodel.specs.Inner.Show.{NamesOf, LinksOf, Put, rowFor, rowsFor, names_of, linksBy, linksOf}
+use Rattle.countermodel.specs.Countermodel.{bears, is_linked, names_at, links_at, name_rows, link_rows, shown_rows}
+use Rattle.countermodel.specs.Inner.Show.{NamesOf, LinksOf, Put, row_for, rows_for, names_of, links_by, links_of}
 
 sets-join : (before : List ℕ) (at : ℕ) (xs ys : List ℕ) → sets (sets before at xs) (at + length xs) ys ≡ sets before at (xs ++ ys)
 sets-join before at [] ys = let e : at + 0 ≡ at = omega arith in rw e refl
@@ -50,50 +50,50 @@ module _ (before : List ℕ) (at a b c d : ℕ) where
 
 -- ---- one row a mark
 module _ (kind i s : ℕ) where
-  row-four : (q : ℕ) → length (rowFor kind i s q) ≡ 4
-  unfolding rowFor
+  row-four : (q : ℕ) → length (row_for kind i s q) ≡ 4
+  unfolding row_for
   row-four q = go kind
     where
-      go : (k : ℕ) → length (rowFor k i s q) ≡ 4
+      go : (k : ℕ) → length (row_for k i s q) ≡ 4
       go zero = refl
       go (suc k) = refl
 
-  rows_last : (xs : List ℕ) (q : ℕ) → rowsFor kind i s (xs ++ (q ∷ [])) ≡ rowsFor kind i s xs ++ rowFor kind i s q
-  unfolding rowsFor
-  rows_last [] q = append-nil (rowFor kind i s q)
-  rows_last (x ∷ xs) q = ap (λ (z : List ℕ). rowFor kind i s x ++ z) (rows_last xs q) ∙ sym (append_assoc (rowFor kind i s x) (rowsFor kind i s xs) (rowFor kind i s q))
+  rows_last : (xs : List ℕ) (q : ℕ) → rows_for kind i s (xs ++ (q ∷ [])) ≡ rows_for kind i s xs ++ row_for kind i s q
+  unfolding rows_for
+  rows_last [] q = append-nil (row_for kind i s q)
+  rows_last (x ∷ xs) q = ap (λ (z : List ℕ). row_for kind i s x ++ z) (rows_last xs q) ∙ sym (append_assoc (row_for kind i s x) (rows_for kind i s xs) (row_for kind i s q))
 
   -- the rows of the marks below q
   pub record MarksTo (marks : List Bool) (before : List ℕ) (at q end : ℕ) (after : List ℕ) : Type 0 where
-    pub put : Put before at (rowsFor kind i s (markedIds marks q)) end after
+    pub put : Put before at (rows_for kind i s (marked_ids marks q)) end after
     pub few : end ≤ at + q * 4
 
   module _ (marks : List Bool) (before : List ℕ) (at : ℕ) where
     pub marks-none : MarksTo marks before at 0 at before
-    unfolding keep rowsFor
+    unfolding keep rows_for
     marks-none = record { put = put-none before at; few = omega arith }
 
     module _ (q mid : ℕ) (between : List ℕ) (M : MarksTo marks before at q mid between) where
-      pub marks-done : (count : ℕ) → q ≡ count → Put before at (rowsFor kind i s (markedIds marks count)) mid between
-      marks-done count e = subst (λ (z : ℕ). Put before at (rowsFor kind i s (markedIds marks z)) mid between) e M.put
+      pub marks-done : (count : ℕ) → q ≡ count → Put before at (rows_for kind i s (marked_ids marks count)) mid between
+      marks-done count e = subst (λ (z : ℕ). Put before at (rows_for kind i s (marked_ids marks z)) mid between) e M.put
 
       pub marks-yes :
-          (end : ℕ) (after : List ℕ) → markAt marks q ≡ true → Put between mid (rowFor kind i s q) end after → MarksTo marks before at (q + 1) end after
+          (end : ℕ) (after : List ℕ) → mark_at marks q ≡ true → Put between mid (row_for kind i s q) end after → MarksTo marks before at (q + 1) end after
       marks-yes end after e P =
           record {
-            put = rw (keep-yes (markAt marks) q e, rows_last) (put-join before at _ _ mid between end after M.put P);
+            put = rw (keep-yes (mark_at marks) q e, rows_last) (put-join before at _ _ mid between end after M.put P);
             few = omega (arith, M.few, P.place, row-four q);
           }
 
-      pub marks-no : markAt marks q ≡ false → MarksTo marks before at (q + 1) mid between
-      marks-no e = record { put = rw (keep-no (markAt marks) q e) M.put; few = omega arith }
+      pub marks-no : mark_at marks q ≡ false → MarksTo marks before at (q + 1) mid between
+      marks-no e = record { put = rw (keep-no (mark_at marks) q e) M.put; few = omega arith }
 
-pub row-name : (before after : List ℕ) (kind i s q at end : ℕ) → kind ≡ 0 → Put before at (0 ∷ i ∷ q ∷ 0 ∷ []) end after → Put before at (rowFor kind i s q) end after
-unfolding rowFor
-row-name before after kind i s q at end e P = rw (e, rowFor) P
+pub row-name : (before after : List ℕ) (kind i s q at end : ℕ) → kind ≡ 0 → Put before at (0 ∷ i ∷ q ∷ 0 ∷ []) end after → Put before at (row_for kind i s q) end after
+unfolding row_for
+row-name before after kind i s q at end e P = rw (e, row_for) P
 
-pub row-link : (before after : List ℕ) (kind i s q at end : ℕ) → (kind ≡ 0 → ⊥) → Put before at (1 ∷ i ∷ s ∷ q ∷ []) end after → Put before at (rowFor kind i s q) end after
-unfolding rowFor
+pub row-link : (before after : List ℕ) (kind i s q at end : ℕ) → (kind ≡ 0 → ⊥) → Put before at (1 ∷ i ∷ s ∷ q ∷ []) end after → Put before at (row_for kind i s q) end after
+unfolding row_for
 row-link before after zero i s q at end e P = absurd (e refl)
 row-link before after (suc kind) i s q at end e P = P
 
@@ -141,35 +141,35 @@ unfolding keep
 keep-none f from zero h = refl
 keep-none f from (suc count) h = rw (h from) (keep-none f (suc from) count h)
 
-name-rows : (i : ℕ) (xs : List ℕ) → rowsFor 0 i 0 xs ≡ nameRows i xs
-unfolding rowsFor rowFor nameRows
+name-rows : (i : ℕ) (xs : List ℕ) → rows_for 0 i 0 xs ≡ name_rows i xs
+unfolding rows_for row_for name_rows
 name-rows i [] = refl
 name-rows i (x ∷ xs) = ap (λ (z : List ℕ). 0 ∷ i ∷ x ∷ 0 ∷ z) (name-rows i xs)
 
-link-rows : (i s : ℕ) (xs : List ℕ) → rowsFor 1 i s xs ≡ linkRows i s xs
-unfolding rowsFor rowFor linkRows
+link-rows : (i s : ℕ) (xs : List ℕ) → rows_for 1 i s xs ≡ link_rows i s xs
+unfolding rows_for row_for link_rows
 link-rows i s [] = refl
 link-rows i s (x ∷ xs) = ap (λ (z : List ℕ). 1 ∷ i ∷ s ∷ x ∷ z) (link-rows i s xs)
 
 module _ (concepts : List ℕ) (marks : ℕ → ℕ → Bool) (i : ℕ) (noted : List Bool) (before : List ℕ) (at end : ℕ) (after : List ℕ) where
-  pub names-put : NamesOf concepts marks i noted → Put before at (rowsFor 0 i 0 (markedIds noted 1000)) end after → Put before at (names_of concepts marks i) end after
+  pub names-put : NamesOf concepts marks i noted → Put before at (rows_for 0 i 0 (marked_ids noted 1000)) end after → Put before at (names_of concepts marks i) end after
   unfolding names_at
   names-put N P =
       subst (λ (z : List ℕ). Put before at z end after)
-      (ap (rowsFor 0 i 0) (keep-as (markAt noted) (bears concepts marks i) 0 1000 (λ n l. N.each n (omega arith))) ∙ name-rows i _) P
+      (ap (rows_for 0 i 0) (keep-as (mark_at noted) (bears concepts marks i) 0 1000 (λ n l. N.each n (omega arith))) ∙ name-rows i _) P
 
   pub links-put :
-      (roles : List ℕ) (s : ℕ) → LinksOf concepts roles marks i s noted → Put before at (rowsFor 1 i s (markedIds noted (count_of concepts))) end after
-      → Put before at (linksBy concepts roles marks i s) end after
-  unfolding linksAt
+      (roles : List ℕ) (s : ℕ) → LinksOf concepts roles marks i s noted → Put before at (rows_for 1 i s (marked_ids noted (count_of concepts))) end after
+      → Put before at (links_by concepts roles marks i s) end after
+  unfolding links_at
   links-put roles s L P =
       subst (λ (z : List ℕ). Put before at z end after)
-      (ap (rowsFor 1 i s) (keep-as (markAt noted) (isLinked concepts roles marks i s) 0 (count_of concepts) (λ y l. L.each y (omega arith))) ∙ link-rows i s _) P
+      (ap (rows_for 1 i s) (keep-as (mark_at noted) (is_linked concepts roles marks i s) 0 (count_of concepts) (λ y l. L.each y (omega arith))) ∙ link-rows i s _) P
 
 -- ---- names, then links
 pub rows-put :
     (concepts roles : List ℕ) (marks : ℕ → ℕ → Bool) (before : List ℕ) (mid : ℕ) (between : List ℕ) (end : ℕ) (after : List ℕ)
     → Put before 0 (joined (names_of concepts marks) 0 (count_of concepts)) mid between
-    → Put between mid (joined (linksOf concepts roles marks) 0 (count_of concepts)) end after → Put before 0 (shownRows concepts roles marks) end after
-unfolding shownRows
+    → Put between mid (joined (links_of concepts roles marks) 0 (count_of concepts)) end after → Put before 0 (shown_rows concepts roles marks) end after
+unfolding shown_rows
 rows-put concepts roles marks before mid between end after P Q = put-join before 0 _ _ mid between end after P Q

@@ -11,11 +11,11 @@ use Rattle.subsumption.specs.Tables.{count_of}
 use Rattle.subsumption.specs.Atoms.{keep}
 use Rattle.subsumption.proofs.Keep.{keep-member}
 use Rattle.countermodel.specs.Rows.{at, joined}
-use Rattle.countermodel.specs.Countermodel.{names_at, linksAt, shownRows}
+use Rattle.countermodel.specs.Countermodel.{names_at, links_at, shown_rows}
 use Rattle.countermodel.specs.Order.{Before, Rising}
 use Rattle.countermodel.proofs.JoinedLaws.{joined-out}
-use Rattle.countermodel.proofs.FlatLaws.{Row, flat, row_at, no_row, flat-count, flat-at, getD-in}
-use Rattle.countermodel.proofs.ShownLaws.{nameRow, linkRow, shownNames, linksOf, shownLinks, shown, shown-flat, names-out, links-out}
+use Rattle.countermodel.proofs.FlatLaws.{Row, flat, row_at, no_row, flat-count, flat-at, get_or-in}
+use Rattle.countermodel.proofs.ShownLaws.{name_row, link_row, shown_names, links_of, shown_links, shown, shown-flat, names-out, links-out}
 
 abbrev number : Row → ℕ → ℕ
 number r zero = r.kind
@@ -80,7 +80,7 @@ Sorted (a ∷ rows) = ((b : Row) → Memᴰ b rows → Lower a b) × Sorted rows
 sorted-at : (rows : List Row) → Sorted rows → (p q : ℕ) → p < q → q < length rows → Lower (get_or rows p no_row) (get_or rows q no_row)
 sorted-at [] s p q l k = absurd (omega arith)
 sorted-at (a ∷ rows) s zero zero l k = absurd (omega arith)
-sorted-at (a ∷ rows) s zero (suc q) l k = s.0 _ (getD-in rows q (omega arith))
+sorted-at (a ∷ rows) s zero (suc q) l k = s.0 _ (get_or-in rows q (omega arith))
 sorted-at (a ∷ rows) s (suc p) zero l k = absurd (omega arith)
 sorted-at (a ∷ rows) s (suc p) (suc q) l k = sorted-at rows s.1 p q (omega arith) (omega arith)
 
@@ -131,35 +131,35 @@ lower-maps f g xs ys less a b m k =
     subst₂ Lower p q (less x y)
 
 module _ (concepts roles : List ℕ) (marks : ℕ → ℕ → Bool) where
-  names-sorted : Sorted (shownNames concepts roles marks)
-  unfolding shownNames names_at
+  names-sorted : Sorted (shown_names concepts roles marks)
+  unfolding shown_names names_at
   names-sorted =
-      sorted-joined _ (λ i. sorted-kept (nameRow i) (λ m n l. lower_word 0 i m n 0 0 l) _ 0 1000)
-      (λ i j l. lower-maps (nameRow i) (nameRow j) (names_at concepts marks i) (names_at concepts marks j) (λ m n. lower-element 0 i j m n 0 0 l))
+      sorted-joined _ (λ i. sorted-kept (name_row i) (λ m n l. lower_word 0 i m n 0 0 l) _ 0 1000)
+      (λ i j l. lower-maps (name_row i) (name_row j) (names_at concepts marks i) (names_at concepts marks j) (λ m n. lower-element 0 i j m n 0 0 l))
       0 (count_of concepts)
 
-  links-sorted : (i : ℕ) → Sorted (linksOf concepts roles marks i)
-  unfolding linksOf linksAt
+  links-sorted : (i : ℕ) → Sorted (links_of concepts roles marks i)
+  unfolding links_of links_at
   links-sorted i =
-      sorted-joined _ (λ s. sorted-kept (linkRow i s) (λ x y l. lower_last 1 i s x y l) _ 0 _)
-      (λ r s l. lower-maps (linkRow i r) (linkRow i s) (linksAt concepts roles marks i r) (linksAt concepts roles marks i s) (λ x y. lower_word 1 i r s x y l))
+      sorted-joined _ (λ s. sorted-kept (link_row i s) (λ x y l. lower_last 1 i s x y l) _ 0 _)
+      (λ r s l. lower-maps (link_row i r) (link_row i s) (links_at concepts roles marks i r) (links_at concepts roles marks i s) (λ x y. lower_word 1 i r s x y l))
       0 100
 
-  links-lower : (i j : ℕ) → i < j → (a b : Row) → Memᴰ a (linksOf concepts roles marks i) → Memᴰ b (linksOf concepts roles marks j) → Lower a b
-  unfolding linksOf
+  links-lower : (i j : ℕ) → i < j → (a b : Row) → Memᴰ a (links_of concepts roles marks i) → Memᴰ b (links_of concepts roles marks j) → Lower a b
+  unfolding links_of
   links-lower i j l a b m k =
       let (r, _, _, u) = joined-out _ 0 100 m in
       let (s, _, _, v) = joined-out _ 0 100 k in
-      lower-maps (linkRow i r) (linkRow j s) (linksAt concepts roles marks i r) (linksAt concepts roles marks j s) (λ x y. lower-element 1 i j r s x y l) a b u v
+      lower-maps (link_row i r) (link_row j s) (links_at concepts roles marks i r) (links_at concepts roles marks j s) (λ x y. lower-element 1 i j r s x y l) a b u v
 
   shown-sorted : Sorted (shown concepts roles marks)
-  unfolding shownLinks
+  unfolding shown_links
   shown-sorted =
-      sorted-append (shownNames concepts roles marks) _ names-sorted
-      (sorted-joined (linksOf concepts roles marks) links-sorted links-lower 0 (count_of concepts))
+      sorted-append (shown_names concepts roles marks) _ names-sorted
+      (sorted-joined (links_of concepts roles marks) links-sorted links-lower 0 (count_of concepts))
       (λ a b m k. lower-kind a b (omega (arith, (names-out concepts roles marks m).kind, (links-out concepts roles marks k).kind)))
 
 -- The shown rows are rising and free of repeats.
-pub shown-rising : (concepts roles : List ℕ) (marks : ℕ → ℕ → Bool) → Rising (shownRows concepts roles marks)
+pub shown-rising : (concepts roles : List ℕ) (marks : ℕ → ℕ → Bool) → Rising (shown_rows concepts roles marks)
 shown-rising concepts roles marks =
     subst Rising (shown-flat concepts roles marks) (sorted-rising (shown concepts roles marks) (shown-sorted concepts roles marks))

@@ -7,7 +7,7 @@ use native.Mathlib.Omega.{arith}
 use native.Mathlib.Nat.{add-zero}
 use lib.ListN.{get_or}
 use Rattle.subsumption.specs.Subsumption.{Named, Linked, Interpretation}
-use Rattle.countermodel.specs.Rows.{rows_of, at, named_by, linkedBy, interpretationOf}
+use Rattle.countermodel.specs.Rows.{rows_of, at, named_by, linked_by, interpretation_of}
 use Rattle.countermodel.specs.Inner.Membership.{kind_at}
 use Rattle.countermodel.proofs.JoinedLaws.{joined_in, joined-out}
 
@@ -40,14 +40,14 @@ named-out zero x n x' n' h =
     (refl, sym (ap (λ (z : Named). z.element) e), sym (ap (λ (z : Named). z.name) e))
 named-out (suc k) x n x' n' h = absurd (Memᴰ.not-nil h)
 
-linked-in : (k x r y x' r' y' : ℕ) → k ≡ 1 → x' ≡ x → r' ≡ r → y' ≡ y → Memᴰ (record { from = x; role = r; to = y }) (linkedBy k x' r' y')
-unfolding linkedBy
+linked-in : (k x r y x' r' y' : ℕ) → k ≡ 1 → x' ≡ x → r' ≡ r → y' ≡ y → Memᴰ (record { from = x; role = r; to = y }) (linked_by k x' r' y')
+unfolding linked_by
 linked-in k x r y x' r' y' d e f g = rw (d, e, f, g) (Memᴰ.head refl)
 
 linked-out :
-    (k x r y x' r' y' : ℕ) → Memᴰ (record { from = x; role = r; to = y }) (linkedBy k x' r' y')
+    (k x r y x' r' y' : ℕ) → Memᴰ (record { from = x; role = r; to = y }) (linked_by k x' r' y')
     → (k ≡ 1) × (x' ≡ x) × (r' ≡ r) × (y' ≡ y)
-unfolding linkedBy
+unfolding linked_by
 linked-out zero x r y x' r' y' h = absurd (Memᴰ.not-nil h)
 linked-out (suc zero) x r y x' r' y' h =
     let e = Memᴰ.eq_of_singleton h in
@@ -56,28 +56,28 @@ linked-out (suc (suc k)) x r y x' r' y' h = absurd (Memᴰ.not-nil h)
 
 -- Each row that says a name or a link gives the member, and every member comes from such a row.
 module _ (size : ℕ) (rows : List ℕ) where
-  pub name_in : (x n p : ℕ) → NamedAt rows x n p → Memᴰ (record { element = x; name = n }) (interpretationOf size rows).names
-  unfolding interpretationOf
+  pub name_in : (x n p : ℕ) → NamedAt rows x n p → Memᴰ (record { element = x; name = n }) (interpretation_of size rows).names
+  unfolding interpretation_of
   name_in x n p w = joined_in _ 0 _ p (omega arith) (omega (arith, w.known)) (named_in _ x n _ _ (kind-at rows p ∙ w.kind) w.element w.name)
 
   pub name_out :
-      (x n : ℕ) → Memᴰ (record { element = x; name = n }) (interpretationOf size rows).names → (p : ℕ) × NamedAt rows x n p
-  unfolding interpretationOf
+      (x n : ℕ) → Memᴰ (record { element = x; name = n }) (interpretation_of size rows).names → (p : ℕ) × NamedAt rows x n p
+  unfolding interpretation_of
   name_out x n h =
       let (p, _, l, u) = joined-out (λ q. named_by (at rows q 0) (at rows q 1) (at rows q 2)) 0 _ h in
       let (e, f, g) = named-out _ x n _ _ u in
       (p, record { known = omega (arith, l); kind = sym (kind-at rows p) ∙ e; element = f; name = g })
 
   pub link-in :
-      (x r y p : ℕ) → LinkedAt rows x r y p → Memᴰ (record { from = x; role = r; to = y }) (interpretationOf size rows).links
-  unfolding interpretationOf
+      (x r y p : ℕ) → LinkedAt rows x r y p → Memᴰ (record { from = x; role = r; to = y }) (interpretation_of size rows).links
+  unfolding interpretation_of
   link-in x r y p w =
       joined_in _ 0 _ p (omega arith) (omega (arith, w.known)) (linked-in _ x r y _ _ _ (kind-at rows p ∙ w.kind) w.from w.role w.to)
 
   pub link-out :
-      (x r y : ℕ) → Memᴰ (record { from = x; role = r; to = y }) (interpretationOf size rows).links → (p : ℕ) × LinkedAt rows x r y p
-  unfolding interpretationOf
+      (x r y : ℕ) → Memᴰ (record { from = x; role = r; to = y }) (interpretation_of size rows).links → (p : ℕ) × LinkedAt rows x r y p
+  unfolding interpretation_of
   link-out x r y h =
-      let (p, _, l, u) = joined-out (λ q. linkedBy (at rows q 0) (at rows q 1) (at rows q 2) (at rows q 3)) 0 _ h in
+      let (p, _, l, u) = joined-out (λ q. linked_by (at rows q 0) (at rows q 1) (at rows q 2) (at rows q 3)) 0 _ h in
       let (d, e, f, g) = linked-out _ x r y _ _ _ u in
       (p, record { known = omega (arith, l); kind = sym (kind-at rows p) ∙ d; from = e; role = f; to = g })

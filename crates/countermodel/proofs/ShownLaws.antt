@@ -9,44 +9,44 @@ use native.Mathlib.Omega.{arith}
 use Rattle.subsumption.specs.Tables.{count_of}
 use Rattle.subsumption.specs.Subsumption.{Named, Linked}
 use Rattle.subsumption.proofs.Keep.{keep-member, keep-intro}
-use Rattle.countermodel.specs.Rows.{joined, named_by, linkedBy, interpretationOf}
-use Rattle.countermodel.specs.Countermodel.{bears, names_at, isLinked, linksAt, nameRows, linkRows, shownRows}
+use Rattle.countermodel.specs.Rows.{joined, named_by, linked_by, interpretation_of}
+use Rattle.countermodel.specs.Countermodel.{bears, names_at, is_linked, links_at, name_rows, link_rows, shown_rows}
 use Rattle.countermodel.proofs.JoinedLaws.{joined_in, joined-out}
 use Rattle.countermodel.proofs.FlatLaws.{Row, flat, flat_append, flat-joined, said_in, said-out}
 
-abbrev pub nameRow : ℕ → ℕ → Row
-nameRow i n = record { kind = 0; element = i; word = n; last = 0 }
+abbrev pub name_row : ℕ → ℕ → Row
+name_row i n = record { kind = 0; element = i; word = n; last = 0 }
 
-abbrev pub linkRow : ℕ → ℕ → ℕ → Row
-linkRow i s y = record { kind = 1; element = i; word = s; last = y }
+abbrev pub link_row : ℕ → ℕ → ℕ → Row
+link_row i s y = record { kind = 1; element = i; word = s; last = y }
 
-flat-names : (i : ℕ) (names : List ℕ) → flat (map (nameRow i) names) ≡ nameRows i names
-unfolding flat nameRows
+flat-names : (i : ℕ) (names : List ℕ) → flat (map (name_row i) names) ≡ name_rows i names
+unfolding flat name_rows
 flat-names i [] = refl
 flat-names i (n ∷ names) = rw (flat-names i names) refl
 
-flat-links : (i s : ℕ) (links : List ℕ) → flat (map (linkRow i s) links) ≡ linkRows i s links
-unfolding flat linkRows
+flat-links : (i s : ℕ) (links : List ℕ) → flat (map (link_row i s) links) ≡ link_rows i s links
+unfolding flat link_rows
 flat-links i s [] = refl
 flat-links i s (y ∷ links) = rw (flat-links i s links) refl
 
 module _ (concepts roles : List ℕ) (marks : ℕ → ℕ → Bool) where
   -- ---- the shown rows as records
-  unfoldable pub shownNames : List Row
-  shownNames = joined (λ i. map (nameRow i) (names_at concepts marks i)) 0 (count_of concepts)
+  unfoldable pub shown_names : List Row
+  shown_names = joined (λ i. map (name_row i) (names_at concepts marks i)) 0 (count_of concepts)
 
-  unfoldable pub linksOf : ℕ → List Row
-  linksOf i = joined (λ s. map (linkRow i s) (linksAt concepts roles marks i s)) 0 100
+  unfoldable pub links_of : ℕ → List Row
+  links_of i = joined (λ s. map (link_row i s) (links_at concepts roles marks i s)) 0 100
 
-  unfoldable pub shownLinks : List Row
-  shownLinks = joined linksOf 0 (count_of concepts)
+  unfoldable pub shown_links : List Row
+  shown_links = joined links_of 0 (count_of concepts)
 
   abbrev pub shown : List Row
-  shown = shownNames ++ shownLinks
+  shown = shown_names ++ shown_links
 
   -- their numbers are the shown rows
-  pub shown-flat : flat shown ≡ shownRows concepts roles marks
-  unfolding shownNames shownLinks linksOf shownRows
+  pub shown-flat : flat shown ≡ shown_rows concepts roles marks
+  unfolding shown_names shown_links links_of shown_rows
   shown-flat =
       flat_append _ _
       ∙ ap₂ ◌++◌
@@ -66,44 +66,44 @@ module _ (concepts roles : List ℕ) (marks : ℕ → ℕ → Bool) where
     pub element : r.element < count_of concepts
     pub word : r.word < 100
     pub last : r.last < count_of concepts
-    pub linked : isLinked concepts roles marks r.element r.word r.last ≡ true
+    pub linked : is_linked concepts roles marks r.element r.word r.last ≡ true
 
   -- ---- which rows are shown
-  pub name_in : (i n : ℕ) → i < count_of concepts → n < 1000 → bears concepts marks i n ≡ true → Memᴰ (nameRow i n) shown
-  unfolding shownNames names_at
+  pub name_in : (i n : ℕ) → i < count_of concepts → n < 1000 → bears concepts marks i n ≡ true → Memᴰ (name_row i n) shown
+  unfolding shown_names names_at
   name_in i n l k h =
       Memᴰ.append_left _ (joined_in _ 0 _ i (omega arith) (omega arith)
-      (Memᴰ.map (nameRow i) (keep-intro _ 0 1000 n (record { low = omega arith; high = omega arith; passes = h }))))
+      (Memᴰ.map (name_row i) (keep-intro _ 0 1000 n (record { low = omega arith; high = omega arith; passes = h }))))
 
-  pub link-in : (i s y : ℕ) → i < count_of concepts → s < 100 → y < count_of concepts → isLinked concepts roles marks i s y ≡ true → Memᴰ (linkRow i s y) shown
-  unfolding shownLinks linksOf linksAt
+  pub link-in : (i s y : ℕ) → i < count_of concepts → s < 100 → y < count_of concepts → is_linked concepts roles marks i s y ≡ true → Memᴰ (link_row i s y) shown
+  unfolding shown_links links_of links_at
   link-in i s y l k u h =
-      Memᴰ.append_right shownNames (joined_in _ 0 _ i (omega arith) (omega arith)
+      Memᴰ.append_right shown_names (joined_in _ 0 _ i (omega arith) (omega arith)
       (joined_in _ 0 100 s (omega arith) (omega arith)
-      (Memᴰ.map (linkRow i s) (keep-intro _ 0 _ y (record { low = omega arith; high = omega arith; passes = h })))))
+      (Memᴰ.map (link_row i s) (keep-intro _ 0 _ y (record { low = omega arith; high = omega arith; passes = h })))))
 
-  pub names-out : {r : Row} → Memᴰ r shownNames → IsName r
-  unfolding shownNames names_at
+  pub names-out : {r : Row} → Memᴰ r shown_names → IsName r
+  unfolding shown_names names_at
   names-out h =
       let (i, _, l, u) = joined-out _ 0 _ h in
-      let (n, m, e) = Memᴰ.of_map (nameRow i) _ u in
+      let (n, m, e) = Memᴰ.of_map (name_row i) _ u in
       let k = keep-member _ 0 1000 n m in
       subst IsName e (record { kind = refl; element = omega arith; word = omega arith; last = refl; borne = k.passes })
 
-  pub links-out : {r : Row} → Memᴰ r shownLinks → IsLink r
-  unfolding shownLinks linksOf linksAt
+  pub links-out : {r : Row} → Memᴰ r shown_links → IsLink r
+  unfolding shown_links links_of links_at
   links-out h =
       let (i, _, l, u) = joined-out _ 0 _ h in
       let (s, _, p, v) = joined-out _ 0 100 u in
-      let (y, m, e) = Memᴰ.of_map (linkRow i s) _ v in
+      let (y, m, e) = Memᴰ.of_map (link_row i s) _ v in
       let k = keep-member _ 0 _ y m in
       subst IsLink e (record { kind = refl; element = omega arith; word = omega arith; last = omega arith; linked = k.passes })
 
   pub shown-out : {r : Row} → Memᴰ r shown → IsName r ⊎ IsLink r
-  shown-out h = ⊎_elim (λ u. inl (names-out u)) (λ u. inr (links-out u)) (Memᴰ.append_cases shownNames h)
+  shown-out h = ⊎_elim (λ u. inl (names-out u)) (λ u. inr (links-out u)) (Memᴰ.append_cases shown_names h)
 
   -- ---- what the rows say
-  named-out : (x n : ℕ) {r : Row} → IsName r ⊎ IsLink r → Memᴰ (record { element = x; name = n }) (named_by r.kind r.element r.word) → IsName (nameRow x n)
+  named-out : (x n : ℕ) {r : Row} → IsName r ⊎ IsLink r → Memᴰ (record { element = x; name = n }) (named_by r.kind r.element r.word) → IsName (name_row x n)
   unfolding named_by
   named-out x n (inl k) h =
       let e = Memᴰ.eq_of_singleton (rw k.kind at h) in
@@ -112,8 +112,8 @@ module _ (concepts roles : List ℕ) (marks : ℕ → ℕ → Bool) where
       record { kind = refl; element = rw p k.element; word = rw q k.word; last = refl; borne = rw (p, q) k.borne }
   named-out x n (inr k) h = absurd (Memᴰ.not-nil (rw k.kind at h))
 
-  linked-out : (x s y : ℕ) {r : Row} → IsName r ⊎ IsLink r → Memᴰ (record { from = x; role = s; to = y }) (linkedBy r.kind r.element r.word r.last) → IsLink (linkRow x s y)
-  unfolding linkedBy
+  linked-out : (x s y : ℕ) {r : Row} → IsName r ⊎ IsLink r → Memᴰ (record { from = x; role = s; to = y }) (linked_by r.kind r.element r.word r.last) → IsLink (link_row x s y)
+  unfolding linked_by
   linked-out x s y (inl k) h = absurd (Memᴰ.not-nil (rw k.kind at h))
   linked-out x s y (inr k) h =
       let e = Memᴰ.eq_of_singleton (rw k.kind at h) in
@@ -125,9 +125,9 @@ module _ (concepts roles : List ℕ) (marks : ℕ → ℕ → Bool) where
   -- an element and a name: below the count and below 1000, and it bears the name
   pub shown-named :
       (x n : ℕ)
-      → Memᴰ (record { element = x; name = n }) (interpretationOf (count_of concepts) (shownRows concepts roles marks)).names
+      → Memᴰ (record { element = x; name = n }) (interpretation_of (count_of concepts) (shown_rows concepts roles marks)).names
       ↔ ((x < count_of concepts) × (n < 1000) × (bears concepts marks x n ≡ true))
-  unfolding interpretationOf named_by
+  unfolding interpretation_of named_by
   shown-named x n =
       rw (← shown-flat) (
         λ h.
@@ -143,9 +143,9 @@ module _ (concepts roles : List ℕ) (marks : ℕ → ℕ → Bool) where
   -- a link: from and to below the count, the role below 100, and the two are linked by it
   pub shown-linked :
       (x s y : ℕ)
-      → Memᴰ (record { from = x; role = s; to = y }) (interpretationOf (count_of concepts) (shownRows concepts roles marks)).links
-      ↔ ((x < count_of concepts) × (s < 100) × (y < count_of concepts) × (isLinked concepts roles marks x s y ≡ true))
-  unfolding interpretationOf linkedBy
+      → Memᴰ (record { from = x; role = s; to = y }) (interpretation_of (count_of concepts) (shown_rows concepts roles marks)).links
+      ↔ ((x < count_of concepts) × (s < 100) × (y < count_of concepts) × (is_linked concepts roles marks x s y ≡ true))
+  unfolding interpretation_of linked_by
   shown-linked x s y =
       rw (← shown-flat) (
         λ h.
@@ -156,4 +156,4 @@ module _ (concepts roles : List ℕ) (marks : ℕ → ℕ → Bool) where
       )
     where
       says : Row → List Linked
-      says r = linkedBy r.kind r.element r.word r.last
+      says r = linked_by r.kind r.element r.word r.last

@@ -8,29 +8,29 @@ use native.Mathlib.Omega.{arith}
 use lib.ListN.{length, set, length-set}
 use lib.Seq.{get_or-set_same, get_or-set_other}
 use borrow.Author.Tests.{eq-eqb}
-use Rattle.subsumption.specs.Tables.{Node, topAt, name_at, existsAt, andAt, varAt, node, count_of}
-use Rattle.subsumption.specs.Inner.Atoms.{markAt}
+use Rattle.subsumption.specs.Tables.{Node, top_at, name_at, exists_at, and_at, var_at, node, count_of}
+use Rattle.subsumption.specs.Inner.Atoms.{mark_at}
 use Rattle.subsumption.specs.Inner.Roles.{in_set, RoleSets}
-use Rattle.subsumption.proofs.Bools.{both_true, both-intro, anyBelow-intro, anyBelow-elim, last-cases, eq-or-ne}
-use Rattle.countermodel.specs.Countermodel.{leadsTo, isLinked, linksAt, linkRows}
-use Rattle.countermodel.specs.Inner.Show.{Checked, linksBy, is_of, RolesOf, Widened, UsedRoles}
+use Rattle.subsumption.proofs.Bools.{both_true, both-intro, any_below-intro, any_below-elim, last-cases, eq-or-ne}
+use Rattle.countermodel.specs.Countermodel.{leads_to, is_linked, links_at, link_rows}
+use Rattle.countermodel.specs.Inner.Show.{Checked, links_by, is_of, RolesOf, Widened, UsedRoles}
 use Rattle.countermodel.proofs.PuttingLaws.{keep-none}
 
 -- ---- the roles that one role counts as
 pub record WidenedTo (into : List ℕ) (r : ℕ) (before after : List Bool) (s : ℕ) : Type 0 where
   pub within : s ≤ 100
   pub long : length after ≡ 100
-  pub kept : (q : ℕ) → markAt before q ≡ true → markAt after q ≡ true
-  pub wide : (q : ℕ) → q < s → in_set into r q ≡ true → markAt after q ≡ true
+  pub kept : (q : ℕ) → mark_at before q ≡ true → mark_at after q ≡ true
+  pub wide : (q : ℕ) → q < s → in_set into r q ≡ true → mark_at after q ≡ true
 
 module _ (into : List ℕ) (r : ℕ) (before : List Bool) where
   pub widened_none : length before ≡ 100 → WidenedTo into r before before 0
   widened_none l = record { within = omega arith; long = l; kept = λ q e. e; wide = λ q h e. absurd (omega arith) }
 
   module _ (mid : List Bool) (s : ℕ) (W : WidenedTo into r before mid s) (l : s < 100) (b : Bool) (e : b ≡ in_set into r s) where
-    set_keeps : (q : ℕ) → markAt mid q ≡ true → markAt (set mid s true) q ≡ true
+    set_keeps : (q : ℕ) → mark_at mid q ≡ true → mark_at (set mid s true) q ≡ true
     set_keeps q h =
-        ⊎_elim (λ (z : q ≡ s). ap (markAt (set mid s true)) z ∙ get_or-set_same mid s true false (omega (arith, W.long)))
+        ⊎_elim (λ (z : q ≡ s). ap (mark_at (set mid s true)) z ∙ get_or-set_same mid s true false (omega (arith, W.long)))
         (λ n. get_or-set_other mid s q true false n ∙ h) (eq-or-ne q s)
 
     pub widened-yes : WidenedTo into r before (set mid s true) (s + 1)
@@ -41,7 +41,7 @@ module _ (into : List ℕ) (r : ℕ) (before : List Bool) where
           kept = λ q h. set_keeps q (W.kept q h);
           wide =
               λ q h f.
-              ⊎_elim (λ (z : q ≡ s). ap (markAt (set mid s true)) z ∙ get_or-set_same mid s true false (omega (arith, W.long)))
+              ⊎_elim (λ (z : q ≡ s). ap (mark_at (set mid s true)) z ∙ get_or-set_same mid s true false (omega (arith, W.long)))
               (λ m. set_keeps q (W.wide q m f)) (last-cases q s (omega arith));
         }
 
@@ -63,7 +63,7 @@ module _ (into : List ℕ) (r : ℕ) (before : List Bool) where
 pub record UsedTo (into : List ℕ) (own used : List Bool) (r : ℕ) : Type 0 where
   pub within : r ≤ 100
   pub long : length used ≡ 100
-  pub wide : (q s : ℕ) → q < r → s < 100 → markAt own q ≡ true → in_set into q s ≡ true → markAt used s ≡ true
+  pub wide : (q s : ℕ) → q < r → s < 100 → mark_at own q ≡ true → in_set into q s ≡ true → mark_at used s ≡ true
 
 module _ (into : List ℕ) (own : List Bool) where
   pub used-none : (used : List Bool) → length used ≡ 100 → UsedTo into own used 0
@@ -80,14 +80,14 @@ module _ (into : List ℕ) (own : List Bool) where
               ⊎_elim (λ (z : q ≡ r). W.wide s k (ap (λ (x : ℕ). in_set into x s) (sym z) ∙ f)) (λ m. W.kept s (U.wide q s m k e f)) (last-cases q r (omega arith));
         }
 
-    pub used-no : markAt own r ≡ false → UsedTo into own used (r + 1)
+    pub used-no : mark_at own r ≡ false → UsedTo into own used (r + 1)
     used-no n =
         record {
           within = omega arith;
           long = U.long;
           wide =
               λ q s h k e f.
-              ⊎_elim (λ (z : q ≡ r). absurd (false≢true (sym n ∙ ap (markAt own) (sym z) ∙ e))) (λ m. U.wide q s m k e f) (last-cases q r (omega arith));
+              ⊎_elim (λ (z : q ≡ r). absurd (false≢true (sym n ∙ ap (mark_at own) (sym z) ∙ e))) (λ m. U.wide q s m k e f) (last-cases q r (omega arith));
         }
 
   pub used-done : (used : List Bool) (r : ℕ) → UsedTo into own used r → 100 ≤ r → UsedRoles into own used
@@ -96,24 +96,24 @@ module _ (into : List ℕ) (own : List Bool) where
 -- ---- by a role that is not marked there are no links
 module _ (concepts roles into : List ℕ) (marks : ℕ → ℕ → Bool) (i : ℕ) (own used : List Bool) (C : Checked concepts) (R : RoleSets roles into)
     (O : RolesOf concepts marks i own) (U : UsedRoles into own used) where
-  leads-used : (s y j : ℕ) → s < 100 → j < count_of concepts → marks i j ≡ true → (n : Node) → node concepts j ≡ n → leadsTo roles s y n ≡ true → markAt used s ≡ true
-  unfolding leadsTo is_of
-  leads-used s y j l h m topAt e t = absurd (false≢true t)
+  leads-used : (s y j : ℕ) → s < 100 → j < count_of concepts → marks i j ≡ true → (n : Node) → node concepts j ≡ n → leads_to roles s y n ≡ true → mark_at used s ≡ true
+  unfolding leads_to is_of
+  leads-used s y j l h m top_at e t = absurd (false≢true t)
   leads-used s y j l h m (name_at n) e t = absurd (false≢true t)
-  leads-used s y j l h m (existsAt r x) e t =
+  leads-used s y j l h m (exists_at r x) e t =
       let low = C.low-roles j r x e in
       U.wide r s low l
-      (O.each r low ∙ anyBelow-intro _ _ j h (both-intro _ _ m (ap (is_of r) e ∙ eq-eqb r r refl)))
+      (O.each r low ∙ any_below-intro _ _ j h (both-intro _ _ m (ap (is_of r) e ∙ eq-eqb r r refl)))
       (R.each r s low l ∙ (both_true _ _ t).0)
-  leads-used s y j l h m (andAt a b) e t = absurd (false≢true t)
-  leads-used s y j l h m (varAt k) e t = absurd (false≢true t)
+  leads-used s y j l h m (and_at a b) e t = absurd (false≢true t)
+  leads-used s y j l h m (var_at k) e t = absurd (false≢true t)
 
-  pub no-links : (s : ℕ) → s < 100 → markAt used s ≡ false → linksBy concepts roles marks i s ≡ []
-  unfolding linkRows linksAt isLinked
-  no-links s l f = ap (linkRows i s) (keep-none _ 0 (count_of concepts) (λ y. none y (isLinked concepts roles marks i s y) refl))
+  pub no-links : (s : ℕ) → s < 100 → mark_at used s ≡ false → links_by concepts roles marks i s ≡ []
+  unfolding link_rows links_at is_linked
+  no-links s l f = ap (link_rows i s) (keep-none _ 0 (count_of concepts) (λ y. none y (is_linked concepts roles marks i s y) refl))
     where
-      none : (y : ℕ) (b : Bool) → isLinked concepts roles marks i s y ≡ b → isLinked concepts roles marks i s y ≡ false
+      none : (y : ℕ) (b : Bool) → is_linked concepts roles marks i s y ≡ b → is_linked concepts roles marks i s y ≡ false
       none y true e =
-          let (j, h, t) = anyBelow-elim _ _ e in
+          let (j, h, t) = any_below-elim _ _ e in
           absurd (false≢true (sym f ∙ leads-used s y j l h (both_true _ _ t).0 (node concepts j) refl (both_true _ _ t).1))
       none y false e = e

@@ -20,16 +20,16 @@ unfoldable pub named_by : ℕ → ℕ → ℕ → List Named
 named_by zero x n = record { element = x; name = n } ∷ []
 named_by (suc kind) x n = []
 
-unfoldable pub linkedBy : ℕ → ℕ → ℕ → ℕ → List Linked
-linkedBy zero x r y = []
-linkedBy (suc zero) x r y = record { from = x; role = r; to = y } ∷ []
-linkedBy (suc (suc kind)) x r y = []
+unfoldable pub linked_by : ℕ → ℕ → ℕ → ℕ → List Linked
+linked_by zero x r y = []
+linked_by (suc zero) x r y = record { from = x; role = r; to = y } ∷ []
+linked_by (suc (suc kind)) x r y = []
 
 -- The interpretation of that many elements (02: things) that the rows say, in any order and with repeats.
-unfoldable pub interpretationOf : ℕ → List ℕ → Interpretation
-interpretationOf size rows =
+unfoldable pub interpretation_of : ℕ → List ℕ → Interpretation
+interpretation_of size rows =
     record {
       size = size;
       names = joined (λ p. named_by (at rows p 0) (at rows p 1) (at rows p 2)) 0 (rows_of rows);
-      links = joined (λ p. linkedBy (at rows p 0) (at rows p 1) (at rows p 2) (at rows p 3)) 0 (rows_of rows);
+      links = joined (λ p. linked_by (at rows p 0) (at rows p 1) (at rows p 2) (at rows p 3)) 0 (rows_of rows);
     }

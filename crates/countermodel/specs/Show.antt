@@ -6,40 +6,40 @@ use Rattle.subsumption.specs.declared.refusal.Outcome.TheVariants.{Done, Refused
 use Rattle.countermodel.specs.declared.show.Shown.{Shown}
 use Rattle.countermodel.specs.declared.show.Shown.TheVariants.{Rows, Rejected}
 use Rattle.subsumption.specs.Tables.{Tables, count_of}
-use Rattle.subsumption.specs.Refusal.{Reply, replyDone, replyRefused, replyWith, or_else, refuseIf}
-use Rattle.subsumption.specs.Check.{bufferFault}
-use Rattle.subsumption.specs.Decide.{decidingFault}
-use Rattle.countermodel.specs.Rows.{rows_of, interpretationOf}
-use Rattle.countermodel.specs.Countermodel.{Exactly, shownRows, Refutes}
+use Rattle.subsumption.specs.Refusal.{Reply, reply_done, reply_refused, reply_with, or_else, refuse_if}
+use Rattle.subsumption.specs.Check.{buffer_fault}
+use Rattle.subsumption.specs.Decide.{deciding_fault}
+use Rattle.countermodel.specs.Rows.{rows_of, interpretation_of}
+use Rattle.countermodel.specs.Countermodel.{Exactly, shown_rows, Refutes}
 
 -- Check 15, by the marks: the pair holds, so there is nothing to show.
-unfoldable pub holdingFault : (ℕ → ℕ → Bool) → ℕ → ℕ → Outcome
-holdingFault marks left right = refuseIf (marks left right) NoCountermodel
+unfoldable pub holding_fault : (ℕ → ℕ → Bool) → ℕ → ℕ → Outcome
+holding_fault marks left right = refuse_if (marks left right) NoCountermodel
 
 -- The checks 1 to 7, then 9, then 15, then 8: the buffer wants four numbers a row.
-unfoldable pub showingFault : Tables → List ℕ → ℕ → ℕ → (ℕ → ℕ → Bool) → ℕ → Outcome
-showingFault t assignment left right marks size =
-    or_else (decidingFault t assignment left right)
-    (or_else (holdingFault marks left right) (bufferFault (length (shownRows t.concepts t.roles marks)) size))
+unfoldable pub showing_fault : Tables → List ℕ → ℕ → ℕ → (ℕ → ℕ → Bool) → ℕ → Outcome
+showing_fault t assignment left right marks size =
+    or_else (deciding_fault t assignment left right)
+    (or_else (holding_fault marks left right) (buffer_fault (length (shown_rows t.concepts t.roles marks)) size))
 
 -- The value is how many rows there are; the elements are the concepts.
-abbrev pub shownReply : Shown → Reply
-shownReply (Rows n) = replyDone n
-shownReply (Rejected r) = replyRefused r
+abbrev pub shown_reply : Shown → Reply
+shown_reply (Rows n) = reply_done n
+shown_reply (Rejected r) = reply_refused r
 
 -- The rows stand in front; past them, and after a refusal, the buffer keeps its values.
-unfoldable pub shownIn : Outcome → List ℕ → List ℕ → List ℕ
-shownIn Done rows before = rows ++ drop (length rows) before
-shownIn (Refused r) rows before = before
+unfoldable pub shown_in : Outcome → List ℕ → List ℕ → List ℕ
+shown_in Done rows before = rows ++ drop (length rows) before
+shown_in (Refused r) rows before = before
 
 -- By marks that say exactly what is below what: 15 exactly when the pair holds, else the rows that they give, whose interpretation
 -- refutes it.
 pub record Shows (t : Tables) (assignment : List ℕ) (left right : ℕ) (before after : List ℕ) (reply : Reply) : Type 0 where
   pub marks : ℕ → ℕ → Bool
-  pub exactly : decidingFault t assignment left right ≡ Done → Exactly t assignment marks
+  pub exactly : deciding_fault t assignment left right ≡ Done → Exactly t assignment marks
   pub replied :
-      reply ≡ replyWith (showingFault t assignment left right marks (length before)) (rows_of (shownRows t.concepts t.roles marks))
-  pub shown : after ≡ shownIn (showingFault t assignment left right marks (length before)) (shownRows t.concepts t.roles marks) before
+      reply ≡ reply_with (showing_fault t assignment left right marks (length before)) (rows_of (shown_rows t.concepts t.roles marks))
+  pub shown : after ≡ shown_in (showing_fault t assignment left right marks (length before)) (shown_rows t.concepts t.roles marks) before
   pub refutes :
-      showingFault t assignment left right marks (length before) ≡ Done
-      → Refutes t assignment left right (interpretationOf (count_of t.concepts) (shownRows t.concepts t.roles marks))
+      showing_fault t assignment left right marks (length before) ≡ Done
+      → Refutes t assignment left right (interpretation_of (count_of t.concepts) (shown_rows t.concepts t.roles marks))

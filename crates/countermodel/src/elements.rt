@@ -1,13 +1,13 @@
 // The rows of the interpretation that is shown: the names of each element, then the links of each element by each role.
 ghost use Rattle.std.specs.Prelude.{◌≡◌, ◌+◌, ◌<◌, ◌≤◌, length};
-ghost use Rattle.subsumption.specs.Lent.{before, after};
+
 ghost use Rattle.subsumption.specs.Tables.{count_of};
 ghost use Rattle.subsumption.specs.Table.{marked};
 ghost use Rattle.subsumption.specs.Inner.Roles.{LowRoles};
-ghost use Rattle.subsumption.specs.Inner.Sizes.{rolesSize, tableSize};
+ghost use Rattle.subsumption.specs.Inner.Sizes.{roles_size, table_size};
 ghost use Rattle.countermodel.specs.Rows.{joined};
-ghost use Rattle.countermodel.specs.Countermodel.{shownRows};
-ghost use Rattle.countermodel.specs.Inner.Show.{Checked, ForRoles, Put, names_of, linksBy, linksOf};
+ghost use Rattle.countermodel.specs.Countermodel.{shown_rows};
+ghost use Rattle.countermodel.specs.Inner.Show.{Checked, ForRoles, Put, names_of, links_by, links_of};
 
 use crate::limits::ROLES;
 use crate::marks::{note_links, note_names};
@@ -19,10 +19,10 @@ use subsumption::limits::{CONCEPTS, NAMES, ROLE_WORDS};
 // The names of one element.
 fn put_names_of(concepts: &[u16], table: &[u8], i: usize, at: usize, out: &mut [u16]) -> usize
     requires checked { Checked concepts.now }
-    requires table_len { length table.now ≡ tableSize }
+    requires table_len { length table.now ≡ table_size }
     requires i_bound { (i < count_of concepts.now) × (at ≤ 16000000) }
     ensures upper_bound { result ≤ at + 4000 }
-    ensures put { Put (before out) at (names_of (before concepts) (marked (before table)) i) result (after out) }
+    ensures put { Put out.old at (names_of concepts.now (marked table.now) i) result out.new }
 {
     let mut names = [false; NAMES];
     note_names(concepts, table, i, &mut names);
@@ -32,10 +32,10 @@ fn put_names_of(concepts: &[u16], table: &[u8], i: usize, at: usize, out: &mut [
 // The names of all elements, from the front of the buffer.
 fn put_names(concepts: &[u16], table: &[u8], out: &mut [u16]) -> usize
     requires checked { Checked concepts.now }
-    requires table_len { length table.now ≡ tableSize }
+    requires table_len { length table.now ≡ table_size }
     ensures upper_bound { result ≤ 768000 }
-    ensures put { Put (before out) 0 (joined (names_of (before concepts) (marked (before table))) 0 (count_of (before concepts))) result
-        (after out) }
+    ensures put { Put out.old 0 (joined (names_of concepts.now (marked table.now)) 0 (count_of concepts.now)) result
+        out.new }
 {
     let count = concepts.len() / 3;
     let mut end: usize = 0;
@@ -58,12 +58,12 @@ fn put_links_by(
     out: &mut [u16],
 ) -> usize
     requires checked { Checked concepts.now }
-    requires into_len { length into.now ≡ rolesSize }
-    requires table_len { length table.now ≡ tableSize }
+    requires into_len { length into.now ≡ roles_size }
+    requires table_len { length table.now ≡ table_size }
     requires i_bound { (i < count_of concepts.now) × (role < 100) × (at ≤ 16000000) }
     ensures upper_bound { result ≤ at + 768 }
-    ensures for_roles { ForRoles (before into)
-        (λ roles. Put (before out) at (linksBy (before concepts) roles (marked (before table)) i role) result (after out)) }
+    ensures for_roles { ForRoles into.now
+        (λ roles. Put out.old at (links_by concepts.now roles (marked table.now) i role) result out.new) }
 {
     let mut links = [false; CONCEPTS];
     note_links(concepts, into, table, i, role, &mut links);
@@ -88,12 +88,12 @@ fn put_links_of(
     out: &mut [u16],
 ) -> usize
     requires checked { Checked concepts.now }
-    requires into_len { length into.now ≡ rolesSize }
-    requires table_len { length table.now ≡ tableSize }
+    requires into_len { length into.now ≡ roles_size }
+    requires table_len { length table.now ≡ table_size }
     requires i_bound { (i < count_of concepts.now) × (at ≤ 15600000) }
     ensures upper_bound { result ≤ at + 76800 }
-    ensures for_roles { ForRoles (before into)
-        (λ roles. Put (before out) at (linksOf (before concepts) roles (marked (before table)) i) result (after out)) }
+    ensures for_roles { ForRoles into.now
+        (λ roles. Put out.old at (links_of concepts.now roles (marked table.now) i) result out.new) }
 {
     let mut own = [false; ROLES];
     note_own(concepts, table, i, &mut own);
@@ -115,10 +115,10 @@ fn put_links_of(
 fn put_links(concepts: &[u16], roles: &[u16], table: &[u8], at: usize, out: &mut [u16]) -> usize
     requires checked { Checked concepts.now }
     requires low_roles { LowRoles roles.now }
-    requires table_len { length table.now ≡ tableSize }
+    requires table_len { length table.now ≡ table_size }
     requires at_bound { at ≤ 768000 }
-    ensures { Put (before out) at
-        (joined (linksOf (before concepts) (before roles) (marked (before table))) 0 (count_of (before concepts))) result (after out) }
+    ensures { Put out.old at
+        (joined (links_of concepts.now roles.now (marked table.now)) 0 (count_of concepts.now)) result out.new }
 {
     let mut into = [0u64; ROLE_WORDS];
     note_roles(roles, &mut into);
@@ -136,8 +136,8 @@ fn put_links(concepts: &[u16], roles: &[u16], table: &[u8], at: usize, out: &mut
 pub fn put_rows(concepts: &[u16], roles: &[u16], table: &[u8], out: &mut [u16]) -> usize
     requires checked { Checked concepts.now }
     requires low_roles { LowRoles roles.now }
-    requires table_len { length table.now ≡ tableSize }
-    ensures { Put (before out) 0 (shownRows (before concepts) (before roles) (marked (before table))) result (after out) }
+    requires table_len { length table.now ≡ table_size }
+    ensures { Put out.old 0 (shown_rows concepts.now roles.now (marked table.now)) result out.new }
 {
     let end = put_names(concepts, table, out);
     put_links(concepts, roles, table, end, out)

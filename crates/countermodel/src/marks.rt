@@ -1,9 +1,9 @@
 // The names and the links of an element, read off the marks of the subsumption table.
 ghost use Rattle.std.specs.Prelude.{◌≡◌, false, ◌<◌, length, replicate};
-ghost use Rattle.subsumption.specs.Lent.{before, after};
+
 ghost use Rattle.subsumption.specs.Tables.{count_of};
 ghost use Rattle.subsumption.specs.Table.{marked};
-ghost use Rattle.subsumption.specs.Inner.Sizes.{rolesSize, tableSize};
+ghost use Rattle.subsumption.specs.Inner.Sizes.{roles_size, table_size};
 ghost use Rattle.countermodel.specs.Inner.Show.{Checked, ForRoles, NamesOf, LinksOf};
 
 use subsumption::helpers::{counts, row_at};
@@ -11,9 +11,9 @@ use subsumption::limits::ROW_BYTES;
 
 // The concept i is below the concept j.
 pub fn is_marked(table: &[u8], i: usize, j: usize) -> bool
-    requires table_len { length table.now ≡ tableSize }
+    requires table_len { length table.now ≡ table_size }
     requires i_bound { (i < 192) × (j < 192) }
-    ensures { result ≡ marked (before table) i j }
+    ensures { result ≡ marked table.now i j }
 {
     (table[i * ROW_BYTES + j / 8] >> (j % 8)) % 2 == 1
 }
@@ -21,10 +21,10 @@ pub fn is_marked(table: &[u8], i: usize, j: usize) -> bool
 // Notes which names the element i bears.
 pub fn note_names(concepts: &[u16], table: &[u8], i: usize, names: &mut [bool])
     requires checked { Checked concepts.now }
-    requires table_len { length table.now ≡ tableSize }
+    requires table_len { length table.now ≡ table_size }
     requires i_bound { i < count_of concepts.now }
     requires names_value { names.old ≡ replicate 1000 false }
-    ensures { NamesOf (before concepts) (marked (before table)) i (after names) }
+    ensures { NamesOf concepts.now (marked table.now) i names.new }
 {
     let count = concepts.len() / 3;
     let mut j: usize = 0;
@@ -51,11 +51,11 @@ pub fn note_links(
     links: &mut [bool],
 )
     requires checked { Checked concepts.now }
-    requires into_len { length into.now ≡ rolesSize }
-    requires table_len { length table.now ≡ tableSize }
+    requires into_len { length into.now ≡ roles_size }
+    requires table_len { length table.now ≡ table_size }
     requires i_bound { (i < count_of concepts.now) × (role < 100) }
     requires links_value { links.old ≡ replicate 192 false }
-    ensures { ForRoles (before into) (λ roles. LinksOf (before concepts) roles (marked (before table)) i role (after links)) }
+    ensures { ForRoles into.now (λ roles. LinksOf concepts.now roles (marked table.now) i role links.new) }
 {
     let count = concepts.len() / 3;
     let mut j: usize = 0;

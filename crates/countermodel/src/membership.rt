@@ -3,8 +3,8 @@ mod check;
 mod stretches;
 mod walk;
 
-ghost use Rattle.subsumption.specs.Lent.{lent, before};
-ghost use Rattle.subsumption.specs.Decide.{decisionReply};
+ghost use Rattle.subsumption.specs.Lent.{lent};
+ghost use Rattle.subsumption.specs.Decide.{decision_reply};
 ghost use Rattle.countermodel.specs.Membership.{DecidesMember};
 ghost use Rattle.countermodel.specs.Inner.Membership.{Listing, ForListing};
 
@@ -27,8 +27,8 @@ fn decide_known(
     element: u16,
 ) -> Decision
     requires { Listing concepts.now variables ids.now }
-    ensures { ForListing (before concepts) variables (before ids)
-        (λ t. DecidesMember t (before assignment) size (before rows) concept element (decisionReply result)) }
+    ensures { ForListing concepts.now variables ids.now
+        (λ t. DecidesMember t assignment.now size rows.now concept element (decision_reply result)) }
 {
     let choices = check_assignment(assignment, variables, ids.len());
     if let Outcome::Refused(r) = choices {
@@ -65,8 +65,8 @@ pub fn decide_member(
     concept: u16,
     element: u16,
 ) -> Decision
-    ensures { DecidesMember (lent concepts inclusions questions roles variables) (before assignment) size
-        (before rows) concept element (decisionReply result) }
+    ensures { DecidesMember (lent concepts inclusions questions roles variables) assignment.now size
+        rows.now concept element (decision_reply result) }
 {
     let mut ids = [0u16; ATOMS];
     let listed = list_atoms(concepts, inclusions, questions, roles, variables, &mut ids);

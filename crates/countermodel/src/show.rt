@@ -1,11 +1,11 @@
 // Showing an interpretation where a pair fails.
 ghost use Rattle.std.specs.Prelude.{◌≡◌, length};
-ghost use Rattle.subsumption.specs.Lent.{lent, before, after};
+ghost use Rattle.subsumption.specs.Lent.{lent};
 ghost use Rattle.subsumption.specs.Table.{marked};
 ghost use Rattle.subsumption.specs.Inner.Roles.{LowRoles};
-ghost use Rattle.subsumption.specs.Inner.Sizes.{tableSize};
-ghost use Rattle.countermodel.specs.Countermodel.{shownRows};
-ghost use Rattle.countermodel.specs.Show.{shownReply, Shows};
+ghost use Rattle.subsumption.specs.Inner.Sizes.{table_size};
+ghost use Rattle.countermodel.specs.Countermodel.{shown_rows};
+ghost use Rattle.countermodel.specs.Show.{shown_reply, Shows};
 ghost use Rattle.countermodel.specs.Inner.Show.{Checked, Judged, Laid};
 
 use crate::elements::put_rows;
@@ -34,8 +34,8 @@ pub fn judge_pair(
     right: u16,
     table: &mut [u8],
 ) -> Outcome
-    requires { length table.old ≡ tableSize }
-    ensures { Judged (lent concepts inclusions questions roles variables) (before assignment) left right (after table) result }
+    requires { length table.old ≡ table_size }
+    ensures { Judged (lent concepts inclusions questions roles variables) assignment.now left right table.new result }
 {
     let mut ids = [0u16; ATOMS];
     let listed = list_asked(
@@ -60,8 +60,8 @@ pub fn judge_pair(
 fn show_known(concepts: &[u16], roles: &[u16], table: &[u8], out: &mut [u16]) -> Shown
     requires checked { Checked concepts.now }
     requires low_roles { LowRoles roles.now }
-    requires table_len { length table.now ≡ tableSize }
-    ensures { Laid (shownRows (before concepts) (before roles) (marked (before table))) (before out) (after out) (shownReply result) }
+    requires table_len { length table.now ≡ table_size }
+    ensures { Laid (shown_rows concepts.now roles.now (marked table.now)) out.old out.new (shown_reply result) }
 {
     let mut none = [0u16; 0];
     let wanted = put_rows(concepts, roles, table, &mut none);
@@ -84,8 +84,8 @@ pub fn show_countermodel(
     right: u16,
     out: &mut [u16],
 ) -> Shown
-    ensures { Shows (lent concepts inclusions questions roles variables) (before assignment) left right
-        (before out) (after out) (shownReply result) }
+    ensures { Shows (lent concepts inclusions questions roles variables) assignment.now left right
+        out.old out.new (shown_reply result) }
 {
     let mut table = [0u8; TABLE_BYTES];
     let judged = judge_pair(

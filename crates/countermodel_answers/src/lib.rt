@@ -2,7 +2,7 @@
 ghost use Rattle.countermodel.specs.Show.{Shows};
 ghost use Rattle.countermodel.specs.Membership.{DecidesMember};
 ghost use Rattle.answers.specs.Answer.{replied};
-ghost use Rattle.subsumption.specs.Lent.{lent, before, after};
+ghost use Rattle.subsumption.specs.Lent.{lent};
 
 use answers::{Answer, answer_of, decided};
 use countermodel::Shown;
@@ -20,8 +20,8 @@ pub fn show(
     right: u16,
     out: &mut [u16],
 ) -> Answer
-    ensures { Shows (lent concepts inclusions questions roles variables) (before assignment) left right
-        (before out) (after out) (replied result) }
+    ensures { Shows (lent concepts inclusions questions roles variables) assignment.now left right
+        out.old out.new (replied result) }
 {
     let answer = countermodel::show_countermodel(
         concepts, inclusions, questions, roles, variables, assignment, left, right, out,
@@ -45,8 +45,8 @@ pub fn belongs(
     concept: u16,
     element: u16,
 ) -> Answer
-    ensures { DecidesMember (lent concepts inclusions questions roles variables) (before assignment) size
-        (before rows) concept element (replied result) }
+    ensures { DecidesMember (lent concepts inclusions questions roles variables) assignment.now size
+        rows.now concept element (replied result) }
 {
     let answer = countermodel::decide_member(
         concepts, inclusions, questions, roles, variables, assignment, size, rows, concept, element,

@@ -1,8 +1,8 @@
 // Answers in the numbers of the C interface: those of the operations of `matching` on derivations.
 ghost use Rattle.std.specs.Prelude.{◌≡◌};
-ghost use Rattle.subsumption.specs.Lent.{lent, before, after};
-ghost use Rattle.subsumption.specs.Refusal.{replyOf};
-ghost use Rattle.matching.specs.Derivation.{checkingFault};
+ghost use Rattle.subsumption.specs.Lent.{lent};
+ghost use Rattle.subsumption.specs.Refusal.{reply_of};
+ghost use Rattle.matching.specs.Derivation.{checking_fault};
 ghost use Rattle.matching.specs.Writer.{Derives};
 ghost use Rattle.answers.specs.Answer.{replied};
 
@@ -22,8 +22,8 @@ pub fn derive(
     right: u16,
     out: &mut [u16],
 ) -> Answer
-    ensures { Derives (lent concepts inclusions questions roles variables) (before assignment) left right
-        (before out) (after out) (replied result) }
+    ensures { Derives (lent concepts inclusions questions roles variables) assignment.now left right
+        out.old out.new (replied result) }
 {
     let answer = matching::derive(
         concepts, inclusions, questions, roles, variables, assignment, left, right, out,
@@ -46,8 +46,8 @@ pub fn check_derivation(
     right: u16,
     lines: &[u16],
 ) -> Answer
-    ensures { replied result ≡ replyOf
-        (checkingFault (lent concepts inclusions questions roles variables) (before assignment) left right (before lines)) }
+    ensures { replied result ≡ reply_of
+        (checking_fault (lent concepts inclusions questions roles variables) assignment.now left right lines.now) }
 {
     let judged = matching::check_derivation(
         concepts, inclusions, questions, roles, variables, assignment, left, right, lines,

@@ -5,23 +5,23 @@ use mathlib.Core.List.{List, Memᴰ}
 use mathlib.Core.Logic.{◌⊎◌, inl, inr}
 use lib.ListN.{length, get_or, take}
 use Rattle.subsumption.specs.declared.refusal.Outcome.TheVariants.{Done}
-use Rattle.subsumption.specs.Tables.{Tables, left_of, rightOf, tree}
+use Rattle.subsumption.specs.Tables.{Tables, left_of, right_of, tree}
 use Rattle.subsumption.specs.Atoms.{pick, chosen}
 use Rattle.subsumption.specs.Subsumption.{Included, Subsumed}
-use Rattle.subsumption.specs.Check.{assignmentFaultAt, assignmentFault}
-use Rattle.settings.specs.Settings.{Settings, settingsFaultAt, settingsFault}
+use Rattle.subsumption.specs.Check.{assignment_fault_at, assignment_fault}
+use Rattle.settings.specs.Settings.{Settings, settings_fault_at, settings_fault}
 use Rattle.matching.specs.Solving.{substituted, Solves}
 use Rattle.matching.specs.Find.{SomeSolves, FilledBy, NoneSolves}
 use Rattle.matching.specs.Within.{FirstWithin, FilledWithin, NoneWithin}
-use Rattle.incremental.specs.Fresh.{withOthers, PairsAmong, SameChoices}
+use Rattle.incremental.specs.Fresh.{with_others, PairsAmong, SameChoices}
 use Rattle.edits.specs.Edits.{MoreQuestions}
 use Rattle.edits.specs.Questions.{StaysOrLater, FirstMovesLater, WithinMovesLater, FoundMovesLater, CountedMovesLater}
 use Rattle.edits.proofs.CarriedLaws.{by-questions, obeys-fewer, subsumed-still}
 use Rattle.allowance.proofs.CaseLaws.{found-cases, within-cases, counted-cases}
 
-module _ (t : Tables) (questions : List ℕ) (M : MoreQuestions t (withOthers t t.inclusions questions)) where
+module _ (t : Tables) (questions : List ℕ) (M : MoreQuestions t (with_others t t.inclusions questions)) where
   abbrev t' : Tables
-  t' = withOthers t t.inclusions questions
+  t' = with_others t t.inclusions questions
 
   -- ---- the inclusions, the atoms and the checks are the same
   same-inclusions : PairsAmong t.inclusions t.inclusions
@@ -34,19 +34,19 @@ module _ (t : Tables) (questions : List ℕ) (M : MoreQuestions t (withOthers t 
     subst (λ (z : List ℕ). Memᴰ p (pick z (get_or a k 0))) (sym M.no-new-atom),
   )
 
-  accepted-before : (a : List ℕ) → assignmentFault t' a ≡ Done → assignmentFault t a ≡ Done
-  unfolding assignmentFault
-  accepted-before a = subst (λ (z : List ℕ). assignmentFaultAt (length z) t.variables a ≡ Done) M.no-new-atom
+  accepted-before : (a : List ℕ) → assignment_fault t' a ≡ Done → assignment_fault t a ≡ Done
+  unfolding assignment_fault
+  accepted-before a = subst (λ (z : List ℕ). assignment_fault_at (length z) t.variables a ≡ Done) M.no-new-atom
 
-  set_after : (s : Settings) → settingsFault t s ≡ Done → settingsFault t' s ≡ Done
-  unfolding settingsFault
-  set_after s = subst (λ (z : List ℕ). settingsFaultAt (length z) t.variables s ≡ Done) (sym M.no-new-atom)
+  set_after : (s : Settings) → settings_fault t s ≡ Done → settings_fault t' s ≡ Done
+  unfolding settings_fault
+  set_after s = subst (λ (z : List ℕ). settings_fault_at (length z) t.variables s ≡ Done) (sym M.no-new-atom)
 
   -- ---- what solves solved before
   solves-before : (a : List ℕ) → Solves t' a → Solves t a
   solves-before a h m l =
       let (n, k, e, f) = M.questions m l in
-      subst (λ (z : ℕ). Subsumed t a z (rightOf t.questions m)) e
+      subst (λ (z : ℕ). Subsumed t a z (right_of t.questions m)) e
       (subst (λ (z : ℕ). Subsumed t a (left_of questions n) z) f
       (subsumed-still t t.inclusions questions same-inclusions M.accepted-before a a (same-ids a) _ _ (h n k)))
 
@@ -56,7 +56,7 @@ module _ (t : Tables) (questions : List ℕ) (M : MoreQuestions t (withOthers t 
         substitution = record { concept = h.substitution.concept; variable-free = h.substitution.variable-free };
         solves = λ m l I O.
             let (n, k, e, f) = M.questions m l in
-            subst (λ (z : ℕ). Included I (substituted h.substitution.concept I) (tree t.concepts z) (tree t.concepts (rightOf t.questions m))) e
+            subst (λ (z : ℕ). Included I (substituted h.substitution.concept I) (tree t.concepts z) (tree t.concepts (right_of t.questions m))) e
             (subst (λ (z : ℕ). Included I (substituted h.substitution.concept I) (tree t.concepts (left_of questions n)) (tree t.concepts z)) f
             (h.solves n k I (obeys-fewer t t.inclusions questions same-inclusions I O)));
       }
@@ -94,18 +94,18 @@ within-moves-later =
     by-questions _
     (λ t questions M s set before after before' after' was is old new room room'.
     within-later t questions M before after before' after' _ _ _ _ s (within-cases t before after was M.accepted-before room s set old)
-    (within-cases (withOthers t t.inclusions questions) before' after' is M.accepted-after room' s (set_after t questions M s set) new))
+    (within-cases (with_others t t.inclusions questions) before' after' is M.accepted-after room' s (set_after t questions M s set) new))
 
 pub found-moves-later : FoundMovesLater
 found-moves-later =
     by-questions _
     (λ t questions M before after before' after' was is old new room room'.
     found-later t questions M before after before' after' _ _ _ _ (found-cases t before after was M.accepted-before room old)
-    (found-cases (withOthers t t.inclusions questions) before' after' is M.accepted-after room' new))
+    (found-cases (with_others t t.inclusions questions) before' after' is M.accepted-after room' new))
 
 pub counted-moves-later : CountedMovesLater
 counted-moves-later =
     by-questions _
     (λ t questions M s set allowance allowance' before after before' after' was is old new room room' enough enough'.
     within-later t questions M before after before' after' _ _ _ _ s (counted-cases t before after was M.accepted-before room s set allowance old enough)
-    (counted-cases (withOthers t t.inclusions questions) before' after' is M.accepted-after room' s (set_after t questions M s set) allowance' new enough'))
+    (counted-cases (with_others t t.inclusions questions) before' after' is M.accepted-after room' s (set_after t questions M s set) allowance' new enough'))

@@ -10,9 +10,9 @@ use lib.Pow.{pow_mono}
 use lib.ListN.{length, get_or}
 use Rattle.subsumption.specs.declared.refusal.Outcome.TheVariants.{Done}
 use Rattle.subsumption.specs.Tables.{Tables, count_of}
-use Rattle.subsumption.specs.Atoms.{isAtom, keep, atoms, bit, pick, chosen}
-use Rattle.subsumption.specs.Check.{tableFault, assignmentFault}
-use Rattle.subsumption.proofs.Accepted.{wellFormed}
+use Rattle.subsumption.specs.Atoms.{is_atom, keep, atoms, bit, pick, chosen}
+use Rattle.subsumption.specs.Check.{table_fault, assignment_fault}
+use Rattle.subsumption.proofs.Accepted.{well_formed}
 use Rattle.settings.specs.Settings.{size}
 use Rattle.settings.proofs.SizeLaws.{ones-size}
 use Rattle.matching.proofs.SearchLaws.Fronts.{accepted-below}
@@ -75,17 +75,17 @@ pick-rises from (x ∷ xs) choice (l, h) = go (pick-rises (suc x) xs (choice / 2
 -- ---- the chosen ids
 chosen-rises : (t : Tables) (a : List ℕ) (k : ℕ) → Rises 0 (chosen t a k)
 unfolding chosen atoms
-chosen-rises t a k = pick-rises 0 (atoms t) (get_or a k 0) (keep-rises (isAtom t) 0 (count_of t.concepts))
+chosen-rises t a k = pick-rises 0 (atoms t) (get_or a k 0) (keep-rises (is_atom t) 0 (count_of t.concepts))
 
 chosen-size :
-    (t : Tables) (a : List ℕ) (k : ℕ) → tableFault t ≡ Done → assignmentFault t a ≡ Done → k < t.variables → length (chosen t a k) ≡ size (get_or a k 0)
+    (t : Tables) (a : List ℕ) (k : ℕ) → table_fault t ≡ Done → assignment_fault t a ≡ Done → k < t.variables → length (chosen t a k) ≡ size (get_or a k 0)
 chosen-size t a k ok accepted l =
-    let few : get_or a k 0 < 2 ^ 64 = omega (arith, accepted-below t a accepted k l, pow_mono (wellFormed t ok).few-atoms) in
+    let few : get_or a k 0 < 2 ^ 64 = omega (arith, accepted-below t a accepted k l, pow_mono (well_formed t ok).few-atoms) in
     omega (arith, chosen-ones t a k accepted l, ones-size (get_or a k 0) few)
 
 -- An assignment that chooses some of another's ids takes no more atoms.
 pub fewer-chosen :
-    (t₀ t : Tables) (a b : List ℕ) (k : ℕ) → tableFault t₀ ≡ Done → tableFault t ≡ Done → assignmentFault t₀ a ≡ Done → assignmentFault t b ≡ Done
+    (t₀ t : Tables) (a b : List ℕ) (k : ℕ) → table_fault t₀ ≡ Done → table_fault t ≡ Done → assignment_fault t₀ a ≡ Done → assignment_fault t b ≡ Done
     → k < t₀.variables → k < t.variables → ((p : ℕ) → Memᴰ p (chosen t b k) → Memᴰ p (chosen t₀ a k))
     → size (get_or b k 0) ≤ size (get_or a k 0)
 fewer-chosen t₀ t a b k ok₀ ok accepted₀ accepted l₀ l among =

@@ -3,14 +3,14 @@ use Rattle.std.specs.Prelude.{◌≡◌}
 use Rattle.subsumption.specs.declared.refusal.Outcome.TheVariants.{Done}
 use Rattle.subsumption.specs.Tables.{Tables}
 use Rattle.subsumption.specs.Atoms.{atoms}
-use Rattle.subsumption.specs.Check.{tableFault}
+use Rattle.subsumption.specs.Check.{table_fault}
 use Rattle.incremental.specs.Fresh.{PairsAmong}
 
 -- Inclusions were added, and nothing else; the tables were accepted and are. The atoms may be more, and then the positions of the
 -- old ones move.
 pub record MoreInclusions (older newer : Tables) : Type 0 where
-  pub accepted-before : tableFault older ≡ Done
-  pub accepted-after : tableFault newer ≡ Done
+  pub accepted-before : table_fault older ≡ Done
+  pub accepted-after : table_fault newer ≡ Done
   pub concepts : newer.concepts ≡ older.concepts
   pub inclusions : PairsAmong older.inclusions newer.inclusions
   pub questions : newer.questions ≡ older.questions
@@ -19,8 +19,8 @@ pub record MoreInclusions (older newer : Tables) : Type 0 where
 
 -- Questions were added that bring no atom, and nothing else; the tables were accepted and are.
 pub record MoreQuestions (older newer : Tables) : Type 0 where
-  pub accepted-before : tableFault older ≡ Done
-  pub accepted-after : tableFault newer ≡ Done
+  pub accepted-before : table_fault older ≡ Done
+  pub accepted-after : table_fault newer ≡ Done
   pub concepts : newer.concepts ≡ older.concepts
   pub inclusions : newer.inclusions ≡ older.inclusions
   pub questions : PairsAmong older.questions newer.questions

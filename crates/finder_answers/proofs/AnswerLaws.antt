@@ -9,30 +9,30 @@ use Rattle.subsumption.specs.Refusal.{code_of, Reply}
 use Rattle.settings.specs.Settings.{Settings}
 use Rattle.matching.specs.declared.find.Match.{Match}
 use Rattle.matching.specs.declared.find.Match.TheVariants.{Filled, Rejected}
-use Rattle.matching.specs.Find.{matchReply}
+use Rattle.matching.specs.Find.{match_reply}
 use Rattle.groups.specs.Find.{FindsGroup}
 use Rattle.allowance.specs.declared.find.Counted.{Counted}
-use Rattle.allowance.specs.Find.{replyBy, countedReply, FindsCounted}
+use Rattle.allowance.specs.Find.{reply_by, counted_reply, FindsCounted}
 use Rattle.answers.specs.declared.Answer.{Answer}
 use Rattle.answers.specs.Answer.{replied}
 use Rattle.answers.proofs.AnswerLaws.{passed_on}
 
 pub count-told :
-    (x : Counted) → x.answer ≡ Filled → ◌≡◌ {A = Reply} (record { number = 0; place = 0; value = x.count }) (countedReply x)
-count-told x h = ap (λ (z : Match). replyBy z x.count) (sym h)
+    (x : Counted) → x.answer ≡ Filled → ◌≡◌ {A = Reply} (record { number = 0; place = 0; value = x.count }) (counted_reply x)
+count-told x h = ap (λ (z : Match). reply_by z x.count) (sym h)
 
 pub count-refused :
     (x : Counted) (r : Refusal) (code : Code) → x.answer ≡ Rejected r → code ≡ code_of r
-    → ◌≡◌ {A = Reply} (record { number = code.number; place = code.place; value = x.count }) (countedReply x)
+    → ◌≡◌ {A = Reply} (record { number = code.number; place = code.place; value = x.count }) (counted_reply x)
 count-refused x r code h e =
-    ap (λ (z : Code). record { number = z.number; place = z.place; value = x.count }) e ∙ ap (λ (z : Match). replyBy z x.count) (sym h)
+    ap (λ (z : Code). record { number = z.number; place = z.place; value = x.count }) e ∙ ap (λ (z : Match). reply_by z x.count) (sym h)
 
 pub counted-as :
     (t : Tables) (s : Settings) (allowance : ℕ) (before after : List ℕ) (a : Answer) (x : Counted)
-    → FindsCounted t s allowance before after (countedReply x) → replied a ≡ countedReply x → FindsCounted t s allowance before after (replied a)
-counted-as t s allowance before after a x p = passed_on (FindsCounted t s allowance before after) countedReply x x a p refl
+    → FindsCounted t s allowance before after (counted_reply x) → replied a ≡ counted_reply x → FindsCounted t s allowance before after (replied a)
+counted-as t s allowance before after a x p = passed_on (FindsCounted t s allowance before after) counted_reply x x a p refl
 
 pub group-as :
-    (t : Tables) (s : Settings) (m : ℕ) (before after : List ℕ) (a : Answer) (x : Match) → FindsGroup t s m before after (matchReply x)
-    → replied a ≡ matchReply x → FindsGroup t s m before after (replied a)
-group-as t s m before after a x p = passed_on (FindsGroup t s m before after) matchReply x x a p refl
+    (t : Tables) (s : Settings) (m : ℕ) (before after : List ℕ) (a : Answer) (x : Match) → FindsGroup t s m before after (match_reply x)
+    → replied a ≡ match_reply x → FindsGroup t s m before after (replied a)
+group-as t s m before after a x p = passed_on (FindsGroup t s m before after) match_reply x x a p refl

@@ -1,10 +1,10 @@
 // Answers in the numbers of the C interface: those of the finders above `matching`, on an allowance and of a group.
 ghost use Rattle.std.specs.Prelude.{◌≡◌};
-ghost use Rattle.settings.specs.Settings.{lentSettings};
-ghost use Rattle.allowance.specs.Find.{countedReply, FindsCounted};
+ghost use Rattle.settings.specs.Settings.{lent_settings};
+ghost use Rattle.allowance.specs.Find.{counted_reply, FindsCounted};
 ghost use Rattle.groups.specs.Find.{FindsGroup};
 ghost use Rattle.answers.specs.Answer.{replied};
-ghost use Rattle.subsumption.specs.Lent.{lent, before, after};
+ghost use Rattle.subsumption.specs.Lent.{lent};
 
 use allowance::Counted;
 use answers::Answer;
@@ -14,7 +14,7 @@ use subsumption::refusal::code_of;
 
 // What the finder with an allowance answered: the count is told with 10 and 14 too.
 fn counted_of(counted: Counted) -> Answer
-    ensures { replied result ≡ countedReply counted }
+    ensures { replied result ≡ counted_reply counted }
 {
     let value = counted.count as u64;
     let answer = counted.answer;
@@ -50,8 +50,8 @@ pub fn find_counted(
     allowance: u32,
     out: &mut [u64],
 ) -> Answer
-    ensures { FindsCounted (lent concepts inclusions questions roles variables) (lentSettings permitted largest) allowance
-        (before out) (after out) (replied result) }
+    ensures { FindsCounted (lent concepts inclusions questions roles variables) (lent_settings permitted largest) allowance
+        out.old out.new (replied result) }
 {
     let counted = allowance::find_counted(
         concepts, inclusions, questions, roles, variables, permitted, largest, allowance, out,
@@ -72,8 +72,8 @@ pub fn find_group(
     question: u16,
     out: &mut [u64],
 ) -> Answer
-    ensures { FindsGroup (lent concepts inclusions questions roles variables) (lentSettings permitted largest) question
-        (before out) (after out) (replied result) }
+    ensures { FindsGroup (lent concepts inclusions questions roles variables) (lent_settings permitted largest) question
+        out.old out.new (replied result) }
 {
     let answer = groups::find_group(
         concepts, inclusions, questions, roles, variables, permitted, largest, question, out,

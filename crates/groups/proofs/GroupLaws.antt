@@ -13,11 +13,11 @@ use lib.Dec.{eqb, ltb}
 use lib.ListN.{length, get_or}
 use borrow.Author.Tests.{eqb-true, eqb-false, eq-eqb, ne_eqb, ltb-true, ltb-false, not-true}
 use Rattle.subsumption.specs.declared.refusal.Outcome.TheVariants.{Done}
-use Rattle.subsumption.specs.Tables.{Tables, or, both, Node, topAt, name_at, existsAt, andAt, varAt, node, count_of, pairsOf, left_of, rightOf, tree, variablesOf}
-use Rattle.subsumption.specs.Variables.{standsIn}
+use Rattle.subsumption.specs.Tables.{Tables, or, both, Node, top_at, name_at, exists_at, and_at, var_at, node, count_of, pairs_of, left_of, right_of, tree, variables_of}
+use Rattle.subsumption.specs.Variables.{stands_in}
 use Rattle.subsumption.specs.Atoms.{bit}
 use Rattle.subsumption.specs.Table.{counted}
-use Rattle.subsumption.specs.Check.{tableFault}
+use Rattle.subsumption.specs.Check.{table_fault}
 use Rattle.subsumption.specs.declared.tables.Pair.{Pair}
 use Rattle.subsumption.specs.Inner.Tables.{pair_of}
 use Rattle.subsumption.specs.Inner.Atoms.{Known, VariableSets}
@@ -29,9 +29,9 @@ use Rattle.subsumption.proofs.VariableLaws.{set-exactly}
 use Rattle.subsumption.proofs.Depth.{by-smaller}
 use Rattle.subsumption.proofs.Trees.{tree-top, tree-name, tree-exists, tree-and, tree-var, inner-exists, inner-and}
 use Rattle.subsumption.proofs.WellFormed.{WellFormed}
-use Rattle.subsumption.proofs.Accepted.{wellFormed}
+use Rattle.subsumption.proofs.Accepted.{well_formed}
 use Rattle.groups.specs.Group.{holds, Share, Chain, Joined, Ground, InGroup, Outside}
-use Rattle.groups.specs.Inner.Group.{set_at, meets, brought, swept, sweeps, reachedBy, belongs, GroupSet}
+use Rattle.groups.specs.Inner.Group.{set_at, meets, brought, swept, sweeps, reached_by, belongs, GroupSet}
 
 -- ---- being in one group
 module _ (t : Tables) where
@@ -41,7 +41,7 @@ module _ (t : Tables) where
   turned : (m n : ℕ) → Share t m n → Share t n m
   turned m n s = record { variable = s.variable; first = s.second; second = s.first }
 
-  pub joined-transitive : (m n o : ℕ) → n < pairsOf t.questions → Joined t m n → Joined t n o → Joined t m o
+  pub joined-transitive : (m n o : ℕ) → n < pairs_of t.questions → Joined t m n → Joined t n o → Joined t m o
   joined-transitive m n o l x y = record { others = x.others ++ (n ∷ y.others); chain = go m x.others x.chain }
     where
       go : (m : ℕ) (xs : List ℕ) → Chain t m xs n → Chain t m (xs ++ (n ∷ y.others)) o
@@ -67,7 +67,7 @@ module _ (t : Tables) where
   in-group-symmetric m n (inl x) = inl (joined-symmetric m n x)
   in-group-symmetric m n (inr g) = inr (g.1, g.0)
 
-  pub in-group-transitive : (m n o : ℕ) → n < pairsOf t.questions → InGroup t m n → InGroup t n o → InGroup t m o
+  pub in-group-transitive : (m n o : ℕ) → n < pairs_of t.questions → InGroup t m n → InGroup t n o → InGroup t m o
   in-group-transitive m n o l (inl x) (inl y) = inl (joined-transitive m n o l x y)
   in-group-transitive m n o l (inl x) (inr g) = absurd (not-ground n m (joined-symmetric m n x) g.0)
   in-group-transitive m n o l (inr g) (inl y) = absurd (not-ground n o y g.1)
@@ -76,7 +76,7 @@ module _ (t : Tables) where
 -- A question of the group holds the variable.
 pub record HeldIn (t : Tables) (m k : ℕ) : Type 0 where
   pub question : ℕ
-  pub known : question < pairsOf t.questions
+  pub known : question < pairs_of t.questions
   pub grouped : InGroup t m question
   pub held : holds t question k ≡ true
 
@@ -198,88 +198,88 @@ module _ (set : ℕ → ℕ) (count : ℕ) where
             absurd (omega (arith, counted-less (bit (sweeps set count 8 r)) (λ z. true) 8 k l e refl (λ z y x. refl), counted-most (λ z. true) 8))
 
 -- ---- the sets of the questions
-module _ (t : Tables) (h : tableFault t ≡ Done) where
+module _ (t : Tables) (h : table_fault t ≡ Done) where
   wf : WellFormed t
-  wf = wellFormed t h
+  wf = well_formed t h
 
   -- variables are numbered below 8
-  standing-low : (i k : ℕ) → standsIn k (tree t.concepts i) ≡ true → k < 8
-  unfolding standsIn
+  standing-low : (i k : ℕ) → stands_in k (tree t.concepts i) ≡ true → k < 8
+  unfolding stands_in
   standing-low i k =
-      by-smaller (λ j. standsIn k (tree t.concepts j) ≡ true → k < 8) (λ j smaller e. go j smaller (node t.concepts j) refl e) i
+      by-smaller (λ j. stands_in k (tree t.concepts j) ≡ true → k < 8) (λ j smaller e. go j smaller (node t.concepts j) refl e) i
     where
-      go : (j : ℕ) → ((p : ℕ) → p < j → standsIn k (tree t.concepts p) ≡ true → k < 8)
-          → (m : Node) → node t.concepts j ≡ m → standsIn k (tree t.concepts j) ≡ true → k < 8
-      go j smaller topAt f e = absurd (false≢true (ap (standsIn k) (sym (tree-top t.concepts wf.rising j f)) ∙ e))
-      go j smaller (name_at n) f e = absurd (false≢true (ap (standsIn k) (sym (tree-name t.concepts wf.rising j n f)) ∙ e))
-      go j smaller (existsAt r p) f e =
-          smaller p (inner-exists t.concepts wf.rising j r p f) (ap (standsIn k) (sym (tree-exists t.concepts wf.rising j r p f)) ∙ e)
-      go j smaller (andAt p q) f e =
+      go : (j : ℕ) → ((p : ℕ) → p < j → stands_in k (tree t.concepts p) ≡ true → k < 8)
+          → (m : Node) → node t.concepts j ≡ m → stands_in k (tree t.concepts j) ≡ true → k < 8
+      go j smaller top_at f e = absurd (false≢true (ap (stands_in k) (sym (tree-top t.concepts wf.rising j f)) ∙ e))
+      go j smaller (name_at n) f e = absurd (false≢true (ap (stands_in k) (sym (tree-name t.concepts wf.rising j n f)) ∙ e))
+      go j smaller (exists_at r p) f e =
+          smaller p (inner-exists t.concepts wf.rising j r p f) (ap (stands_in k) (sym (tree-exists t.concepts wf.rising j r p f)) ∙ e)
+      go j smaller (and_at p q) f e =
           let (lp, lq) = inner-and t.concepts wf.rising j p q f in
-          ⊎_elim (smaller p lp) (smaller q lq) (or_cases _ _ (ap (standsIn k) (sym (tree-and t.concepts wf.rising j p q f)) ∙ e))
-      go j smaller (varAt v) f e =
-          let x : k ≡ v = eqb-true k v (ap (standsIn k) (sym (tree-var t.concepts wf.rising j v f)) ∙ e) in
+          ⊎_elim (smaller p lp) (smaller q lq) (or_cases _ _ (ap (stands_in k) (sym (tree-and t.concepts wf.rising j p q f)) ∙ e))
+      go j smaller (var_at v) f e =
+          let x : k ≡ v = eqb-true k v (ap (stands_in k) (sym (tree-var t.concepts wf.rising j v f)) ∙ e) in
           omega (arith, wf.numbered j v f, wf.few-variables)
 
   held_low : (n k : ℕ) → holds t n k ≡ true → k < 8
   unfolding holds
   held_low n k e = ⊎_elim (standing-low _ k) (standing-low _ k) (or_cases _ _ e)
 
-  module _ (sets : ℕ → ℕ) (right : (i : ℕ) → i < count_of t.concepts → sets i ≡ variablesOf (tree t.concepts i)) where
+  module _ (sets : ℕ → ℕ) (right : (i : ℕ) → i < count_of t.concepts → sets i ≡ variables_of (tree t.concepts i)) where
     abbrev set : ℕ → ℕ
     set = set_at sets t.questions
 
-    set-bits : (n k : ℕ) → n < pairsOf t.questions → bit (set n) k ≡ holds t n k
+    set-bits : (n k : ℕ) → n < pairs_of t.questions → bit (set n) k ≡ holds t n k
     unfolding set_at holds
     set-bits n k l =
-        bit-or _ _ k ∙ ap₂ or (side (left_of t.questions n) (wf.question-left n l)) (side (rightOf t.questions n) (wf.question-right n l))
+        bit-or _ _ k ∙ ap₂ or (side (left_of t.questions n) (wf.question-left n l)) (side (right_of t.questions n) (wf.question-right n l))
       where
-        side : (i : ℕ) → i < count_of t.concepts → bit (sets i) k ≡ standsIn k (tree t.concepts i)
+        side : (i : ℕ) → i < count_of t.concepts → bit (sets i) k ≡ stands_in k (tree t.concepts i)
         side i b = ap (λ (z : ℕ). bit z k) (right i b) ∙ set-exactly (tree t.concepts i) k
 
-    set-low : (n k : ℕ) → n < pairsOf t.questions → bit (set n) k ≡ true → k < 8
+    set-low : (n k : ℕ) → n < pairs_of t.questions → bit (set n) k ≡ true → k < 8
     set-low n k l e = held_low n k (sym (set-bits n k l) ∙ e)
 
     -- a question without variables has the empty set
-    ground-empty : (n : ℕ) → n < pairsOf t.questions → Ground t n → set n ≡ 0
+    ground-empty : (n : ℕ) → n < pairs_of t.questions → Ground t n → set n ≡ 0
     ground-empty n l g =
         ⊎_elim (λ e. e) (λ f. let (k, e) = some-bit (set n) f in absurd (false≢true (sym (g k) ∙ sym (set-bits n k l) ∙ e))) (eq-or-ne (set n) 0)
 
-    empty-ground : (n : ℕ) → n < pairsOf t.questions → set n ≡ 0 → Ground t n
+    empty-ground : (n : ℕ) → n < pairs_of t.questions → set n ≡ 0 → Ground t n
     empty-ground n l e k = sym (set-bits n k l) ∙ ap (λ (z : ℕ). bit z k) e ∙ no_bits k
 
-    group-self : (m : ℕ) → m < pairsOf t.questions → InGroup t m m
+    group-self : (m : ℕ) → m < pairs_of t.questions → InGroup t m m
     group-self m l =
         ⊎_elim (λ e. inr (empty-ground m l e, empty-ground m l e))
         (λ f. let (k, e) = some-bit (set m) f in let s = sym (set-bits m k l) ∙ e in inl (shared t m m (record { variable = k; first = s; second = s })))
         (eq-or-ne (set m) 0)
 
     -- ---- what a question reaches
-    module _ (m : ℕ) (lm : m < pairsOf t.questions) where
+    module _ (m : ℕ) (lm : m < pairs_of t.questions) where
       abbrev reached : ℕ
-      reached = reachedBy sets t.questions m
+      reached = reached_by sets t.questions m
 
       -- a question that shares a variable with one of the group is in it
-      held-joins : (n v : ℕ) → n < pairsOf t.questions → HeldIn t m v → bit (set n) v ≡ true → InGroup t m n
+      held-joins : (n v : ℕ) → n < pairs_of t.questions → HeldIn t m v → bit (set n) v ≡ true → InGroup t m n
       held-joins n v l x e =
           in-group-transitive t m x.question n x.known x.grouped
           (inl (shared t x.question n (record { variable = v; first = x.held; second = sym (set-bits n v l) ∙ e })))
 
       reached-sound : (k : ℕ) → bit reached k ≡ true → HeldIn t m k
       reached-sound =
-          sweeps-only set (pairsOf t.questions) (HeldIn t m)
+          sweeps-only set (pairs_of t.questions) (HeldIn t m)
           (λ n v k l x p q. record { question = n; known = l; grouped = held-joins n v l x p; held = sym (set-bits n k l) ∙ q }) 8 (set m)
           (λ k e. record { question = m; known = lm; grouped = group-self m lm; held = sym (set-bits m k lm) ∙ e })
 
-      reached-closed : Closed set (pairsOf t.questions) reached
-      reached-closed = closed-in-eight set (pairsOf t.questions) set-low (set m)
+      reached-closed : Closed set (pairs_of t.questions) reached
+      reached-closed = closed-in-eight set (pairs_of t.questions) set-low (set m)
 
       -- along a chain each question holds a reached variable
       reached-along : (n : ℕ) → Joined t m n → (v : ℕ) × (bit reached v ≡ true) × (holds t n v ≡ true)
-      reached-along n x = go m lm (sweeps-old set (pairsOf t.questions) 8 (set m)) x.others x.chain
+      reached-along n x = go m lm (sweeps-old set (pairs_of t.questions) 8 (set m)) x.others x.chain
         where
           go :
-              (p : ℕ) → p < pairsOf t.questions → ((k : ℕ) → bit (set p) k ≡ true → bit reached k ≡ true)
+              (p : ℕ) → p < pairs_of t.questions → ((k : ℕ) → bit (set p) k ≡ true → bit reached k ≡ true)
               → (xs : List ℕ) → Chain t p xs n → (v : ℕ) × (bit reached v ≡ true) × (holds t n v ≡ true)
           go p l all [] s = (s.variable, all _ (set-bits p _ l ∙ s.first), s.second)
           go p l all (q ∷ xs) c =
@@ -287,7 +287,7 @@ module _ (t : Tables) (h : tableFault t ≡ Done) where
               (λ k e. reached-closed q c.1.variable k c.0 (all _ (set-bits p _ l ∙ c.1.first)) (set-bits q _ c.0 ∙ c.1.second) e)
               xs c.2
 
-      reached-complete : (n k : ℕ) → n < pairsOf t.questions → InGroup t m n → holds t n k ≡ true → bit reached k ≡ true
+      reached-complete : (n k : ℕ) → n < pairs_of t.questions → InGroup t m n → holds t n k ≡ true → bit reached k ≡ true
       reached-complete n k l (inl x) e =
           let (v, p, q) = reached-along n x in
           reached-closed n v k l p (set-bits n v l ∙ q) (set-bits n k l ∙ e)
@@ -304,7 +304,7 @@ module _ (t : Tables) (h : tableFault t ≡ Done) where
           lone n k (inl x) e = not-ground t m n x g
           lone n k (inr f) e = false≢true (sym (f.1 k) ∙ e)
 
-      pub reached-exactly : (n : ℕ) → n < pairsOf t.questions → (belongs reached (set n) ≡ true) ↔ InGroup t m n
+      pub reached-exactly : (n : ℕ) → n < pairs_of t.questions → (belongs reached (set n) ≡ true) ↔ InGroup t m n
       unfolding belongs
       reached-exactly n l = (inside, belonging)
         where
@@ -317,7 +317,7 @@ module _ (t : Tables) (h : tableFault t ≡ Done) where
               none z =
                   empty-ground m lm
                   (⊎_elim (λ e. e)
-                  (λ f. let (k, e) = some-bit (set m) f in absurd (bit-of-zero k (ap (λ (y : ℕ). bit y k) (sym z) ∙ sweeps-old set (pairsOf t.questions) 8 (set m) k e)))
+                  (λ f. let (k, e) = some-bit (set m) f in absurd (bit-of-zero k (ap (λ (y : ℕ). bit y k) (sym z) ∙ sweeps-old set (pairs_of t.questions) 8 (set m) k e)))
                   (eq-or-ne (set m) 0))
 
           belonging : InGroup t m n → or (meets reached (set n)) (both (eqb reached 0) (eqb (set n) 0)) ≡ true
@@ -326,35 +326,35 @@ module _ (t : Tables) (h : tableFault t ≡ Done) where
 
   -- ---- decided by the variables of the concepts
   abbrev own : ℕ → ℕ
-  own i = variablesOf (tree t.concepts i)
+  own i = variables_of (tree t.concepts i)
 
-  pub in-group-self : (m : ℕ) → m < pairsOf t.questions → InGroup t m m
+  pub in-group-self : (m : ℕ) → m < pairs_of t.questions → InGroup t m m
   in-group-self = group-self own (λ i l. refl)
 
-  pub held-or-outside : (m k : ℕ) → m < pairsOf t.questions → HeldIn t m k ⊎ Outside t m k
-  held-or-outside m k l = go (bit (reachedBy own t.questions m) k) refl
+  pub held-or-outside : (m k : ℕ) → m < pairs_of t.questions → HeldIn t m k ⊎ Outside t m k
+  held-or-outside m k l = go (bit (reached_by own t.questions m) k) refl
     where
-      go : (b : Bool) → bit (reachedBy own t.questions m) k ≡ b → HeldIn t m k ⊎ Outside t m k
+      go : (b : Bool) → bit (reached_by own t.questions m) k ≡ b → HeldIn t m k ⊎ Outside t m k
       go true e = inl (reached-sound own (λ i l. refl) m l k e)
       go false e = inr (λ n ln g. without n ln g (holds t n k) refl)
         where
-          without : (n : ℕ) → n < pairsOf t.questions → InGroup t m n → (b : Bool) → holds t n k ≡ b → b ≡ false
+          without : (n : ℕ) → n < pairs_of t.questions → InGroup t m n → (b : Bool) → holds t n k ≡ b → b ≡ false
           without n ln g true x = sym (sym e ∙ reached-complete own (λ i l. refl) m l n k ln g x)
           without n ln g false x = refl
 
 -- ---- the functions' steps
 module _ (questions : List ℕ) (m : ℕ) (pair : Pair) (e : pair ≡ pair_of questions m) where
-  pub left-read : (size : ℕ) → Known size questions → m < pairsOf questions → pair.left < size
+  pub left-read : (size : ℕ) → Known size questions → m < pairs_of questions → pair.left < size
   left-read size known l = let q : pair.left ≡ left_of questions m = cc e in omega (arith, known.left-known m l)
 
-  pub right-read : (size : ℕ) → Known size questions → m < pairsOf questions → pair.right < size
-  right-read size known l = let q : pair.right ≡ rightOf questions m = cc e in omega (arith, known.right-known m l)
+  pub right-read : (size : ℕ) → Known size questions → m < pairs_of questions → pair.right < size
+  right-read size known l = let q : pair.right ≡ right_of questions m = cc e in omega (arith, known.right-known m l)
 
   pub set-read : (sets : List ℕ) → bit_or (get_or sets pair.left 0) (get_or sets pair.right 0) ≡ set_at (λ i. get_or sets i 0) questions m
   unfolding set_at
   set-read sets =
       let p : pair.left ≡ left_of questions m = cc e in
-      let q : pair.right ≡ rightOf questions m = cc e in
+      let q : pair.right ≡ right_of questions m = cc e in
       ap₂ (λ (i j : ℕ). bit_or (get_or sets i 0) (get_or sets j 0)) p q
 
 pub meeting-belongs : (r s : ℕ) → (bit_and r s ≡ 0 → ⊥) → true ≡ belongs r s
@@ -423,7 +423,7 @@ module _ (set : ℕ → ℕ) (reached : ℕ) where
             (bit_or_left group (2 ^ n) p)
 
 -- ---- the group, by the sets of all concepts
-module _ (t : Tables) (h : tableFault t ≡ Done) (sets : List ℕ) (v : VariableSets t.concepts sets) where
+module _ (t : Tables) (h : table_fault t ≡ Done) (sets : List ℕ) (v : VariableSets t.concepts sets) where
   pub sets-known : Known (length sets) t.questions
   sets-known =
       record {
@@ -432,8 +432,8 @@ module _ (t : Tables) (h : tableFault t ≡ Done) (sets : List ℕ) (v : Variabl
       }
 
   pub group-set :
-      (m reached group : ℕ) → m < pairsOf t.questions → reached ≡ reachedBy (λ i. get_or sets i 0) t.questions m
-      → ((n : ℕ) → n < pairsOf t.questions → bit group n ≡ belongs reached (set_at (λ i. get_or sets i 0) t.questions n)) → GroupSet t m group
+      (m reached group : ℕ) → m < pairs_of t.questions → reached ≡ reached_by (λ i. get_or sets i 0) t.questions m
+      → ((n : ℕ) → n < pairs_of t.questions → bit group n ≡ belongs reached (set_at (λ i. get_or sets i 0) t.questions n)) → GroupSet t m group
   group-set m reached group l e f n ln =
       let (sound, complete) = reached-exactly t h (λ i. get_or sets i 0) v.each m l n ln in
       let same = f n ln ∙ ap (λ (z : ℕ). belongs z (set_at (λ i. get_or sets i 0) t.questions n)) e in

@@ -10,7 +10,7 @@ use lib.Seq.{ext_get_or}
 use Rattle.subsumption.specs.declared.refusal.Outcome.TheVariants.{Done}
 use Rattle.subsumption.specs.Tables.{Tables}
 use Rattle.subsumption.specs.Atoms.{atoms, bit}
-use Rattle.subsumption.specs.Check.{assignmentFault}
+use Rattle.subsumption.specs.Check.{assignment_fault}
 use Rattle.subsumption.proofs.Bools.{last-cases, eq-or-ne, same_bool}
 use Rattle.matching.specs.Solving.{takes, Earlier}
 use Rattle.matching.proofs.SearchLaws.Choices.{same_bits}
@@ -43,7 +43,7 @@ same-or-apart true false = inr (inr (refl, refl))
 same-or-apart false true = inr (inl (refl, refl))
 same-or-apart false false = inl refl
 
-module _ (t : Tables) (a b : List ℕ) (h : assignmentFault t a ≡ Done) (g : assignmentFault t b ≡ Done) where
+module _ (t : Tables) (a b : List ℕ) (h : assignment_fault t a ≡ Done) (g : assignment_fault t b ≡ Done) where
   -- at the first variable where the numbers differ, at the first position where the bits differ
   at_place :
       (k q : ℕ) → ((i : ℕ) → i < k → get_or a i 0 ≡ get_or b i 0) → ((i : ℕ) → i < q → takes a k i ≡ takes b k i) → Apart (takes a k q) (takes b k q)

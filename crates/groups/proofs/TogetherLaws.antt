@@ -9,17 +9,17 @@ use lib.ListN.{length, get_or, take}
 use Rattle.subsumption.specs.declared.refusal.Refusal.TheVariants.{NoAssignment}
 use Rattle.subsumption.specs.declared.refusal.Outcome.{Outcome}
 use Rattle.subsumption.specs.declared.refusal.Outcome.TheVariants.{Done}
-use Rattle.subsumption.specs.Tables.{Tables, pairsOf}
+use Rattle.subsumption.specs.Tables.{Tables, pairs_of}
 use Rattle.subsumption.specs.Atoms.{bit}
-use Rattle.subsumption.specs.Refusal.{Reply, replyDone, replyRefused}
-use Rattle.subsumption.specs.Check.{tableFault, assignmentFault, bufferFault}
+use Rattle.subsumption.specs.Refusal.{Reply, reply_done, reply_refused}
+use Rattle.subsumption.specs.Check.{table_fault, assignment_fault, buffer_fault}
 use Rattle.subsumption.proofs.Bools.{le-or-lt, last-cases, same_bool}
 use Rattle.subsumption.proofs.Bits.{bit-of-zero, bit_or_left, bit_or_right, bit-or-cases}
 use Rattle.subsumption.proofs.Refusals.{goes_on, done-le}
 use Rattle.settings.specs.Settings.{Settings, Heeds, size}
 use Rattle.settings.proofs.SizeLaws.{size-le, size-zero}
 use Rattle.matching.specs.Solving.{takes, Solves, Earlier}
-use Rattle.matching.specs.Within.{withinFault, FirstWithin, FilledWithin, FindsWithinAfter}
+use Rattle.matching.specs.Within.{within_fault, FirstWithin, FilledWithin, FindsWithinAfter}
 use Rattle.matching.specs.Among.{FirstAmong, NoneAmong}
 use Rattle.matching.proofs.EarlierLaws.{never_both, one-first}
 use Rattle.matching.proofs.SearchLaws.Choices.{same_bits}
@@ -49,11 +49,11 @@ module _ (part : ℕ → List ℕ) (k q : ℕ) where
       ⊎_elim (λ f. let (n, l, x) = choice-taken count f in (n, omega arith, x)) (λ f. (count, omega arith, f)) (bit-or-cases _ _ q e)
 
   module _ (t : Tables) where
-    together-takes : (n : ℕ) → n < pairsOf t.questions → k < t.variables → takes (part n) k q ≡ true → takes (together t part) k q ≡ true
+    together-takes : (n : ℕ) → n < pairs_of t.questions → k < t.variables → takes (part n) k q ≡ true → takes (together t part) k q ≡ true
     unfolding together
     together-takes n l v e = subst (λ (z : ℕ). bit z q ≡ true) (sym (numbers-at _ t.variables k v)) (choice-takes n _ l e)
 
-    together-taken : takes (together t part) k q ≡ true → (n : ℕ) × (n < pairsOf t.questions) × (takes (part n) k q ≡ true)
+    together-taken : takes (together t part) k q ≡ true → (n : ℕ) × (n < pairs_of t.questions) × (takes (part n) k q ≡ true)
     unfolding together
     together-taken e =
         ⊎_elim (λ (l : t.variables ≤ k). absurd (bit-of-zero q (subst (λ (z : ℕ). bit z q ≡ true) (numbers-past _ t.variables k l) e)))
@@ -65,7 +65,7 @@ is_held (inl x) = true
 is_held (inr x) = false
 
 is-held :
-    (t : Tables) (m k : ℕ) (d : HeldIn t m k ⊎ Outside t m k) (n : ℕ) → n < pairsOf t.questions → InGroup t m n → holds t n k ≡ true → is_held d ≡ true
+    (t : Tables) (m k : ℕ) (d : HeldIn t m k ⊎ Outside t m k) (n : ℕ) → n < pairs_of t.questions → InGroup t m n → holds t n k ≡ true → is_held d ≡ true
 is-held t m k (inl x) n l u e = refl
 is-held t m k (inr x) n l u e = absurd (true≢false (sym e ∙ x n l u))
 
@@ -75,41 +75,41 @@ not-that false h = refl
 
 -- no assignment of a group, none of the whole
 pub none-of-group :
-    (t : Tables) (s : Settings) (m : ℕ) → NoneAmong (InGroup t m) t s → (other : List ℕ) → assignmentFault t other ≡ Done → Heeds s other
+    (t : Tables) (s : Settings) (m : ℕ) → NoneAmong (InGroup t m) t s → (other : List ℕ) → assignment_fault t other ≡ Done → Heeds s other
     → Solves t other → ⊥
 none-of-group t s m none other a h x = none other a h (λ n l u. x n l)
 
 -- ---- the answers
-not_done : (reply : Reply) {A : Type 0} → reply ≡ replyDone 0 → reply ≡ replyRefused NoAssignment → A
+not_done : (reply : Reply) {A : Type 0} → reply ≡ reply_done 0 → reply ≡ reply_refused NoAssignment → A
 not_done reply e f = absurd (omega (arith, ap (λ (z : Reply). z.number) e, ap (λ (z : Reply). z.number) f))
 
 module _ (t : Tables) (s : Settings) (before after : List ℕ) (reply : Reply) (befores afters : ℕ → List ℕ) (replies : ℕ → Reply)
     (x : Answers t s before after reply befores afters replies) where
-  passed : (size : ℕ) → t.variables ≤ size → withinFault t s size ≡ Done
-  unfolding withinFault bufferFault
+  passed : (size : ℕ) → t.variables ≤ size → within_fault t s size ≡ Done
+  unfolding within_fault buffer_fault
   passed size l = sym (goes_on Done _ _ Done (sym x.tables) refl (goes_on Done _ _ Done (sym x.settings) refl (done-le size t.variables _ l)))
 
   whole-answer : FindsWithinAfter Done t s before after reply
   whole-answer = subst (λ (o : Outcome). FindsWithinAfter o t s before after reply) (passed (length before) x.room) x.whole
 
-  group-answer : (m : ℕ) → m < pairsOf t.questions → FindsGroupAfter Done t s m (befores m) (afters m) (replies m)
+  group-answer : (m : ℕ) → m < pairs_of t.questions → FindsGroupAfter Done t s m (befores m) (afters m) (replies m)
   group-answer m l =
       subst (λ (o : Outcome). FindsGroupAfter o t s m (befores m) (afters m) (replies m))
       (sym (group-checks t s m (length (befores m)) x.tables l) ∙ passed (length (befores m)) (x.rooms m l)) (x.groups m l)
 
   -- a group's refusal 10 is one of the whole
-  refused-of-group : (m : ℕ) → m < pairsOf t.questions → replies m ≡ replyRefused NoAssignment → reply ≡ replyRefused NoAssignment
+  refused-of-group : (m : ℕ) → m < pairs_of t.questions → replies m ≡ reply_refused NoAssignment → reply ≡ reply_refused NoAssignment
   refused-of-group m l e =
-      ⊎_elim (λ (y : (replies m ≡ replyDone 0) × FilledGroup t s m (befores m) (afters m)). not_done (replies m) y.0 e)
+      ⊎_elim (λ (y : (replies m ≡ reply_done 0) × FilledGroup t s m (befores m) (afters m)). not_done (replies m) y.0 e)
       (λ y.
       ⊎_elim
-      (λ (z : (reply ≡ replyDone 0) × FilledWithin t s before after).
+      (λ (z : (reply ≡ reply_done 0) × FilledWithin t s before after).
       absurd (none-of-group t s m y.1.none _ z.1.first.accepted z.1.first.heeds z.1.first.solves))
       (λ z. z.0) whole-answer)
       (group-answer m l)
 
 -- ---- what follows from the laws of groups
-module _ (t : Tables) (ok : tableFault t ≡ Done) (s : Settings) where
+module _ (t : Tables) (ok : table_fault t ≡ Done) (s : Settings) where
   -- groups that hold one variable are one
   held-joins : (m n k : ℕ) → HeldIn t m k → HeldIn t n k → InGroup t m n
   held-joins m n k x y =
@@ -118,8 +118,8 @@ module _ (t : Tables) (ok : tableFault t ≡ Done) (s : Settings) where
       (inl (record { others = []; chain = record { variable = k; first = x.held; second = y.held } }))
       (in-group-symmetric t n y.question y.grouped))
 
-  module _ (part : ℕ → List ℕ) (firsts : (m : ℕ) → m < pairsOf t.questions → FirstAmong (InGroup t m) t s (part m)) where
-    part_same : (m n : ℕ) → m < pairsOf t.questions → n < pairsOf t.questions → InGroup t m n → part n ≡ part m
+  module _ (part : ℕ → List ℕ) (firsts : (m : ℕ) → m < pairs_of t.questions → FirstAmong (InGroup t m) t s (part m)) where
+    part_same : (m n : ℕ) → m < pairs_of t.questions → n < pairs_of t.questions → InGroup t m n → part n ≡ part m
     part_same m n l u x =
         let f : FirstAmong (InGroup t m) t s (part m) = firsts m l in
         let g : FirstAmong (InGroup t m) t s (part n) =
@@ -127,11 +127,11 @@ module _ (t : Tables) (ok : tableFault t ≡ Done) (s : Settings) where
         (λ o v. (λ y. in-group-transitive t m n o u x y, λ y. in-group-transitive t n m o l (in-group-symmetric t m n x) y)) (part n) (firsts n u) in
         one-first (part n) (part m) (g.first _ f.accepted f.heeds f.solves) (f.first _ g.accepted g.heeds g.solves)
 
-    empty-outside : (m k q : ℕ) (l : m < pairsOf t.questions) → Outside t m k → takes (part m) k q ≡ true → ⊥
+    empty-outside : (m k q : ℕ) (l : m < pairs_of t.questions) → Outside t m k → takes (part m) k q ≡ true → ⊥
     empty-outside m k q l o e = bit-of-zero q (subst (λ (z : ℕ). bit z q ≡ true) (first-outside-empty t s m (part m) (firsts m l) k o) e)
 
     -- the whole is as the group's part at the variables that the group holds
-    held-choice : (m k : ℕ) → m < pairsOf t.questions → HeldIn t m k → get_or (together t part) k 0 ≡ get_or (part m) k 0
+    held-choice : (m k : ℕ) → m < pairs_of t.questions → HeldIn t m k → get_or (together t part) k 0 ≡ get_or (part m) k 0
     held-choice m k l x = same_bits _ _ (λ q. same_bool _ _ (there q) (back q))
       where
         there : (q : ℕ) → takes (together t part) k q ≡ true → takes (part m) k q ≡ true
@@ -143,7 +143,7 @@ module _ (t : Tables) (ok : tableFault t ≡ Done) (s : Settings) where
         back : (q : ℕ) → takes (part m) k q ≡ true → takes (together t part) k q ≡ true
         back q e = together-takes part k q t m l (accepted-bits t (part m) (firsts m l).accepted k q e).0 e
 
-    whole-accepted : assignmentFault t (together t part) ≡ Done
+    whole-accepted : assignment_fault t (together t part) ≡ Done
     unfolding together
     whole-accepted =
         accept t _ (numbers-long _ t.variables)
@@ -154,7 +154,7 @@ module _ (t : Tables) (ok : tableFault t ≡ Done) (s : Settings) where
     whole-few : (k : ℕ) → size (get_or (together t part) k 0) ≤ get_or s.largest k 0
     whole-few k =
         ⊎_elim
-        (λ (none : (m : ℕ) → m < pairsOf t.questions → Outside t m k).
+        (λ (none : (m : ℕ) → m < pairs_of t.questions → Outside t m k).
         omega (
           arith,
           size-zero,
@@ -162,7 +162,7 @@ module _ (t : Tables) (ok : tableFault t ≡ Done) (s : Settings) where
               (λ q e. let (n, u, f) = together-taken part k q t e in absurd (empty-outside n k q u (none n u) f)),
         ))
         (λ p. omega (arith, ap size (held-choice p.place k p.below p.here), (firsts p.place p.below).heeds.few k))
-        (first-place _ _ (pairsOf t.questions) (λ m l. ⊎_elim (λ x. inr x) (λ x. inl x) (held-or-outside t ok m k l)))
+        (first-place _ _ (pairs_of t.questions) (λ m l. ⊎_elim (λ x. inr x) (λ x. inl x) (held-or-outside t ok m k l)))
 
     whole-heeds : Heeds s (together t part)
     whole-heeds =
@@ -177,8 +177,8 @@ module _ (t : Tables) (ok : tableFault t ≡ Done) (s : Settings) where
         ((firsts m l).solves m l (in-group-self t ok m l))
 
     -- another one that came before the whole would, restricted to a group, come before that group's part
-    module _ (other : List ℕ) (accepted : assignmentFault t other ≡ Done) (heeds : Heeds s other) (solves : Solves t other)
-        (x : Earlier other (together t part)) (m : ℕ) (l : m < pairsOf t.questions) where
+    module _ (other : List ℕ) (accepted : assignment_fault t other ≡ Done) (heeds : Heeds s other) (solves : Solves t other)
+        (x : Earlier other (together t part)) (m : ℕ) (l : m < pairs_of t.questions) where
       abbrev kept : ℕ → Bool
       kept k = is_held (held-or-outside t ok m k l)
 
@@ -233,12 +233,12 @@ module _ (t : Tables) (s : Settings) (before after : List ℕ) (reply : Reply) (
   parts m = take t.variables (afters m)
 
   every-filled :
-      ((m : ℕ) → m < pairsOf t.questions → FirstAmong (InGroup t m) t s (parts m))
-      → (reply ≡ replyDone 0) × (take t.variables after ≡ together t parts)
+      ((m : ℕ) → m < pairs_of t.questions → FirstAmong (InGroup t m) t s (parts m))
+      → (reply ≡ reply_done 0) × (take t.variables after ≡ together t parts)
   every-filled firsts =
       let f : FirstWithin t s (together t parts) = whole-first t x.tables s parts firsts in
       ⊎_elim
-      (λ (y : (reply ≡ replyDone 0) × FilledWithin t s before after). (
+      (λ (y : (reply ≡ reply_done 0) × FilledWithin t s before after). (
         y.0,
         one-first _ _ (y.1.first.first _ f.accepted f.heeds f.solves)
             (f.first _ y.1.first.accepted y.1.first.heeds y.1.first.solves),
@@ -247,34 +247,34 @@ module _ (t : Tables) (s : Settings) (before after : List ℕ) (reply : Reply) (
       (whole-answer t s before after reply befores afters replies x)
 
   group-cases :
-      (m : ℕ) → m < pairsOf t.questions → FirstAmong (InGroup t m) t s (parts m) ⊎ (replies m ≡ replyRefused NoAssignment)
+      (m : ℕ) → m < pairs_of t.questions → FirstAmong (InGroup t m) t s (parts m) ⊎ (replies m ≡ reply_refused NoAssignment)
   group-cases m l =
-      ⊎_elim (λ (y : (replies m ≡ replyDone 0) × FilledGroup t s m (befores m) (afters m)). inl y.1.filled.first) (λ y. inr y.0)
+      ⊎_elim (λ (y : (replies m ≡ reply_done 0) × FilledGroup t s m (befores m) (afters m)). inl y.1.filled.first) (λ y. inr y.0)
       (group-answer t s before after reply befores afters replies x m l)
 
 -- The groups' first assignments put together are the first one of the whole.
 pub together-first :
-    (t : Tables) → tableFault t ≡ Done → (s : Settings) (part : ℕ → List ℕ)
-    → ((m : ℕ) → m < pairsOf t.questions → FirstAmong (InGroup t m) t s (part m)) → FirstWithin t s (together t part)
+    (t : Tables) → table_fault t ≡ Done → (s : Settings) (part : ℕ → List ℕ)
+    → ((m : ℕ) → m < pairs_of t.questions → FirstAmong (InGroup t m) t s (part m)) → FirstWithin t s (together t part)
 together-first = whole-first
 
 -- The whole is refused with 10 exactly where a group is.
 pub none-exactly :
     (t : Tables) (s : Settings) (before after : List ℕ) (reply : Reply) (befores afters : ℕ → List ℕ) (replies : ℕ → Reply)
     → Answers t s before after reply befores afters replies
-    → (reply ≡ replyRefused NoAssignment) ↔ ((m : ℕ) × (m < pairsOf t.questions) × (replies m ≡ replyRefused NoAssignment))
+    → (reply ≡ reply_refused NoAssignment) ↔ ((m : ℕ) × (m < pairs_of t.questions) × (replies m ≡ reply_refused NoAssignment))
 none-exactly t s before after reply befores afters replies x = (
   λ e.
       ⊎_elim (λ firsts. not_done reply (every-filled t s before after reply befores afters replies x firsts).0 e) (λ p. (p.place, p.below, p.here))
-      (first-place _ _ (pairsOf t.questions) (group-cases t s before after reply befores afters replies x)),
+      (first-place _ _ (pairs_of t.questions) (group-cases t s before after reply befores afters replies x)),
   λ y. refused-of-group t s before after reply befores afters replies x y.0 y.1 y.2,
 )
 
 -- Where every group is filled, the whole is, by what they put together.
 pub filled-together :
     (t : Tables) (s : Settings) (before after : List ℕ) (reply : Reply) (befores afters : ℕ → List ℕ) (replies : ℕ → Reply)
-    → Answers t s before after reply befores afters replies → ((m : ℕ) → m < pairsOf t.questions → replies m ≡ replyDone 0)
-    → (reply ≡ replyDone 0) × (take t.variables after ≡ together t (λ m. take t.variables (afters m)))
+    → Answers t s before after reply befores afters replies → ((m : ℕ) → m < pairs_of t.questions → replies m ≡ reply_done 0)
+    → (reply ≡ reply_done 0) × (take t.variables after ≡ together t (λ m. take t.variables (afters m)))
 filled-together t s before after reply befores afters replies x h =
     every-filled t s before after reply befores afters replies x
     (λ m l. ⊎_elim (λ y. y) (λ e. not_done (replies m) (h m l) e) (group-cases t s before after reply befores afters replies x m l))

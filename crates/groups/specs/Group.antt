@@ -1,12 +1,12 @@
 -- Groups of questions (02, A.10): those that share a variable (01: a blank), directly or through others; those without variables
 -- are one more.
 use Rattle.std.specs.Prelude.{ℕ, ◌<◌, ◌≡◌, List, [], ◌∷◌, Bool, true, false, ◌⊎◌}
-use Rattle.subsumption.specs.Tables.{Tables, or, pairsOf, left_of, rightOf, tree}
-use Rattle.subsumption.specs.Variables.{standsIn}
+use Rattle.subsumption.specs.Tables.{Tables, or, pairs_of, left_of, right_of, tree}
+use Rattle.subsumption.specs.Variables.{stands_in}
 
 -- Variable k stands in question m, on either side.
 unfoldable pub holds : Tables → ℕ → ℕ → Bool
-holds t m k = or (standsIn k (tree t.concepts (left_of t.questions m))) (standsIn k (tree t.concepts (rightOf t.questions m)))
+holds t m k = or (stands_in k (tree t.concepts (left_of t.questions m))) (stands_in k (tree t.concepts (right_of t.questions m)))
 
 -- The two questions share a variable.
 pub record Share (t : Tables) (m n : ℕ) : Type 0 where
@@ -17,7 +17,7 @@ pub record Share (t : Tables) (m n : ℕ) : Type 0 where
 -- From question m over others to question n, each shares a variable with the next.
 abbrev pub Chain : Tables → ℕ → List ℕ → ℕ → Type 0
 Chain t m [] n = Share t m n
-Chain t m (o ∷ others) n = (o < pairsOf t.questions) × Share t m o × Chain t o others n
+Chain t m (o ∷ others) n = (o < pairs_of t.questions) × Share t m o × Chain t o others n
 
 -- They share a variable, directly or through others.
 pub record Joined (t : Tables) (m n : ℕ) : Type 0 where
@@ -34,4 +34,4 @@ InGroup t m n = Joined t m n ⊎ (Ground t m × Ground t n)
 
 -- No question of the group holds the variable.
 abbrev pub Outside : Tables → ℕ → ℕ → Type 0
-Outside t m k = (n : ℕ) → n < pairsOf t.questions → InGroup t m n → holds t n k ≡ false
+Outside t m k = (n : ℕ) → n < pairs_of t.questions → InGroup t m n → holds t n k ≡ false

@@ -2,10 +2,10 @@
 use Rattle.std.specs.Prelude.{ℕ, zero, suc, ◌<◌, ◌≤◌, ◌≡◌, List, [], ◌∷◌, length, get_or}
 use Rattle.std.specs.Int.Bits.{bit_or}
 use Rattle.subsumption.specs.declared.refusal.Outcome.TheVariants.{Done}
-use Rattle.subsumption.specs.Tables.{Tables, pairsOf}
+use Rattle.subsumption.specs.Tables.{Tables, pairs_of}
 use Rattle.subsumption.specs.Refusal.{Reply}
-use Rattle.subsumption.specs.Check.{tableFault}
-use Rattle.settings.specs.Settings.{Settings, settingsFault}
+use Rattle.subsumption.specs.Check.{table_fault}
+use Rattle.settings.specs.Settings.{Settings, settings_fault}
 use Rattle.matching.specs.Within.{FindsWithin}
 use Rattle.groups.specs.Find.{FindsGroup}
 
@@ -20,14 +20,14 @@ choice_of part k zero = 0
 choice_of part k (suc n) = bit_or (choice_of part k n) (get_or (part n) k 0)
 
 unfoldable pub together : Tables → (ℕ → List ℕ) → List ℕ
-together t part = numbers (λ k. choice_of part k (pairsOf t.questions)) t.variables
+together t part = numbers (λ k. choice_of part k (pairs_of t.questions)) t.variables
 
 -- The answers for the whole and for every question's group, where nothing is refused.
 pub record Answers (t : Tables) (s : Settings) (before after : List ℕ) (reply : Reply) (befores afters : ℕ → List ℕ)
     (replies : ℕ → Reply) : Type 0 where
-  pub tables : tableFault t ≡ Done
-  pub settings : settingsFault t s ≡ Done
+  pub tables : table_fault t ≡ Done
+  pub settings : settings_fault t s ≡ Done
   pub room : t.variables ≤ length before
-  pub rooms : (m : ℕ) → m < pairsOf t.questions → t.variables ≤ length (befores m)
+  pub rooms : (m : ℕ) → m < pairs_of t.questions → t.variables ≤ length (befores m)
   pub whole : FindsWithin t s before after reply
-  pub groups : (m : ℕ) → m < pairsOf t.questions → FindsGroup t s m (befores m) (afters m) (replies m)
+  pub groups : (m : ℕ) → m < pairs_of t.questions → FindsGroup t s m (befores m) (afters m) (replies m)

@@ -1,15 +1,15 @@
 // Finding the first assignment of one group within settings: the search is asked the group's questions only, with the atoms of all.
 ghost use Rattle.std.specs.Prelude.{◌≡◌, ◌<◌};
-ghost use Rattle.subsumption.specs.Lent.{lent, before, after};
+ghost use Rattle.subsumption.specs.Lent.{lent};
 ghost use Rattle.subsumption.specs.Inner.Lent.{given};
 ghost use Rattle.subsumption.specs.declared.refusal.Outcome.TheVariants.{Refused};
 ghost use Rattle.subsumption.specs.declared.refusal.Refusal.TheVariants.{NoConcept};
-ghost use Rattle.subsumption.specs.Tables.{pairsOf};
+ghost use Rattle.subsumption.specs.Tables.{pairs_of};
 ghost use Rattle.subsumption.specs.Refusal.{or_else};
-ghost use Rattle.subsumption.specs.Check.{conceptFault};
+ghost use Rattle.subsumption.specs.Check.{concept_fault};
 ghost use Rattle.subsumption.specs.Inner.Listing.{Accepted};
-ghost use Rattle.settings.specs.Settings.{lentSettings};
-ghost use Rattle.matching.specs.Find.{matchReply};
+ghost use Rattle.settings.specs.Settings.{lent_settings};
+ghost use Rattle.matching.specs.Find.{match_reply};
 ghost use Rattle.groups.specs.Find.{FindsGroup};
 
 use crate::group::group_of;
@@ -28,7 +28,7 @@ fn refuse_place(
     roles: &[u16],
     variables: u16,
 ) -> Refusal
-    ensures { Refused result ≡ or_else (conceptFault (lent concepts inclusions questions roles variables)) (Refused (NoConcept 0)) }
+    ensures { Refused result ≡ or_else (concept_fault (lent concepts inclusions questions roles variables)) (Refused (NoConcept 0)) }
 {
     let rows = check_concepts(concepts, inclusions, questions, roles, variables);
     if let Outcome::Refused(r) = rows {
@@ -51,9 +51,9 @@ fn find_placed(
     out: &mut [u64],
 ) -> Match
     requires accepted { Accepted (given concepts inclusions questions roles variables) ids.now }
-    requires m_bound { m < pairsOf questions.now }
-    ensures { FindsGroup (lent concepts inclusions questions roles variables) (lentSettings permitted largest) m
-        (before out) (after out) (matchReply result) }
+    requires m_bound { m < pairs_of questions.now }
+    ensures { FindsGroup (lent concepts inclusions questions roles variables) (lent_settings permitted largest) m
+        out.old out.new (match_reply result) }
 {
     let group = group_of(
         concepts, inclusions, questions, roles, variables, ids, m as usize,
@@ -76,8 +76,8 @@ pub fn find_group(
     m: u16,
     out: &mut [u64],
 ) -> Match
-    ensures { FindsGroup (lent concepts inclusions questions roles variables) (lentSettings permitted largest) m
-        (before out) (after out) (matchReply result) }
+    ensures { FindsGroup (lent concepts inclusions questions roles variables) (lent_settings permitted largest) m
+        out.old out.new (match_reply result) }
 {
     if (m as usize) >= questions.len() / 2 {
         return Match::Rejected(refuse_place(concepts, inclusions, questions, roles, variables));

@@ -1,13 +1,13 @@
 // The group of a question: the variables that it reaches through shared ones, and the questions that hold one of these. Sets of
 // variables are 8-bit numbers with bit k for variable k.
 ghost use Rattle.std.specs.Prelude.{◌≡◌, ℕ, ◌<◌, ◌≤◌, length, get_or};
-ghost use Rattle.subsumption.specs.Lent.{lent, before};
+ghost use Rattle.subsumption.specs.Lent.{lent};
 ghost use Rattle.subsumption.specs.Inner.Lent.{given};
-ghost use Rattle.subsumption.specs.Tables.{pairsOf};
+ghost use Rattle.subsumption.specs.Tables.{pairs_of};
 ghost use Rattle.subsumption.specs.Atoms.{bit};
 ghost use Rattle.subsumption.specs.Inner.Atoms.{Known};
 ghost use Rattle.subsumption.specs.Inner.Listing.{Accepted};
-ghost use Rattle.groups.specs.Inner.Group.{set_at, swept, reachedBy, belongs, GroupSet};
+ghost use Rattle.groups.specs.Inner.Group.{set_at, swept, reached_by, belongs, GroupSet};
 
 use subsumption::helpers::{pair_at, write_sets};
 use subsumption::limits::CONCEPTS;
@@ -18,8 +18,8 @@ const WALKS: usize = 8;
 // The variables of a question, those of both sides.
 fn set_of(sets: &[u8], questions: &[u16], m: usize) -> u8
     requires known { Known (length sets.now) questions.now }
-    requires m_bound { m < pairsOf questions.now }
-    ensures { result ≡ set_at (λ i. get_or (before sets) i 0) (before questions) m }
+    requires m_bound { m < pairs_of questions.now }
+    ensures { result ≡ set_at (λ i. get_or sets.now i 0) questions.now m }
 {
     let pair = pair_at(questions, m);
     sets[pair.left as usize] | sets[pair.right as usize]
@@ -28,7 +28,7 @@ fn set_of(sets: &[u8], questions: &[u16], m: usize) -> u8
 // One walk over the questions: one that holds a reached variable brings all that it holds.
 fn sweep(sets: &[u8], questions: &[u16], from: u8) -> u8
     requires { Known (length sets.now) questions.now }
-    ensures { result ≡ swept (set_at (λ i. get_or (before sets) i 0) (before questions)) (pairsOf (before questions)) from }
+    ensures { result ≡ swept (set_at (λ i. get_or sets.now i 0) questions.now) (pairs_of questions.now) from }
 {
     let count = questions.len() / 2;
     let mut reached = from;
@@ -46,8 +46,8 @@ fn sweep(sets: &[u8], questions: &[u16], from: u8) -> u8
 // The variables that the question reaches.
 fn reach(sets: &[u8], questions: &[u16], m: usize) -> u8
     requires known { Known (length sets.now) questions.now }
-    requires m_bound { m < pairsOf questions.now }
-    ensures { result ≡ reachedBy (λ i. get_or (before sets) i 0) (before questions) m }
+    requires m_bound { m < pairs_of questions.now }
+    ensures { result ≡ reached_by (λ i. get_or sets.now i 0) questions.now m }
 {
     let mut reached = set_of(sets, questions, m);
     let mut walk: usize = 0;
@@ -72,9 +72,9 @@ fn is_among(reached: u8, set: u8) -> bool
 // The questions that belong to those that reached so much, with bit n for question n.
 fn gather(sets: &[u8], questions: &[u16], reached: u8) -> u64
     requires known { Known (length sets.now) questions.now }
-    requires questions_bound { pairsOf questions.now ≤ 32 }
-    ensures { (n : ℕ) → n < pairsOf (before questions) → bit result n ≡ belongs reached (set_at (λ i. get_or (before sets) i 0)
-        (before questions) n) }
+    requires questions_bound { pairs_of questions.now ≤ 32 }
+    ensures { (n : ℕ) → n < pairs_of questions.now → bit result n ≡ belongs reached (set_at (λ i. get_or sets.now i 0)
+        questions.now n) }
 {
     let count = questions.len() / 2;
     let mut group: u64 = 0;
@@ -100,7 +100,7 @@ pub fn group_of(
     m: usize,
 ) -> u64
     requires accepted { Accepted (given concepts inclusions questions roles variables) ids.now }
-    requires m_bound { m < pairsOf questions.now }
+    requires m_bound { m < pairs_of questions.now }
     ensures { GroupSet (lent concepts inclusions questions roles variables) m result }
 {
     let mut sets = [0u8; CONCEPTS];

@@ -12,10 +12,10 @@ use lib.Seq.{take_at, drop_at, drop-drop}
 use borrow.Author.Tests.{ltb-false}
 use Rattle.subsumption.specs.declared.refusal.Refusal.{Refusal}
 use Rattle.subsumption.specs.declared.refusal.Refusal.TheVariants.{Limit, BadText}
-use Rattle.subsumption.specs.Tables.{Tables, tables, count_of, pairsOf}
+use Rattle.subsumption.specs.Tables.{Tables, tables, count_of, pairs_of}
 use Rattle.numerals.specs.Bytes.{starts}
-use Rattle.numerals.specs.Printing.{numberText, pairText}
-use Rattle.numerals.specs.Lines.{variablesKey, rolesKey, widerKey, conceptsKey, inclusionsKey, questionsKey, belowKey, showKey, linesText, rowOfNumbers, pairOfNumbers}
+use Rattle.numerals.specs.Printing.{number_text, pair_text}
+use Rattle.numerals.specs.Lines.{variables_key, roles_key, wider_key, concepts_key, inclusions_key, questions_key, below_key, show_key, lines_text, row_of_numbers, pair_of_numbers}
 use Rattle.hermitcasket.specs.declared.lines.Number.{Number}
 use Rattle.hermitcasket.specs.declared.lines.Number.TheVariants.{Value, NoNumber}
 use Rattle.hermitcasket.specs.declared.lines.PairLine.{PairLine}
@@ -24,10 +24,10 @@ use Rattle.hermitcasket.specs.declared.lines.RowLine.{RowLine}
 use Rattle.hermitcasket.specs.declared.lines.RowLine.TheVariants.{Row, NoRow}
 use Rattle.hermitcasket.specs.declared.text.Ask.{Ask}
 use Rattle.hermitcasket.specs.declared.text.Ask.TheVariants.{Fill, Show}
-use Rattle.hermitcasket.specs.Lines.{numberLine, pairLine, row_line}
-use Rattle.hermitcasket.specs.Text.{rolesText, askText, layout, Says, RowsFit, ConceptFits, PairFits, AskFits, Sayable, Line, numbers, off, rowNumbers, pairNumbers, row_at, pair_at, Part, part, faulty, prepend, lineThen, readLines, accepted, refused, pickJudged, Onward, countThen, countAt, partThen, sectionAt, rolesAt, showThen, judgeEnd, judgeQuestions, judgeInclusions, judgeConcepts, judgeRoles, judgeLines, judge}
+use Rattle.hermitcasket.specs.Lines.{number_line, pair_line, row_line}
+use Rattle.hermitcasket.specs.Text.{roles_text, ask_text, layout, Says, RowsFit, ConceptFits, PairFits, AskFits, Sayable, Line, numbers, off, row_numbers, pair_numbers, row_at, pair_at, Part, part, faulty, prepend, line_then, read_lines, accepted, refused, pick_judged, Onward, count_then, count_at, part_then, section_at, roles_at, show_then, judge_end, judge_questions, judge_inclusions, judge_concepts, judge_roles, judge_lines, judge}
 use Rattle.hermitcasket.proofs.LineLaws.{Holds, holds-join}
-use Rattle.hermitcasket.proofs.RightLines.{numberLine-holds, pairLine-holds, pairLine-small, rowLine-holds, rowLine-fits}
+use Rattle.hermitcasket.proofs.RightLines.{number_line-holds, pair_line-holds, pair_line-small, row_line-holds, row_line-fits}
 
 not-accepted : {A : Type 0} (r : Refusal) (t : Tables) (ask : Ask) → refused r ≡ accepted t ask → A
 not-accepted r t ask e = absurd (let z : ◌≡◌ {A = ℕ} 0 1 = cc e in omega arith)
@@ -43,7 +43,7 @@ module _
     pub used : ℕ
     pub place : p ≡ at + used
     pub remains : behind ≡ drop used rest
-    pub holds : Holds rest (linesText text width count xs) used
+    pub holds : Holds rest (lines_text text width count xs) used
     pub fits : RowsFit Fits width count xs
     pub size : length xs ≡ count * width
 
@@ -54,8 +54,8 @@ module _
   unpart front (part more at rest) xs p behind e = (more, cc, cc)
   unpart front (faulty at) xs p behind e = absurd (let z : ◌≡◌ {A = ℕ} 0 1 = cc in omega arith)
 
-  pub lines-read : (count at : ℕ) (rest xs : List ℕ) (p : ℕ) (behind : List ℕ) → readLines line count at rest ≡ part xs p behind → Read count at rest xs p behind
-  unfolding readLines linesText lineThen
+  pub lines-read : (count at : ℕ) (rest xs : List ℕ) (p : ℕ) (behind : List ℕ) → read_lines line count at rest ≡ part xs p behind → Read count at rest xs p behind
+  unfolding read_lines lines_text line_then
   lines-read zero at rest xs p behind e =
       let ex : [] ≡ xs = cc in
       let ep : at ≡ p = cc in
@@ -65,11 +65,11 @@ module _
     where
       go :
           (l : Line) → line rest ≡ l
-          → ((n : ℕ) (more : List ℕ) → readLines line count (at + n) (drop n rest) ≡ part more p behind → Read count (at + n) (drop n rest) more p behind)
+          → ((n : ℕ) (more : List ℕ) → read_lines line count (at + n) (drop n rest) ≡ part more p behind → Read count (at + n) (drop n rest) more p behind)
           → Read (suc count) at rest xs p behind
       go off f ih = absurd (let g : faulty at ≡ part xs p behind = rw f at e in let z : ◌≡◌ {A = ℕ} 0 1 = cc in omega arith)
       go (numbers front n) f ih =
-          let u = unpart front (readLines line count (at + n) (drop n rest)) xs p behind (rw f at e) in
+          let u = unpart front (read_lines line count (at + n) (drop n rest)) xs p behind (rw f at e) in
           let r = ih n u.0 u.1 in
           let s = shows rest front n f in
           let tk : take width xs ≡ front = ap (λ (z : List ℕ). take width z) u.2 ∙ take_at front u.0 width s.2 in
@@ -79,9 +79,9 @@ module _
             place = omega (arith, r.place);
             remains = r.remains ∙ drop-drop r.used n rest;
             holds =
-                subst (λ (z : List ℕ). Holds rest (text z ++ linesText text width count (drop width xs)) (n + r.used)) (sym tk)
-                (subst (λ (z : List ℕ). Holds rest (text front ++ linesText text width count z) (n + r.used)) (sym dp)
-                (holds-join rest (text front) (linesText text width count u.0) n r.used s.0 r.holds));
+                subst (λ (z : List ℕ). Holds rest (text z ++ lines_text text width count (drop width xs)) (n + r.used)) (sym tk)
+                (subst (λ (z : List ℕ). Holds rest (text front ++ lines_text text width count z) (n + r.used)) (sym dp)
+                (holds-join rest (text front) (lines_text text width count u.0) n r.used s.0 r.holds));
             fits = (
               ap length tk ∙ s.2,
               subst Fits (sym tk) s.1,
@@ -93,57 +93,57 @@ module _
           more-size : (count a b : ℕ) → a ≡ width → b ≡ count * width → a + b ≡ suc count * width
           more-size count a b h k = omega (arith, suc-mul count width)
 
-rows-show : (rest xs : List ℕ) (n : ℕ) → row_at rest ≡ numbers xs n → Holds rest (rowOfNumbers xs) n × ConceptFits xs × (length xs ≡ 3)
-unfolding rowNumbers
+rows-show : (rest xs : List ℕ) (n : ℕ) → row_at rest ≡ numbers xs n → Holds rest (row_of_numbers xs) n × ConceptFits xs × (length xs ≡ 3)
+unfolding row_numbers
 rows-show rest xs n e = go (row_line rest) refl
   where
-    go : (l : RowLine) → row_line rest ≡ l → Holds rest (rowOfNumbers xs) n × ConceptFits xs × (length xs ≡ 3)
+    go : (l : RowLine) → row_line rest ≡ l → Holds rest (row_of_numbers xs) n × ConceptFits xs × (length xs ≡ 3)
     go NoRow f = absurd (let g : off ≡ numbers xs n = rw f at e in let z : ◌≡◌ {A = ℕ} 0 1 = cc in omega arith)
     go (Row k a b m) f =
         let g : numbers (k ∷ a ∷ b ∷ []) m ≡ numbers xs n = rw f at e in
         let ex : k ∷ a ∷ b ∷ [] ≡ xs = cc in
         let en : m ≡ n = cc in
-        subst (λ (z : List ℕ). Holds rest (rowOfNumbers z) n × ConceptFits z × (length z ≡ 3)) ex
-        (subst (λ (z : ℕ). Holds rest (rowOfNumbers (k ∷ a ∷ b ∷ [])) z) en (rowLine-holds rest k a b m f), rowLine-fits rest k a b m f, refl)
+        subst (λ (z : List ℕ). Holds rest (row_of_numbers z) n × ConceptFits z × (length z ≡ 3)) ex
+        (subst (λ (z : ℕ). Holds rest (row_of_numbers (k ∷ a ∷ b ∷ [])) z) en (row_line-holds rest k a b m f), row_line-fits rest k a b m f, refl)
 
-pairs-show : (key rest xs : List ℕ) (n : ℕ) → pair_at key rest ≡ numbers xs n → Holds rest (pairOfNumbers key xs) n × PairFits xs × (length xs ≡ 2)
-unfolding pairNumbers
-pairs-show key rest xs n e = go (pairLine key rest) refl
+pairs-show : (key rest xs : List ℕ) (n : ℕ) → pair_at key rest ≡ numbers xs n → Holds rest (pair_of_numbers key xs) n × PairFits xs × (length xs ≡ 2)
+unfolding pair_numbers
+pairs-show key rest xs n e = go (pair_line key rest) refl
   where
-    go : (l : PairLine) → pairLine key rest ≡ l → Holds rest (pairOfNumbers key xs) n × PairFits xs × (length xs ≡ 2)
+    go : (l : PairLine) → pair_line key rest ≡ l → Holds rest (pair_of_numbers key xs) n × PairFits xs × (length xs ≡ 2)
     go NoPair f = absurd (let g : off ≡ numbers xs n = rw f at e in let z : ◌≡◌ {A = ℕ} 0 1 = cc in omega arith)
     go (Two a b m) f =
         let g : numbers (a ∷ b ∷ []) m ≡ numbers xs n = rw f at e in
         let ex : a ∷ b ∷ [] ≡ xs = cc in
         let en : m ≡ n = cc in
-        subst (λ (z : List ℕ). Holds rest (pairOfNumbers key z) n × PairFits z × (length z ≡ 2)) ex
-        (subst (λ (z : ℕ). Holds rest (pairOfNumbers key (a ∷ b ∷ [])) z) en (pairLine-holds key rest a b m f), pairLine-small key rest a b m f, refl)
+        subst (λ (z : List ℕ). Holds rest (pair_of_numbers key z) n × PairFits z × (length z ≡ 2)) ex
+        (subst (λ (z : ℕ). Holds rest (pair_of_numbers key (a ∷ b ∷ [])) z) en (pair_line-holds key rest a b m f), pair_line-small key rest a b m f, refl)
 
 -- ---- counts and sections
 module _ (key : List ℕ) (limit table at : ℕ) (rest : List ℕ) (t : Tables) (ask : Ask) where
   pub record Counted (go : ℕ → Onward) : Type 0 where
     pub count : ℕ
     pub used : ℕ
-    pub holds : Holds rest (numberText key count) used
+    pub holds : Holds rest (number_text key count) used
     pub few : count ≤ limit
     pub goes : go count (at + used) (drop used rest) ≡ accepted t ask
 
-  pub count-read : (go : ℕ → Onward) → countAt key limit table go at rest ≡ accepted t ask → Counted go
-  unfolding countThen pickJudged
-  count-read go e = pick (numberLine key rest) refl
+  pub count-read : (go : ℕ → Onward) → count_at key limit table go at rest ≡ accepted t ask → Counted go
+  unfolding count_then pick_judged
+  count-read go e = pick (number_line key rest) refl
     where
-      pick : (l : Number) → numberLine key rest ≡ l → Counted go
+      pick : (l : Number) → number_line key rest ≡ l → Counted go
       pick NoNumber f = not-accepted (BadText at) t ask (rw f at e)
       pick (Value count n) f = test (ltb limit count) refl
         where
           test : (b : Bool) → ltb limit count ≡ b → Counted go
           test true h = not-accepted (Limit table) t ask (rw (f, h) at e)
-          test false h = record { count = count; used = n; holds = numberLine-holds key rest count n f; few = ltb-false limit count h; goes = rw (f, h) at e }
+          test false h = record { count = count; used = n; holds = number_line-holds key rest count n f; few = ltb-false limit count h; goes = rw (f, h) at e }
 
 part-read :
-    (q : Part) (go : List ℕ → Onward) (t : Tables) (ask : Ask) → partThen q go ≡ accepted t ask
+    (q : Part) (go : List ℕ → Onward) (t : Tables) (ask : Ask) → part_then q go ≡ accepted t ask
     → (xs : List ℕ) × (p : ℕ) × (behind : List ℕ) × (q ≡ part xs p behind) × (go xs p behind ≡ accepted t ask)
-unfolding partThen
+unfolding part_then
 part-read (part xs p behind) go t ask e = (xs, p, behind, refl, e)
 part-read (faulty p) go t ask e = not-accepted (BadText p) t ask e
 
@@ -155,23 +155,23 @@ module _
     pub count : ℕ
     pub xs : List ℕ
     pub used : ℕ
-    pub holds : Holds rest (numberText key count ++ linesText write width count xs) used
+    pub holds : Holds rest (number_text key count ++ lines_text write width count xs) used
     pub few : count ≤ limit
     pub fits : RowsFit Fits width count xs
     pub size : length xs ≡ count * width
     pub goes : go xs (at + used) (drop used rest) ≡ accepted t ask
 
-  pub section-read : (go : List ℕ → Onward) → sectionAt key limit table line go at rest ≡ accepted t ask → Section go
-  unfolding sectionAt
+  pub section-read : (go : List ℕ → Onward) → section_at key limit table line go at rest ≡ accepted t ask → Section go
+  unfolding section_at
   section-read go e =
       let c = count-read key limit table at rest t ask _ e in
-      let q = part-read (readLines line c.count (at + c.used) (drop c.used rest)) go t ask c.goes in
+      let q = part-read (read_lines line c.count (at + c.used) (drop c.used rest)) go t ask c.goes in
       let r = lines-read line write Fits width shows c.count (at + c.used) (drop c.used rest) q.0 q.1 q.2 q.3 in
       record {
         count = c.count;
         xs = q.0;
         used = c.used + r.used;
-        holds = holds-join rest (numberText key c.count) (linesText write width c.count q.0) c.used r.used c.holds r.holds;
+        holds = holds-join rest (number_text key c.count) (lines_text write width c.count q.0) c.used r.used c.holds r.holds;
         few = c.few;
         fits = r.fits;
         size = r.size;
@@ -191,27 +191,27 @@ module _ (at : ℕ) (rest : List ℕ) (t : Tables) (ask : Ask) where
     pub xs : List ℕ
     pub used : ℕ
     pub absent : present ≡ false → xs ≡ []
-    pub holds : Holds rest (rolesText present xs) used
+    pub holds : Holds rest (roles_text present xs) used
     pub few : count ≤ 32
     pub fits : RowsFit PairFits 2 count xs
     pub size : length xs ≡ count * 2
     pub goes : go xs (at + used) (drop used rest) ≡ accepted t ask
 
-  pub roles-read : (go : List ℕ → Onward) → rolesAt go at rest ≡ accepted t ask → Roles go
-  unfolding rolesAt pickJudged rolesText
-  roles-read go e = pick (starts rolesKey rest) refl
+  pub roles-read : (go : List ℕ → Onward) → roles_at go at rest ≡ accepted t ask → Roles go
+  unfolding roles_at pick_judged roles_text
+  roles-read go e = pick (starts roles_key rest) refl
     where
-      pick : (b : Bool) → starts rolesKey rest ≡ b → Roles go
+      pick : (b : Bool) → starts roles_key rest ≡ b → Roles go
       pick true h =
-          let s = section-read (pair_at widerKey) (pairOfNumbers widerKey) PairFits 2 (pairs-show widerKey) rolesKey 32 4 at rest t ask go (rw h at e) in
-          let q : s.count ≡ pairsOf s.xs = omega (arith, s.size) in
+          let s = section-read (pair_at wider_key) (pair_of_numbers wider_key) PairFits 2 (pairs-show wider_key) roles_key 32 4 at rest t ask go (rw h at e) in
+          let q : s.count ≡ pairs_of s.xs = omega (arith, s.size) in
           record {
             present = true;
             absent = λ f. absurd (let z : ◌≡◌ {A = ℕ} 0 1 = cc in omega arith);
             count = s.count;
             xs = s.xs;
             used = s.used;
-            holds = subst (λ (z : ℕ). Holds rest (numberText rolesKey z ++ linesText (pairOfNumbers widerKey) 2 z s.xs) s.used) q s.holds;
+            holds = subst (λ (z : ℕ). Holds rest (number_text roles_key z ++ lines_text (pair_of_numbers wider_key) 2 z s.xs) s.used) q s.holds;
             few = s.few;
             fits = s.fits;
             size = s.size;
@@ -252,17 +252,17 @@ all_held text a r b c d e f g h u0 u1 u2 u3 u4 h0 h1 h2 h3 h4 q =
 
 module _
     (v : ℕ) (C I Q R : List ℕ) (c i q r : ℕ) (sizeC : length C ≡ c * 3) (sizeI : length I ≡ i * 2) (sizeQ : length Q ≡ q * 2) (sizeR : length R ≡ r * 2) (ask : Ask) where
-  counts : (count_of C ≡ c) × (pairsOf I ≡ i) × (pairsOf Q ≡ q) × (pairsOf R ≡ r)
+  counts : (count_of C ≡ c) × (pairs_of I ≡ i) × (pairs_of Q ≡ q) × (pairs_of R ≡ r)
   counts = (omega arith, omega arith, omega arith, omega arith)
 
   laid_out :
       (present : Bool)
       → layout present (tables C I Q R v) ask
-      ≡ numberText variablesKey v
-      ++ (rolesText present R
-      ++ (numberText conceptsKey c ++ (linesText rowOfNumbers 3 c C
-      ++ (numberText inclusionsKey i ++ (linesText (pairOfNumbers belowKey) 2 i I
-      ++ (numberText questionsKey q ++ (linesText (pairOfNumbers belowKey) 2 q Q ++ askText ask)))))))
+      ≡ number_text variables_key v
+      ++ (roles_text present R
+      ++ (number_text concepts_key c ++ (lines_text row_of_numbers 3 c C
+      ++ (number_text inclusions_key i ++ (lines_text (pair_of_numbers below_key) 2 i I
+      ++ (number_text questions_key q ++ (lines_text (pair_of_numbers below_key) 2 q Q ++ ask_text ask)))))))
   unfolding layout
   laid_out present = rw (counts.0, counts.1, counts.2) refl
 
@@ -288,29 +288,29 @@ module _
   says text false absent e = inr (e, absent refl)
 
   whole :
-      (text : List ℕ) (present : Bool) (u0 u1 u2 u3 u4 : ℕ) → Holds text (numberText variablesKey v) u0 → Holds (drop u0 text) (rolesText present R) u1
-      → Holds (drop u1 (drop u0 text)) (numberText conceptsKey c ++ linesText rowOfNumbers 3 c C) u2
-      → Holds (drop u2 (drop u1 (drop u0 text))) (numberText inclusionsKey i ++ linesText (pairOfNumbers belowKey) 2 i I) u3
-      → Holds (drop u3 (drop u2 (drop u1 (drop u0 text)))) (numberText questionsKey q ++ linesText (pairOfNumbers belowKey) 2 q Q) u4
-      → drop u4 (drop u3 (drop u2 (drop u1 (drop u0 text)))) ≡ askText ask → text ≡ layout present (tables C I Q R v) ask
+      (text : List ℕ) (present : Bool) (u0 u1 u2 u3 u4 : ℕ) → Holds text (number_text variables_key v) u0 → Holds (drop u0 text) (roles_text present R) u1
+      → Holds (drop u1 (drop u0 text)) (number_text concepts_key c ++ lines_text row_of_numbers 3 c C) u2
+      → Holds (drop u2 (drop u1 (drop u0 text))) (number_text inclusions_key i ++ lines_text (pair_of_numbers below_key) 2 i I) u3
+      → Holds (drop u3 (drop u2 (drop u1 (drop u0 text)))) (number_text questions_key q ++ lines_text (pair_of_numbers below_key) 2 q Q) u4
+      → drop u4 (drop u3 (drop u2 (drop u1 (drop u0 text)))) ≡ ask_text ask → text ≡ layout present (tables C I Q R v) ask
   whole text present u0 u1 u2 u3 u4 h0 h1 h2 h3 h4 e =
-      all_held text (numberText variablesKey v) (rolesText present R) (numberText conceptsKey c) (linesText rowOfNumbers 3 c C) (numberText inclusionsKey i)
-      (linesText (pairOfNumbers belowKey) 2 i I) (numberText questionsKey q) (linesText (pairOfNumbers belowKey) 2 q Q) (askText ask) u0 u1 u2 u3 u4 h0 h1 h2 h3 h4 e
+      all_held text (number_text variables_key v) (roles_text present R) (number_text concepts_key c) (lines_text row_of_numbers 3 c C) (number_text inclusions_key i)
+      (lines_text (pair_of_numbers below_key) 2 i I) (number_text questions_key q) (lines_text (pair_of_numbers below_key) 2 q Q) (ask_text ask) u0 u1 u2 u3 u4 h0 h1 h2 h3 h4 e
       ∙ sym (laid_out present)
 
 -- ---- the end
 module _ (s t : Tables) (ask : Ask) (at : ℕ) where
   pub record Ended (rest : List ℕ) : Type 0 where
-    pub line : rest ≡ askText ask
+    pub line : rest ≡ ask_text ask
     pub fits : AskFits ask
     pub same : s ≡ t
 
-  pub end_read : (rest : List ℕ) → judgeEnd s at rest ≡ accepted t ask → Ended rest
-  unfolding judgeEnd askText showThen pickJudged
-  end_read [] e = let f : Fill ≡ ask = cc in record { line = ap askText f; fits = subst AskFits f tt; same = cc }
-  end_read (byte ∷ rest) e = go (pairLine showKey (byte ∷ rest)) refl
+  pub end_read : (rest : List ℕ) → judge_end s at rest ≡ accepted t ask → Ended rest
+  unfolding judge_end ask_text show_then pick_judged
+  end_read [] e = let f : Fill ≡ ask = cc in record { line = ap ask_text f; fits = subst AskFits f tt; same = cc }
+  end_read (byte ∷ rest) e = go (pair_line show_key (byte ∷ rest)) refl
     where
-      go : (l : PairLine) → pairLine showKey (byte ∷ rest) ≡ l → Ended (byte ∷ rest)
+      go : (l : PairLine) → pair_line show_key (byte ∷ rest) ≡ l → Ended (byte ∷ rest)
       go NoPair f = not-accepted (BadText at) t ask (rw f at e)
       go (Two left right n) f = test (ltb n (length (byte ∷ rest))) refl
         where
@@ -319,25 +319,25 @@ module _ (s t : Tables) (ask : Ask) (at : ℕ) where
           test false h =
               let g : accepted s (Show left right) ≡ accepted t ask = rw (f, h) at e in
               let a : Show left right ≡ ask = cc in
-              let w = pairLine-holds showKey (byte ∷ rest) left right n f in
+              let w = pair_line-holds show_key (byte ∷ rest) left right n f in
               record {
-                line = on (byte ∷ rest) _ [] n w (drop_of_length-le (byte ∷ rest) (ltb-false n _ h)) ∙ append-nil (pairText showKey left right) ∙ ap askText a;
-                fits = subst AskFits a (pairLine-small showKey (byte ∷ rest) left right n f);
+                line = on (byte ∷ rest) _ [] n w (drop_of_length-le (byte ∷ rest) (ltb-false n _ h)) ∙ append-nil (pair_text show_key left right) ∙ ap ask_text a;
+                fits = subst AskFits a (pair_line-small show_key (byte ∷ rest) left right n f);
                 same = cc;
               }
 
-lines-accepted : (text : List ℕ) (t : Tables) (ask : Ask) → judgeLines 0 text ≡ accepted t ask → Says text t ask × Sayable t ask
-unfolding judgeLines judgeRoles judgeConcepts judgeInclusions judgeQuestions
+lines-accepted : (text : List ℕ) (t : Tables) (ask : Ask) → judge_lines 0 text ≡ accepted t ask → Says text t ask × Sayable t ask
+unfolding judge_lines judge_roles judge_concepts judge_inclusions judge_questions
 lines-accepted text t ask e =
-    let a = count-read variablesKey 8 3 0 text t ask _ e in
+    let a = count-read variables_key 8 3 0 text t ask _ e in
     let t1 = drop a.used text in
     let s1 = roles-read (0 + a.used) t1 t ask _ a.goes in
     let t2 = drop s1.used t1 in
-    let s2 = section-read row_at rowOfNumbers ConceptFits 3 rows-show conceptsKey 192 0 (0 + a.used + s1.used) t2 t ask _ s1.goes in
+    let s2 = section-read row_at row_of_numbers ConceptFits 3 rows-show concepts_key 192 0 (0 + a.used + s1.used) t2 t ask _ s1.goes in
     let t3 = drop s2.used t2 in
-    let s3 = section-read (pair_at belowKey) (pairOfNumbers belowKey) PairFits 2 (pairs-show belowKey) inclusionsKey 96 1 (0 + a.used + s1.used + s2.used) t3 t ask _ s2.goes in
+    let s3 = section-read (pair_at below_key) (pair_of_numbers below_key) PairFits 2 (pairs-show below_key) inclusions_key 96 1 (0 + a.used + s1.used + s2.used) t3 t ask _ s2.goes in
     let t4 = drop s3.used t3 in
-    let s4 = section-read (pair_at belowKey) (pairOfNumbers belowKey) PairFits 2 (pairs-show belowKey) questionsKey 32 2 (0 + a.used + s1.used + s2.used + s3.used) t4 t ask _ s3.goes in
+    let s4 = section-read (pair_at below_key) (pair_of_numbers below_key) PairFits 2 (pairs-show below_key) questions_key 32 2 (0 + a.used + s1.used + s2.used + s3.used) t4 t ask _ s3.goes in
     let z = end_read (tables s2.xs s3.xs s4.xs s1.xs a.count) t ask (0 + a.used + s1.used + s2.used + s3.used + s4.used) (drop s4.used t4) s4.goes in
     subst (λ (y : Tables). Says text y ask × Sayable y ask) z.same (
       says a.count s2.xs s3.xs s4.xs s1.xs s2.count s3.count s4.count s1.count s2.size s3.size s4.size s1.size ask text s1.present s1.absent
@@ -348,7 +348,7 @@ lines-accepted text t ask e =
     )
 
 pub accepted-layout : (text : List ℕ) (t : Tables) (ask : Ask) → judge text ≡ accepted t ask → Says text t ask × Sayable t ask
-unfolding judge pickJudged
+unfolding judge pick_judged
 accepted-layout text t ask e = go (ltb 8192 (length text)) refl
   where
     go : (b : Bool) → ltb 8192 (length text) ≡ b → Says text t ask × Sayable t ask

@@ -16,7 +16,7 @@ use Rattle.numerals.proofs.DigitLaws.{run_ran}
 use Rattle.hermitcasket.specs.declared.lines.Number.{Number}
 use Rattle.hermitcasket.specs.declared.lines.Number.TheVariants.{Value, NoNumber}
 use Rattle.hermitcasket.specs.declared.lines.PairLine.TheVariants.{Two, NoPair}
-use Rattle.hermitcasket.specs.Lines.{pickNumber, numberFrom, behind, numberLine, second_of, first_of, pairIf, pairLine}
+use Rattle.hermitcasket.specs.Lines.{pick_number, number_from, behind, number_line, second_of, first_of, pair_if, pair_line}
 use Rattle.hermitcasket.proofs.NumberLaws.{number-found}
 
 -- ---- the remaining text begins with so many bytes
@@ -43,7 +43,7 @@ pub rest-whole : (s : List ℕ) (k : ℕ) → take (length s - k) (drop k s) ≡
 rest-whole s k = take_all (length s - k) (drop k s) (rw length-drop (omega arith))
 
 -- ---- a number
-pub number-holds : (stop w k : ℕ) (rest : List ℕ) → stop < 48 → numberFrom stop 0 0 rest ≡ Value w k → Holds rest (digits w ++ (stop ∷ [])) k
+pub number-holds : (stop w k : ℕ) (rest : List ℕ) → stop < 48 → number_from stop 0 0 rest ≡ Value w k → Holds rest (digits w ++ (stop ∷ [])) k
 number-holds stop w k rest low e =
     let f = number-found stop low rest w k e in
     let r = run_of rest in
@@ -56,7 +56,7 @@ number-holds stop w k rest low e =
       size = rw length-append (omega (arith, f.size, (run_ran rest).size f.some, ap (λ (z : ℕ). length (digits z)) f.value));
     }
 
-pub number_small : (stop w k : ℕ) (rest : List ℕ) → stop < 48 → numberFrom stop 0 0 rest ≡ Value w k → w ≤ 65535
+pub number_small : (stop w k : ℕ) (rest : List ℕ) → stop < 48 → number_from stop 0 0 rest ≡ Value w k → w ≤ 65535
 number_small stop w k rest low e = omega (arith, (run_ran rest).small, (number-found stop low rest w k e).value)
 
 -- ---- what the code of a line of one number shows
@@ -67,60 +67,60 @@ module _ (key rest : List ℕ) (begins : Bool) (same : begins ≡ starts key res
   pub key-within : not begins ≡ false → length key ≤ length rest
   key-within h = holds-within rest key (length key) (starts-holds key rest (begun h))
 
-  pub number-unkeyed : not begins ≡ true → NoNumber ≡ numberLine key rest
-  unfolding numberLine pickNumber
+  pub number-unkeyed : not begins ≡ true → NoNumber ≡ number_line key rest
+  unfolding number_line pick_number
   number-unkeyed h = rw (sym same ∙ not-true begins h)
 
-  pub pair-unkeyed : not begins ≡ true → NoPair ≡ pairLine key rest
-  unfolding pairLine pairIf
+  pub pair-unkeyed : not begins ≡ true → NoPair ≡ pair_line key rest
+  unfolding pair_line pair_if
   pair-unkeyed h = rw (sym same ∙ not-true begins h)
 
   module _ (keyed : not begins ≡ false) (digits : List ℕ) (part : digits ≡ drop (length key) rest) (found : Number) where
-    here : (stop : ℕ) → found ≡ numberFrom stop 0 0 digits → found ≡ numberFrom stop 0 0 (drop (length key) rest)
-    here stop e = e ∙ ap (numberFrom stop 0 0) part
+    here : (stop : ℕ) → found ≡ number_from stop 0 0 digits → found ≡ number_from stop 0 0 (drop (length key) rest)
+    here stop e = e ∙ ap (number_from stop 0 0) part
 
-    pub value_line : (v n : ℕ) → found ≡ numberFrom 10 0 0 digits → found ≡ Value v n → Value v (length key + n) ≡ numberLine key rest
-    unfolding numberLine pickNumber behind
+    pub value_line : (v n : ℕ) → found ≡ number_from 10 0 0 digits → found ≡ Value v n → Value v (length key + n) ≡ number_line key rest
+    unfolding number_line pick_number behind
     value_line v n e h = rw (begun keyed, sym (here 10 e) ∙ h)
 
-    digits-within : (stop v n : ℕ) → stop < 48 → found ≡ numberFrom stop 0 0 digits → found ≡ Value v n → n ≤ length digits
+    digits-within : (stop v n : ℕ) → stop < 48 → found ≡ number_from stop 0 0 digits → found ≡ Value v n → n ≤ length digits
     digits-within stop v n low e h = holds-within digits _ n (number-holds stop v n digits low (sym e ∙ h))
 
-    keyed-within : (stop v n : ℕ) → stop < 48 → found ≡ numberFrom stop 0 0 digits → found ≡ Value v n → length key + n ≤ length rest
+    keyed-within : (stop v n : ℕ) → stop < 48 → found ≡ number_from stop 0 0 digits → found ≡ Value v n → length key + n ≤ length rest
     keyed-within stop v n low e h = omega (arith, digits-within stop v n low e h, ap length part, length-drop (length key) rest, key-within keyed)
 
-    pub value-within : (v n : ℕ) → found ≡ numberFrom 10 0 0 digits → found ≡ Value v n → length key + n ≤ length rest
+    pub value-within : (v n : ℕ) → found ≡ number_from 10 0 0 digits → found ≡ Value v n → length key + n ≤ length rest
     value-within v n e h = keyed-within 10 v n (omega arith) e h
 
-    pub none-line : found ≡ numberFrom 10 0 0 digits → found ≡ NoNumber → NoNumber ≡ numberLine key rest
-    unfolding numberLine pickNumber behind
+    pub none-line : found ≡ number_from 10 0 0 digits → found ≡ NoNumber → NoNumber ≡ number_line key rest
+    unfolding number_line pick_number behind
     none-line e h = rw (begun keyed, sym (here 10 e) ∙ h)
 
     -- ---- of two numbers
-    pub first-none : found ≡ numberFrom 44 0 0 digits → found ≡ NoNumber → NoPair ≡ pairLine key rest
-    unfolding pairLine pairIf first_of
+    pub first-none : found ≡ number_from 44 0 0 digits → found ≡ NoNumber → NoPair ≡ pair_line key rest
+    unfolding pair_line pair_if first_of
     first-none e h = rw (begun keyed, sym (here 44 e) ∙ h)
 
-    module _ (a n : ℕ) (e : found ≡ numberFrom 44 0 0 digits) (h : found ≡ Value a n) where
+    module _ (a n : ℕ) (e : found ≡ number_from 44 0 0 digits) (h : found ≡ Value a n) where
       pub first-within : n ≤ length digits
       first-within = digits-within 44 a n (omega arith) e h
 
       pub first_short : length key + n ≤ length rest
       first_short = keyed-within 44 a n (omega arith) e h
 
-      module _ (more : List ℕ) (onward : more ≡ drop n digits) (second : Number) (f : second ≡ numberFrom 10 0 0 more) where
+      module _ (more : List ℕ) (onward : more ≡ drop n digits) (second : Number) (f : second ≡ number_from 10 0 0 more) where
         there : more ≡ drop (length key + n) rest
         there = onward ∙ ap (drop n) part ∙ drop-drop n (length key) rest
 
-        pub second_none : second ≡ NoNumber → NoPair ≡ pairLine key rest
-        unfolding pairLine pairIf first_of second_of
-        second_none k = rw (begun keyed, sym (here 44 e) ∙ h, sym (f ∙ ap (numberFrom 10 0 0) there) ∙ k)
+        pub second_none : second ≡ NoNumber → NoPair ≡ pair_line key rest
+        unfolding pair_line pair_if first_of second_of
+        second_none k = rw (begun keyed, sym (here 44 e) ∙ h, sym (f ∙ ap (number_from 10 0 0) there) ∙ k)
 
         module _ (b l : ℕ) (k : second ≡ Value b l) where
           pub second-within : length key + n + l ≤ length rest
           second-within =
               omega (arith, holds-within more _ l (number-holds 10 b l more (omega arith) (sym f ∙ k)), ap length there, length-drop (length key + n) rest, first_short)
 
-          pub two-line : Two a b (length key + n + l) ≡ pairLine key rest
-          unfolding pairLine pairIf first_of second_of
-          two-line = rw (begun keyed, sym (here 44 e) ∙ h, sym (f ∙ ap (numberFrom 10 0 0) there) ∙ k)
+          pub two-line : Two a b (length key + n + l) ≡ pair_line key rest
+          unfolding pair_line pair_if first_of second_of
+          two-line = rw (begun keyed, sym (here 44 e) ∙ h, sym (f ∙ ap (number_from 10 0 0) there) ∙ k)

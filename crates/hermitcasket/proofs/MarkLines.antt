@@ -7,110 +7,110 @@ use native.Mathlib.Omega.{arith}
 use native.Mathlib.Numerals.{add-one}
 use lib.ListN.{length}
 use Rattle.subsumption.specs.Atoms.{keep}
-use Rattle.subsumption.specs.Inner.Atoms.{markAt, markedIds}
-use Rattle.countermodel.specs.Countermodel.{nameRows, linkRows}
+use Rattle.subsumption.specs.Inner.Atoms.{mark_at, marked_ids}
+use Rattle.countermodel.specs.Countermodel.{name_rows, link_rows}
 use Rattle.numerals.specs.Digits.{digits}
-use Rattle.numerals.specs.Printing.{pairText}
+use Rattle.numerals.specs.Printing.{pair_text}
 use Rattle.numerals.specs.Inner.Printing.{Wrote}
-use Rattle.numerals.specs.Lines.{linesText}
+use Rattle.numerals.specs.Lines.{lines_text}
 use Rattle.numerals.proofs.WriteLaws.{room-1, room-2, room-3, wrote-three}
 use Rattle.numerals.proofs.PieceLaws.{Printed, printed-skip, piece-room, printed-more, printed-done}
-use Rattle.hermitcasket.specs.Printing.{is_key, linkKey, linkText, line_of, rowsText}
-use Rattle.hermitcasket.specs.Inner.Print.{markLine, markLines}
+use Rattle.hermitcasket.specs.Printing.{is_key, link_key, link_text, line_of, rows_text}
+use Rattle.hermitcasket.specs.Inner.Print.{mark_line, mark_lines}
 
 -- ---- the line of a link
-module _ (before : List ℕ) (at i s q : ℕ) (room : at + length (linkText i s q) ≤ length before) where
-  pub link-room-1 : at + length linkKey ≤ length before
-  unfolding linkText
-  link-room-1 = room-1 before at linkKey (digits i) (pairText (44 ∷ []) s q) room
+module _ (before : List ℕ) (at i s q : ℕ) (room : at + length (link_text i s q) ≤ length before) where
+  pub link-room-1 : at + length link_key ≤ length before
+  unfolding link_text
+  link-room-1 = room-1 before at link_key (digits i) (pair_text (44 ∷ []) s q) room
 
-  module _ (x : ℕ) (one : List ℕ) (wrote-1 : Wrote before at linkKey x one) where
+  module _ (x : ℕ) (one : List ℕ) (wrote-1 : Wrote before at link_key x one) where
     pub link-room-2 : x + length (digits i) ≤ length one
-    unfolding linkText
-    link-room-2 = room-2 before at linkKey (digits i) (pairText (44 ∷ []) s q) room x one wrote-1
+    unfolding link_text
+    link-room-2 = room-2 before at link_key (digits i) (pair_text (44 ∷ []) s q) room x one wrote-1
 
     module _ (y : ℕ) (two : List ℕ) (wrote-2 : Wrote one x (digits i) y two) where
-      pub link-room-3 : y + length (pairText (44 ∷ []) s q) ≤ length two
-      unfolding linkText
-      link-room-3 = room-3 before at linkKey (digits i) (pairText (44 ∷ []) s q) room x one wrote-1 y two wrote-2
+      pub link-room-3 : y + length (pair_text (44 ∷ []) s q) ≤ length two
+      unfolding link_text
+      link-room-3 = room-3 before at link_key (digits i) (pair_text (44 ∷ []) s q) room x one wrote-1 y two wrote-2
 
-      pub wrote-link : (end : ℕ) (after : List ℕ) → Wrote two y (pairText (44 ∷ []) s q) end after → Wrote before at (linkText i s q) end after
-      unfolding linkText
-      wrote-link end after wrote-3 = wrote-three before at linkKey (digits i) (pairText (44 ∷ []) s q) room x one wrote-1 y two wrote-2 end after wrote-3
+      pub wrote-link : (end : ℕ) (after : List ℕ) → Wrote two y (pair_text (44 ∷ []) s q) end after → Wrote before at (link_text i s q) end after
+      unfolding link_text
+      wrote-link end after wrote-3 = wrote-three before at link_key (digits i) (pair_text (44 ∷ []) s q) room x one wrote-1 y two wrote-2 end after wrote-3
 
 -- ---- the line of a mark
-module _ (before : List ℕ) (at i s q : ℕ) (link : Bool) (room : at + length (markLine link i s q) ≤ length before) where
-  pub mark-link-room : link ≡ true → at + length (linkText i s q) ≤ length before
-  unfolding markLine
-  mark-link-room h = omega (arith, ap (λ (z : Bool). length (markLine z i s q)) h)
+module _ (before : List ℕ) (at i s q : ℕ) (link : Bool) (room : at + length (mark_line link i s q) ≤ length before) where
+  pub mark-link-room : link ≡ true → at + length (link_text i s q) ≤ length before
+  unfolding mark_line
+  mark-link-room h = omega (arith, ap (λ (z : Bool). length (mark_line z i s q)) h)
 
-  pub wrote-mark-link : link ≡ true → (end : ℕ) (after : List ℕ) → Wrote before at (linkText i s q) end after → Wrote before at (markLine link i s q) end after
-  unfolding markLine
+  pub wrote-mark-link : link ≡ true → (end : ℕ) (after : List ℕ) → Wrote before at (link_text i s q) end after → Wrote before at (mark_line link i s q) end after
+  unfolding mark_line
   wrote-mark-link h end after w = rw h w
 
-  pub mark-name-room : link ≡ false → at + length (pairText is_key i q) ≤ length before
-  unfolding markLine
-  mark-name-room h = omega (arith, ap (λ (z : Bool). length (markLine z i s q)) h)
+  pub mark-name-room : link ≡ false → at + length (pair_text is_key i q) ≤ length before
+  unfolding mark_line
+  mark-name-room h = omega (arith, ap (λ (z : Bool). length (mark_line z i s q)) h)
 
-  pub wrote-mark-name : link ≡ false → (end : ℕ) (after : List ℕ) → Wrote before at (pairText is_key i q) end after → Wrote before at (markLine link i s q) end after
-  unfolding markLine
+  pub wrote-mark-name : link ≡ false → (end : ℕ) (after : List ℕ) → Wrote before at (pair_text is_key i q) end after → Wrote before at (mark_line link i s q) end after
+  unfolding mark_line
   wrote-mark-name h end after w = rw h w
 
 -- ---- a line for each mark
-abbrev pub marksLeft : Bool → ℕ → ℕ → List Bool → ℕ → ℕ → List ℕ
-marksLeft link i s marks count q = markLines link i s (keep (markAt marks) q (count - q))
+abbrev pub marks_left : Bool → ℕ → ℕ → List Bool → ℕ → ℕ → List ℕ
+marks_left link i s marks count q = mark_lines link i s (keep (mark_at marks) q (count - q))
 
 module _ (link : Bool) (i s : ℕ) (marks : List Bool) (count : ℕ) where
   module _ (q : ℕ) (h : q < count) where
     split : count - q ≡ suc (count - (q + 1))
     split = omega arith
 
-    set_next : markAt marks q ≡ true → marksLeft link i s marks count q ≡ markLine link i s q ++ marksLeft link i s marks count (q + 1)
-    unfolding keep markLines
+    set_next : mark_at marks q ≡ true → marks_left link i s marks count q ≡ mark_line link i s q ++ marks_left link i s marks count (q + 1)
+    unfolding keep mark_lines
     set_next e = rw (split, e, add-one) refl
 
-    unset-next : markAt marks q ≡ false → marksLeft link i s marks count q ≡ marksLeft link i s marks count (q + 1)
+    unset-next : mark_at marks q ≡ false → marks_left link i s marks count q ≡ marks_left link i s marks count (q + 1)
     unfolding keep
     unset-next e = rw (split, e, add-one) refl
 
-  all_left : marksLeft link i s marks count 0 ≡ markLines link i s (markedIds marks count)
+  all_left : marks_left link i s marks count 0 ≡ mark_lines link i s (marked_ids marks count)
   all_left = let z : count - 0 ≡ count = omega arith in rw z refl
 
-  module _ (before out : List ℕ) (end q : ℕ) (p : Printed (marksLeft link i s marks count) before 0 out end q) where
-    module _ (h : q < count) (room : 0 + length (markLines link i s (markedIds marks count)) ≤ length before) where
-      all_room : 0 + length (marksLeft link i s marks count 0) ≤ length before
+  module _ (before out : List ℕ) (end q : ℕ) (p : Printed (marks_left link i s marks count) before 0 out end q) where
+    module _ (h : q < count) (room : 0 + length (mark_lines link i s (marked_ids marks count)) ≤ length before) where
+      all_room : 0 + length (marks_left link i s marks count 0) ≤ length before
       all_room = rw all_left room
 
-      pub marks-room : markAt marks q ≡ true → end + length (markLine link i s q) ≤ length out
-      marks-room e = piece-room (marksLeft link i s marks count) before 0 out end q p all_room (markLine link i s q) (set_next q h e)
+      pub marks-room : mark_at marks q ≡ true → end + length (mark_line link i s q) ≤ length out
+      marks-room e = piece-room (marks_left link i s marks count) before 0 out end q p all_room (mark_line link i s q) (set_next q h e)
 
       pub marks-set :
-          markAt marks q ≡ true → (end' : ℕ) (out' : List ℕ) → Wrote out end (markLine link i s q) end' out'
-          → Printed (marksLeft link i s marks count) before 0 out' end' (q + 1)
-      marks-set e = printed-more (marksLeft link i s marks count) before 0 out end q p all_room (markLine link i s q) (set_next q h e)
+          mark_at marks q ≡ true → (end' : ℕ) (out' : List ℕ) → Wrote out end (mark_line link i s q) end' out'
+          → Printed (marks_left link i s marks count) before 0 out' end' (q + 1)
+      marks-set e = printed-more (marks_left link i s marks count) before 0 out end q p all_room (mark_line link i s q) (set_next q h e)
 
-    pub marks-unset : q < count → markAt marks q ≡ false → Printed (marksLeft link i s marks count) before 0 out end (q + 1)
-    marks-unset h e = printed-skip (marksLeft link i s marks count) before 0 out end q p (unset-next q h e)
+    pub marks-unset : q < count → mark_at marks q ≡ false → Printed (marks_left link i s marks count) before 0 out end (q + 1)
+    marks-unset h e = printed-skip (marks_left link i s marks count) before 0 out end q p (unset-next q h e)
 
-    pub marks-done : count ≤ q → Wrote before 0 (markLines link i s (markedIds marks count)) end out
-    unfolding keep markLines
+    pub marks-done : count ≤ q → Wrote before 0 (mark_lines link i s (marked_ids marks count)) end out
+    unfolding keep mark_lines
     marks-done h =
         let z : count - q ≡ 0 = omega arith in
-        subst (λ (y : List ℕ). Wrote before 0 y end out) all_left (printed-done (marksLeft link i s marks count) before 0 out end q p (rw z refl))
+        subst (λ (y : List ℕ). Wrote before 0 y end out) all_left (printed-done (marks_left link i s marks count) before 0 out end q p (rw z refl))
 
 -- ---- these are the lines of the rows
-pub rows-one : (k x y z : ℕ) (rows : List ℕ) → rowsText (k ∷ x ∷ y ∷ z ∷ rows) ≡ line_of k x y z ++ rowsText rows
-unfolding rowsText linesText
+pub rows-one : (k x y z : ℕ) (rows : List ℕ) → rows_text (k ∷ x ∷ y ∷ z ∷ rows) ≡ line_of k x y z ++ rows_text rows
+unfolding rows_text lines_text
 rows-one k x y z rows =
     let e : length (k ∷ x ∷ y ∷ z ∷ rows) / 4 ≡ suc (length rows / 4) = omega arith in
     rw e refl
 
-pub name-lines : (i s : ℕ) (names : List ℕ) → markLines false i s names ≡ rowsText (nameRows i names)
-unfolding markLines markLine nameRows line_of rowsText linesText
+pub name-lines : (i s : ℕ) (names : List ℕ) → mark_lines false i s names ≡ rows_text (name_rows i names)
+unfolding mark_lines mark_line name_rows line_of rows_text lines_text
 name-lines i s [] = refl
-name-lines i s (q ∷ names) = ap (λ (z : List ℕ). pairText is_key i q ++ z) (name-lines i s names) ∙ sym (rows-one 0 i q 0 (nameRows i names))
+name-lines i s (q ∷ names) = ap (λ (z : List ℕ). pair_text is_key i q ++ z) (name-lines i s names) ∙ sym (rows-one 0 i q 0 (name_rows i names))
 
-pub link-lines : (i s : ℕ) (links : List ℕ) → markLines true i s links ≡ rowsText (linkRows i s links)
-unfolding markLines markLine linkRows line_of rowsText linesText
+pub link-lines : (i s : ℕ) (links : List ℕ) → mark_lines true i s links ≡ rows_text (link_rows i s links)
+unfolding mark_lines mark_line link_rows line_of rows_text lines_text
 link-lines i s [] = refl
-link-lines i s (q ∷ links) = ap (λ (z : List ℕ). linkText i s q ++ z) (link-lines i s links) ∙ sym (rows-one 1 i s q (linkRows i s links))
+link-lines i s (q ∷ links) = ap (λ (z : List ℕ). link_text i s q ++ z) (link-lines i s links) ∙ sym (rows-one 1 i s q (link_rows i s links))

@@ -11,61 +11,61 @@ use lib.Seq.{drop_at, drop-append_seam, drop-cons}
 use borrow.Author.Tests.{eq-eqb, ne_eqb, eqb-true, eqb-false}
 use Rattle.numerals.specs.declared.reading.Run.{Run}
 use Rattle.numerals.specs.Digits.{digits}
-use Rattle.numerals.specs.Reading.{wrongDigit, run_from, run_of}
+use Rattle.numerals.specs.Reading.{wrong_digit, run_from, run_of}
 use Rattle.numerals.proofs.ReadingLaws.{wrong-low, digit-right, run-wrong, run-right}
 use Rattle.numerals.proofs.DigitLaws.{digits-some, run-over-digits}
 use Rattle.hermitcasket.specs.declared.lines.Number.{Number}
 use Rattle.hermitcasket.specs.declared.lines.Number.TheVariants.{Value, NoNumber}
-use Rattle.hermitcasket.specs.Lines.{pickNumber, numberFrom}
+use Rattle.hermitcasket.specs.Lines.{pick_number, number_from}
 
 module _ (stop : ℕ) where
   -- what a number is whose digits end here
   pub ended : ℕ → ℕ → List ℕ → Number
   ended value count [] = NoNumber
-  ended value count (b ∷ rest) = pickNumber (eqb b stop) (pickNumber (eqb count 0) NoNumber (Value value (suc count))) NoNumber
+  ended value count (b ∷ rest) = pick_number (eqb b stop) (pick_number (eqb count 0) NoNumber (Value value (suc count))) NoNumber
 
-  abbrev pub endedBy : Run → List ℕ → Number
-  endedBy r text = ended r.value r.length (drop r.length text)
+  abbrev pub ended_by : Run → List ℕ → Number
+  ended_by r text = ended r.value r.length (drop r.length text)
 
-  at-wrong : (v n b : ℕ) (rest : List ℕ) → wrongDigit v n b ≡ true → numberFrom stop v n (b ∷ rest) ≡ ended v n (b ∷ rest)
-  unfolding numberFrom pickNumber ended
+  at-wrong : (v n b : ℕ) (rest : List ℕ) → wrong_digit v n b ≡ true → number_from stop v n (b ∷ rest) ≡ ended v n (b ∷ rest)
+  unfolding number_from pick_number ended
   at-wrong v n b rest e = rw e refl
 
-  at-digit : (v n b : ℕ) (rest : List ℕ) → (b ≡ stop → ⊥) → wrongDigit v n b ≡ false → numberFrom stop v n (b ∷ rest) ≡ numberFrom stop (v * 10 + (b - 48)) (suc n) rest
-  unfolding numberFrom pickNumber
+  at-digit : (v n b : ℕ) (rest : List ℕ) → (b ≡ stop → ⊥) → wrong_digit v n b ≡ false → number_from stop v n (b ∷ rest) ≡ number_from stop (v * 10 + (b - 48)) (suc n) rest
+  unfolding number_from pick_number
   at-digit v n b rest d e = rw (ne_eqb b stop d, e) refl
 
   module _ (low : stop < 48) where
-    runs : (rest front : List ℕ) (v n : ℕ) → length front ≡ n → numberFrom stop v n rest ≡ endedBy (run_from v n rest) (front ++ rest)
-    unfolding numberFrom run_from ended
+    runs : (rest front : List ℕ) (v n : ℕ) → length front ≡ n → number_from stop v n rest ≡ ended_by (run_from v n rest) (front ++ rest)
+    unfolding number_from run_from ended
     runs [] front v n l = sym (ap (ended v n) (drop_at front [] n l))
-    runs (b ∷ rest) front v n l = go (wrongDigit v n b) refl (runs rest (front ++ (b ∷ [])) (v * 10 + (b - 48)) (suc n) (rw length-append (omega arith)))
+    runs (b ∷ rest) front v n l = go (wrong_digit v n b) refl (runs rest (front ++ (b ∷ [])) (v * 10 + (b - 48)) (suc n) (rw length-append (omega arith)))
       where
         go :
-            (x : Bool) → wrongDigit v n b ≡ x
-            → numberFrom stop (v * 10 + (b - 48)) (suc n) rest ≡ endedBy (run_from (v * 10 + (b - 48)) (suc n) rest) ((front ++ (b ∷ [])) ++ rest)
-            → numberFrom stop v n (b ∷ rest) ≡ endedBy (run_from v n (b ∷ rest)) (front ++ (b ∷ rest))
+            (x : Bool) → wrong_digit v n b ≡ x
+            → number_from stop (v * 10 + (b - 48)) (suc n) rest ≡ ended_by (run_from (v * 10 + (b - 48)) (suc n) rest) ((front ++ (b ∷ [])) ++ rest)
+            → number_from stop v n (b ∷ rest) ≡ ended_by (run_from v n (b ∷ rest)) (front ++ (b ∷ rest))
         go true e ih =
             at-wrong v n b rest e
-            ∙ sym (ap (λ (r : Run). endedBy r (front ++ (b ∷ rest))) (run-wrong v n b rest e) ∙ ap (ended v n) (drop_at front (b ∷ rest) n l))
+            ∙ sym (ap (λ (r : Run). ended_by r (front ++ (b ∷ rest))) (run-wrong v n b rest e) ∙ ap (ended v n) (drop_at front (b ∷ rest) n l))
         go false e ih =
             at-digit v n b rest (λ z. omega (arith, (digit-right v n b e).low)) e ∙ ih
-            ∙ ap (endedBy (run_from (v * 10 + (b - 48)) (suc n) rest)) (append_assoc front (b ∷ []) rest)
-            ∙ sym (ap (λ (r : Run). endedBy r (front ++ (b ∷ rest))) (run-right v n b rest e))
+            ∙ ap (ended_by (run_from (v * 10 + (b - 48)) (suc n) rest)) (append_assoc front (b ∷ []) rest)
+            ∙ sym (ap (λ (r : Run). ended_by r (front ++ (b ∷ rest))) (run-right v n b rest e))
 
-    pub number-by-run : (rest : List ℕ) → numberFrom stop 0 0 rest ≡ endedBy (run_of rest) rest
+    pub number-by-run : (rest : List ℕ) → number_from stop 0 0 rest ≡ ended_by (run_of rest) rest
     number-by-run rest = runs rest [] 0 0 refl
 
     -- ---- what the code shows
     module _ (rest : List ℕ) (run : Run) (ran : run ≡ run_of rest) where
-      here : numberFrom stop 0 0 rest ≡ endedBy run rest
-      here = number-by-run rest ∙ ap (λ (r : Run). endedBy r rest) (sym ran)
+      here : number_from stop 0 0 rest ≡ ended_by run rest
+      here = number-by-run rest ∙ ap (λ (r : Run). ended_by r rest) (sym ran)
 
-      pub number-empty : run.length ≡ 0 → NoNumber ≡ numberFrom stop 0 0 rest
-      unfolding pickNumber ended
+      pub number-empty : run.length ≡ 0 → NoNumber ≡ number_from stop 0 0 rest
+      unfolding pick_number ended
       number-empty h = sym (here ∙ go (drop run.length rest))
         where
-          either : (x : Bool) → pickNumber x NoNumber NoNumber ≡ NoNumber
+          either : (x : Bool) → pick_number x NoNumber NoNumber ≡ NoNumber
           either true = refl
           either false = refl
 
@@ -73,17 +73,17 @@ module _ (stop : ℕ) where
           go [] = refl
           go (b ∷ more) = rw (eq-eqb run.length 0 h) (either (eqb b stop))
 
-      pub number-unended : length rest ≤ run.length → NoNumber ≡ numberFrom stop 0 0 rest
+      pub number-unended : length rest ≤ run.length → NoNumber ≡ number_from stop 0 0 rest
       unfolding ended
       number-unended h = sym (here ∙ rw (drop_of_length-le rest h) refl)
 
       module _ (h : run.length < length rest) where
-        pub number-other : (get_or rest run.length 0 ≡ stop → ⊥) → NoNumber ≡ numberFrom stop 0 0 rest
-        unfolding pickNumber ended
+        pub number-other : (get_or rest run.length 0 ≡ stop → ⊥) → NoNumber ≡ number_from stop 0 0 rest
+        unfolding pick_number ended
         number-other d = sym (here ∙ rw (drop-cons rest run.length 0 h, ne_eqb _ _ d) refl)
 
-        pub number-ended : (run.length ≡ 0 → ⊥) → get_or rest run.length 0 ≡ stop → Value run.value (run.length + 1) ≡ numberFrom stop 0 0 rest
-        unfolding pickNumber ended
+        pub number-ended : (run.length ≡ 0 → ⊥) → get_or rest run.length 0 ≡ stop → Value run.value (run.length + 1) ≡ number_from stop 0 0 rest
+        unfolding pick_number ended
         number-ended z e = sym (here ∙ rw (drop-cons rest run.length 0 h, eq-eqb _ _ e, ne_eqb _ _ z, add-one) refl)
 
     -- ---- a number that is read
@@ -95,8 +95,8 @@ module _ (stop : ℕ) where
       pub value : r.value ≡ w
       pub size : suc r.length ≡ k
 
-    pub number-found : (rest : List ℕ) (w k : ℕ) → numberFrom stop 0 0 rest ≡ Value w k → Ended rest (run_of rest) w k
-    unfolding pickNumber ended
+    pub number-found : (rest : List ℕ) (w k : ℕ) → number_from stop 0 0 rest ≡ Value w k → Ended rest (run_of rest) w k
+    unfolding pick_number ended
     number-found rest w k e = go (drop (run_of rest).length rest) refl (sym (number-by-run rest) ∙ e)
       where
         none : NoNumber ≡ Value w k → Ended rest (run_of rest) w k
@@ -114,17 +114,17 @@ module _ (stop : ℕ) where
           where
             pick :
                 (x : Bool) → eqb b stop ≡ x → (y : Bool) → eqb (run_of rest).length 0 ≡ y
-                → pickNumber (eqb b stop) (pickNumber (eqb (run_of rest).length 0) NoNumber (Value (run_of rest).value (suc (run_of rest).length))) NoNumber ≡ Value w k
+                → pick_number (eqb b stop) (pick_number (eqb (run_of rest).length 0) NoNumber (Value (run_of rest).value (suc (run_of rest).length))) NoNumber ≡ Value w k
                 → Ended rest (run_of rest) w k
             pick false q y l g = none (rw q at g)
             pick true q true l g = none (rw (q, l) at g)
             pick true q false l g = right b more p (eqb-true b stop q) (run_of rest).length refl (rw (q, l) at g) (omega (arith, eqb-false (run_of rest).length 0 l))
 
     -- ---- a number that is written
-    pub number-right : (v : ℕ) (more : List ℕ) → v ≤ 65535 → numberFrom stop 0 0 (digits v ++ (stop ∷ more)) ≡ Value v (length (digits v) + 1)
-    unfolding pickNumber ended
+    pub number-right : (v : ℕ) (more : List ℕ) → v ≤ 65535 → number_from stop 0 0 (digits v ++ (stop ∷ more)) ≡ Value v (length (digits v) + 1)
+    unfolding pick_number ended
     number-right v more small =
         number-by-run (digits v ++ (stop ∷ more))
-        ∙ ap (λ (r : Run). endedBy r (digits v ++ (stop ∷ more)))
+        ∙ ap (λ (r : Run). ended_by r (digits v ++ (stop ∷ more)))
         (run-over-digits v (stop ∷ more) small ∙ run-wrong v (length (digits v)) stop more (sym (wrong-low v (length (digits v)) stop low)))
         ∙ rw (drop-append_seam (digits v) (stop ∷ more), eq-eqb stop stop refl, ne_eqb (length (digits v)) 0 (λ e. omega (arith, digits-some v)), add-one) refl

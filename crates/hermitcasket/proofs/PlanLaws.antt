@@ -10,11 +10,11 @@ use Rattle.subsumption.specs.declared.refusal.Outcome.{Outcome}
 use Rattle.subsumption.specs.declared.refusal.Outcome.TheVariants.{Done, Refused}
 use Rattle.subsumption.specs.Tables.{Tables, tables, count_of}
 use Rattle.subsumption.specs.Refusal.{code_of}
-use Rattle.subsumption.specs.Check.{tableFault}
-use Rattle.subsumption.specs.Decide.{decidingFault}
+use Rattle.subsumption.specs.Check.{table_fault}
+use Rattle.subsumption.specs.Decide.{deciding_fault}
 use Rattle.subsumption.specs.Table.{marked}
 use Rattle.subsumption.specs.Inner.Roles.{in_set, LowRoles, RoleSets}
-use Rattle.subsumption.proofs.Accepted.{wellFormed, roles-low}
+use Rattle.subsumption.proofs.Accepted.{well_formed, roles-low}
 use Rattle.subsumption.proofs.Refusals.{passed_first}
 use Rattle.subsumption.proofs.Deciding.{asked-tables}
 use Rattle.countermodel.specs.Inner.Show.{Judged as PairJudged}
@@ -28,9 +28,9 @@ use Rattle.hermitcasket.specs.declared.text.Read.TheVariants.{Problem, Rejected}
 use Rattle.hermitcasket.specs.declared.answer.Plan.{Plan}
 use Rattle.hermitcasket.specs.declared.answer.Plan.TheVariants.{Whole, Parts}
 use Rattle.hermitcasket.specs.Text.{Judged, accepted, judge}
-use Rattle.hermitcasket.specs.Printing.{codeText, shownText, parts_of}
-use Rattle.hermitcasket.specs.Answer.{AnsweredTables, unassigned, shownFault, shownOr, AnsweredPair, AnsweredJudged, Held, InParts, Planned}
-use Rattle.hermitcasket.specs.Inner.Text.{judgedBy, ReadFits}
+use Rattle.hermitcasket.specs.Printing.{code_text, shown_text, parts_of}
+use Rattle.hermitcasket.specs.Answer.{AnsweredTables, unassigned, shown_fault, shown_or, AnsweredPair, AnsweredJudged, Held, InParts, Planned}
+use Rattle.hermitcasket.specs.Inner.Text.{judged_by, ReadFits}
 
 -- ---- an asked pair
 zeros : (v n : ℕ) → v ≤ n → take {A = ℕ} v (replicate n 0) ≡ replicate v 0
@@ -44,39 +44,39 @@ module _
   none-chosen : PairJudged t (unassigned t) left right table outcome
   none-chosen = subst (λ (z : List ℕ). PairJudged t z left right table outcome) (zeros t.variables 8 few) judged
 
-  asked : outcome ≡ shownFault t left right (marked table)
-  unfolding shownFault
+  asked : outcome ≡ shown_fault t left right (marked table)
+  unfolding shown_fault
   asked = none-chosen.judged
 
-  refused-pair : (r : Refusal) → outcome ≡ Refused r → AnsweredPair t left right (codeText (code_of r))
+  refused-pair : (r : Refusal) → outcome ≡ Refused r → AnsweredPair t left right (code_text (code_of r))
   refused-pair r e =
       record {
         marks = marked table;
         exactly = none-chosen.exactly;
-        shown = ap (λ (z : Outcome). shownOr z (shownText t.concepts t.roles (marked table))) (sym e ∙ asked);
+        shown = ap (λ (z : Outcome). shown_or z (shown_text t.concepts t.roles (marked table))) (sym e ∙ asked);
       }
 
   pub pair-refused :
-      (r : Refusal) → outcome ≡ Refused r → (before : List ℕ) (size : ℕ) (after : List ℕ) → Wrote before 0 (codeText (code_of r)) size after
+      (r : Refusal) → outcome ≡ Refused r → (before : List ℕ) (size : ℕ) (after : List ℕ) → Wrote before 0 (code_text (code_of r)) size after
       → Output (AnsweredJudged (accepted t (Show left right))) before size after
   pair-refused r e before size after w = output _ before _ size after w (refused-pair r e)
 
   module _ (e : outcome ≡ Done) where
-    fails : shownFault t left right (marked table) ≡ Done
+    fails : shown_fault t left right (marked table) ≡ Done
     fails = sym asked ∙ e
 
-    decided : decidingFault t (unassigned t) left right ≡ Done
-    unfolding shownFault
+    decided : deciding_fault t (unassigned t) left right ≡ Done
+    unfolding shown_fault
     decided = passed_first _ _ fails
 
-    checked : tableFault t ≡ Done
+    checked : table_fault t ≡ Done
     checked = asked-tables t (unassigned t) left right decided
 
     pub pair-roles : LowRoles t.roles
     pair-roles = roles-low t checked
 
     pub pair-few : count_of t.concepts ≤ 192
-    pair-few = (wellFormed t checked).few
+    pair-few = (well_formed t checked).few
 
     in_parts : (into : List ℕ) → RoleSets t.roles into → InParts (accepted t (Show left right)) t.concepts into table (parts_of t.concepts)
     unfolding in_set
@@ -96,13 +96,13 @@ module _
         (into before : List ℕ) → RoleSets t.roles into
         → Planned (accepted t (Show left right)) (Parts (count_of t.concepts) (parts_of t.concepts)) t.concepts into table before before
     pair_parts into before sets =
-        let whole = (wellFormed t checked).whole in
+        let whole = (well_formed t checked).whole in
         let all = take_all (count_of t.concepts * 3) t.concepts (omega (arith, whole)) in
         (omega (arith, whole), subst (λ (z : List ℕ). InParts (accepted t (Show left right)) z into table (parts_of t.concepts)) (sym all) (in_parts into sets), refl)
 
 -- ---- tables
 module _ (t : Tables) (ask : Ask) (concepts into table before after : List ℕ) where
-  pub planned-fill : ask ≡ Fill → (size : ℕ) → Output (AnsweredTables t (tableFault t)) before size after → Planned (accepted t ask) (Whole size) concepts into table before after
+  pub planned-fill : ask ≡ Fill → (size : ℕ) → Output (AnsweredTables t (table_fault t)) before size after → Planned (accepted t ask) (Whole size) concepts into table before after
   planned-fill e size o = subst (λ (z : Ask). Output (AnsweredJudged (accepted t z)) before size after) (sym e) o
 
   pub planned-show :
@@ -123,24 +123,24 @@ in-front judged n concepts into table before after (Parts count parts) h p =
     let l : count * 3 ≤ n = omega (arith, p.0, length-take-le n concepts h) in
     (omega arith, subst (λ (z : List ℕ). InParts judged z into table parts) (take-take (count * 3) n concepts l) p.1, p.2)
 
-module _ (text concepts inclusions questions roles : List ℕ) (read : Read) (judged : judge text ≡ judgedBy read concepts inclusions questions roles) where
+module _ (text concepts inclusions questions roles : List ℕ) (read : Read) (judged : judge text ≡ judged_by read concepts inclusions questions roles) where
   pub text-refused :
-      (r : Refusal) → read ≡ Rejected r → (before : List ℕ) (size : ℕ) (after : List ℕ) → Wrote before 0 (codeText (code_of r)) size after
+      (r : Refusal) → read ≡ Rejected r → (before : List ℕ) (size : ℕ) (after : List ℕ) → Wrote before 0 (code_text (code_of r)) size after
       → Output (AnsweredJudged (judge text)) before size after
-  unfolding judgedBy
+  unfolding judged_by
   text-refused r e before size after w =
       output _ before _ size after w
-      (subst (λ (z : Judged). AnsweredJudged z (codeText (code_of r))) (sym (judged ∙ ap (λ (z : Read). judgedBy z concepts inclusions questions roles) e)) refl)
+      (subst (λ (z : Judged). AnsweredJudged z (code_text (code_of r))) (sym (judged ∙ ap (λ (z : Read). judged_by z concepts inclusions questions roles) e)) refl)
 
   pub text-planned :
       (v c i q p : ℕ) (ask : Ask) → read ≡ Problem v c i q p ask → c * 3 ≤ length concepts → (into table before after : List ℕ) (plan : Plan)
       → Planned (accepted (tables (take (c * 3) concepts) (take (i * 2) inclusions) (take (q * 2) questions) (take (p * 2) roles) v) ask) plan (take (c * 3) concepts) into table before after
       → Planned (judge text) plan concepts into table before after
-  unfolding judgedBy
+  unfolding judged_by
   text-planned v c i q p ask e h into table before after plan o =
       in-front (judge text) (c * 3) concepts into table before after plan h
       (subst (λ (z : Judged). Planned z plan (take (c * 3) concepts) into table before after)
-      (sym (judged ∙ ap (λ (z : Read). judgedBy z concepts inclusions questions roles) e)) o)
+      (sym (judged ∙ ap (λ (z : Read). judged_by z concepts inclusions questions roles) e)) o)
 
 -- ---- what the program goes by
 module _ (judged : Judged) (plan : Plan) (concepts into table before after : List ℕ) (p : Planned judged plan concepts into table before after) where

@@ -6,49 +6,49 @@ use Rattle.subsumption.specs.Tables.{Tables}
 use Rattle.subsumption.specs.Atoms.{bit, atoms}
 use Rattle.subsumption.specs.Roles.{wider}
 use Rattle.subsumption.specs.Refusal.{code_of, or_else}
-use Rattle.subsumption.specs.Check.{tableFault}
-use Rattle.subsumption.specs.Decide.{decidingFault}
+use Rattle.subsumption.specs.Check.{table_fault}
+use Rattle.subsumption.specs.Decide.{deciding_fault}
 use Rattle.subsumption.specs.Table.{marked}
 use Rattle.matching.specs.Solving.{Substitution, SolvesBy, First}
 use Rattle.countermodel.specs.Countermodel.{Exactly}
-use Rattle.countermodel.specs.Show.{holdingFault}
+use Rattle.countermodel.specs.Show.{holding_fault}
 use Rattle.numerals.specs.Printing.{Output}
 use Rattle.hermitcasket.specs.declared.text.Ask.TheVariants.{Fill, Show}
 use Rattle.hermitcasket.specs.declared.answer.Plan.{Plan}
 use Rattle.hermitcasket.specs.declared.answer.Plan.TheVariants.{Whole, Parts}
 use Rattle.hermitcasket.specs.Text.{Judged, accepted, refused, judge}
-use Rattle.hermitcasket.specs.Printing.{noneLine, filledText, codeText, shownText, parts_of, partText}
+use Rattle.hermitcasket.specs.Printing.{none_line, filled_text, code_text, shown_text, parts_of, part_text}
 
 -- Tables: the first assignment that solves, or none where no substitution solves, unless the tables are refused.
 abbrev pub AnsweredTables : Tables → Outcome → List ℕ → Type 0
 AnsweredTables t Done output =
-    ((assignment : List ℕ) × First t assignment × (output ≡ filledText (atoms t) assignment))
-    ⊎ (((σ : Substitution t) → SolvesBy t σ → ⊥) × (output ≡ noneLine))
-AnsweredTables t (Refused r) output = output ≡ codeText (code_of r)
+    ((assignment : List ℕ) × First t assignment × (output ≡ filled_text (atoms t) assignment))
+    ⊎ (((σ : Substitution t) → SolvesBy t σ → ⊥) × (output ≡ none_line))
+AnsweredTables t (Refused r) output = output ≡ code_text (code_of r)
 
 -- The empty assignment: every choice is 0.
 abbrev pub unassigned : Tables → List ℕ
 unassigned t = replicate t.variables 0
 
 -- The checks of an asked pair, the last of them by the marks: 1 to 7, 9 and 15.
-unfoldable pub shownFault : Tables → ℕ → ℕ → (ℕ → ℕ → Bool) → Outcome
-shownFault t left right marks = or_else (decidingFault t (unassigned t) left right) (holdingFault marks left right)
+unfoldable pub shown_fault : Tables → ℕ → ℕ → (ℕ → ℕ → Bool) → Outcome
+shown_fault t left right marks = or_else (deciding_fault t (unassigned t) left right) (holding_fault marks left right)
 
-abbrev pub shownOr : Outcome → List ℕ → List ℕ
-shownOr Done shown = shown
-shownOr (Refused r) shown = codeText (code_of r)
+abbrev pub shown_or : Outcome → List ℕ → List ℕ
+shown_or Done shown = shown
+shown_or (Refused r) shown = code_text (code_of r)
 
 -- An asked pair: the interpretation that marks give which say exactly what is below what, unless a check refuses.
 pub record AnsweredPair (t : Tables) (left right : ℕ) (output : List ℕ) : Type 0 where
   pub marks : ℕ → ℕ → Bool
-  pub exactly : decidingFault t (unassigned t) left right ≡ Done → Exactly t (unassigned t) marks
-  pub shown : output ≡ shownOr (shownFault t left right marks) (shownText t.concepts t.roles marks)
+  pub exactly : deciding_fault t (unassigned t) left right ≡ Done → Exactly t (unassigned t) marks
+  pub shown : output ≡ shown_or (shown_fault t left right marks) (shown_text t.concepts t.roles marks)
 
 -- A text: its refusal, or the answer for the tables that it says and what it asks.
 abbrev pub AnsweredJudged : Judged → List ℕ → Type 0
-AnsweredJudged (accepted t Fill) output = AnsweredTables t (tableFault t) output
+AnsweredJudged (accepted t Fill) output = AnsweredTables t (table_fault t) output
 AnsweredJudged (accepted t (Show left right)) output = AnsweredPair t left right output
-AnsweredJudged (refused r) output = output ≡ codeText (code_of r)
+AnsweredJudged (refused r) output = output ≡ code_text (code_of r)
 
 abbrev pub Answered : List ℕ → List ℕ → Type 0
 Answered text output = AnsweredJudged (judge text) output
@@ -58,7 +58,7 @@ Answered text output = AnsweredJudged (judge text) output
 -- What is held to print from: the concepts of checked tables, for each role the set of those that count as it, two words of 64 bits
 -- a role, and a table of marks.
 pub record Held (t : Tables) (concepts into table : List ℕ) : Type 0 where
-  pub checked : tableFault t ≡ Done
+  pub checked : table_fault t ≡ Done
   pub same : concepts ≡ t.concepts
   pub sets-long : length into ≡ 200
   pub sets : (r s : ℕ) → r < 100 → s < 100 → bit (get_or into (s * 2 + r / 64) 0) (r % 64) ≡ wider t.roles r s
@@ -66,7 +66,7 @@ pub record Held (t : Tables) (concepts into table : List ℕ) : Type 0 where
 
 -- Part k of the interpretation that is held. The parts of a plan, one behind the other, are the answer: the law `parts-answer`.
 abbrev pub IsPart : List ℕ → List ℕ → List ℕ → ℕ → List ℕ → Type 0
-IsPart concepts into table k bytes = (t : Tables) → Held t concepts into table → bytes ≡ partText t.concepts t.roles (marked table) k
+IsPart concepts into table k bytes = (t : Tables) → Held t concepts into table → bytes ≡ part_text t.concepts t.roles (marked table) k
 
 -- An asked pair that fails, and what is held to print its interpretation in so many parts.
 pub record InParts (judged : Judged) (concepts into table : List ℕ) (parts : ℕ) : Type 0 where
@@ -74,7 +74,7 @@ pub record InParts (judged : Judged) (concepts into table : List ℕ) (parts : �
   pub left : ℕ
   pub right : ℕ
   pub asked : judged ≡ accepted t (Show left right)
-  pub fails : shownFault t left right (marked table) ≡ Done
+  pub fails : shown_fault t left right (marked table) ≡ Done
   pub exactly : Exactly t (unassigned t) (marked table)
   pub held : Held t concepts into table
   pub all : parts ≡ parts_of concepts

@@ -1,12 +1,12 @@
 // The program's answer as bytes, in front of a buffer; or, where an interpretation is shown, what its parts are printed from.
 ghost use Rattle.std.specs.Prelude.{◌≡◌, ◌*◌, ◌≤◌, length, replicate};
-ghost use Rattle.subsumption.specs.Lent.{lent, before, after};
+ghost use Rattle.subsumption.specs.Lent.{lent};
 ghost use Rattle.subsumption.specs.Refusal.{code_of};
-ghost use Rattle.subsumption.specs.Check.{tableFault};
+ghost use Rattle.subsumption.specs.Check.{table_fault};
 ghost use Rattle.numerals.specs.Inner.Printing.{Wrote};
 ghost use Rattle.numerals.specs.Printing.{Output};
 ghost use Rattle.hermitcasket.specs.Text.{accepted, judge};
-ghost use Rattle.hermitcasket.specs.Printing.{codeText};
+ghost use Rattle.hermitcasket.specs.Printing.{code_text};
 ghost use Rattle.hermitcasket.specs.Answer.{AnsweredTables, Planned};
 
 use crate::filled::put_filled;
@@ -20,7 +20,7 @@ use subsumption::refusal::{Outcome, Refusal, code_of};
 
 fn answer_refused(refusal: Refusal, out: &mut [u8]) -> usize
     requires { 4096 ≤ length out.old }
-    ensures { Wrote (before out) 0 (codeText (code_of refusal)) result (after out) }
+    ensures { Wrote out.old 0 (code_text (code_of refusal)) result out.new }
 {
     let code = code_of(refusal);
     if code.number == 10 {
@@ -41,8 +41,8 @@ fn answer_tables(
     requires variables_bound { variables ≤ 8 }
     requires in_bounds { 4096 ≤ length out.old }
     ensures { Output
-        (AnsweredTables (lent concepts inclusions questions roles variables) (tableFault
-        (lent concepts inclusions questions roles variables))) (before out) result (after out) }
+        (AnsweredTables (lent concepts inclusions questions roles variables) (table_fault
+        (lent concepts inclusions questions roles variables))) out.old result out.new }
 {
     let mut assignment = [0u64; 8];
     let found = matching::find_assignment(
@@ -97,7 +97,7 @@ fn plan_pair(
     requires table_len { length table.old ≡ 4608 }
     requires in_bounds { 4096 ≤ length out.old }
     ensures { Planned (accepted (lent concepts inclusions questions roles variables) (Ask.Show left right)) result
-        (before concepts) (after into) (after table) (before out) (after out) }
+        concepts.now into.new table.new out.old out.new }
 {
     let assignment = [0u64; 8];
     let n = variables as usize;
@@ -138,8 +138,8 @@ fn plan_tables(
     requires into_value { into.old ≡ replicate 200 0 }
     requires table_len { length table.old ≡ 4608 }
     requires in_bounds { 4096 ≤ length out.old }
-    ensures { Planned (accepted (lent concepts inclusions questions roles variables) ask) result (before concepts) (after into)
-        (after table) (before out) (after out) }
+    ensures { Planned (accepted (lent concepts inclusions questions roles variables) ask) result concepts.now into.new
+        table.new out.old out.new }
 {
     match ask {
         Ask::Fill => {
@@ -164,7 +164,7 @@ pub fn answer(
     requires into_value { into.old ≡ replicate 200 0 }
     requires table_len { length table.old ≡ 4608 }
     requires in_bounds_2 { 4096 ≤ length out.old }
-    ensures { Planned (judge (before text)) result (after concepts) (after into) (after table) (before out) (after out) }
+    ensures { Planned (judge text.now) result concepts.new into.new table.new out.old out.new }
 {
     let mut inclusions = [0u16; 192];
     let mut questions = [0u16; 64];

@@ -1,12 +1,12 @@
 // The filled answer: for each variable in turn the line of the ids that are listed for it.
 ghost use Rattle.std.specs.Prelude.{◌≡◌, ◌+◌, ◌<◌, ◌≤◌, length};
-ghost use Rattle.subsumption.specs.Lent.{lent, before, after};
+ghost use Rattle.subsumption.specs.Lent.{lent};
 ghost use Rattle.subsumption.specs.Inner.Lent.{given};
 ghost use Rattle.subsumption.specs.declared.refusal.Outcome.TheVariants.{Done};
 ghost use Rattle.subsumption.specs.Atoms.{atoms, chosen};
-ghost use Rattle.subsumption.specs.Check.{tableFault, assignmentFault};
+ghost use Rattle.subsumption.specs.Check.{table_fault, assignment_fault};
 ghost use Rattle.numerals.specs.Inner.Printing.{Wrote};
-ghost use Rattle.hermitcasket.specs.Printing.{fillText, fillsText, filledText};
+ghost use Rattle.hermitcasket.specs.Printing.{fill_text, fills_text, filled_text};
 
 use crate::print::put_fill;
 use numerals::helpers::{put_bytes, put_line};
@@ -23,13 +23,13 @@ fn put_variable(
     at: usize,
     out: &mut [u8],
 ) -> usize
-    requires variables_value { tableFault (given concepts inclusions questions roles variables) ≡ Done }
-    requires assignment_value { assignmentFault (given concepts inclusions questions roles variables) assignment.now ≡ Done }
+    requires variables_value { table_fault (given concepts inclusions questions roles variables) ≡ Done }
+    requires assignment_value { assignment_fault (given concepts inclusions questions roles variables) assignment.now ≡ Done }
     requires variable_lt_variables { variable < variables }
     requires variable_in_bounds { at + length
-        (fillText (chosen (given concepts inclusions questions roles variables) assignment.now variable)) ≤ length out.old }
-    ensures { Wrote (before out) at
-        (fillText (chosen (lent concepts inclusions questions roles variables) (before assignment) variable)) result (after out) }
+        (fill_text (chosen (given concepts inclusions questions roles variables) assignment.now variable)) ≤ length out.old }
+    ensures { Wrote out.old at
+        (fill_text (chosen (lent concepts inclusions questions roles variables) assignment.now variable)) result out.new }
 {
     let mut buffer = [0u16; 64];
     let mut number: u16 = 0;
@@ -59,12 +59,12 @@ fn put_fills(
     at: usize,
     out: &mut [u8],
 ) -> usize
-    requires variables_value { tableFault (given concepts inclusions questions roles variables) ≡ Done }
-    requires assignment_value { assignmentFault (given concepts inclusions questions roles variables) assignment.now ≡ Done }
-    requires assignment_in_bounds { at + length (fillsText (atoms (given concepts inclusions questions roles variables)) assignment.now) ≤ length
+    requires variables_value { table_fault (given concepts inclusions questions roles variables) ≡ Done }
+    requires assignment_value { assignment_fault (given concepts inclusions questions roles variables) assignment.now ≡ Done }
+    requires assignment_in_bounds { at + length (fills_text (atoms (given concepts inclusions questions roles variables)) assignment.now) ≤ length
         out.old }
-    ensures { Wrote (before out) at
-        (fillsText (atoms (lent concepts inclusions questions roles variables)) (before assignment)) result (after out) }
+    ensures { Wrote out.old at
+        (fills_text (atoms (lent concepts inclusions questions roles variables)) assignment.now) result out.new }
 {
     let mut end = at;
     let mut k: u16 = 0;
@@ -86,12 +86,12 @@ pub fn put_filled(
     assignment: &[u64],
     out: &mut [u8],
 ) -> usize
-    requires variables_value { tableFault (given concepts inclusions questions roles variables) ≡ Done }
-    requires assignment_value { assignmentFault (given concepts inclusions questions roles variables) assignment.now ≡ Done }
-    requires assignment_in_bounds { 0 + length (filledText (atoms (given concepts inclusions questions roles variables)) assignment.now) ≤ length
+    requires variables_value { table_fault (given concepts inclusions questions roles variables) ≡ Done }
+    requires assignment_value { assignment_fault (given concepts inclusions questions roles variables) assignment.now ≡ Done }
+    requires assignment_in_bounds { 0 + length (filled_text (atoms (given concepts inclusions questions roles variables)) assignment.now) ≤ length
         out.old }
-    ensures { Wrote (before out) 0
-        (filledText (atoms (lent concepts inclusions questions roles variables)) (before assignment)) result (after out) }
+    ensures { Wrote out.old 0
+        (filled_text (atoms (lent concepts inclusions questions roles variables)) assignment.now) result out.new }
 {
     let a = put_bytes(b"answer=filled\n", 0, out);
     let b = put_line(b"blanks=", assignment.len(), a, out);

@@ -1,7 +1,6 @@
 // Lines of the house text, each read from the front of the text's remaining part; `behind` passes on the part behind it.
 ghost use Rattle.std.specs.Prelude.{◌≡◌, ◌≤◌, ◌<◌, length, drop};
-ghost use Rattle.hermitcasket.specs.Lines.{number, numberLine, pairLine, row_line};
-ghost use Rattle.subsumption.specs.Lent.{before};
+ghost use Rattle.hermitcasket.specs.Lines.{number, number_line, pair_line, row_line};
 
 use numerals::{read_run, starts_with};
 
@@ -28,7 +27,7 @@ pub enum RowLine {
 // The text that remains behind so many bytes.
 pub fn behind<'a>(rest: &'a [u8], n: usize) -> &'a [u8]
     requires { n ≤ length rest.now }
-    ensures { result.now ≡ drop n (before rest) }
+    ensures { result.now ≡ drop n rest.now }
 {
     &rest[n..]
 }
@@ -36,7 +35,7 @@ pub fn behind<'a>(rest: &'a [u8], n: usize) -> &'a [u8]
 // A number that the byte `stop` ends.
 pub fn read_number(rest: &[u8], stop: u8) -> Number
     requires { stop < 48 }
-    ensures { result ≡ number stop (before rest) }
+    ensures { result ≡ number stop rest.now }
 {
     let run = read_run(rest);
     let n = run.length;
@@ -55,7 +54,7 @@ pub fn read_number(rest: &[u8], stop: u8) -> Number
 // A line of one number.
 pub fn number_line(rest: &[u8], key: &[u8]) -> Number
     requires { length key.now ≤ 16 }
-    ensures { result ≡ numberLine (before key) (before rest) }
+    ensures { result ≡ number_line key.now rest.now }
 {
     if !starts_with(rest, key) {
         return Number::NoNumber;
@@ -72,7 +71,7 @@ pub fn number_line(rest: &[u8], key: &[u8]) -> Number
 // A line of two numbers with a comma between them.
 pub fn pair_line(rest: &[u8], key: &[u8]) -> PairLine
     requires { length key.now ≤ 16 }
-    ensures { result ≡ pairLine (before key) (before rest) }
+    ensures { result ≡ pair_line key.now rest.now }
 {
     if !starts_with(rest, key) {
         return PairLine::NoPair;
@@ -93,7 +92,7 @@ pub fn pair_line(rest: &[u8], key: &[u8]) -> PairLine
 
 // A line of the concept table: the key says the kind.
 pub fn row_line(rest: &[u8]) -> RowLine
-    ensures { result ≡ row_line (before rest) }
+    ensures { result ≡ row_line rest.now }
 {
     if starts_with(rest, b"top=0\n") {
         return RowLine::Row(0, 0, 0, 6);

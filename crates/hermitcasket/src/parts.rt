@@ -1,15 +1,15 @@
 // An interpretation that is shown, part by part: its size, the names of each element, the links of each element by each role.
 ghost use Rattle.std.specs.Prelude.{◌≡◌, ◌+◌, ◌<◌, ◌≤◌, length};
-ghost use Rattle.subsumption.specs.Lent.{before, after};
+
 ghost use Rattle.subsumption.specs.Tables.{Tables, count_of};
 ghost use Rattle.subsumption.specs.Table.{marked};
-ghost use Rattle.subsumption.specs.Inner.Atoms.{markedIds};
-ghost use Rattle.countermodel.specs.Countermodel.{names_at, nameRows};
+ghost use Rattle.subsumption.specs.Inner.Atoms.{marked_ids};
+ghost use Rattle.countermodel.specs.Countermodel.{names_at, name_rows};
 ghost use Rattle.countermodel.specs.Inner.Show.{Checked};
 ghost use Rattle.numerals.specs.Inner.Printing.{Wrote};
 ghost use Rattle.numerals.specs.Printing.{Output};
-ghost use Rattle.hermitcasket.specs.Printing.{rowsText, parts_of};
-ghost use Rattle.hermitcasket.specs.Inner.Print.{markLine, markLines, IsLinks};
+ghost use Rattle.hermitcasket.specs.Printing.{rows_text, parts_of};
+ghost use Rattle.hermitcasket.specs.Inner.Print.{mark_line, mark_lines, IsLinks};
 ghost use Rattle.hermitcasket.specs.Answer.{Held, IsPart};
 
 use crate::print::put_link;
@@ -18,8 +18,8 @@ use numerals::helpers::{put_line, put_pair};
 
 // The line of a mark of an element: its name, or its link by the role to another.
 fn put_mark(link: bool, i: usize, role: usize, mark: usize, at: usize, out: &mut [u8]) -> usize
-    requires { at + length (markLine link i role mark) ≤ length out.old }
-    ensures { Wrote (before out) at (markLine link i role mark) result (after out) }
+    requires { at + length (mark_line link i role mark) ≤ length out.old }
+    ensures { Wrote out.old at (mark_line link i role mark) result out.new }
 {
     if link {
         return put_link(i, role, mark, at, out);
@@ -37,8 +37,8 @@ fn put_marks(
     out: &mut [u8],
 ) -> usize
     requires count_in_bounds { count ≤ length marks.now }
-    requires count_in_bounds_2 { 0 + length (markLines link i role (markedIds marks.now count)) ≤ length out.old }
-    ensures { Wrote (before out) 0 (markLines link i role (markedIds (before marks) count)) result (after out) }
+    requires count_in_bounds_2 { 0 + length (mark_lines link i role (marked_ids marks.now count)) ≤ length out.old }
+    ensures { Wrote out.old 0 (mark_lines link i role (marked_ids marks.now count)) result out.new }
 {
     let mut end: usize = 0;
     let mut q: usize = 0;
@@ -58,7 +58,7 @@ fn put_names(concepts: &[u16], table: &[u8], i: usize, out: &mut [u8]) -> usize
     requires table_len { length table.now ≡ 4608 }
     requires i_bound { i < count_of concepts.now }
     requires in_bounds { 4096 ≤ length out.old }
-    ensures { Wrote (before out) 0 (rowsText (nameRows i (names_at (before concepts) (marked (before table)) i))) result (after out) }
+    ensures { Wrote out.old 0 (rows_text (name_rows i (names_at concepts.now (marked table.now) i))) result out.new }
 {
     let mut names = [false; 1000];
     note_names(concepts, table, i, &mut names);
@@ -79,7 +79,7 @@ fn put_links(
     requires table_len { length table.now ≡ 4608 }
     requires i_bound { (i < count_of concepts.now) × (role < 100) }
     requires in_bounds { 4096 ≤ length out.old }
-    ensures { Output (IsLinks (before concepts) (before into) (before table) i role) (before out) result (after out) }
+    ensures { Output (IsLinks concepts.now into.now table.now i role) out.old result out.new }
 {
     let mut links = [false; 192];
     note_links(concepts, into, table, i, role, &mut links);
@@ -91,7 +91,7 @@ pub fn put_part(concepts: &[u16], into: &[u64], table: &[u8], k: usize, out: &mu
     requires held { (t : Tables) × Held t concepts.now into.now table.now }
     requires k_bound { k < parts_of concepts.now }
     requires in_bounds { 4096 ≤ length out.old }
-    ensures { Output (IsPart (before concepts) (before into) (before table) k) (before out) result (after out) }
+    ensures { Output (IsPart concepts.now into.now table.now k) out.old result out.new }
 {
     let count = concepts.len() / 3;
     if k == 0 {

@@ -1,15 +1,14 @@
 // The output, written to a buffer: each function answers the place behind what it wrote.
 ghost use Rattle.std.specs.Prelude.{false, ◌+◌, ◌≤◌, length};
 ghost use Rattle.numerals.specs.Inner.Printing.{Wrote};
-ghost use Rattle.hermitcasket.specs.Printing.{idText, idsText, fillText, noneLine, linkText};
-ghost use Rattle.subsumption.specs.Lent.{before, after};
+ghost use Rattle.hermitcasket.specs.Printing.{id_text, ids_text, fill_text, none_line, link_text};
 
 use numerals::helpers::{put_bytes, put_line, put_number, put_pair};
 
 // The line of a link by a role.
 pub fn put_link(from: usize, role: usize, to: usize, at: usize, out: &mut [u8]) -> usize
-    requires { at + length (linkText from role to) ≤ length out.old }
-    ensures { Wrote (before out) at (linkText from role to) result (after out) }
+    requires { at + length (link_text from role to) ≤ length out.old }
+    ensures { Wrote out.old at (link_text from role to) result out.new }
 {
     let x = put_bytes(b"link=", at, out);
     let y = put_number(from, x, out);
@@ -18,8 +17,8 @@ pub fn put_link(from: usize, role: usize, to: usize, at: usize, out: &mut [u8]) 
 
 // An id, after a comma if one went before it.
 fn put_id(id: u16, later: bool, at: usize, out: &mut [u8]) -> usize
-    requires { at + length (idText later id) ≤ length out.old }
-    ensures { Wrote (before out) at (idText later id) result (after out) }
+    requires { at + length (id_text later id) ≤ length out.old }
+    ensures { Wrote out.old at (id_text later id) result out.new }
 {
     if later {
         let a = put_bytes(b",", at, out);
@@ -30,8 +29,8 @@ fn put_id(id: u16, later: bool, at: usize, out: &mut [u8]) -> usize
 
 // Ids with commas between them.
 fn put_ids(ids: &[u16], at: usize, out: &mut [u8]) -> usize
-    requires { at + length (idsText false ids.now) ≤ length out.old }
-    ensures { Wrote (before out) at (idsText false (before ids)) result (after out) }
+    requires { at + length (ids_text false ids.now) ≤ length out.old }
+    ensures { Wrote out.old at (ids_text false ids.now) result out.new }
 {
     let mut end = at;
     let mut i: usize = 0;
@@ -44,8 +43,8 @@ fn put_ids(ids: &[u16], at: usize, out: &mut [u8]) -> usize
 
 // The line of one variable.
 pub fn put_fill(ids: &[u16], at: usize, out: &mut [u8]) -> usize
-    requires { at + length (fillText ids.now) ≤ length out.old }
-    ensures { Wrote (before out) at (fillText (before ids)) result (after out) }
+    requires { at + length (fill_text ids.now) ≤ length out.old }
+    ensures { Wrote out.old at (fill_text ids.now) result out.new }
 {
     let a = put_bytes(b"fill=", at, out);
     let b = put_ids(ids, a, out);
@@ -54,7 +53,7 @@ pub fn put_fill(ids: &[u16], at: usize, out: &mut [u8]) -> usize
 
 pub fn put_none(out: &mut [u8]) -> usize
     requires { 12 ≤ length out.old }
-    ensures { Wrote (before out) 0 noneLine result (after out) }
+    ensures { Wrote out.old 0 none_line result out.new }
 {
     put_bytes(b"answer=none\n", 0, out)
 }

@@ -1,9 +1,9 @@
 // The whole text: counts and tables, section by section. Each reader takes the text's remaining part and the byte where that starts.
 ghost use Rattle.std.specs.Prelude.{◌≡◌, ◌+◌, ◌*◌, ◌≤◌, length};
-ghost use Rattle.numerals.specs.Lines.{conceptsKey};
-ghost use Rattle.hermitcasket.specs.Text.{readLines, row_at, pair_at, sectionAt, rolesAt, judge};
-ghost use Rattle.hermitcasket.specs.Inner.Text.{part_of, PartFits, Counts, Sectioned, Ends, Last, faultOf, judgedBy, ReadFits, TablesRead};
-ghost use Rattle.subsumption.specs.Lent.{before, after};
+ghost use Rattle.numerals.specs.Lines.{concepts_key};
+ghost use Rattle.hermitcasket.specs.Text.{read_lines, row_at, pair_at, section_at, roles_at, judge};
+ghost use Rattle.hermitcasket.specs.Inner.Text.{part_of, PartFits, Counts, Sectioned, Ends, Last, fault_of, judged_by, ReadFits, TablesRead};
+
 ghost use Rattle.subsumption.specs.Inner.Lent.{given};
 
 use crate::lines::{Number, PairLine, RowLine, behind, number_line, pair_line, row_line};
@@ -35,8 +35,8 @@ pub enum Read {
 fn read_rows(part: &[u8], at: usize, count: usize, out: &mut [u16]) -> Lines
     requires part_bound { at + length part.now ≤ 8192 }
     requires count_in_bounds { count * 3 ≤ length out.old }
-    ensures part_value { readLines row_at count at (before part) ≡ part_of result at (before part) (count * 3) (after out) }
-    ensures part_fits { PartFits result (length (before part)) }
+    ensures part_value { read_lines row_at count at part.now ≡ part_of result at part.now (count * 3) out.new }
+    ensures part_fits { PartFits result (length part.now) }
 {
     let mut rest = part;
     let mut used: usize = 0;
@@ -63,8 +63,8 @@ fn read_pairs(part: &[u8], at: usize, key: &[u8], count: usize, out: &mut [u16])
     requires part_bound { at + length part.now ≤ 8192 }
     requires key_len_bound { length key.now ≤ 16 }
     requires count_in_bounds { count * 2 ≤ length out.old }
-    ensures part_value { readLines (pair_at (before key)) count at (before part) ≡ part_of result at (before part) (count * 2) (after out) }
-    ensures part_fits { PartFits result (length (before part)) }
+    ensures part_value { read_lines (pair_at key.now) count at part.now ≡ part_of result at part.now (count * 2) out.new }
+    ensures part_fits { PartFits result (length part.now) }
 {
     let mut rest = part;
     let mut used: usize = 0;
@@ -95,7 +95,7 @@ pub enum Section {
 // A count line. A count over its limit is refused with the table's place.
 fn read_count(rest: &[u8], at: usize, key: &[u8], limit: u16, table: usize) -> Section
     requires { length key.now ≤ 16 }
-    ensures { Counts (before key) limit table at (before rest) result }
+    ensures { Counts key.now limit table at rest.now result }
 {
     let found = number_line(rest, key);
     let Number::Value(count, n) = found else {
@@ -111,7 +111,7 @@ fn read_count(rest: &[u8], at: usize, key: &[u8], limit: u16, table: usize) -> S
 fn read_concepts(rest: &[u8], at: usize, out: &mut [u16]) -> Section
     requires rest_bound { at + length rest.now ≤ 8192 }
     requires in_bounds { 192 * 3 ≤ length out.old }
-    ensures { Sectioned (sectionAt conceptsKey 192 0 row_at) 192 3 at (before rest) result (after out) }
+    ensures { Sectioned (section_at concepts_key 192 0 row_at) 192 3 at rest.now result out.new }
 {
     let counted = read_count(rest, at, b"entries=", 192, 0);
     let Section::Through(count, n) = counted else {
@@ -139,7 +139,7 @@ fn read_section(
     requires key_len_bound { length key.now ≤ 16 }
     requires line_len_bound { length line.now ≤ 16 }
     requires limit_in_bounds { limit * 2 ≤ length out.old }
-    ensures { Sectioned (sectionAt (before key) limit table (pair_at (before line))) limit 2 at (before rest) result (after out) }
+    ensures { Sectioned (section_at key.now limit table (pair_at line.now)) limit 2 at rest.now result out.new }
 {
     let counted = read_count(rest, at, key, limit, table);
     let Section::Through(count, n) = counted else {
@@ -157,7 +157,7 @@ fn read_section(
 fn read_roles(rest: &[u8], at: usize, out: &mut [u16]) -> Section
     requires rest_bound { at + length rest.now ≤ 8192 }
     requires in_bounds { 32 * 2 ≤ length out.old }
-    ensures { Sectioned rolesAt 32 2 at (before rest) result (after out) }
+    ensures { Sectioned roles_at 32 2 at rest.now result out.new }
 {
     if !starts_with(rest, b"roles=") {
         return Section::Through(0, 0);
@@ -175,7 +175,7 @@ pub enum End {
 // What stands behind the questions: nothing, or the line of a pair and nothing behind it.
 fn read_end(rest: &[u8], at: usize) -> End
     requires { at + length rest.now ≤ 8192 }
-    ensures { Ends at (before rest) result }
+    ensures { Ends at rest.now result }
 {
     if rest.len() == 0 {
         return End::Asks(Ask::Fill);
@@ -201,7 +201,7 @@ pub enum Asked {
 fn read_questions(rest: &[u8], at: usize, out: &mut [u16]) -> Asked
     requires rest_bound { at + length rest.now ≤ 8192 }
     requires in_bounds { 32 * 2 ≤ length out.old }
-    ensures { Last at (before rest) result (after out) }
+    ensures { Last at rest.now result out.new }
 {
     let section = read_section(rest, at, b"questions=", b"below=", 32, 2, out);
     let Section::Through(count, n) = section else {
@@ -217,7 +217,7 @@ fn read_questions(rest: &[u8], at: usize, out: &mut [u16]) -> Asked
 
 // The refusal of a section that was not read through.
 fn fault(section: Section) -> Refusal
-    ensures { result ≡ faultOf section }
+    ensures { result ≡ fault_of section }
 {
     match section {
         Section::Through(_, used) => Refusal::BadText(used),
@@ -241,7 +241,7 @@ fn read_tables(
     requires in_bounds { 192 * 3 ≤ length concepts.old }
     requires in_bounds_2 { 96 * 2 ≤ length inclusions.old }
     requires in_bounds_3 { 32 * 2 ≤ length questions.old }
-    ensures { TablesRead variables pairs at (before rest) result (after concepts) (after inclusions) (after questions) }
+    ensures { TablesRead variables pairs at rest.now result concepts.new inclusions.new questions.new }
 {
     let rows = read_concepts(rest, at, concepts);
     let Section::Through(c, n) = rows else {
@@ -273,7 +273,7 @@ pub fn read_text(
     requires in_bounds_2 { 96 * 2 ≤ length inclusions.old }
     requires in_bounds_3 { 32 * 2 ≤ length questions.old }
     requires in_bounds_4 { 32 * 2 ≤ length roles.old }
-    ensures text_value { judge (before text) ≡ judgedBy result (after concepts) (after inclusions) (after questions) (after roles) }
+    ensures text_value { judge text.now ≡ judged_by result concepts.new inclusions.new questions.new roles.new }
     ensures read_fits { ReadFits result }
 {
     if 8192 < text.len() {

@@ -10,21 +10,21 @@ use Rattle.subsumption.specs.declared.refusal.Refusal.{Refusal}
 use Rattle.subsumption.specs.declared.refusal.Code.{Code}
 use Rattle.subsumption.specs.declared.refusal.Outcome.{Outcome}
 use Rattle.subsumption.specs.declared.refusal.Outcome.TheVariants.{Done, Refused}
-use Rattle.subsumption.specs.Tables.{tables, count_of, pairsOf}
+use Rattle.subsumption.specs.Tables.{tables, count_of, pairs_of}
 use Rattle.subsumption.specs.Refusal.{code_of, Reply}
-use Rattle.subsumption.specs.Check.{unfit, conceptFault, idFault}
+use Rattle.subsumption.specs.Check.{unfit, concept_fault, id_fault}
 use Rattle.subsumption.proofs.Bools.{or-false}
 use Rattle.subsumption.proofs.Replies.{same-refusal, not_done}
 use Rattle.subsumption.proofs.Accepted.{concept-limits, concepts-whole, concepts-few, inclusions-few}
-use Rattle.numerals.specs.Printing.{refusedText, Output}
+use Rattle.numerals.specs.Printing.{refused_text, Output}
 use Rattle.numerals.specs.Inner.Printing.{Wrote}
 use Rattle.numerals.proofs.PieceLaws.{output}
 use Rattle.owl.specs.declared.read.Catalogue.{Catalogue}
 use Rattle.owl.specs.declared.read.Catalogue.TheVariants.{Tables, Rejected}
 use Rattle.owl.specs.Judgement.{State, Step, go, stop, judge}
-use Rattle.owl.specs.Read.{CatalogueReply, catalogueReply, catalogueFault, inFront, Put, ReadsBy, reading_of, ReadsCatalogue}
+use Rattle.owl.specs.Read.{CatalogueReply, catalogue_reply, catalogue_fault, in_front, Put, ReadsBy, reading_of, ReadsCatalogue}
 use Rattle.owl.proofs.AcceptedLaws.{catalogue-accepted}
-use Rattle.hermitcasket_owl.specs.Card.{cardText, CardedBy, Carded}
+use Rattle.hermitcasket_owl.specs.Card.{card_text, CardedBy, Carded}
 use Rattle.hermitcasket_owl.proofs.SizeLaws.{card-fits}
 
 -- number and place of a reply
@@ -32,25 +32,25 @@ unfoldable told : CatalogueReply → Reply
 told reply = record { number = reply.number; place = reply.place; value = 0 }
 
 -- ---- the tables of a text that is accepted
-module _ (text : List ℕ) (s : State) (e : reading_of (catalogueFault text 576 192) text ≡ go s) where
+module _ (text : List ℕ) (s : State) (e : reading_of (catalogue_fault text 576 192) text ≡ go s) where
   judged : judge text ≡ go s
   unfolding reading_of
-  judged = by (catalogueFault text 576 192) e
+  judged = by (catalogue_fault text 576 192) e
     where
       by : (fault : Outcome) → reading_of fault text ≡ go s → judge text ≡ go s
       by Done h = h
       by (Refused r) h = absurd (let z : ◌≡◌ {A = ℕ} 0 1 = cc h in omega arith)
 
-  sound : conceptFault (tables s.rows s.inclusions [] [] 0) ≡ Done
+  sound : concept_fault (tables s.rows s.inclusions [] [] 0) ≡ Done
   sound = (catalogue-accepted text s judged).0
 
-  known : idFault (tables s.rows s.inclusions [] [] 0) ≡ Done
+  known : id_fault (tables s.rows s.inclusions [] [] 0) ≡ Done
   known = (catalogue-accepted text s judged).1
 
   rows_whole : length s.rows ≡ count_of s.rows * 3
   rows_whole = concepts-whole _ sound
 
-  inclusions-whole : length s.inclusions ≡ pairsOf s.inclusions * 2
+  inclusions-whole : length s.inclusions ≡ pairs_of s.inclusions * 2
   unfolding unfit
   inclusions-whole =
       let even : length s.inclusions % 2 ≡ 0 = eqb-true _ _ (not-false _ (or-false _ _ (concept-limits _ sound).inclusions-fit).0) in
@@ -58,35 +58,35 @@ module _ (text : List ℕ) (s : State) (e : reading_of (catalogueFault text 576 
 
 module _
     (text concepts concepts' inclusions inclusions' : List ℕ) (long-concepts : length concepts ≡ 576) (long-inclusions : length inclusions ≡ 192)
-    (read : Catalogue) (reads : ReadsCatalogue text concepts concepts' inclusions inclusions' (catalogueReply read)) where
+    (read : Catalogue) (reads : ReadsCatalogue text concepts concepts' inclusions inclusions' (catalogue_reply read)) where
   abbrev reading : Step
-  reading = reading_of (catalogueFault text 576 192) text
+  reading = reading_of (catalogue_fault text 576 192) text
 
-  reads-by : (answer : Catalogue) → read ≡ answer → ReadsBy reading concepts concepts' inclusions inclusions' (catalogueReply answer)
+  reads-by : (answer : Catalogue) → read ≡ answer → ReadsBy reading concepts concepts' inclusions inclusions' (catalogue_reply answer)
   reads-by answer e =
-      subst (λ (z : ℕ). ReadsBy (reading_of (catalogueFault text z 192) text) concepts concepts' inclusions inclusions' (catalogueReply answer)) long-concepts
-      (subst (λ (z : ℕ). ReadsBy (reading_of (catalogueFault text (length concepts) z) text) concepts concepts' inclusions inclusions' (catalogueReply answer)) long-inclusions
-      (subst (λ (z : Catalogue). ReadsCatalogue text concepts concepts' inclusions inclusions' (catalogueReply z)) e reads))
+      subst (λ (z : ℕ). ReadsBy (reading_of (catalogue_fault text z 192) text) concepts concepts' inclusions inclusions' (catalogue_reply answer)) long-concepts
+      (subst (λ (z : ℕ). ReadsBy (reading_of (catalogue_fault text (length concepts) z) text) concepts concepts' inclusions inclusions' (catalogue_reply answer)) long-inclusions
+      (subst (λ (z : Catalogue). ReadsCatalogue text concepts concepts' inclusions inclusions' (catalogue_reply z)) e reads))
 
   -- ---- tables
   record Accepted (n m : ℕ) : Type 0 where
     state : State
     goes : reading ≡ go state
-    put : Put state concepts concepts' inclusions inclusions' (catalogueReply (Tables n m))
+    put : Put state concepts concepts' inclusions inclusions' (catalogue_reply (Tables n m))
 
   module _ (n m : ℕ) (e : read ≡ Tables n m) where
     accepted : Accepted n m
     unfolding told
     accepted = by reading refl (reads-by (Tables n m) e)
       where
-        by : (step : Step) → reading ≡ step → ReadsBy step concepts concepts' inclusions inclusions' (catalogueReply (Tables n m)) → Accepted n m
+        by : (step : Step) → reading ≡ step → ReadsBy step concepts concepts' inclusions inclusions' (catalogue_reply (Tables n m)) → Accepted n m
         by (go s) f put = record { state = s; goes = f; put = put }
         by (stop r) f kept = not_done r 0 (sym (ap told kept.told))
 
     entries-are : n ≡ count_of accepted.state.rows
     entries-are = ap (λ (z : CatalogueReply). z.concepts) accepted.put.told
 
-    pairs-are : m ≡ pairsOf accepted.state.inclusions
+    pairs-are : m ≡ pairs_of accepted.state.inclusions
     pairs-are = ap (λ (z : CatalogueReply). z.inclusions) accepted.put.told
 
     pub few-entries : n ≤ 192
@@ -96,28 +96,28 @@ module _
     few-pairs = omega (arith, pairs-are, inclusions-few _ (sound text _ accepted.goes))
 
     rows-front : take (n * 3) concepts' ≡ accepted.state.rows
-    unfolding inFront
+    unfolding in_front
     rows-front =
         ap (λ (z : List ℕ). take (n * 3) z) accepted.put.put-concepts
         ∙ take_at accepted.state.rows _ (n * 3) (omega (arith, entries-are, rows_whole text _ accepted.goes))
 
     pairs-front : take (m * 2) inclusions' ≡ accepted.state.inclusions
-    unfolding inFront
+    unfolding in_front
     pairs-front =
         ap (λ (z : List ℕ). take (m * 2) z) accepted.put.put-inclusions
         ∙ take_at accepted.state.inclusions _ (m * 2) (omega (arith, pairs-are, inclusions-whole text _ accepted.goes))
 
-    same-card : cardText (take (n * 3) concepts') (take (m * 2) inclusions') ≡ cardText accepted.state.rows accepted.state.inclusions
-    same-card = ap₂ (λ (x y : List ℕ). cardText x y) rows-front pairs-front
+    same-card : card_text (take (n * 3) concepts') (take (m * 2) inclusions') ≡ card_text accepted.state.rows accepted.state.inclusions
+    same-card = ap₂ (λ (x y : List ℕ). card_text x y) rows-front pairs-front
 
-    pub card-room : (out : List ℕ) → 4096 ≤ length out → 0 + length (cardText (take (n * 3) concepts') (take (m * 2) inclusions')) ≤ length out
+    pub card-room : (out : List ℕ) → 4096 ≤ length out → 0 + length (card_text (take (n * 3) concepts') (take (m * 2) inclusions')) ≤ length out
     card-room out h = omega (arith, ap length same-card, card-fits _ _ (sound text _ accepted.goes) (known text _ accepted.goes) out h)
 
     pub carded :
-        (before : List ℕ) (size : ℕ) (after : List ℕ) → Wrote before 0 (cardText (take (n * 3) concepts') (take (m * 2) inclusions')) size after
+        (before : List ℕ) (size : ℕ) (after : List ℕ) → Wrote before 0 (card_text (take (n * 3) concepts') (take (m * 2) inclusions')) size after
         → Output (Carded text) before size after
     carded before size after w =
-        output (Carded text) before _ size after w (subst (λ (z : Step). CardedBy z (cardText (take (n * 3) concepts') (take (m * 2) inclusions'))) (sym accepted.goes) same-card)
+        output (Carded text) before _ size after w (subst (λ (z : Step). CardedBy z (card_text (take (n * 3) concepts') (take (m * 2) inclusions'))) (sym accepted.goes) same-card)
 
   -- ---- a refusal
   module _ (r : Refusal) (e : read ≡ Rejected r) where
@@ -125,12 +125,12 @@ module _
     unfolding told
     refused = by reading refl (reads-by (Rejected r) e)
       where
-        by : (step : Step) → reading ≡ step → ReadsBy step concepts concepts' inclusions inclusions' (catalogueReply (Rejected r)) → reading ≡ stop r
+        by : (step : Step) → reading ≡ step → ReadsBy step concepts concepts' inclusions inclusions' (catalogue_reply (Rejected r)) → reading ≡ stop r
         by (go s) f put = not_done r 0 (ap told put.told)
         by (stop q) f kept = f ∙ ap stop (sym (same-refusal r q (ap told kept.told)))
 
     pub carded-refused :
-        (code : Code) → code ≡ code_of r → (before : List ℕ) (size : ℕ) (after : List ℕ) → Wrote before 0 (refusedText code) size after
+        (code : Code) → code ≡ code_of r → (before : List ℕ) (size : ℕ) (after : List ℕ) → Wrote before 0 (refused_text code) size after
         → Output (Carded text) before size after
     carded-refused code same before size after w =
-        output (Carded text) before _ size after w (subst (λ (z : Step). CardedBy z (refusedText code)) (sym refused) (ap refusedText same))
+        output (Carded text) before _ size after w (subst (λ (z : Step). CardedBy z (refused_text code)) (sym refused) (ap refused_text same))

@@ -2,7 +2,6 @@
 ghost use Rattle.std.specs.Prelude.{◌≤◌, length};
 ghost use Rattle.numerals.specs.Printing.{Output};
 ghost use Rattle.hermitcasket_owl.specs.Card.{Carded};
-ghost use Rattle.subsumption.specs.Lent.{before, after};
 
 use crate::card::put_card;
 use numerals::helpers::put_refused;
@@ -12,7 +11,7 @@ use subsumption::refusal::code_of;
 // The whole program, from the text's bytes to the output's.
 pub fn answer(text: &[u8], out: &mut [u8]) -> usize
     requires { 4096 ≤ length out.old }
-    ensures { Output (Carded (before text)) (before out) result (after out) }
+    ensures { Output (Carded text.now) out.old result out.new }
 {
     let mut concepts = [0u16; 576];
     let mut inclusions = [0u16; 192];

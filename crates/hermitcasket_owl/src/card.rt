@@ -1,15 +1,14 @@
 // A card in house text, written to a buffer: each function answers the place behind what it wrote.
 ghost use Rattle.std.specs.Prelude.{◌+◌, ◌≤◌, length};
 ghost use Rattle.numerals.specs.Inner.Printing.{Wrote};
-ghost use Rattle.hermitcasket_owl.specs.Card.{rowsText, pairsText, entriesText, inclusionsText, cardText};
-ghost use Rattle.subsumption.specs.Lent.{before, after};
+ghost use Rattle.hermitcasket_owl.specs.Card.{rows_text, pairs_text, entries_text, inclusions_text, card_text};
 
 use numerals::helpers::{put_line, put_pair, put_row};
 
 // A line for each row of the concept table.
 fn put_rows(concepts: &[u16], at: usize, out: &mut [u8]) -> usize
-    requires { at + length (rowsText concepts.now) ≤ length out.old }
-    ensures { Wrote (before out) at (rowsText (before concepts)) result (after out) }
+    requires { at + length (rows_text concepts.now) ≤ length out.old }
+    ensures { Wrote out.old at (rows_text concepts.now) result out.new }
 {
     let count = concepts.len() / 3;
     let mut end = at;
@@ -26,8 +25,8 @@ fn put_rows(concepts: &[u16], at: usize, out: &mut [u8]) -> usize
 
 // A line for each inclusion.
 fn put_pairs(inclusions: &[u16], at: usize, out: &mut [u8]) -> usize
-    requires { at + length (pairsText inclusions.now) ≤ length out.old }
-    ensures { Wrote (before out) at (pairsText (before inclusions)) result (after out) }
+    requires { at + length (pairs_text inclusions.now) ≤ length out.old }
+    ensures { Wrote out.old at (pairs_text inclusions.now) result out.new }
 {
     let count = inclusions.len() / 2;
     let mut end = at;
@@ -42,24 +41,24 @@ fn put_pairs(inclusions: &[u16], at: usize, out: &mut [u8]) -> usize
 }
 
 fn put_entries(concepts: &[u16], at: usize, out: &mut [u8]) -> usize
-    requires { at + length (entriesText concepts.now) ≤ length out.old }
-    ensures { Wrote (before out) at (entriesText (before concepts)) result (after out) }
+    requires { at + length (entries_text concepts.now) ≤ length out.old }
+    ensures { Wrote out.old at (entries_text concepts.now) result out.new }
 {
     let a = put_line(b"entries=", concepts.len() / 3, at, out);
     put_rows(concepts, a, out)
 }
 
 fn put_inclusions(inclusions: &[u16], at: usize, out: &mut [u8]) -> usize
-    requires { at + length (inclusionsText inclusions.now) ≤ length out.old }
-    ensures { Wrote (before out) at (inclusionsText (before inclusions)) result (after out) }
+    requires { at + length (inclusions_text inclusions.now) ≤ length out.old }
+    ensures { Wrote out.old at (inclusions_text inclusions.now) result out.new }
 {
     let a = put_line(b"inclusions=", inclusions.len() / 2, at, out);
     put_pairs(inclusions, a, out)
 }
 
 pub fn put_card(concepts: &[u16], inclusions: &[u16], out: &mut [u8]) -> usize
-    requires { 0 + length (cardText concepts.now inclusions.now) ≤ length out.old }
-    ensures { Wrote (before out) 0 (cardText (before concepts) (before inclusions)) result (after out) }
+    requires { 0 + length (card_text concepts.now inclusions.now) ≤ length out.old }
+    ensures { Wrote out.old 0 (card_text concepts.now inclusions.now) result out.new }
 {
     let a = put_line(b"blanks=", 0, 0, out);
     let b = put_entries(concepts, a, out);

@@ -10,10 +10,10 @@ use lib.Seq.{get_or-set_same, get_or-set_other}
 use lib.Bits.{bit_or}
 use Rattle.subsumption.specs.Tables.{or}
 use Rattle.subsumption.specs.Atoms.{bit}
-use Rattle.subsumption.specs.Table.{rowStart, marked}
+use Rattle.subsumption.specs.Table.{row_start, marked}
 use Rattle.subsumption.proofs.Bools.{or-first, same_bool, or_cases, eq-or-ne, le-or-lt, last-cases}
 use Rattle.subsumption.proofs.Bits.{bit-or, bit_or_right, bit-shr, bit-mod}
-use Rattle.square.specs.Inner.Square.{onLine, in_row}
+use Rattle.square.specs.Inner.Square.{on_line, in_row}
 use Rattle.square.specs.Inner.Loading.{WordOf}
 use Rattle.incremental.specs.Inner.Bytes.{WordStored, RowStored, Stored}
 
@@ -96,7 +96,7 @@ module _ (square : List ℕ) (i : ℕ) (before : List ℕ) where
   pub stored_more :
       (w at word : ℕ) (mid after : List ℕ) → RowStoredTo square i before w mid → at ≡ i * 24 + w * 8 → word ≡ get_or square (i * 3 + w) 0
       → WordStored word at mid after → RowStoredTo square i before (w + 1) after
-  unfolding marked rowStart onLine
+  unfolding marked row_start on_line
   stored_more w at word mid after T e f S =
       record {
         size = S.size ∙ T.size;
@@ -121,7 +121,7 @@ module _ (square : List ℕ) (i : ℕ) (before : List ℕ) where
           (ap (λ (z : ℕ). bit z (j % 64)) f ∙ ap (λ (z : ℕ). bit (get_or square (i * 3 + z) 0) (j % 64)) c)))
 
   pub stored_row : (after : List ℕ) → RowStoredTo square i before 3 after → RowStored square i before after
-  unfolding rowStart
+  unfolding row_start
   stored_row after T =
       record {
         size = T.size;
@@ -135,14 +135,14 @@ pub record StoredTo (square : List ℕ) (count : ℕ) (before : List ℕ) (n : �
   pub within : n ≤ count
   pub size : length after ≡ length before
   pub bits : (i j : ℕ) → i < n → j < 192 → marked after i j ≡ or (marked before i j) (in_row square i j)
-  pub rest : (p : ℕ) → rowStart n ≤ p → get_or after p 0 ≡ get_or before p 0
+  pub rest : (p : ℕ) → row_start n ≤ p → get_or after p 0 ≡ get_or before p 0
 
 module _ (square : List ℕ) (count : ℕ) (before : List ℕ) where
   pub stored-first : StoredTo square count before 0 before
   stored-first = record { within = omega arith; size = refl; bits = λ i j h. absurd (omega arith); rest = λ p h. refl }
 
   pub stored_next : (n : ℕ) (mid after : List ℕ) → n < count → StoredTo square count before n mid → RowStored square n mid after → StoredTo square count before (n + 1) after
-  unfolding rowStart marked
+  unfolding row_start marked
   stored_next n mid after h T R =
       record {
         within = omega arith;
@@ -160,4 +160,4 @@ module _ (square : List ℕ) (count : ℕ) (before : List ℕ) where
   pub stored-done : (n : ℕ) (after : List ℕ) → count ≤ n → StoredTo square count before n after → Stored square count before after
   stored-done n after h T =
       let e : n ≡ count = omega (arith, T.within) in
-      record { size = T.size; bits = λ i j l. T.bits i j (omega arith); rest = λ p l. T.rest p (subst (λ (z : ℕ). rowStart z ≤ p) (sym e) l) }
+      record { size = T.size; bits = λ i j l. T.bits i j (omega arith); rest = λ p l. T.rest p (subst (λ (z : ℕ). row_start z ≤ p) (sym e) l) }

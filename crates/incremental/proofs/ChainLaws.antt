@@ -7,22 +7,22 @@ use mathlib.Core.Logic.{◌⊎◌, inl, inr, ⊎_elim}
 use native.Mathlib.Omega.{arith}
 use lib.ListN.{length, get_or, set, length-set, replicate, length-replicate, get_or-replicate}
 use lib.Seq.{get_or-set_same, get_or-set_other}
-use Rattle.subsumption.specs.Tables.{pairsOf, left_of}
+use Rattle.subsumption.specs.Tables.{pairs_of, left_of}
 use Rattle.subsumption.proofs.Bools.{eq-or-ne}
 use Rattle.square.specs.Inner.Sets.{Inserted}
-use Rattle.incremental.specs.Inner.Including.{isIn, Pairs, NextPair, ChainTo, Chain, Idle}
+use Rattle.incremental.specs.Inner.Including.{is_in, Pairs, NextPair, ChainTo, Chain, Idle}
 use Rattle.square.proofs.SetLaws.{empty-line}
 
-pub chain-none : (inclusions : List ℕ) → pairsOf inclusions ≤ 96 → ChainTo inclusions (replicate 288 96) (pairsOf inclusions)
+pub chain-none : (inclusions : List ℕ) → pairs_of inclusions ≤ 96 → ChainTo inclusions (replicate 288 96) (pairs_of inclusions)
 chain-none inclusions few =
     record {
       long = length-replicate {A = ℕ} 288 96;
-      first = λ l h. subst (λ (n : ℕ). NextPair inclusions l (pairsOf inclusions) n) (sym (get_or-replicate 288 l 96 0 (omega arith)))
+      first = λ l h. subst (λ (n : ℕ). NextPair inclusions l (pairs_of inclusions) n) (sym (get_or-replicate 288 l 96 0 (omega arith)))
           (record { low = few; none = λ m p q r e. omega arith; found = λ u. absurd (omega arith) });
       next = λ n h l. absurd (omega arith);
     }
 
-module _ (inclusions chain : List ℕ) (m : ℕ) (P : Pairs 192 inclusions) (some : 0 < m) (inside : m ≤ pairsOf inclusions) (C : ChainTo inclusions chain m) where
+module _ (inclusions chain : List ℕ) (m : ℕ) (P : Pairs 192 inclusions) (some : 0 < m) (inside : m ≤ pairs_of inclusions) (C : ChainTo inclusions chain m) where
   abbrev left : ℕ
   left = left_of inclusions (m - 1)
 
@@ -56,7 +56,7 @@ module _ (inclusions chain : List ℕ) (m : ℕ) (P : Pairs 192 inclusions) (som
             found = old.found;
           })
 
-  chain_next : (n : ℕ) → m - 1 ≤ n → n < pairsOf inclusions → NextPair inclusions (left_of inclusions n) (n + 1) (get_or two (192 + n) 0)
+  chain_next : (n : ℕ) → m - 1 ≤ n → n < pairs_of inclusions → NextPair inclusions (left_of inclusions n) (n + 1) (get_or two (192 + n) 0)
   chain_next n h k = ⊎_elim same other (eq-or-ne n (m - 1))
     where
       apart : get_or two (192 + n) 0 ≡ get_or one (192 + n) 0
@@ -89,7 +89,7 @@ idle-none inclusions idle e =
     (record { long = length-replicate {A = ℕ} 3 0; none = λ l m h u p q. empty-line 3 0 l h (omega arith) u })
 
 pub idle-more :
-    (inclusions chain before after : List ℕ) (l : ℕ) → Chain inclusions chain → l < 192 → pairsOf inclusions ≤ get_or chain l 0 → Idle inclusions before
+    (inclusions chain before after : List ℕ) (l : ℕ) → Chain inclusions chain → l < 192 → pairs_of inclusions ≤ get_or chain l 0 → Idle inclusions before
     → Inserted before after 0 l → Idle inclusions after
 idle-more inclusions chain before after l C h over I A =
     record {

@@ -5,7 +5,7 @@ use mathlib.Core.List.{List}
 use mathlib.Core.Bool.{Bool, true, false, ◌||◌}
 use native.Mathlib.Omega.{arith}
 use lib.ListN.{length}
-use Rattle.subsumption.specs.Tables.{existsAt, node, count_of, pairsOf}
+use Rattle.subsumption.specs.Tables.{exists_at, node, count_of, pairs_of}
 use Rattle.subsumption.specs.Roles.{wider}
 use Rattle.subsumption.specs.Inner.Columns.{slack}
 use Rattle.subsumption.specs.Inner.Roles.{in_set, RoleSets}
@@ -23,10 +23,10 @@ use Rattle.incremental.specs.Inner.Closing.{RoundLines, RoundPass, Rounded, Clos
 use Rattle.incremental.proofs.Passes.{pass-as, pass-then, pass-law}
 use Rattle.incremental.proofs.StartLaws.{grown-none, grown-then, grown-law}
 
-pub ready-includable : {concepts inclusions atoms choices : List ℕ} → Ready concepts inclusions atoms choices → pairsOf inclusions ≤ 96 → Pairs (count_of concepts) inclusions
+pub ready-includable : {concepts inclusions atoms choices : List ℕ} → Ready concepts inclusions atoms choices → pairs_of inclusions ≤ 96 → Pairs (count_of concepts) inclusions
 ready-includable R few = record { low = R.few; few = few; left = R.left-known; right = R.right-known }
 
-pub ready-low : {concepts inclusions atoms choices : List ℕ} → Ready concepts inclusions atoms choices → pairsOf inclusions ≤ 96 → Pairs 192 inclusions
+pub ready-low : {concepts inclusions atoms choices : List ℕ} → Ready concepts inclusions atoms choices → pairs_of inclusions ≤ 96 → Pairs 192 inclusions
 ready-low R few =
     record { low = omega arith; few = few; left = λ m h. omega (arith, R.left-known m h, R.few); right = λ m h. omega (arith, R.right-known m h, R.few) }
 

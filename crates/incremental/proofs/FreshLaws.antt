@@ -9,24 +9,24 @@ use lib.ListN.{length, get_or, get_or-eq_default}
 use borrow.Author.Tests.{eqb-true, ltb-true, not-false}
 use Rattle.subsumption.specs.declared.refusal.Outcome.{Outcome}
 use Rattle.subsumption.specs.declared.refusal.Outcome.TheVariants.{Done}
-use Rattle.subsumption.specs.Tables.{Tables, count_of, pairsOf, left_of, rightOf, Concept, top, name, exists, and, var, tree}
+use Rattle.subsumption.specs.Tables.{Tables, count_of, pairs_of, left_of, right_of, Concept, top, name, exists, and, var, tree}
 use Rattle.subsumption.specs.Atoms.{bit, atoms, chosen}
-use Rattle.subsumption.specs.Subsumption.{Interpretation, Reading, Member, Included, noVariables, assigned, Obeys, Subsumed}
+use Rattle.subsumption.specs.Subsumption.{Interpretation, Reading, Member, Included, no_variables, assigned, Obeys, Subsumed}
 use Rattle.subsumption.specs.Refusal.{Reply}
-use Rattle.subsumption.specs.Check.{tableFault, assignmentFault, assignmentFaultAt}
+use Rattle.subsumption.specs.Check.{table_fault, assignment_fault, assignment_fault_at}
 use Rattle.subsumption.specs.Rules.{follows}
-use Rattle.subsumption.specs.Table.{rowStart, marked, TableOf}
+use Rattle.subsumption.specs.Table.{row_start, marked, TableOf}
 use Rattle.subsumption.proofs.Bools.{both_true, same_bool, le-or-lt}
 use Rattle.subsumption.proofs.Bits.{bit-of-zero}
 use Rattle.subsumption.proofs.Refusals.{passed_first, passed-if}
 use Rattle.subsumption.proofs.WellFormed.{WellFormed}
-use Rattle.subsumption.proofs.Accepted.{wellFormed}
+use Rattle.subsumption.proofs.Accepted.{well_formed}
 use Rattle.subsumption.proofs.Chosen.{pick-member}
 use Rattle.subsumption.proofs.RuleSoundness.{follows-sound}
 use Rattle.subsumption.proofs.RuleCompleteness.{follows-complete}
-use Rattle.incremental.specs.Told.{toldAssignment}
-use Rattle.incremental.specs.Update.{ClosedUnder, Holds, ClosureOf, updatingFault, UpdatedBy, Updates}
-use Rattle.incremental.specs.Fresh.{withOthers, PairsAmong, SameChoices, RightBefore, Bytes, SameRows}
+use Rattle.incremental.specs.Told.{told_assignment}
+use Rattle.incremental.specs.Update.{ClosedUnder, Holds, ClosureOf, updating_fault, UpdatedBy, Updates}
+use Rattle.incremental.specs.Fresh.{with_others, PairsAmong, SameChoices, RightBefore, Bytes, SameRows}
 use Rattle.incremental.proofs.ToldLaws.{told-accepted, same_bits}
 
 -- Membership is monotone in how variables are read.
@@ -39,9 +39,9 @@ module _ (I : Interpretation) (ρ ρ' : Reading) (reads : (k x : ℕ) → ρ k x
   member-reads (var k) x h = reads k x h
 
 -- An accepted assignment chooses nothing past the last variable.
-module _ (t : Tables) (α : List ℕ) (A : assignmentFault t α ≡ Done) where
+module _ (t : Tables) (α : List ℕ) (A : assignment_fault t α ≡ Done) where
   assignment-length : length α ≡ t.variables
-  unfolding assignmentFault assignmentFaultAt
+  unfolding assignment_fault assignment_fault_at
   assignment-length = eqb-true _ _ (not-false _ (passed-if _ _ (passed_first _ _ A)))
 
   chosen-past : (k p : ℕ) → t.variables ≤ k → Memᴰ p (chosen t α k) → ⊥
@@ -52,17 +52,17 @@ module _ (t : Tables) (α : List ℕ) (A : assignmentFault t α ≡ Done) where
 
 module _ (t : Tables) (inclusions₀ questions₀ α₀ α : List ℕ) where
   abbrev t₀ : Tables
-  t₀ = withOthers t inclusions₀ questions₀
+  t₀ = with_others t inclusions₀ questions₀
 
   -- What follows from fewer inclusions follows from more.
-  module _ (among : PairsAmong inclusions₀ t.inclusions) (same : SameChoices t₀ α₀ t α) (A₀ : assignmentFault t₀ α₀ ≡ Done) (A : assignmentFault t α ≡ Done) where
+  module _ (among : PairsAmong inclusions₀ t.inclusions) (same : SameChoices t₀ α₀ t α) (A₀ : assignment_fault t₀ α₀ ≡ Done) (A : assignment_fault t α ≡ Done) where
     obeys-fewer : (I : Interpretation) → Obeys t I → Obeys t₀ I
     obeys-fewer I O =
         record {
           inclusions = λ m l.
               let (n, k, e, f) = among m l in
-              subst (λ (z : ℕ). Included I noVariables (tree t.concepts z) (tree t.concepts (rightOf inclusions₀ m))) e
-              (subst (λ (z : ℕ). Included I noVariables (tree t.concepts (left_of t.inclusions n)) (tree t.concepts z)) f (O.inclusions n k));
+              subst (λ (z : ℕ). Included I no_variables (tree t.concepts z) (tree t.concepts (right_of inclusions₀ m))) e
+              (subst (λ (z : ℕ). Included I no_variables (tree t.concepts (left_of t.inclusions n)) (tree t.concepts z)) f (O.inclusions n k));
           roles = O.roles;
         }
 
@@ -77,10 +77,10 @@ module _ (t : Tables) (inclusions₀ questions₀ α₀ α : List ℕ) where
         (member-reads I (assigned t α I) (assigned t₀ α₀ I) (λ k y u p m. u p ((same-choices k p).0 m)) (tree t.concepts i) x h))
 
     -- ---- the tables
-    module _ (passed : tableFault t ≡ Done) (held before after other fresh : List ℕ) (B : TableOf t₀ α₀ held before) (C : ClosureOf t α before after)
+    module _ (passed : table_fault t ≡ Done) (held before after other fresh : List ℕ) (B : TableOf t₀ α₀ held before) (C : ClosureOf t α before after)
         (F : TableOf t α other fresh) where
       wf : WellFormed t
-      wf = wellFormed t passed
+      wf = well_formed t passed
 
       fresh-closed : ClosedUnder t α (marked fresh)
       unfolding follows
@@ -112,7 +112,7 @@ module _ (t : Tables) (inclusions₀ questions₀ α₀ α : List ℕ) where
 
       -- Its rows are those of the fresh one, byte by byte.
       pub fresh-rows : Bytes after → Bytes fresh → SameRows t after fresh
-      unfolding marked rowStart
+      unfolding marked row_start
       fresh-rows a f p l =
           same_bits 8 (get_or after p 0) (get_or fresh p 0) (a p) (f p)
           (λ q h. at p q after h ∙ same-marks (p / 24) (p % 24 * 8 + q) (omega arith) (omega arith) ∙ sym (at p q fresh h))
@@ -127,14 +127,14 @@ module _ (t : Tables) (inclusions₀ questions₀ α₀ α : List ℕ) where
 pub update-fresh :
     (t : Tables) (told inclusions₀ questions₀ assignment₀ held before after other fresh : List ℕ) (reply : Reply)
     → RightBefore t told inclusions₀ questions₀ assignment₀ held before → Updates t told before after reply
-    → updatingFault t told (length before) ≡ Done → TableOf t (toldAssignment t told) other fresh
-    → TableOf t (toldAssignment t told) before after × (Bytes after → Bytes fresh → SameRows t after fresh)
-unfolding updatingFault
+    → updating_fault t told (length before) ≡ Done → TableOf t (told_assignment t told) other fresh
+    → TableOf t (told_assignment t told) before after × (Bytes after → Bytes fresh → SameRows t after fresh)
+unfolding updating_fault
 update-fresh t told inclusions₀ questions₀ assignment₀ held before after other fresh reply B U done F =
-    let passed : tableFault t ≡ Done = passed_first _ _ done in
-    let closure : ClosureOf t (toldAssignment t told) before after = subst (λ (o : Outcome). UpdatedBy o t told before after) done U.updated in (
-      fresh-table t inclusions₀ questions₀ assignment₀ (toldAssignment t told) B.among B.same B.accepted (told-accepted t told) passed held before
+    let passed : table_fault t ≡ Done = passed_first _ _ done in
+    let closure : ClosureOf t (told_assignment t told) before after = subst (λ (o : Outcome). UpdatedBy o t told before after) done U.updated in (
+      fresh-table t inclusions₀ questions₀ assignment₀ (told_assignment t told) B.among B.same B.accepted (told-accepted t told) passed held before
           after other fresh B.right closure F,
-      fresh-rows t inclusions₀ questions₀ assignment₀ (toldAssignment t told) B.among B.same B.accepted (told-accepted t told) passed held before
+      fresh-rows t inclusions₀ questions₀ assignment₀ (told_assignment t told) B.among B.same B.accepted (told-accepted t told) passed held before
           after other fresh B.right closure F,
     )

@@ -6,14 +6,14 @@ use mathlib.Core.Bool.{Bool, true, false, ◌||◌}
 use mathlib.Core.Logic.{◌⊎◌, inl, inr, ⊎_elim}
 use native.Mathlib.Omega.{arith}
 use lib.ListN.{length, get_or}
-use Rattle.subsumption.specs.Tables.{pairsOf, left_of, rightOf}
+use Rattle.subsumption.specs.Tables.{pairs_of, left_of, right_of}
 use Rattle.subsumption.proofs.Bools.{eq-or-ne, le-or-lt}
 use Rattle.square.specs.Inner.Square.{in_row, Square}
 use Rattle.incremental.specs.Inner.Marking.{Adds}
 use Rattle.incremental.specs.Inner.Lines.{Under, IncludeAt, IncludeLines}
 use Rattle.incremental.specs.Inner.Pass.{Within, Pass}
 use Rattle.square.specs.Inner.Sets.{Inserted}
-use Rattle.incremental.specs.Inner.Including.{isIn, Pairs, NextPair, Idle, IncludedBy, Covers, DoneRows, Covering, NextOpen, LeftQuiet, ScanQuiet, IncludePass}
+use Rattle.incremental.specs.Inner.Including.{is_in, Pairs, NextPair, Idle, IncludedBy, Covers, DoneRows, Covering, NextOpen, LeftQuiet, ScanQuiet, IncludePass}
 use Rattle.incremental.proofs.Passes.{pass-none, pass-as, pass-then, pass-seen}
 use Rattle.incremental.proofs.SettlingLaws.{flow-pass}
 
@@ -21,12 +21,12 @@ use Rattle.incremental.proofs.SettlingLaws.{flow-pass}
 module _ (count : ℕ) (inclusions done : List ℕ) (i l : ℕ) (before covered₀ : List ℕ) where
   abbrev pub TakenTo : ℕ → List ℕ → List ℕ → Type 0
   TakenTo m covered s =
-      (DoneRows count inclusions s done → (k : ℕ) → k < m → k < pairsOf inclusions → left_of inclusions k ≡ l → Under count (in_row s) (rightOf inclusions k) i)
+      (DoneRows count inclusions s done → (k : ℕ) → k < m → k < pairs_of inclusions → left_of inclusions k ≡ l → Under count (in_row s) (right_of inclusions k) i)
       × (DoneRows count inclusions s done → Covers count inclusions s i covered₀ → Covers count inclusions s i covered)
 
   pub record LeftTo (m : ℕ) (covered after : List ℕ) (changed : Bool) : Type 0 where
     pub long : length covered ≡ 3
-    pub found : m < pairsOf inclusions → left_of inclusions m ≡ l
+    pub found : m < pairs_of inclusions → left_of inclusions m ≡ l
     pub passed : IncludePass count inclusions (TakenTo m covered) before after changed
 
 -- the left sides of the row, from `from` up to n
@@ -54,7 +54,7 @@ module _ (count : ℕ) (inclusions done : List ℕ) (P : Pairs count inclusions)
   -- ---- what a finished row within the row covers
   covered_more :
       (s : List ℕ) (k : ℕ) (before after : List ℕ) → k < count → DoneRows count inclusions s done
-      → ((y : ℕ) → y < 192 → isIn after y ≡ true → (isIn before y ≡ true) ⊎ ((isIn done k ≡ true) × (in_row s k y ≡ true) × ((j : ℕ) → j < 192 → in_row s k j ≡ true → in_row s i j ≡ true)))
+      → ((y : ℕ) → y < 192 → is_in after y ≡ true → (is_in before y ≡ true) ⊎ ((is_in done k ≡ true) × (in_row s k y ≡ true) × ((j : ℕ) → j < 192 → in_row s k j ≡ true → in_row s i j ≡ true)))
       → Covers count inclusions s i before → Covers count inclusions s i after
   covered_more s k before after h D C old l low u m r e =
       ⊎_elim (λ v. old l low v m r e)
@@ -78,8 +78,8 @@ module _ (count : ℕ) (inclusions done : List ℕ) (P : Pairs count inclusions)
         }
 
     pub left-more :
-        (m n : ℕ) (covered covered' mid after : List ℕ) (a b : Bool) → Left m covered mid a → m < pairsOf inclusions
-        → Adds in_row mid after (λ p q. (p ≡ i) × (in_row mid (rightOf inclusions m) q ≡ true)) b → Covering after done (rightOf inclusions m) i covered covered'
+        (m n : ℕ) (covered covered' mid after : List ℕ) (a b : Bool) → Left m covered mid a → m < pairs_of inclusions
+        → Adds in_row mid after (λ p q. (p ≡ i) × (in_row mid (right_of inclusions m) q ≡ true)) b → Covering after done (right_of inclusions m) i covered covered'
         → NextPair inclusions (left_of inclusions m) (m + 1) n → Left n covered' after (a || b)
     left-more m n covered covered' mid after a b T h A C N =
         record {
@@ -90,24 +90,24 @@ module _ (count : ℕ) (inclusions done : List ℕ) (P : Pairs count inclusions)
       where
         Seen : List ℕ → Type 0
         Seen s =
-            (y : ℕ) → y < 192 → isIn covered' y ≡ true
-            → (isIn covered y ≡ true) ⊎ ((isIn done (rightOf inclusions m) ≡ true) × (in_row s (rightOf inclusions m) y ≡ true) × ((j : ℕ) → j < 192 → in_row s (rightOf inclusions m) j ≡ true → in_row s i j ≡ true))
+            (y : ℕ) → y < 192 → is_in covered' y ≡ true
+            → (is_in covered y ≡ true) ⊎ ((is_in done (right_of inclusions m) ≡ true) × (in_row s (right_of inclusions m) y ≡ true) × ((j : ℕ) → j < 192 → in_row s (right_of inclusions m) j ≡ true → in_row s i j ≡ true))
 
-        step : Pass count (IncludeLines count inclusions) (λ s. Under count (in_row s) (rightOf inclusions m) i) mid after b
+        step : Pass count (IncludeLines count inclusions) (λ s. Under count (in_row s) (right_of inclusions m) i) mid after b
         step =
-            flow-pass (rightOf inclusions m) i P.low (P.right m h) inside
+            flow-pass (right_of inclusions m) i P.low (P.right m h) inside
             (λ R r w. r i inside m h (w i (left_of inclusions m) inside (omega (arith, P.left m h, P.low)) (subst (λ (z : ℕ). in_row mid i z ≡ true) (sym (T.found h)) (T.passed.kept i l (omega (arith, P.low)) (omega (arith, T.found h, P.left m h, P.low)) marked))).1) A
 
-        quiet : Taken m covered before × (Under count (in_row before) (rightOf inclusions m) i × Seen before) → Taken n covered' before
+        quiet : Taken m covered before × (Under count (in_row before) (right_of inclusions m) i × Seen before) → Taken n covered' before
         quiet (t, (u, v)) = (
           (λ D k p q e.
-              ⊎_elim (λ (g : k ≡ m). subst (λ (z : ℕ). Under count (in_row before) (rightOf inclusions z) i) (sym g) u)
+              ⊎_elim (λ (g : k ≡ m). subst (λ (z : ℕ). Under count (in_row before) (right_of inclusions z) i) (sym g) u)
               (λ g. ⊎_elim (λ w. absurd (N.none k (omega (arith, g)) p q (e ∙ sym (T.found h)))) (λ w. t.0 D k w q e) (le-or-lt m k)) (eq-or-ne k m)),
-          (λ D old. covered_more before (rightOf inclusions m) covered covered' (P.right m h) D v (t.1 D old)),
+          (λ D old. covered_more before (right_of inclusions m) covered covered' (P.right m h) D v (t.1 D old)),
         )
 
     pub left-done :
-        (m : ℕ) (covered after : List ℕ) (changed : Bool) → Left m covered after changed → pairsOf inclusions ≤ m
+        (m : ℕ) (covered after : List ℕ) (changed : Bool) → Left m covered after changed → pairs_of inclusions ≤ m
         → IncludePass count inclusions (LeftQuiet count inclusions done i l covered₀ covered) before after changed
     left-done m covered after changed T h =
         pass-as T.passed (λ u. record { included = λ D k q e. u.0 D k (omega arith) q e; covers = u.1 })
@@ -142,7 +142,7 @@ module _ (count : ℕ) (inclusions done : List ℕ) (P : Pairs count inclusions)
         }
       where
         Seen : List ℕ → Type 0
-        Seen s = (y : ℕ) → n + 1 ≤ y → y < next → in_row s i y ≡ true → isIn covered'' y ≡ true
+        Seen s = (y : ℕ) → n + 1 ≤ y → y < next → in_row s i y ≡ true → is_in covered'' y ≡ true
 
         quiet : Scanned n covered before × (LeftQuiet count inclusions done i n covered covered' before × Seen before) → Scanned next covered'' before
         quiet (t, (u, v)) D C =

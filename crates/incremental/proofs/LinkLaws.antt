@@ -8,7 +8,7 @@ use native.Mathlib.Omega.{arith}
 use lib.ListN.{length, get_or, replicate, length-replicate}
 use lib.Bits.{bit_and, bit_or}
 use lib.Count.{count_trailing_zeros}
-use Rattle.subsumption.specs.Tables.{both, existsAt, node, count_of}
+use Rattle.subsumption.specs.Tables.{both, exists_at, node, count_of}
 use Rattle.subsumption.specs.Atoms.{bit}
 use Rattle.subsumption.specs.Inner.Roles.{in_set}
 use Rattle.subsumption.specs.Inner.Links.{Inner}
@@ -16,11 +16,11 @@ use Rattle.subsumption.proofs.Bools.{both_true, both-intro, eq-or-ne, le-or-lt, 
 use Rattle.subsumption.proofs.Bits.{bit-and, bit-or-cases, bit_or_left, bit_or_right}
 use Rattle.subsumption.proofs.Nodes.{node-exists, exists-node}
 use Rattle.subsumption.proofs.Columns.{not-both}
-use Rattle.square.specs.Inner.Square.{onLine, in_row, Square}
-use Rattle.incremental.specs.Inner.Marking.{inHalf, Adds, inThree, Holding}
+use Rattle.square.specs.Inner.Square.{on_line, in_row, Square}
+use Rattle.incremental.specs.Inner.Marking.{in_half, Adds, InThree, Holding}
 use Rattle.incremental.specs.Inner.Lines.{LinkAt, LinkLines}
 use Rattle.square.specs.Inner.Sets.{Inserted}
-use Rattle.incremental.specs.Inner.Including.{isIn}
+use Rattle.incremental.specs.Inner.Including.{is_in}
 use Rattle.incremental.specs.Inner.Pass.{Pass}
 use Rattle.incremental.specs.Inner.Links.{WithInner, WithRole, OuterTo, RolesTo, InnersTo, Existentials, Picked, Joins, ByRole, ByInner, LinkPass}
 use Rattle.square.proofs.BitLaws.{Lowest, lowest, no_bits}
@@ -107,7 +107,7 @@ module _ (concepts : List ℕ) (n : ℕ) where
     abbrev role : ℕ
     role = get_or concepts (n * 3 + 1) 0
 
-    row : node concepts n ≡ existsAt role inner
+    row : node concepts n ≡ exists_at role inner
     row = node-exists concepts n k
 
     same-inner : (x e : ℕ) → e ≡ n → WithInner concepts (n + 1) x e → x ≡ inner
@@ -116,26 +116,26 @@ module _ (concepts : List ℕ) (n : ℕ) where
     same-role : (r e : ℕ) → e ≡ n → WithRole concepts (n + 1) r e → r ≡ role
     same-role r e u w = let q = ap (node concepts) (sym u) ∙ w.row in sym (exists-node concepts n r w.inner q).1
 
-    outer-only : (x e : ℕ) → x < 192 → e < 192 → onLine outer' (x * 3) e ≡ true → WithInner concepts (n + 1) x e
+    outer-only : (x e : ℕ) → x < 192 → e < 192 → on_line outer' (x * 3) e ≡ true → WithInner concepts (n + 1) x e
     outer-only x e h l u = ⊎_elim same other (eq-or-ne x inner)
       where
         same : x ≡ inner → WithInner concepts (n + 1) x e
         same q =
-            ⊎_elim (λ v. more-inner x e (E.outers.only x e h l (subst (λ (z : ℕ). onLine outer (z * 3) e ≡ true) (sym q) v)))
-            (λ (v : e ≡ n). record { before = omega arith; role = role; row = ap (node concepts) v ∙ row ∙ ap (existsAt role) (sym q) })
-            (A.bits e l (subst (λ (z : ℕ). onLine outer' (z * 3) e ≡ true) q u))
+            ⊎_elim (λ v. more-inner x e (E.outers.only x e h l (subst (λ (z : ℕ). on_line outer (z * 3) e ≡ true) (sym q) v)))
+            (λ (v : e ≡ n). record { before = omega arith; role = role; row = ap (node concepts) v ∙ row ∙ ap (exists_at role) (sym q) })
+            (A.bits e l (subst (λ (z : ℕ). on_line outer' (z * 3) e ≡ true) q u))
 
         other : (x ≡ inner → ⊥) → WithInner concepts (n + 1) x e
         other q = more-inner x e (E.outers.only x e h l (sym (A.there (x * 3) e l (apart x inner q)) ∙ u))
 
-    role-only : (r e : ℕ) → r < 128 → e < 192 → onLine roles' (r * 3) e ≡ true → WithRole concepts (n + 1) r e
+    role-only : (r e : ℕ) → r < 128 → e < 192 → on_line roles' (r * 3) e ≡ true → WithRole concepts (n + 1) r e
     role-only r e h l u = ⊎_elim same other (eq-or-ne r role)
       where
         same : r ≡ role → WithRole concepts (n + 1) r e
         same q =
-            ⊎_elim (λ v. more-role r e (E.role.only r e h l (subst (λ (z : ℕ). onLine roles (z * 3) e ≡ true) (sym q) v)))
-            (λ (v : e ≡ n). record { before = omega arith; inner = inner; row = ap (node concepts) v ∙ row ∙ ap (λ (z : ℕ). existsAt z inner) (sym q) })
-            (C.bits e l (subst (λ (z : ℕ). onLine roles' (z * 3) e ≡ true) q u))
+            ⊎_elim (λ v. more-role r e (E.role.only r e h l (subst (λ (z : ℕ). on_line roles (z * 3) e ≡ true) (sym q) v)))
+            (λ (v : e ≡ n). record { before = omega arith; inner = inner; row = ap (node concepts) v ∙ row ∙ ap (λ (z : ℕ). exists_at z inner) (sym q) })
+            (C.bits e l (subst (λ (z : ℕ). on_line roles' (z * 3) e ≡ true) q u))
 
         other : (r ≡ role → ⊥) → WithRole concepts (n + 1) r e
         other q = more-role r e (E.role.only r e h l (sym (C.there (r * 3) e l (apart r role q)) ∙ u))
@@ -150,7 +150,7 @@ module _ (concepts : List ℕ) (n : ℕ) where
                 every =
                     λ x e h l w.
                     ⊎_elim
-                    (λ (u : e ≡ n). subst (λ (z : ℕ). onLine outer' (z * 3) e ≡ true) (sym (same-inner x e u w)) (subst (λ (z : ℕ). onLine outer' (inner * 3) z ≡ true) (sym u) A.taken))
+                    (λ (u : e ≡ n). subst (λ (z : ℕ). on_line outer' (z * 3) e ≡ true) (sym (same-inner x e u w)) (subst (λ (z : ℕ). on_line outer' (inner * 3) z ≡ true) (sym u) A.taken))
                     (λ v. A.kept (x * 3) e (E.outers.every x e h l v)) (inner-cases x e w);
               };
           inner =
@@ -158,7 +158,7 @@ module _ (concepts : List ℕ) (n : ℕ) where
                 long = B.long ∙ E.inner.long;
                 every =
                     λ x e h w.
-                    ⊎_elim (λ (u : e ≡ n). subst (λ (z : ℕ). isIn inners' z ≡ true) (sym (same-inner x e u w)) B.taken)
+                    ⊎_elim (λ (u : e ≡ n). subst (λ (z : ℕ). is_in inners' z ≡ true) (sym (same-inner x e u w)) B.taken)
                     (λ v. B.kept 0 x (E.inner.every x e h v)) (inner-cases x e w);
               };
           role =
@@ -168,7 +168,7 @@ module _ (concepts : List ℕ) (n : ℕ) where
                 every =
                     λ r e h l w.
                     ⊎_elim
-                    (λ (u : e ≡ n). subst (λ (z : ℕ). onLine roles' (z * 3) e ≡ true) (sym (same-role r e u w)) (subst (λ (z : ℕ). onLine roles' (role * 3) z ≡ true) (sym u) C.taken))
+                    (λ (u : e ≡ n). subst (λ (z : ℕ). on_line roles' (z * 3) e ≡ true) (sym (same-role r e u w)) (subst (λ (z : ℕ). on_line roles' (role * 3) z ≡ true) (sym u) C.taken))
                     (λ v. C.kept (r * 3) e (E.role.every r e h l v)) (role-cases r e w);
               };
         }
@@ -181,9 +181,9 @@ existentials-all concepts outer inners roles n h l E = subst (λ (z : ℕ). Exis
 -- ---- the union of the lines that a word picks
 or-three :
     (sets : List ℕ) (at first second third e : ℕ) → e < 192
-    → (inThree (bit_or first (get_or sets at 0)) (bit_or second (get_or sets (at + 1) 0)) (bit_or third (get_or sets (at + 2) 0)) e → inThree first second third e ⊎ (onLine sets at e ≡ true))
-    × (inThree first second third e ⊎ (onLine sets at e ≡ true) → inThree (bit_or first (get_or sets at 0)) (bit_or second (get_or sets (at + 1) 0)) (bit_or third (get_or sets (at + 2) 0)) e)
-unfolding onLine
+    → (InThree (bit_or first (get_or sets at 0)) (bit_or second (get_or sets (at + 1) 0)) (bit_or third (get_or sets (at + 2) 0)) e → InThree first second third e ⊎ (on_line sets at e ≡ true))
+    × (InThree first second third e ⊎ (on_line sets at e ≡ true) → InThree (bit_or first (get_or sets at 0)) (bit_or second (get_or sets (at + 1) 0)) (bit_or third (get_or sets (at + 2) 0)) e)
+unfolding on_line
 or-three sets at first second third e l = go (e / 64) (omega arith)
   where
     go :
@@ -213,12 +213,12 @@ pub record PickedOut (sets : List ℕ) (from word rest e : ℕ) : Type 0 where
 pub record Joining (sets : List ℕ) (from word : ℕ) (before : ℕ → Type 0) (rest first second third : ℕ) : Type 0 where
   pub small : rest < 2 ^ 64
   pub inside : (b : ℕ) → bit rest b ≡ true → bit word b ≡ true
-  pub only : (e : ℕ) → e < 192 → inThree first second third e → before e ⊎ Picked sets from word e
-  pub every : (e : ℕ) → e < 192 → before e ⊎ PickedOut sets from word rest e → inThree first second third e
+  pub only : (e : ℕ) → e < 192 → InThree first second third e → before e ⊎ Picked sets from word e
+  pub every : (e : ℕ) → e < 192 → before e ⊎ PickedOut sets from word rest e → InThree first second third e
 
 module _ (sets : List ℕ) (from word first₀ second₀ third₀ : ℕ) where
   abbrev start : ℕ → Type 0
-  start = inThree first₀ second₀ third₀
+  start = InThree first₀ second₀ third₀
 
   pub joining-first : word < 2 ^ 64 → Joining sets from word start word first₀ second₀ third₀
   joining-first h =
@@ -255,26 +255,26 @@ module _ (sets : List ℕ) (from word first₀ second₀ third₀ : ℕ) where
         still : (c : ℕ) → bit (bit_and rest (rest - 1)) c ≡ true → bit rest c ≡ true
         still c u = ⊎_elim (λ (e : c ≡ count_trailing_zeros 64 rest). not-both _ u (ap (bit (bit_and rest (rest - 1))) e ∙ next.gone)) (λ n. sym (next.others c n) ∙ u) (eq-or-ne c (count_trailing_zeros 64 rest))
 
-        come : (e : ℕ) → e < 192 → start e ⊎ PickedOut sets from word (bit_and rest (rest - 1)) e → inThree first second third e ⊎ (onLine sets ((from + count_trailing_zeros 64 rest) * 3) e ≡ true)
+        come : (e : ℕ) → e < 192 → start e ⊎ PickedOut sets from word (bit_and rest (rest - 1)) e → InThree first second third e ⊎ (on_line sets ((from + count_trailing_zeros 64 rest) * 3) e ≡ true)
         come e l (inl u) = inl (J.every e l (inl u))
         come e l (inr v) =
-            ⊎_elim (λ (q : v.picked.place ≡ count_trailing_zeros 64 rest). inr (subst (λ (z : ℕ). onLine sets ((from + z) * 3) e ≡ true) q v.picked.has))
+            ⊎_elim (λ (q : v.picked.place ≡ count_trailing_zeros 64 rest). inr (subst (λ (z : ℕ). on_line sets ((from + z) * 3) e ≡ true) q v.picked.has))
             (λ n. inl (J.every e l (inr (record { picked = v.picked; gone = sym (next.others _ n) ∙ v.gone }))))
             (eq-or-ne v.picked.place (count_trailing_zeros 64 rest))
 
-  pub joining-done : (rest first second third : ℕ) → Joining sets from word start rest first second third → rest ≡ 0 → Joins sets from word start (inThree first second third)
+  pub joining-done : (rest first second third : ℕ) → Joining sets from word start rest first second third → rest ≡ 0 → Joins sets from word start (InThree first second third)
   joining-done rest first second third J e =
       record {
         only = J.only;
         every = λ i l u. J.every i l (⊎_elim (λ v. inl v) (λ v. inr (record { picked = v; gone = ap (λ (z : ℕ). bit z v.place) e ∙ no_bits v.place })) u);
       }
 
-nothing-in : (e : ℕ) → e < 192 → inThree 0 0 0 e → ⊥
+nothing-in : (e : ℕ) → e < 192 → InThree 0 0 0 e → ⊥
 nothing-in e l u = empty-line 3 0 e l (omega arith) u
 
 -- ---- by role, by inner id
 module _ (into roles : List ℕ) (s : ℕ) (some all : ℕ → Type 0)
-    (A : Joins roles 0 (get_or into (s * 2) 0) (inThree 0 0 0) some) (B : Joins roles 64 (get_or into (s * 2 + 1) 0) some all) where
+    (A : Joins roles 0 (get_or into (s * 2) 0) (InThree 0 0 0) some) (B : Joins roles 64 (get_or into (s * 2 + 1) 0) some all) where
   pub by-role : ByRole into roles s all
   unfolding in_set
   by-role = record { only = only; every = every }
@@ -291,13 +291,13 @@ module _ (into roles : List ℕ) (s : ℕ) (some all : ℕ → Type 0)
           let b : p ≡ (64 + p) % 64 = omega arith in
           subst (λ (z : ℕ). bit (get_or into z 0) ((64 + p) % 64) ≡ true) a (subst (λ (z : ℕ). bit (get_or into (s * 2 + 1) 0) z ≡ true) b u)
 
-      only : (e : ℕ) → e < 192 → all e → (r : ℕ) × (r < 128) × (in_set into r s ≡ true) × (onLine roles (r * 3) e ≡ true)
+      only : (e : ℕ) → e < 192 → all e → (r : ℕ) × (r < 128) × (in_set into r s ≡ true) × (on_line roles (r * 3) e ≡ true)
       only e l u =
           ⊎_elim
           (λ v. ⊎_elim (λ w. absurd (nothing-in e l w)) (λ w. (0 + w.place, omega (arith, w.low), at_low w.place w.low w.chosen, w.has)) (A.only e l v))
           (λ w. (64 + w.place, omega (arith, w.low), at_high w.place w.low w.chosen, w.has)) (B.only e l u)
 
-      every : (e r : ℕ) → e < 192 → r < 128 → in_set into r s ≡ true → onLine roles (r * 3) e ≡ true → all e
+      every : (e r : ℕ) → e < 192 → r < 128 → in_set into r s ≡ true → on_line roles (r * 3) e ≡ true → all e
       every e r l k u v = ⊎_elim high low (le-or-lt 64 r)
         where
           low : r < 64 → all e
@@ -311,7 +311,7 @@ module _ (into roles : List ℕ) (s : ℕ) (some all : ℕ → Type 0)
                 place = r;
                 low = h;
                 chosen = subst (λ (z : ℕ). bit (get_or into (s * 2) 0) z ≡ true) b (subst (λ (z : ℕ). bit (get_or into z 0) (r % 64) ≡ true) a u);
-                has = subst (λ (z : ℕ). onLine roles (z * 3) e ≡ true) c v;
+                has = subst (λ (z : ℕ). on_line roles (z * 3) e ≡ true) c v;
               }))))
 
           high : 64 ≤ r → all e
@@ -324,16 +324,16 @@ module _ (into roles : List ℕ) (s : ℕ) (some all : ℕ → Type 0)
                 place = r - 64;
                 low = omega arith;
                 chosen = subst (λ (z : ℕ). bit (get_or into (s * 2 + 1) 0) z ≡ true) b (subst (λ (z : ℕ). bit (get_or into z 0) (r % 64) ≡ true) a u);
-                has = subst (λ (z : ℕ). onLine roles (z * 3) e ≡ true) c v;
+                has = subst (λ (z : ℕ). on_line roles (z * 3) e ≡ true) c v;
               }))
 
 module _ (square outer inners : List ℕ) (y : ℕ) (S : Square square) (low : y < 192) (one two all : ℕ → Type 0)
-    (A : Joins outer 0 (bit_and (get_or square (576 + y * 3) 0) (get_or inners 0 0)) (inThree 0 0 0) one)
+    (A : Joins outer 0 (bit_and (get_or square (576 + y * 3) 0) (get_or inners 0 0)) (InThree 0 0 0) one)
     (B : Joins outer 64 (bit_and (get_or square (576 + y * 3 + 1) 0) (get_or inners 1 0)) one two)
     (C : Joins outer 128 (bit_and (get_or square (576 + y * 3 + 2) 0) (get_or inners 2 0)) two all) where
   -- the x-th bit of the column and of the set, in the word w
   in-column : (w p x : ℕ) → w < 3 → p < 64 → x ≡ w * 64 + p → bit (bit_and (get_or square (576 + y * 3 + w) 0) (get_or inners w 0)) p ≡ true → in_row square x y ≡ true
-  unfolding onLine
+  unfolding on_line
   in-column w p x h l e u =
       let a : w ≡ x / 64 = omega arith in
       let b : p ≡ x % 64 = omega arith in
@@ -341,8 +341,8 @@ module _ (square outer inners : List ℕ) (y : ℕ) (S : Square square) (low : y
       ∙ subst (λ (z : ℕ). bit (get_or square (576 + y * 3 + z) 0) (x % 64) ≡ true) a
       (subst (λ (z : ℕ). bit (get_or square (576 + y * 3 + w) 0) z ≡ true) b (both_true _ _ (sym (bit-and (get_or square (576 + y * 3 + w) 0) (get_or inners w 0) p) ∙ u)).0)
 
-  from-column : (w x : ℕ) → w < 3 → x / 64 ≡ w → x < 192 → in_row square x y ≡ true → isIn inners x ≡ true → bit (bit_and (get_or square (576 + y * 3 + w) 0) (get_or inners w 0)) (x % 64) ≡ true
-  unfolding onLine
+  from-column : (w x : ℕ) → w < 3 → x / 64 ≡ w → x < 192 → in_row square x y ≡ true → is_in inners x ≡ true → bit (bit_and (get_or square (576 + y * 3 + w) 0) (get_or inners w 0)) (x % 64) ≡ true
+  unfolding on_line
   from-column w x h e l u v =
       let a : 0 + x / 64 ≡ w = omega arith in
       bit-and (get_or square (576 + y * 3 + w) 0) (get_or inners w 0) (x % 64)
@@ -355,7 +355,7 @@ module _ (square outer inners : List ℕ) (y : ℕ) (S : Square square) (low : y
       zeroth : 576 + y * 3 ≡ 576 + y * 3 + 0
       zeroth = omega arith
 
-      only : (e : ℕ) → e < 192 → all e → (x : ℕ) × (x < 192) × (in_row square x y ≡ true) × (onLine outer (x * 3) e ≡ true)
+      only : (e : ℕ) → e < 192 → all e → (x : ℕ) × (x < 192) × (in_row square x y ≡ true) × (on_line outer (x * 3) e ≡ true)
       only e l u =
           ⊎_elim
           (λ v.
@@ -366,7 +366,7 @@ module _ (square outer inners : List ℕ) (y : ℕ) (S : Square square) (low : y
           (λ x. (64 + x.place, omega (arith, x.low), in-column 1 x.place _ (omega arith) x.low (omega arith) x.chosen, x.has)) (B.only e l v))
           (λ x. (128 + x.place, omega (arith, x.low), in-column 2 x.place _ (omega arith) x.low (omega arith) x.chosen, x.has)) (C.only e l u)
 
-      every : (e x : ℕ) → e < 192 → x < 192 → in_row square x y ≡ true → isIn inners x ≡ true → onLine outer (x * 3) e ≡ true → all e
+      every : (e x : ℕ) → e < 192 → x < 192 → in_row square x y ≡ true → is_in inners x ≡ true → on_line outer (x * 3) e ≡ true → all e
       every e x l k u v w = go (x / 64) refl (omega arith)
         where
           go : (q : ℕ) → x / 64 ≡ q → q < 3 → all e
@@ -377,22 +377,22 @@ module _ (square outer inners : List ℕ) (y : ℕ) (S : Square square) (low : y
                 place = x % 64;
                 low = omega arith;
                 chosen = subst (λ (z : ℕ). bit (bit_and (get_or square z 0) (get_or inners 0 0)) (x % 64) ≡ true) (sym zeroth) (from-column 0 x (omega arith) a k u v);
-                has = subst (λ (z : ℕ). onLine outer (z * 3) e ≡ true) b w;
+                has = subst (λ (z : ℕ). on_line outer (z * 3) e ≡ true) b w;
               }))))))
           go (suc zero) a h =
               let b : x ≡ 64 + x % 64 = omega arith in
               C.every e l (inl (B.every e l
-              (inr (record { place = x % 64; low = omega arith; chosen = from-column 1 x (omega arith) a k u v; has = subst (λ (z : ℕ). onLine outer (z * 3) e ≡ true) b w }))))
+              (inr (record { place = x % 64; low = omega arith; chosen = from-column 1 x (omega arith) a k u v; has = subst (λ (z : ℕ). on_line outer (z * 3) e ≡ true) b w }))))
           go (suc (suc zero)) a h =
               let b : x ≡ 128 + x % 64 = omega arith in
               C.every e l
-              (inr (record { place = x % 64; low = omega arith; chosen = from-column 2 x (omega arith) a k u v; has = subst (λ (z : ℕ). onLine outer (z * 3) e ≡ true) b w }))
+              (inr (record { place = x % 64; low = omega arith; chosen = from-column 2 x (omega arith) a k u v; has = subst (λ (z : ℕ). on_line outer (z * 3) e ≡ true) b w }))
           go (suc (suc (suc q))) a h = absurd (omega arith)
 
 -- ---- what comes below an existential
 and-three :
-    (a b c d f g e : ℕ) → e < 192 → (inThree (bit_and a d) (bit_and b f) (bit_and c g) e → inThree a b c e × inThree d f g e) × (inThree a b c e × inThree d f g e → inThree (bit_and a d) (bit_and b f) (bit_and c g) e)
-unfolding onLine
+    (a b c d f g e : ℕ) → e < 192 → (InThree (bit_and a d) (bit_and b f) (bit_and c g) e → InThree a b c e × InThree d f g e) × (InThree a b c e × InThree d f g e → InThree (bit_and a d) (bit_and b f) (bit_and c g) e)
+unfolding on_line
 and-three a b c d f g e l = go (e / 64) (omega arith)
   where
     one :
@@ -418,12 +418,12 @@ module _ (concepts into outer inners roles : List ℕ) (I : Inner concepts) (E :
   abbrev y : ℕ
   y = get_or concepts (f * 3 + 2) 0
 
-  row-f : node concepts f ≡ existsAt s y
+  row-f : node concepts f ≡ exists_at s y
   row-f = node-exists concepts f k
 
-  module _ (first second third : ℕ) (R : ByRole into roles s (inThree first second third)) where
+  module _ (first second third : ℕ) (R : ByRole into roles s (InThree first second third)) where
     -- an existential whose role counts is in the set
-    in-kind : (e r x : ℕ) → e < count_of concepts → node concepts e ≡ existsAt r x → in_set into r s ≡ true → inThree first second third e
+    in-kind : (e r x : ℕ) → e < count_of concepts → node concepts e ≡ exists_at r x → in_set into r s ≡ true → InThree first second third e
     in-kind e r x l n u =
         let low = I.low e r x n in
         R.every e r (omega (arith, I.few)) (omega arith) u (E.role.every r e (omega arith) (omega (arith, I.few)) (record { before = l; inner = x; row = n }))
@@ -437,18 +437,18 @@ module _ (concepts into outer inners roles : List ℕ) (I : Inner concepts) (E :
         ∙ h q e (omega (arith, I.few)) (in-kind e r x l n (subst (λ (z : ℕ). in_set into r z ≡ true) (sym same.1) u)))
 
     pub link-some :
-        (a b c : ℕ) (after : List ℕ) (changed : Bool) → ByInner square outer inners y (inThree a b c)
-        → Adds (inHalf 576) square after (λ p q. (p ≡ f) × inThree (bit_and first a) (bit_and second b) (bit_and third c) q) changed
+        (a b c : ℕ) (after : List ℕ) (changed : Bool) → ByInner square outer inners y (InThree a b c)
+        → Adds (in_half 576) square after (λ p q. (p ≡ f) × InThree (bit_and first a) (bit_and second b) (bit_and third c) q) changed
         → LinkPass concepts (in_set into) f square after changed
     link-some a b c after changed B A = step-pass I.few (adds-columns S A) right done
       where
-        row_of : (i r x s z : ℕ) → node concepts i ≡ existsAt r x → node concepts i ≡ existsAt s z → node concepts i ≡ existsAt s x
-        row_of i r x s z e f = f ∙ ap (existsAt s) (sym (exists-node concepts i s z f).2 ∙ (exists-node concepts i r x e).2)
+        row_of : (i r x s z : ℕ) → node concepts i ≡ exists_at r x → node concepts i ≡ exists_at s z → node concepts i ≡ exists_at s x
+        row_of i r x s z e f = f ∙ ap (exists_at s) (sym (exists-node concepts i s z f).2 ∙ (exists-node concepts i r x e).2)
 
         right :
             (Q : ℕ → ℕ → Bool) → LinkLines concepts (in_set into) Q
             → ((i j : ℕ) → i < count_of concepts → j < 192 → in_row square i j ≡ true → (j < count_of concepts) × (Q i j ≡ true))
-            → (i j : ℕ) → i < count_of concepts → j < 192 → (j ≡ f) × inThree (bit_and first a) (bit_and second b) (bit_and third c) i → (j < count_of concepts) × (Q i j ≡ true)
+            → (i j : ℕ) → i < count_of concepts → j < 192 → (j ≡ f) × InThree (bit_and first a) (bit_and second b) (bit_and third c) i → (j < count_of concepts) × (Q i j ≡ true)
         right Q law w i j l m (e, u) =
             let (v, o) = (and-three first second third a b c i (omega (arith, I.few))).0 u in
             let (r, rl, rs, ron) = R.only i (omega (arith, I.few)) v in
@@ -461,7 +461,7 @@ module _ (concepts into outer inners roles : List ℕ) (I : Inner concepts) (E :
             (omega (arith, e), subst (λ (z : ℕ). Q i z ≡ true) (sym e) (law f inside i r s x y l row-i row-f rs below.1))
 
         done :
-            ((i j : ℕ) → i < 192 → j < 192 → (j ≡ f) × inThree (bit_and first a) (bit_and second b) (bit_and third c) i → in_row square i j ≡ true)
+            ((i j : ℕ) → i < 192 → j < 192 → (j ≡ f) × InThree (bit_and first a) (bit_and second b) (bit_and third c) i → in_row square i j ≡ true)
             → LinkAt concepts (in_set into) (in_row square) f
         done g e r s' x y' l n m u v =
             let same = exists-node concepts f s' y' m in

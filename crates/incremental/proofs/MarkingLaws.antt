@@ -15,8 +15,8 @@ use Rattle.subsumption.proofs.Bools.{both_true, both-intro, same_bool, eq-or-ne}
 use Rattle.subsumption.proofs.Bits.{bit-or-cases, bit_or_left, bit_or_right, bit-pow, bit-pow-other}
 use Rattle.subsumption.proofs.Columns.{any-true, any_false, not-both, falls}
 use Rattle.subsumption.proofs.MarkLaws.{shifted}
-use Rattle.square.specs.Inner.Square.{onLine, in_row, Square}
-use Rattle.incremental.specs.Inner.Marking.{inHalf, Base, Adds, in_word, inThree, Holding}
+use Rattle.square.specs.Inner.Square.{on_line, in_row, Square}
+use Rattle.incremental.specs.Inner.Marking.{in_half, Base, Adds, InWord, InThree, Holding}
 use Rattle.square.proofs.BitLaws.{lacking, Lowest, lowest, no_bits}
 use Rattle.square.proofs.SetLaws.{line-three, both-three}
 
@@ -32,14 +32,14 @@ other_way : (h g : ℕ) → Apart h g → Apart g h
 other_way h g (inl u) = inr (u.1, u.0)
 other_way h g (inr u) = inl (u.1, u.0)
 
-line_at : (s : List ℕ) (a b y : ℕ) → a ≡ b → onLine s a y ≡ onLine s b y
-line_at s a b y e = ap (λ (z : ℕ). onLine s z y) e
+line_at : (s : List ℕ) (a b y : ℕ) → a ≡ b → on_line s a y ≡ on_line s b y
+line_at s a b y e = ap (λ (z : ℕ). on_line s z y) e
 
-mirrored : (h g : ℕ) → Apart h g → (s : List ℕ) → Square s → (p q : ℕ) → p < 192 → q < 192 → inHalf h s p q ≡ inHalf g s q p
+mirrored : (h g : ℕ) → Apart h g → (s : List ℕ) → Square s → (p q : ℕ) → p < 192 → q < 192 → in_half h s p q ≡ in_half g s q p
 mirrored h g (inl (e, f)) s S p q l k = line_at s _ _ q (omega arith) ∙ S.mirror p q l k ∙ line_at s _ _ p (omega arith)
 mirrored h g (inr (e, f)) s S p q l k = line_at s _ _ q (omega arith) ∙ sym (S.mirror q p k l) ∙ line_at s _ _ p (omega arith)
 
-square-of : (h g : ℕ) → Apart h g → (s : List ℕ) → length s ≡ 1152 → ((p q : ℕ) → p < 192 → q < 192 → inHalf h s p q ≡ inHalf g s q p) → Square s
+square-of : (h g : ℕ) → Apart h g → (s : List ℕ) → length s ≡ 1152 → ((p q : ℕ) → p < 192 → q < 192 → in_half h s p q ≡ in_half g s q p) → Square s
 square-of h g (inl (e, f)) s n m =
     record { long = n; mirror = λ i j l k. line_at s _ _ j (omega arith) ∙ m i j l k ∙ line_at s _ _ i (omega arith) }
 square-of h g (inr (e, f)) s n m =
@@ -54,8 +54,8 @@ module _ (before after : List ℕ) (h x y : ℕ) (changed : Bool) (lx : x < 192)
   same_place : (p q : ℕ) → q < 192 → h + p * 3 + q / 64 ≡ h + x * 3 + y / 64 → (p ≡ x) × (q / 64 ≡ y / 64)
   same_place p q l e = (omega arith, omega arith)
 
-  one_kept : (p q : ℕ) → inHalf h before p q ≡ true → inHalf h after p q ≡ true
-  unfolding onLine
+  one_kept : (p q : ℕ) → in_half h before p q ≡ true → in_half h after p q ≡ true
+  unfolding on_line
   one_kept p q u = ⊎_elim same else (eq-or-ne (h + p * 3 + q / 64) (h + x * 3 + y / 64))
     where
       same : h + p * 3 + q / 64 ≡ h + x * 3 + y / 64 → bit (get_or after (h + p * 3 + q / 64) 0) (q % 64) ≡ true
@@ -66,8 +66,8 @@ module _ (before after : List ℕ) (h x y : ℕ) (changed : Bool) (lx : x < 192)
       else : (h + p * 3 + q / 64 ≡ h + x * 3 + y / 64 → ⊥) → bit (get_or after (h + p * 3 + q / 64) 0) (q % 64) ≡ true
       else n = ap (λ (w : ℕ). bit w (q % 64)) (A.there _ n) ∙ u
 
-  one-bits : (p q : ℕ) → q < 192 → inHalf h after p q ≡ true → (inHalf h before p q ≡ true) ⊎ ((p ≡ x) × (q ≡ y))
-  unfolding onLine
+  one-bits : (p q : ℕ) → q < 192 → in_half h after p q ≡ true → (in_half h before p q ≡ true) ⊎ ((p ≡ x) × (q ≡ y))
+  unfolding on_line
   one-bits p q l u = ⊎_elim same else (eq-or-ne (h + p * 3 + q / 64) (h + x * 3 + y / 64))
     where
       same : h + p * 3 + q / 64 ≡ h + x * 3 + y / 64 → (bit (get_or before (h + p * 3 + q / 64) 0) (q % 64) ≡ true) ⊎ ((p ≡ x) × (q ≡ y))
@@ -81,12 +81,12 @@ module _ (before after : List ℕ) (h x y : ℕ) (changed : Bool) (lx : x < 192)
       else : (h + p * 3 + q / 64 ≡ h + x * 3 + y / 64 → ⊥) → (bit (get_or before (h + p * 3 + q / 64) 0) (q % 64) ≡ true) ⊎ ((p ≡ x) × (q ≡ y))
       else n = inl (ap (λ (w : ℕ). bit w (q % 64)) (sym (A.there _ n)) ∙ u)
 
-  one-taken : inHalf h after x y ≡ true
-  unfolding onLine
+  one-taken : in_half h after x y ≡ true
+  unfolding on_line
   one-taken = ap (λ (w : ℕ). bit w (y % 64)) one_word ∙ bit_or_right (get_or before (h + x * 3 + y / 64) 0) (2 ^ (y % 64)) (y % 64) (bit-pow (y % 64))
 
-  one-other : (g : ℕ) → Apart h g → (p q : ℕ) → p < 192 → q < 192 → inHalf g after p q ≡ inHalf g before p q
-  unfolding onLine
+  one-other : (g : ℕ) → Apart h g → (p q : ℕ) → p < 192 → q < 192 → in_half g after p q ≡ in_half g before p q
+  unfolding on_line
   one-other g (inl u) p q l k = ap (λ (w : ℕ). bit w (q % 64)) (A.there _ (λ e. omega arith))
   one-other g (inr u) p q l k = ap (λ (w : ℕ). bit w (q % 64)) (A.there _ (λ e. omega arith))
 
@@ -94,48 +94,48 @@ module _ (before after : List ℕ) (h x y : ℕ) (changed : Bool) (lx : x < 192)
 module _ (before one after : List ℕ) (base x y : ℕ) (a b : Bool) (at : Base base) (lx : x < 192) (ly : y < 192) (S : Square before)
     (A : Absorbs before one (base + x * 3 + y / 64) (1 * 2 ^ (y % 64) % 18446744073709551616) a)
     (B : Absorbs one after (576 - base + y * 3 + x / 64) (1 * 2 ^ (x % 64) % 18446744073709551616) b) where
-  mark-kept : (p q : ℕ) → p < 192 → q < 192 → inHalf base before p q ≡ true → inHalf base after p q ≡ true
+  mark-kept : (p q : ℕ) → p < 192 → q < 192 → in_half base before p q ≡ true → in_half base after p q ≡ true
   mark-kept p q l k u =
       one-other one after (576 - base) y x b ly lx B base (other_way _ _ (apart base at)) p q l k ∙ one_kept before one base x y a lx ly A p q u
 
-  mark-bits : (p q : ℕ) → p < 192 → q < 192 → inHalf base after p q ≡ true → (inHalf base before p q ≡ true) ⊎ ((p ≡ x) × (q ≡ y))
+  mark-bits : (p q : ℕ) → p < 192 → q < 192 → in_half base after p q ≡ true → (in_half base before p q ≡ true) ⊎ ((p ≡ x) × (q ≡ y))
   mark-bits p q l k u =
       one-bits before one base x y a lx ly A p q k (sym (one-other one after (576 - base) y x b ly lx B base (other_way _ _ (apart base at)) p q l k) ∙ u)
 
-  mark-taken : inHalf base after x y ≡ true
+  mark-taken : in_half base after x y ≡ true
   mark-taken = one-other one after (576 - base) y x b ly lx B base (other_way _ _ (apart base at)) x y lx ly ∙ one-taken before one base x y a lx ly A
 
   -- the other half
-  turned-kept : (p q : ℕ) → p < 192 → q < 192 → inHalf (576 - base) before p q ≡ true → inHalf (576 - base) after p q ≡ true
+  turned-kept : (p q : ℕ) → p < 192 → q < 192 → in_half (576 - base) before p q ≡ true → in_half (576 - base) after p q ≡ true
   turned-kept p q l k u = one_kept one after (576 - base) y x b ly lx B p q (one-other before one base x y a lx ly A (576 - base) (apart base at) p q l k ∙ u)
 
-  turned-bits : (p q : ℕ) → p < 192 → q < 192 → inHalf (576 - base) after p q ≡ true → (inHalf (576 - base) before p q ≡ true) ⊎ ((p ≡ y) × (q ≡ x))
+  turned-bits : (p q : ℕ) → p < 192 → q < 192 → in_half (576 - base) after p q ≡ true → (in_half (576 - base) before p q ≡ true) ⊎ ((p ≡ y) × (q ≡ x))
   turned-bits p q l k u =
       ⊎_elim (λ v. inl (sym (one-other before one base x y a lx ly A (576 - base) (apart base at) p q l k) ∙ v)) (λ v. inr v)
       (one-bits one after (576 - base) y x b ly lx B p q k u)
 
-  turned_taken : inHalf (576 - base) after y x ≡ true
+  turned_taken : in_half (576 - base) after y x ≡ true
   turned_taken = one-taken one after (576 - base) y x b ly lx B
 
-  mark-mirror : (p q : ℕ) → p < 192 → q < 192 → inHalf base after p q ≡ inHalf (576 - base) after q p
+  mark-mirror : (p q : ℕ) → p < 192 → q < 192 → in_half base after p q ≡ in_half (576 - base) after q p
   mark-mirror p q l k =
       same_bool _ _
       (λ u.
       ⊎_elim (λ v. turned-kept q p k l (sym (mirrored base (576 - base) (apart base at) before S p q l k) ∙ v))
-      (λ v. subst (λ (z : ℕ). inHalf (576 - base) after z p ≡ true) (sym v.1) (subst (λ (z : ℕ). inHalf (576 - base) after y z ≡ true) (sym v.0) turned_taken))
+      (λ v. subst (λ (z : ℕ). in_half (576 - base) after z p ≡ true) (sym v.1) (subst (λ (z : ℕ). in_half (576 - base) after y z ≡ true) (sym v.0) turned_taken))
       (mark-bits p q l k u))
       (λ u.
       ⊎_elim (λ v. mark-kept p q l k (mirrored base (576 - base) (apart base at) before S p q l k ∙ v))
-      (λ v. subst (λ (z : ℕ). inHalf base after z q ≡ true) (sym v.1) (subst (λ (z : ℕ). inHalf base after x z ≡ true) (sym v.0) mark-taken))
+      (λ v. subst (λ (z : ℕ). in_half base after z q ≡ true) (sym v.1) (subst (λ (z : ℕ). in_half base after x z ≡ true) (sym v.0) mark-taken))
       (turned-bits q p k l u))
 
-  pub marks : Adds (inHalf base) before after (λ p q. (p ≡ x) × (q ≡ y)) (a || b)
+  pub marks : Adds (in_half base) before after (λ p q. (p ≡ x) × (q ≡ y)) (a || b)
   marks =
       record {
         square = square-of base (576 - base) (apart base at) after (B.long ∙ A.long ∙ S.long) mark-mirror;
         kept = mark-kept;
         bits = mark-bits;
-        taken = λ p q l k u. subst (λ (z : ℕ). inHalf base after z q ≡ true) (sym u.0) (subst (λ (z : ℕ). inHalf base after x z ≡ true) (sym u.1) mark-taken);
+        taken = λ p q l k u. subst (λ (z : ℕ). in_half base after z q ≡ true) (sym u.0) (subst (λ (z : ℕ). in_half base after x z ≡ true) (sym u.1) mark-taken);
         same = λ e. let f : (a ≡ false) × (b ≡ false) = any_false a b e in B.quiet f.1 ∙ A.quiet f.0;
         less =
             λ e.
@@ -193,13 +193,13 @@ module _ {read : List ℕ → ℕ → ℕ → Bool} where
 pub record Taking (base x k add : ℕ) (before : List ℕ) (rest : ℕ) (after : List ℕ) (changed : Bool) : Type 0 where
   pub small : rest < 2 ^ 64
   pub inside : (b : ℕ) → bit rest b ≡ true → bit add b ≡ true
-  pub adds : Adds (inHalf base) before after (λ p q. (p ≡ x) × in_word k add q × (bit rest (q % 64) ≡ false)) changed
+  pub adds : Adds (in_half base) before after (λ p q. (p ≡ x) × InWord k add q × (bit rest (q % 64) ≡ false)) changed
 
 module _ (base x k add : ℕ) (before : List ℕ) where
   pub taking-first :
       Square before → bit_xor (bit_or (get_or before (base + x * 3 + k) 0) add) (get_or before (base + x * 3 + k) 0) < 2 ^ 64
       → Taking base x k add before (bit_xor (bit_or (get_or before (base + x * 3 + k) 0) add) (get_or before (base + x * 3 + k) 0)) before false
-  unfolding onLine both
+  unfolding on_line both
   taking-first S small =
       record {
         small = small;
@@ -212,9 +212,9 @@ module _ (base x k add : ℕ) (before : List ℕ) where
       was true false e f = sym f
       was false o e f = not-both true refl (sym e)
 
-      there : (p q : ℕ) → (p ≡ x) × in_word k add q × (bit (bit_xor (bit_or (get_or before (base + x * 3 + k) 0) add) (get_or before (base + x * 3 + k) 0)) (q % 64) ≡ false) → inHalf base before p q ≡ true
+      there : (p q : ℕ) → (p ≡ x) × InWord k add q × (bit (bit_xor (bit_or (get_or before (base + x * 3 + k) 0) add) (get_or before (base + x * 3 + k) 0)) (q % 64) ≡ false) → in_half base before p q ≡ true
       there p q (e, (f, g), h) =
-          subst (λ (z : ℕ). onLine before (base + z * 3) q ≡ true) (sym e)
+          subst (λ (z : ℕ). on_line before (base + z * 3) q ≡ true) (sym e)
           (subst (λ (z : ℕ). bit (get_or before (base + x * 3 + z) 0) (q % 64) ≡ true) (sym f)
           (was (bit add (q % 64)) _ g (sym (lacking (get_or before (base + x * 3 + k) 0) add (q % 64)) ∙ h)))
 
@@ -226,7 +226,7 @@ module _ (base x k add : ℕ) (before : List ℕ) where
     taking-low = omega (arith, next.low)
 
     pub taking-more :
-        bit_and rest (rest - 1) < 2 ^ 64 → Adds (inHalf base) mid after (λ p q. (p ≡ x) × (q ≡ k * 64 + count_trailing_zeros 64 rest)) b
+        bit_and rest (rest - 1) < 2 ^ 64 → Adds (in_half base) mid after (λ p q. (p ≡ x) × (q ≡ k * 64 + count_trailing_zeros 64 rest)) b
         → Taking base x k add before (bit_and rest (rest - 1)) after (a || b)
     taking-more small A =
         record {
@@ -242,8 +242,8 @@ module _ (base x k add : ℕ) (before : List ℕ) where
         at_place q e = (omega (arith, next.low), omega (arith, next.low))
 
         there :
-            (p q : ℕ) → p < 192 → q < 192 → ((p ≡ x) × in_word k add q × (bit rest (q % 64) ≡ false)) ⊎ ((p ≡ x) × (q ≡ k * 64 + count_trailing_zeros 64 rest))
-            → (p ≡ x) × in_word k add q × (bit (bit_and rest (rest - 1)) (q % 64) ≡ false)
+            (p q : ℕ) → p < 192 → q < 192 → ((p ≡ x) × InWord k add q × (bit rest (q % 64) ≡ false)) ⊎ ((p ≡ x) × (q ≡ k * 64 + count_trailing_zeros 64 rest))
+            → (p ≡ x) × InWord k add q × (bit (bit_and rest (rest - 1)) (q % 64) ≡ false)
         there p q l m (inl (e, f, g)) =
             (e, f, ⊎_elim (λ (u : q % 64 ≡ count_trailing_zeros 64 rest). ap (bit (bit_and rest (rest - 1))) u ∙ next.gone) (λ n. next.others (q % 64) n ∙ g) (eq-or-ne (q % 64) (count_trailing_zeros 64 rest)))
         there p q l m (inr (e, f)) =
@@ -251,32 +251,32 @@ module _ (base x k add : ℕ) (before : List ℕ) where
             (e, (u, ap (bit add) v ∙ T.inside _ next.here), ap (bit (bit_and rest (rest - 1))) v ∙ next.gone)
 
         back :
-            (p q : ℕ) → p < 192 → q < 192 → (p ≡ x) × in_word k add q × (bit (bit_and rest (rest - 1)) (q % 64) ≡ false)
-            → (inHalf base before p q ≡ true) ⊎ (((p ≡ x) × in_word k add q × (bit rest (q % 64) ≡ false)) ⊎ ((p ≡ x) × (q ≡ k * 64 + count_trailing_zeros 64 rest)))
+            (p q : ℕ) → p < 192 → q < 192 → (p ≡ x) × InWord k add q × (bit (bit_and rest (rest - 1)) (q % 64) ≡ false)
+            → (in_half base before p q ≡ true) ⊎ (((p ≡ x) × InWord k add q × (bit rest (q % 64) ≡ false)) ⊎ ((p ≡ x) × (q ≡ k * 64 + count_trailing_zeros 64 rest)))
         back p q l m (e, f, g) =
             ⊎_elim (λ (u : q % 64 ≡ count_trailing_zeros 64 rest). inr (inr (e, omega (arith, f.0, u)))) (λ n. inr (inl (e, f, sym (next.others (q % 64) n) ∙ g)))
             (eq-or-ne (q % 64) (count_trailing_zeros 64 rest))
 
   pub taking-done :
       (rest : ℕ) (after : List ℕ) (changed : Bool) → Taking base x k add before rest after changed → rest ≡ 0
-      → Adds (inHalf base) before after (λ p q. (p ≡ x) × in_word k add q) changed
+      → Adds (in_half base) before after (λ p q. (p ≡ x) × InWord k add q) changed
   taking-done rest after changed T e =
       adds-as T.adds (λ p q l m u. (u.0, u.1)) (λ p q l m u. inr (u.0, u.1, ap (λ (z : ℕ). bit z (q % 64)) e ∙ no_bits (q % 64)))
 
 -- ---- three words
 module _ (first second third : ℕ) where
-  word_in : (q : ℕ) → q < 192 → inThree first second third q → (in_word 0 first q ⊎ in_word 1 second q) ⊎ in_word 2 third q
-  unfolding onLine
+  word_in : (q : ℕ) → q < 192 → InThree first second third q → (InWord 0 first q ⊎ InWord 1 second q) ⊎ InWord 2 third q
+  unfolding on_line
   word_in q l u = go (q / 64) refl (omega arith) u
     where
-      go : (w : ℕ) → q / 64 ≡ w → w < 3 → bit (get_or (first ∷ second ∷ third ∷ []) (0 + w) 0) (q % 64) ≡ true → (in_word 0 first q ⊎ in_word 1 second q) ⊎ in_word 2 third q
+      go : (w : ℕ) → q / 64 ≡ w → w < 3 → bit (get_or (first ∷ second ∷ third ∷ []) (0 + w) 0) (q % 64) ≡ true → (InWord 0 first q ⊎ InWord 1 second q) ⊎ InWord 2 third q
       go zero e h v = inl (inl (e, v))
       go (suc zero) e h v = inl (inr (e, v))
       go (suc (suc zero)) e h v = inr (e, v)
       go (suc (suc (suc w))) e h v = absurd (omega arith)
 
-  in-word : (q : ℕ) → (in_word 0 first q ⊎ in_word 1 second q) ⊎ in_word 2 third q → inThree first second third q
-  unfolding onLine
+  in-word : (q : ℕ) → (InWord 0 first q ⊎ InWord 1 second q) ⊎ InWord 2 third q → InThree first second third q
+  unfolding on_line
   in-word q (inl (inl (e, u))) = ap (λ (w : ℕ). bit (get_or (first ∷ second ∷ third ∷ []) (0 + w) 0) (q % 64)) e ∙ u
   in-word q (inl (inr (e, u))) = ap (λ (w : ℕ). bit (get_or (first ∷ second ∷ third ∷ []) (0 + w) 0) (q % 64)) e ∙ u
   in-word q (inr (e, u)) = ap (λ (w : ℕ). bit (get_or (first ∷ second ∷ third ∷ []) (0 + w) 0) (q % 64)) e ∙ u
@@ -287,10 +287,10 @@ has-bits w add b e u = ap (λ (z : ℕ). bit z b) (sym e) ∙ bit_or_right w add
 pub holding :
     (s : List ℕ) (at first second third : ℕ) → bit_or (get_or s at 0) first ≡ get_or s at 0 → bit_or (get_or s (at + 1) 0) second ≡ get_or s (at + 1) 0
     → (b : Bool) → (b ≡ true → bit_or (get_or s (at + 2) 0) third ≡ get_or s (at + 2) 0) → Holding s at first second third b
-unfolding onLine
+unfolding on_line
 holding s at first second third e f b g h y l u = go (word_in first second third y l u)
   where
-    go : (in_word 0 first y ⊎ in_word 1 second y) ⊎ in_word 2 third y → bit (get_or s (at + y / 64) 0) (y % 64) ≡ true
+    go : (InWord 0 first y ⊎ InWord 1 second y) ⊎ InWord 2 third y → bit (get_or s (at + y / 64) 0) (y % 64) ≡ true
     go (inl (inl (p, v))) = subst (λ (z : ℕ). bit (get_or s z 0) (y % 64) ≡ true) (omega arith) (has-bits (get_or s at 0) first (y % 64) e v)
     go (inl (inr (p, v))) = subst (λ (z : ℕ). bit (get_or s (at + z) 0) (y % 64) ≡ true) (sym p) (has-bits (get_or s (at + 1) 0) second (y % 64) f v)
     go (inr (p, v)) = subst (λ (z : ℕ). bit (get_or s (at + z) 0) (y % 64) ≡ true) (sym p) (has-bits (get_or s (at + 2) 0) third (y % 64) (g h) v)
@@ -298,41 +298,41 @@ holding s at first second third e f b g h y l u = go (word_in first second third
 module _ (base x first second third : ℕ) where
   pub take_none :
       (s : List ℕ) (b : Bool) → Square s → Holding s (base + x * 3) first second third b → b ≡ true
-      → Adds (inHalf base) s s (λ p q. (p ≡ x) × inThree first second third q) false
+      → Adds (in_half base) s s (λ p q. (p ≡ x) × InThree first second third q) false
   take_none s b S h e =
-      adds-as (adds_none S) (λ p q l k u. absurd u) (λ p q l k u. inl (subst (λ (z : ℕ). onLine s (base + z * 3) q ≡ true) (sym u.0) (h e q k u.1)))
+      adds-as (adds_none S) (λ p q l k u. absurd u) (λ p q l k u. inl (subst (λ (z : ℕ). on_line s (base + z * 3) q ≡ true) (sym u.0) (h e q k u.1)))
 
   pub take_words :
-      {before one two after : List ℕ} {a b c : Bool} → Adds (inHalf base) before one (λ p q. (p ≡ x) × in_word 0 first q) a
-      → Adds (inHalf base) one two (λ p q. (p ≡ x) × in_word 1 second q) b → Adds (inHalf base) two after (λ p q. (p ≡ x) × in_word 2 third q) c
-      → Adds (inHalf base) before after (λ p q. (p ≡ x) × inThree first second third q) ((a || b) || c)
+      {before one two after : List ℕ} {a b c : Bool} → Adds (in_half base) before one (λ p q. (p ≡ x) × InWord 0 first q) a
+      → Adds (in_half base) one two (λ p q. (p ≡ x) × InWord 1 second q) b → Adds (in_half base) two after (λ p q. (p ≡ x) × InWord 2 third q) c
+      → Adds (in_half base) before after (λ p q. (p ≡ x) × InThree first second third q) ((a || b) || c)
   take_words {before} A B C = adds-as (adds_then (adds_then A B) C) there (back before)
     where
       there :
-          (p q : ℕ) → p < 192 → q < 192 → (((p ≡ x) × in_word 0 first q) ⊎ ((p ≡ x) × in_word 1 second q)) ⊎ ((p ≡ x) × in_word 2 third q)
-          → (p ≡ x) × inThree first second third q
+          (p q : ℕ) → p < 192 → q < 192 → (((p ≡ x) × InWord 0 first q) ⊎ ((p ≡ x) × InWord 1 second q)) ⊎ ((p ≡ x) × InWord 2 third q)
+          → (p ≡ x) × InThree first second third q
       there p q l k (inl (inl (e, u))) = (e, in-word first second third q (inl (inl u)))
       there p q l k (inl (inr (e, u))) = (e, in-word first second third q (inl (inr u)))
       there p q l k (inr (e, u)) = (e, in-word first second third q (inr u))
 
-      split : (p q : ℕ) → p ≡ x → (in_word 0 first q ⊎ in_word 1 second q) ⊎ in_word 2 third q → (((p ≡ x) × in_word 0 first q) ⊎ ((p ≡ x) × in_word 1 second q)) ⊎ ((p ≡ x) × in_word 2 third q)
+      split : (p q : ℕ) → p ≡ x → (InWord 0 first q ⊎ InWord 1 second q) ⊎ InWord 2 third q → (((p ≡ x) × InWord 0 first q) ⊎ ((p ≡ x) × InWord 1 second q)) ⊎ ((p ≡ x) × InWord 2 third q)
       split p q e (inl (inl u)) = inl (inl (e, u))
       split p q e (inl (inr u)) = inl (inr (e, u))
       split p q e (inr u) = inr (e, u)
 
       back :
-          (s : List ℕ) (p q : ℕ) → p < 192 → q < 192 → (p ≡ x) × inThree first second third q
-          → (inHalf base s p q ≡ true) ⊎ ((((p ≡ x) × in_word 0 first q) ⊎ ((p ≡ x) × in_word 1 second q)) ⊎ ((p ≡ x) × in_word 2 third q))
+          (s : List ℕ) (p q : ℕ) → p < 192 → q < 192 → (p ≡ x) × InThree first second third q
+          → (in_half base s p q ≡ true) ⊎ ((((p ≡ x) × InWord 0 first q) ⊎ ((p ≡ x) × InWord 1 second q)) ⊎ ((p ≡ x) × InWord 2 third q))
       back s p q l k (e, u) = inr (split p q e (word_in first second third q k u))
 
 -- ---- rows and columns
-pub row-half : (s : List ℕ) (i j : ℕ) → inHalf 0 s i j ≡ in_row s i j
+pub row-half : (s : List ℕ) (i j : ℕ) → in_half 0 s i j ≡ in_row s i j
 row-half s i j = line_at s _ _ j (omega arith)
 
-pub column-half : (s : List ℕ) (i j : ℕ) → Square s → i < 192 → j < 192 → inHalf 576 s j i ≡ in_row s i j
+pub column-half : (s : List ℕ) (i j : ℕ) → Square s → i < 192 → j < 192 → in_half 576 s j i ≡ in_row s i j
 column-half s i j S l k = sym (S.mirror i j l k)
 
-pub adds-rows : {before after : List ℕ} {N : ℕ → ℕ → Type 0} {changed : Bool} → Adds (inHalf 0) before after N changed → Adds in_row before after N changed
+pub adds-rows : {before after : List ℕ} {N : ℕ → ℕ → Type 0} {changed : Bool} → Adds (in_half 0) before after N changed → Adds in_row before after N changed
 adds-rows {before} {after} A =
     record {
       square = A.square;
@@ -344,7 +344,7 @@ adds-rows {before} {after} A =
     }
 
 pub adds-columns :
-    {before after : List ℕ} {N : ℕ → ℕ → Type 0} {changed : Bool} → Square before → Adds (inHalf 576) before after N changed → Adds in_row before after (λ i j. N j i) changed
+    {before after : List ℕ} {N : ℕ → ℕ → Type 0} {changed : Bool} → Square before → Adds (in_half 576) before after N changed → Adds in_row before after (λ i j. N j i) changed
 adds-columns {before} {after} S A =
     record {
       square = A.square;
@@ -358,7 +358,7 @@ adds-columns {before} {after} S A =
 -- what `flow` and `meet` add
 pub flow-adds :
     {before after : List ℕ} {changed : Bool} (from to : ℕ)
-    → Adds (inHalf 0) before after (λ p q. (p ≡ to) × inThree (get_or before (from * 3) 0) (get_or before (from * 3 + 1) 0) (get_or before (from * 3 + 2) 0) q) changed
+    → Adds (in_half 0) before after (λ p q. (p ≡ to) × InThree (get_or before (from * 3) 0) (get_or before (from * 3 + 1) 0) (get_or before (from * 3 + 2) 0) q) changed
     → Adds in_row before after (λ i j. (i ≡ to) × (in_row before from j ≡ true)) changed
 flow-adds {before} from to A =
     adds-as (adds-rows A) (λ i j l k u. (u.0, sym (line-three before (from * 3) j k) ∙ u.1))
@@ -366,8 +366,8 @@ flow-adds {before} from to A =
 
 pub meet-adds :
     {before after : List ℕ} {changed : Bool} (left right to : ℕ) → left < 192 → right < 192 → Square before
-    → Adds (inHalf 576) before after
-    (λ p q. (p ≡ to) × inThree (bit_and (get_or before (576 + left * 3) 0) (get_or before (576 + right * 3) 0))
+    → Adds (in_half 576) before after
+    (λ p q. (p ≡ to) × InThree (bit_and (get_or before (576 + left * 3) 0) (get_or before (576 + right * 3) 0))
     (bit_and (get_or before (576 + left * 3 + 1) 0) (get_or before (576 + right * 3 + 1) 0)) (bit_and (get_or before (576 + left * 3 + 2) 0) (get_or before (576 + right * 3 + 2) 0)) q) changed
     → Adds in_row before after (λ i j. (j ≡ to) × (in_row before i left ≡ true) × (in_row before i right ≡ true)) changed
 meet-adds {before} left right to ll lr S A =

@@ -5,8 +5,8 @@ use mathlib.Core.List.{List}
 use mathlib.Core.Bool.{Bool, true, false, ◌||◌}
 use native.Mathlib.Omega.{arith}
 use lib.ListN.{length}
-use Rattle.subsumption.specs.Tables.{node, count_of, pairsOf, left_of, rightOf}
-use Rattle.square.specs.Inner.Square.{in_row, inColumn, Square}
+use Rattle.subsumption.specs.Tables.{node, count_of, pairs_of, left_of, right_of}
+use Rattle.square.specs.Inner.Square.{in_row, in_column, Square}
 use Rattle.incremental.specs.Inner.Marking.{Adds}
 use Rattle.incremental.specs.Inner.Lines.{MeetAt, MeetLines, LinkAt, LinkLines, IncludeLines}
 use Rattle.incremental.specs.Inner.Pass.{Within, Pass}
@@ -22,8 +22,8 @@ module _ (count : ℕ) (inclusions : List ℕ) (P : Pairs count inclusions) (j :
   gains-first s S = pass-none S tt
 
   pub gains-more :
-      (m : ℕ) (low : m < pairsOf inclusions) {before mid after : List ℕ} {a b : Bool} → ColumnGains count inclusions before mid a
-      → inColumn mid (rightOf inclusions m) j ≡ true
+      (m : ℕ) (low : m < pairs_of inclusions) {before mid after : List ℕ} {a b : Bool} → ColumnGains count inclusions before mid a
+      → in_column mid (right_of inclusions m) j ≡ true
       → Adds in_row mid after (λ i p. (p ≡ j) × (in_row mid i (left_of inclusions m) ≡ true) × (in_row mid i (left_of inclusions m) ≡ true)) b
       → ColumnGains count inclusions before after (a || b)
   gains-more m low {before} {mid} p h A =
@@ -31,11 +31,11 @@ module _ (count : ℕ) (inclusions : List ℕ) (P : Pairs count inclusions) (j :
       (pass-then {Q = λ s. Unit {0}} {Q' = λ s. Unit {0}} p
       (step-pass P.low A
       (λ R r w i q l k u.
-      let here = p.square.mirror (rightOf inclusions m) j (omega (arith, P.right m low, P.low)) (omega (arith, P.low)) ∙ h in (
+      let here = p.square.mirror (right_of inclusions m) j (omega (arith, P.right m low, P.low)) (omega (arith, P.low)) ∙ h in (
         omega (arith, u.0),
         subst (λ (z : ℕ). R i z ≡ true) (sym u.0)
             (r i l m low (w i (left_of inclusions m) l (omega (arith, P.left m low, P.low)) u.1).1 j inside
-            (w (rightOf inclusions m) j (P.right m low) (omega (arith, P.low)) here).1),
+            (w (right_of inclusions m) j (P.right m low) (omega (arith, P.low)) here).1),
       ))
       (λ f. tt)))
       (λ u. tt)

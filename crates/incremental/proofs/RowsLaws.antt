@@ -13,7 +13,7 @@ use Rattle.incremental.specs.Inner.Lines.{InnerAt, IncludeAt}
 use Rattle.incremental.specs.Inner.Pass.{Pass}
 use Rattle.incremental.specs.Inner.Settling.{InnerPass}
 use Rattle.square.specs.Inner.Sets.{Inserted}
-use Rattle.incremental.specs.Inner.Including.{isIn, DoneRows, IncludePass, Proposed}
+use Rattle.incremental.specs.Inner.Including.{is_in, DoneRows, IncludePass, Proposed}
 use Rattle.incremental.specs.Inner.Rows.{RowLines, RowsPass}
 use Rattle.square.proofs.SetLaws.{empty-line}
 use Rattle.incremental.proofs.Passes.{pass-none, pass-as, pass-then, pass-law}
@@ -27,9 +27,9 @@ module _ (concepts inclusions : List ℕ) (choose : ℕ → List ℕ) where
     pub long : length done ≡ 3
     pub hinted : 0 < count_of concepts → hint < count_of concepts
     pub within : n ≤ count_of concepts * 2
-    pub turned : (k : ℕ) → k + count_of concepts < n → isIn done k ≡ true
+    pub turned : (k : ℕ) → k + count_of concepts < n → is_in done k ≡ true
     pub passed :
-        Pass (count_of concepts) (RowLines concepts inclusions choose) (λ s. (k : ℕ) → k < count_of concepts → isIn done k ≡ true → RowAt s k) before after changed
+        Pass (count_of concepts) (RowLines concepts inclusions choose) (λ s. (k : ℕ) → k < count_of concepts → is_in done k ≡ true → RowAt s k) before after changed
 
   pub rows-first : (s : List ℕ) → count_of concepts ≤ 192 → Square s → RowsTo s 0 (replicate 3 0) 0 s false
   rows-first s few S =
@@ -44,16 +44,16 @@ module _ (concepts inclusions : List ℕ) (choose : ℕ → List ℕ) where
   module _ (before : List ℕ) (n : ℕ) (done : List ℕ) (hint : ℕ) (mid : List ℕ) (a : Bool) (T : RowsTo before n done hint mid a) (inside : n < count_of concepts * 2)
       (i : ℕ) (N : Proposed (count_of concepts) n i) where
     -- the turns past the count of ids go through all ids
-    turned_more : (set : List ℕ) → ((k : ℕ) → isIn done k ≡ true → isIn set k ≡ true) → isIn set i ≡ true → (k : ℕ) → k + count_of concepts < n + 1 → isIn set k ≡ true
+    turned_more : (set : List ℕ) → ((k : ℕ) → is_in done k ≡ true → is_in set k ≡ true) → is_in set i ≡ true → (k : ℕ) → k + count_of concepts < n + 1 → is_in set k ≡ true
     turned_more set more here k h =
         ⊎_elim
-        (λ (e : k + count_of concepts ≡ n). subst (λ (z : ℕ). isIn set z ≡ true) (is k e (N.last (omega arith))) here)
+        (λ (e : k + count_of concepts ≡ n). subst (λ (z : ℕ). is_in set z ≡ true) (is k e (N.last (omega arith))) here)
         (λ v. more k (T.turned k (omega (arith, v)))) (eq-or-ne (k + count_of concepts) n)
       where
         is : (k : ℕ) → k + count_of concepts ≡ n → i ≡ n - count_of concepts → i ≡ k
         is k e f = omega arith
 
-    pub rows-skip : isIn done i ≡ true → RowsTo before (n + 1) done hint mid a
+    pub rows-skip : is_in done i ≡ true → RowsTo before (n + 1) done hint mid a
     rows-skip u =
         record { long = T.long; hinted = T.hinted; within = omega arith; turned = turned_more done (λ k v. v) u; passed = T.passed }
 
@@ -71,9 +71,9 @@ module _ (concepts inclusions : List ℕ) (choose : ℕ → List ℕ) where
         }
       where
         quiet :
-            (((k : ℕ) → k < count_of concepts → isIn done k ≡ true → RowAt before k) × InnerAt (count_of concepts) choose (in_row before) i (node concepts i))
+            (((k : ℕ) → k < count_of concepts → is_in done k ≡ true → RowAt before k) × InnerAt (count_of concepts) choose (in_row before) i (node concepts i))
             × (DoneRows (count_of concepts) inclusions before done → IncludeAt (count_of concepts) inclusions (in_row before) i)
-            → (k : ℕ) → k < count_of concepts → isIn done' k ≡ true → RowAt before k
+            → (k : ℕ) → k < count_of concepts → is_in done' k ≡ true → RowAt before k
         quiet ((t, u), v) k h w =
             ⊎_elim (λ x. t k h x) (λ (e : k ≡ i). subst (λ (z : ℕ). RowAt before z) (sym e) (u, v (λ q l x. (t q l x).1))) (I.bits k (omega arith) w)
 

@@ -15,9 +15,9 @@ use Rattle.subsumption.specs.Atoms.{bit}
 use Rattle.subsumption.proofs.Bools.{both_true, le-or-lt}
 use Rattle.subsumption.proofs.Bits.{bit-or-cases, bit-shr, bit_past}
 use Rattle.subsumption.proofs.Columns.{not-both}
-use Rattle.square.specs.Inner.Square.{onLine, in_row}
-use Rattle.incremental.specs.Inner.Marking.{inThree, Holding}
-use Rattle.incremental.specs.Inner.Including.{isIn, Covering, NextOpen}
+use Rattle.square.specs.Inner.Square.{on_line, in_row}
+use Rattle.incremental.specs.Inner.Marking.{InThree, Holding}
+use Rattle.incremental.specs.Inner.Including.{is_in, Covering, NextOpen}
 use Rattle.square.proofs.BitLaws.{lacking, Lowest, lowest, no_bits}
 use Rattle.square.proofs.SetLaws.{line-three}
 
@@ -46,8 +46,8 @@ module _ (before : List ℕ) (long : length before ≡ 3) (first second third : 
       ∙ ap (λ (z : ℕ). bit_or z third) (get_or-set_other one 1 2 _ 0 (λ e. omega arith) ∙ get_or-set_other before 0 2 _ 0 (λ e. omega arith))
   joined (suc (suc (suc w))) h = absurd (omega arith)
 
-  joined-bits : (y : ℕ) → y < 192 → isIn three y ≡ true → (isIn before y ≡ true) ⊎ inThree first second third y
-  unfolding onLine
+  joined-bits : (y : ℕ) → y < 192 → is_in three y ≡ true → (is_in before y ≡ true) ⊎ InThree first second third y
+  unfolding on_line
   joined-bits y l u =
       bit-or-cases (get_or before (0 + y / 64) 0) (get_or (first ∷ second ∷ third ∷ []) (0 + y / 64) 0) (y % 64)
       (ap (λ (w : ℕ). bit w (y % 64)) (sym (joined (0 + y / 64) (omega arith))) ∙ u)
@@ -57,7 +57,7 @@ module _ (square done : List ℕ) (k i : ℕ) (before : List ℕ) (long : length
   covering-none = record { long = long; bits = λ y l u. inl u }
 
   pub covering :
-      (b : Bool) → isIn done k ≡ true → Holding square (i * 3) (get_or square (k * 3) 0) (get_or square (k * 3 + 1) 0) (get_or square (k * 3 + 2) 0) b → b ≡ true
+      (b : Bool) → is_in done k ≡ true → Holding square (i * 3) (get_or square (k * 3) 0) (get_or square (k * 3 + 1) 0) (get_or square (k * 3 + 2) 0) b → b ≡ true
       → Covering square done k i before (three before long (get_or square (k * 3) 0) (get_or square (k * 3 + 1) 0) (get_or square (k * 3 + 2) 0))
   covering b d h e =
       record {
@@ -71,14 +71,14 @@ module _ (square done : List ℕ) (k i : ℕ) (before : List ℕ) (long : length
 
 -- ---- the next id
 module _ (square covered : List ℕ) (i from : ℕ) where
-  abbrev pub openWord : ℕ → ℕ
-  openWord k = bit_xor (bit_or (get_or covered k 0) (get_or square (i * 3 + k) 0)) (get_or covered k 0)
+  abbrev pub open_word : ℕ → ℕ
+  open_word k = bit_xor (bit_or (get_or covered k 0) (get_or square (i * 3 + k) 0)) (get_or covered k 0)
 
   pub record OpenTo (k low : ℕ) : Type 0 where
     pub short : low < 64
     pub start : from ≤ k * 64 + low
     pub within : k * 64 + low ≤ 192
-    pub none : (y : ℕ) → from ≤ y → y < k * 64 + low → in_row square i y ≡ true → isIn covered y ≡ true
+    pub none : (y : ℕ) → from ≤ y → y < k * 64 + low → in_row square i y ≡ true → is_in covered y ≡ true
 
   pub open-first : from ≤ 192 → OpenTo (from / 64) (from % 64)
   open-first h = record { short = omega arith; start = omega arith; within = omega arith; none = λ y l m u. absurd (omega arith) }
@@ -90,8 +90,8 @@ module _ (square covered : List ℕ) (i from : ℕ) where
   was false o e f = not-both true refl (sym e)
 
   -- an id of the word k at a place where the open word has no one
-  closed_at : (k y : ℕ) → y / 64 ≡ k → bit (openWord k) (y % 64) ≡ false → in_row square i y ≡ true → isIn covered y ≡ true
-  unfolding onLine
+  closed_at : (k y : ℕ) → y / 64 ≡ k → bit (open_word k) (y % 64) ≡ false → in_row square i y ≡ true → is_in covered y ≡ true
+  unfolding on_line
   closed_at k y e f u =
       subst (λ (z : ℕ). bit (get_or covered z 0) (y % 64) ≡ true) whole
       (was (bit (get_or square (i * 3 + k) 0) (y % 64)) _ (subst (λ (z : ℕ). bit (get_or square (i * 3 + z) 0) (y % 64) ≡ true) e u)
@@ -100,10 +100,10 @@ module _ (square covered : List ℕ) (i from : ℕ) where
       whole : k ≡ 0 + y / 64
       whole = omega arith
 
-  at_place : (k low d : ℕ) → bit (openWord k / 2 ^ low) d ≡ bit (openWord k) (low + d)
-  at_place k low d = bit-shr (openWord k) low d
+  at_place : (k low d : ℕ) → bit (open_word k / 2 ^ low) d ≡ bit (open_word k) (low + d)
+  at_place k low d = bit-shr (open_word k) low d
 
-  pub open_more : (k low : ℕ) → OpenTo k low → k < 3 → openWord k / 2 ^ low ≡ 0 → OpenTo (k + 1) 0
+  pub open_more : (k low : ℕ) → OpenTo k low → k < 3 → open_word k / 2 ^ low ≡ 0 → OpenTo (k + 1) 0
   open_more k low O h e =
       record {
         short = omega arith;
@@ -112,28 +112,28 @@ module _ (square covered : List ℕ) (i from : ℕ) where
         none = λ y l m u. ⊎_elim (λ v. past y v m u) (λ v. O.none y l v u) (le-or-lt (k * 64 + low) y);
       }
     where
-      past : (y : ℕ) → k * 64 + low ≤ y → y < (k + 1) * 64 + 0 → in_row square i y ≡ true → isIn covered y ≡ true
+      past : (y : ℕ) → k * 64 + low ≤ y → y < (k + 1) * 64 + 0 → in_row square i y ≡ true → is_in covered y ≡ true
       past y l m u =
           let p : low + (y % 64 - low) ≡ y % 64 = omega (arith, O.short) in
           closed_at k y (omega arith)
-          (ap (bit (openWord k)) (sym p) ∙ sym (at_place k low (y % 64 - low)) ∙ ap (λ (z : ℕ). bit z (y % 64 - low)) e ∙ no_bits (y % 64 - low)) u
+          (ap (bit (open_word k)) (sym p) ∙ sym (at_place k low (y % 64 - low)) ∙ ap (λ (z : ℕ). bit z (y % 64 - low)) e ∙ no_bits (y % 64 - low)) u
 
-  module _ (k low : ℕ) (O : OpenTo k low) (h : k < 3) (some : openWord k / 2 ^ low ≡ 0 → ⊥) (a : get_or covered k 0 < 2 ^ 64) (b : get_or square (i * 3 + k) 0 < 2 ^ 64) where
-    small : openWord k < 2 ^ 64
+  module _ (k low : ℕ) (O : OpenTo k low) (h : k < 3) (some : open_word k / 2 ^ low ≡ 0 → ⊥) (a : get_or covered k 0 < 2 ^ 64) (b : get_or square (i * 3 + k) 0 < 2 ^ 64) where
+    small : open_word k < 2 ^ 64
     small = xor_lt 64 _ _ (or_lt 64 _ _ a b) a
 
-    next : Lowest 64 (openWord k / 2 ^ low) (count_trailing_zeros 64 (openWord k / 2 ^ low)) (bit_and (openWord k / 2 ^ low) (openWord k / 2 ^ low - 1))
-    next = lowest 64 _ (omega arith) (omega (arith, small, shr_le (openWord k) low))
+    next : Lowest 64 (open_word k / 2 ^ low) (count_trailing_zeros 64 (open_word k / 2 ^ low)) (bit_and (open_word k / 2 ^ low) (open_word k / 2 ^ low - 1))
+    next = lowest 64 _ (omega arith) (omega (arith, small, shr_le (open_word k) low))
 
-    is_set : bit (openWord k) (low + count_trailing_zeros 64 (openWord k / 2 ^ low)) ≡ true
+    is_set : bit (open_word k) (low + count_trailing_zeros 64 (open_word k / 2 ^ low)) ≡ true
     is_set = sym (at_place k low _) ∙ next.here
 
-    pub open-low : low + count_trailing_zeros 64 (openWord k / 2 ^ low) < 64
+    pub open-low : low + count_trailing_zeros 64 (open_word k / 2 ^ low) < 64
     open-low =
-        ⊎_elim (λ v. absurd (false≢true (sym (bit_past (openWord k) 64 _ small v) ∙ is_set))) (λ v. v) (le-or-lt 64 (low + count_trailing_zeros 64 (openWord k / 2 ^ low)))
+        ⊎_elim (λ v. absurd (false≢true (sym (bit_past (open_word k) 64 _ small v) ∙ is_set))) (λ v. v) (le-or-lt 64 (low + count_trailing_zeros 64 (open_word k / 2 ^ low)))
 
-    pub open-found : NextOpen square covered i from (k * 64 + low + count_trailing_zeros 64 (openWord k / 2 ^ low))
-    unfolding onLine
+    pub open-found : NextOpen square covered i from (k * 64 + low + count_trailing_zeros 64 (open_word k / 2 ^ low))
+    unfolding on_line
     open-found =
         record {
           low = omega (arith, O.start);
@@ -142,22 +142,22 @@ module _ (square covered : List ℕ) (i from : ℕ) where
           found = λ _. marked;
         }
       where
-        under : (y : ℕ) → k * 64 + low ≤ y → y < k * 64 + low + count_trailing_zeros 64 (openWord k / 2 ^ low) → in_row square i y ≡ true → isIn covered y ≡ true
+        under : (y : ℕ) → k * 64 + low ≤ y → y < k * 64 + low + count_trailing_zeros 64 (open_word k / 2 ^ low) → in_row square i y ≡ true → is_in covered y ≡ true
         under y l m u =
             let g = open-low in
             let p : low + (y % 64 - low) ≡ y % 64 = omega (arith, O.short) in
-            let d : y % 64 - low < count_trailing_zeros 64 (openWord k / 2 ^ low) = omega (arith, O.short) in
+            let d : y % 64 - low < count_trailing_zeros 64 (open_word k / 2 ^ low) = omega (arith, O.short) in
             closed_at k y (omega arith)
-            (ap (bit (openWord k)) (sym p) ∙ sym (at_place k low (y % 64 - low)) ∙ next.under _ d) u
+            (ap (bit (open_word k)) (sym p) ∙ sym (at_place k low (y % 64 - low)) ∙ next.under _ d) u
 
-        marked : bit (get_or square (i * 3 + (k * 64 + low + count_trailing_zeros 64 (openWord k / 2 ^ low)) / 64) 0) ((k * 64 + low + count_trailing_zeros 64 (openWord k / 2 ^ low)) % 64) ≡ true
+        marked : bit (get_or square (i * 3 + (k * 64 + low + count_trailing_zeros 64 (open_word k / 2 ^ low)) / 64) 0) ((k * 64 + low + count_trailing_zeros 64 (open_word k / 2 ^ low)) % 64) ≡ true
         marked =
             let g = open-low in
-            let p : (k * 64 + low + count_trailing_zeros 64 (openWord k / 2 ^ low)) / 64 ≡ k = omega arith in
-            let q : (k * 64 + low + count_trailing_zeros 64 (openWord k / 2 ^ low)) % 64 ≡ low + count_trailing_zeros 64 (openWord k / 2 ^ low) = omega arith in
-            ap (λ (z : ℕ). bit (get_or square (i * 3 + z) 0) ((k * 64 + low + count_trailing_zeros 64 (openWord k / 2 ^ low)) % 64)) p
+            let p : (k * 64 + low + count_trailing_zeros 64 (open_word k / 2 ^ low)) / 64 ≡ k = omega arith in
+            let q : (k * 64 + low + count_trailing_zeros 64 (open_word k / 2 ^ low)) % 64 ≡ low + count_trailing_zeros 64 (open_word k / 2 ^ low) = omega arith in
+            ap (λ (z : ℕ). bit (get_or square (i * 3 + z) 0) ((k * 64 + low + count_trailing_zeros 64 (open_word k / 2 ^ low)) % 64)) p
             ∙ ap (bit (get_or square (i * 3 + k) 0)) q
-            ∙ (both_true _ _ (sym (lacking (get_or covered k 0) (get_or square (i * 3 + k) 0) (low + count_trailing_zeros 64 (openWord k / 2 ^ low))) ∙ is_set)).0
+            ∙ (both_true _ _ (sym (lacking (get_or covered k 0) (get_or square (i * 3 + k) 0) (low + count_trailing_zeros 64 (open_word k / 2 ^ low))) ∙ is_set)).0
 
   pub open_done : (k low : ℕ) → OpenTo k low → 3 ≤ k → NextOpen square covered i from 192
   open_done k low O h =

@@ -7,17 +7,17 @@ use mathlib.Core.Logic.{◌⊎◌, inl, inr, ⊎_elim}
 use native.Mathlib.Omega.{arith}
 use lib.ListN.{length, get_or, take, drop, length-drop}
 use lib.Seq.{get_or-drop, take_all}
-use Rattle.subsumption.specs.Tables.{Node, topAt, name_at, existsAt, andAt, varAt, node, decode, count_of}
+use Rattle.subsumption.specs.Tables.{Node, top_at, name_at, exists_at, and_at, var_at, node, decode, count_of}
 use Rattle.subsumption.specs.Atoms.{bit, pick}
 use Rattle.subsumption.specs.Inner.Tables.{Rising}
 use Rattle.subsumption.specs.Inner.Columns.{Common}
-use Rattle.subsumption.specs.Inner.Settling.{Settleable, chooseFrom}
+use Rattle.subsumption.specs.Inner.Settling.{Settleable, choose_from}
 use Rattle.subsumption.proofs.Bits.{zero_bit}
 use Rattle.subsumption.proofs.Bools.{last-cases}
 use Rattle.subsumption.proofs.Nodes.{node-and, node-var}
 use Rattle.subsumption.proofs.Picks.{ChosenBelow, picked-at, at-picked}
-use Rattle.square.specs.Inner.Square.{onLine, in_row, Square}
-use Rattle.incremental.specs.Inner.Marking.{inHalf, Adds, inThree}
+use Rattle.square.specs.Inner.Square.{on_line, in_row, Square}
+use Rattle.incremental.specs.Inner.Marking.{in_half, Adds, InThree}
 use Rattle.incremental.specs.Inner.Lines.{Under, InnerAt, InnerLines, MeetAt, MeetLines}
 use Rattle.incremental.specs.Inner.Pass.{Within, Pass}
 use Rattle.incremental.specs.Inner.Settling.{ChosenUnder, SpreadPass, InnerPass, MeetPass}
@@ -124,33 +124,33 @@ module _ (atoms : List ℕ) (choice : ℕ) (s : List ℕ) (S : Square s) (known 
   word (suc (suc (suc w))) h = absurd (omega arith)
 
   column-bit : (i p : ℕ) → i < 192 → p < 192 → bit (get_or (take (length s - 576) (drop 576 s)) (p * 3 + i / 64) 0) (i % 64) ≡ in_row s i p
-  unfolding onLine
+  unfolding on_line
   column-bit i p l k =
       ap (λ (z : ℕ). bit z (i % 64)) (part_at s (p * 3 + i / 64) S.long ∙ ap (λ (z : ℕ). get_or s z 0) (omega arith)) ∙ sym (S.mirror i p l k)
 
-  all_have : (i : ℕ) → i < 192 → inThree first second third i → (p : ℕ) → Memᴰ p (pick atoms choice) → in_row s i p ≡ true
-  unfolding onLine
+  all_have : (i : ℕ) → i < 192 → InThree first second third i → (p : ℕ) → Memᴰ p (pick atoms choice) → in_row s i p ≡ true
+  unfolding on_line
   all_have i l u p m =
       let c = at-picked atoms choice p m in
       subst (λ (x : ℕ). in_row s i x ≡ true) c.found
       (sym (column-bit i (get_or atoms c.place 0) l (known c.place c.before))
       ∙ (word (i / 64) (omega arith)).only (i % 64) c.place (omega arith) u c.before c.picked)
 
-  have-all : (i : ℕ) → i < 192 → ((p : ℕ) → Memᴰ p (pick atoms choice) → in_row s i p ≡ true) → inThree first second third i
-  unfolding onLine
+  have-all : (i : ℕ) → i < 192 → ((p : ℕ) → Memᴰ p (pick atoms choice) → in_row s i p ≡ true) → InThree first second third i
+  unfolding on_line
   have-all i l f =
       (word (i / 64) (omega arith)).every (i % 64) (omega arith)
       (λ q k e. column-bit i (get_or atoms q 0) l (known q k) ∙ f (get_or atoms q 0) (picked-at atoms choice q k e))
 
   pub gather-adds :
-      (after : List ℕ) (to : ℕ) (changed : Bool) → Adds (inHalf 576) s after (λ p q. (p ≡ to) × inThree first second third q) changed
+      (after : List ℕ) (to : ℕ) (changed : Bool) → Adds (in_half 576) s after (λ p q. (p ≡ to) × InThree first second third q) changed
       → Adds in_row s after (λ i j. (j ≡ to) × ((p : ℕ) → Memᴰ p (pick atoms choice) → in_row s i p ≡ true)) changed
   gather-adds after to changed T =
       adds-as (adds-columns S T) (λ i j l k u. (u.0, all_have i l u.1)) (λ i j l k u. inr (u.0, have-all i l u.1))
 
 -- ---- a row
 module _ (concepts atoms choices : List ℕ) (R : Settleable concepts atoms choices) where
-  chosen-low : (k p : ℕ) → Memᴰ p (chooseFrom atoms choices k) → p < count_of concepts
+  chosen-low : (k p : ℕ) → Memᴰ p (choose_from atoms choices k) → p < count_of concepts
   chosen-low k p m = let c = at-picked atoms (get_or choices k 0) p m in subst (λ (x : ℕ). x < count_of concepts) c.found (R.atoms-known c.place c.before)
 
   module _ (i : ℕ) (inside : i < count_of concepts) (before after : List ℕ) (changed : Bool) where
@@ -161,52 +161,52 @@ module _ (concepts atoms choices : List ℕ) (R : Settleable concepts atoms choi
         (mid : List ℕ) (a b : Bool) → get_or concepts (i * 3) 0 ≡ 3
         → Adds in_row before mid (λ p q. (p ≡ i) × (in_row before (get_or concepts (i * 3 + 1) 0) q ≡ true)) a
         → Adds in_row mid after (λ p q. (p ≡ i) × (in_row mid (get_or concepts (i * 3 + 2) 0) q ≡ true)) b
-        → InnerPass concepts (chooseFrom atoms choices) i before after (a || b)
+        → InnerPass concepts (choose_from atoms choices) i before after (a || b)
     inner-and mid a b e A B =
         let n = node-and concepts i e in
         let low = rising _ n in
         pass-as
         (pass-then
-        (flow-pass _ i R.few (omega (arith, low.0)) inside (λ Q r w. (subst (λ (x : Node). InnerAt (count_of concepts) (chooseFrom atoms choices) Q i x) n (r i inside)).0) A)
-        (flow-pass _ i R.few (omega (arith, low.1)) inside (λ Q r w. (subst (λ (x : Node). InnerAt (count_of concepts) (chooseFrom atoms choices) Q i x) n (r i inside)).1) B))
-        (λ u. subst (λ (x : Node). InnerAt (count_of concepts) (chooseFrom atoms choices) (in_row before) i x) (sym n) (u.0, u.1))
+        (flow-pass _ i R.few (omega (arith, low.0)) inside (λ Q r w. (subst (λ (x : Node). InnerAt (count_of concepts) (choose_from atoms choices) Q i x) n (r i inside)).0) A)
+        (flow-pass _ i R.few (omega (arith, low.1)) inside (λ Q r w. (subst (λ (x : Node). InnerAt (count_of concepts) (choose_from atoms choices) Q i x) n (r i inside)).1) B))
+        (λ u. subst (λ (x : Node). InnerAt (count_of concepts) (choose_from atoms choices) (in_row before) i x) (sym n) (u.0, u.1))
 
     pub inner-var :
         get_or concepts (i * 3) 0 ≡ 4 → SpreadPass atoms (get_or choices (get_or concepts (i * 3 + 1) 0) 0) i before after changed
-        → InnerPass concepts (chooseFrom atoms choices) i before after changed
+        → InnerPass concepts (choose_from atoms choices) i before after changed
     inner-var e P =
         let n = node-var concepts i e in
         pass-as
-        (pass-law (λ Q r. subst (λ (x : Node). InnerAt (count_of concepts) (chooseFrom atoms choices) Q i x) n (r i inside))
+        (pass-law (λ Q r. subst (λ (x : Node). InnerAt (count_of concepts) (choose_from atoms choices) Q i x) n (r i inside))
         (P (count_of concepts) R.few inside R.atoms-known))
-        (λ u. subst (λ (x : Node). InnerAt (count_of concepts) (chooseFrom atoms choices) (in_row before) i x) (sym n) u)
+        (λ u. subst (λ (x : Node). InnerAt (count_of concepts) (choose_from atoms choices) (in_row before) i x) (sym n) u)
 
     pub meet-and :
         get_or concepts (i * 3) 0 ≡ 3
         → Adds in_row before after (λ p q. (q ≡ i) × (in_row before p (get_or concepts (i * 3 + 1) 0) ≡ true) × (in_row before p (get_or concepts (i * 3 + 2) 0) ≡ true)) changed
-        → MeetPass concepts (chooseFrom atoms choices) i before after changed
+        → MeetPass concepts (choose_from atoms choices) i before after changed
     meet-and e A =
         let n = node-and concepts i e in
         let low = rising _ n in
         pass-as
         (meet-pass _ _ i R.few (omega (arith, low.0)) (omega (arith, low.1)) inside
-        (λ Q r. subst (λ (x : Node). MeetAt (count_of concepts) (chooseFrom atoms choices) Q i x) n (r i inside)) A)
-        (λ u. subst (λ (x : Node). MeetAt (count_of concepts) (chooseFrom atoms choices) (in_row before) i x) (sym n) u)
+        (λ Q r. subst (λ (x : Node). MeetAt (count_of concepts) (choose_from atoms choices) Q i x) n (r i inside)) A)
+        (λ u. subst (λ (x : Node). MeetAt (count_of concepts) (choose_from atoms choices) (in_row before) i x) (sym n) u)
 
     pub meet-var :
         get_or concepts (i * 3) 0 ≡ 4
         → Adds in_row before after (λ p q. (q ≡ i) × ((x : ℕ) → Memᴰ x (pick atoms (get_or choices (get_or concepts (i * 3 + 1) 0) 0)) → in_row before p x ≡ true)) changed
-        → MeetPass concepts (chooseFrom atoms choices) i before after changed
+        → MeetPass concepts (choose_from atoms choices) i before after changed
     meet-var e A =
         let n = node-var concepts i e in
         step-pass R.few A
         (λ Q r w p q l k u. (
           omega (arith, u.0),
           subst (λ (z : ℕ). Q p z ≡ true) (sym u.0)
-              (subst (λ (x : Node). MeetAt (count_of concepts) (chooseFrom atoms choices) Q i x) n (r i inside) p l
+              (subst (λ (x : Node). MeetAt (count_of concepts) (choose_from atoms choices) Q i x) n (r i inside) p l
               (λ x m. (w p x l (omega (arith, chosen-low _ x m, R.few)) (u.1 x m)).1)),
         ))
-        (λ f. subst (λ (x : Node). MeetAt (count_of concepts) (chooseFrom atoms choices) (in_row before) i x) (sym n)
+        (λ f. subst (λ (x : Node). MeetAt (count_of concepts) (choose_from atoms choices) (in_row before) i x) (sym n)
         (λ p l u. f p i (omega (arith, R.few)) (omega (arith, R.few)) (refl, u)))
 
 other_row :

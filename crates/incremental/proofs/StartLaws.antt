@@ -6,14 +6,14 @@ use mathlib.Core.Bool.{Bool, true, false}
 use mathlib.Core.Logic.{◌⊎◌, inl, inr, ⊎_elim}
 use native.Mathlib.Omega.{arith}
 use lib.ListN.{length, get_or, replicate, length-replicate}
-use Rattle.subsumption.specs.Tables.{Node, topAt, name_at, existsAt, andAt, varAt, node, count_of}
+use Rattle.subsumption.specs.Tables.{Node, top_at, name_at, exists_at, and_at, var_at, node, count_of}
 use Rattle.subsumption.specs.Atoms.{bit}
 use Rattle.subsumption.specs.Inner.Names.{Nameable}
 use Rattle.subsumption.proofs.Bools.{eq-or-ne, le-or-lt, last-cases}
 use Rattle.subsumption.proofs.Bits.{bit-ones}
 use Rattle.subsumption.proofs.Nodes.{node-name, node-exists, node-and, node-var, node-other, name-node}
-use Rattle.square.specs.Inner.Square.{onLine, in_row, Square}
-use Rattle.incremental.specs.Inner.Marking.{inHalf, Adds, inThree}
+use Rattle.square.specs.Inner.Square.{on_line, in_row, Square}
+use Rattle.incremental.specs.Inner.Marking.{in_half, Adds, InThree}
 use Rattle.incremental.specs.Inner.Lines.{StartLines}
 use Rattle.square.specs.Inner.Sets.{Inserted}
 use Rattle.incremental.specs.Inner.Pass.{Within}
@@ -49,14 +49,14 @@ module _ (concepts names after : List ℕ) (i : ℕ) (k : get_or concepts (i * 3
   abbrev name : ℕ
   name = get_or concepts (i * 3 + 1) 0
 
-  only-more : (n j : ℕ) → n < 1000 → j < 192 → onLine after (n * 3) j ≡ true → (j < i + 1) × (node concepts j ≡ name_at n)
+  only-more : (n j : ℕ) → n < 1000 → j < 192 → on_line after (n * 3) j ≡ true → (j < i + 1) × (node concepts j ≡ name_at n)
   only-more n j h l u = ⊎_elim same other (eq-or-ne n name)
     where
       same : n ≡ name → (j < i + 1) × (node concepts j ≡ name_at n)
       same e =
-          ⊎_elim (λ v. let w = N.only n j h l (subst (λ (z : ℕ). onLine names (z * 3) j ≡ true) (sym e) v) in (omega (arith, w.0), w.1))
+          ⊎_elim (λ v. let w = N.only n j h l (subst (λ (z : ℕ). on_line names (z * 3) j ≡ true) (sym e) v) in (omega (arith, w.0), w.1))
           (λ (v : j ≡ i). (omega arith, ap (node concepts) v ∙ node-name concepts i k ∙ ap name_at (sym e)))
-          (A.bits j l (subst (λ (z : ℕ). onLine after (z * 3) j ≡ true) e u))
+          (A.bits j l (subst (λ (z : ℕ). on_line after (z * 3) j ≡ true) e u))
 
       other : (n ≡ name → ⊥) → (j < i + 1) × (node concepts j ≡ name_at n)
       other e = let w = N.only n j h l (sym (A.there (n * 3) j l (apart n name e)) ∙ u) in (omega (arith, w.0), w.1)
@@ -70,8 +70,8 @@ module _ (concepts names after : List ℕ) (i : ℕ) (k : get_or concepts (i * 3
             λ n j h l u.
             ⊎_elim
             (λ (e : j ≡ i).
-            subst (λ (z : ℕ). onLine after (z * 3) j ≡ true) (name-node concepts i n (ap (node concepts) (sym e) ∙ u)).1
-            (subst (λ (z : ℕ). onLine after (name * 3) z ≡ true) (sym e) A.taken))
+            subst (λ (z : ℕ). on_line after (z * 3) j ≡ true) (name-node concepts i n (ap (node concepts) (sym e) ∙ u)).1
+            (subst (λ (z : ℕ). on_line after (name * 3) z ≡ true) (sym e) A.taken))
             (λ v. A.kept (n * 3) j (N.every n j h v u)) (last-cases j i (omega arith));
       }
 
@@ -109,8 +109,8 @@ pub grown-law :
 grown-law f A = record { square = A.square; kept = A.kept; sound = λ R r w. A.sound R (f R r) w }
 
 -- ---- one id
-pub all_three : (q : ℕ) → q < 192 → inThree 18446744073709551615 18446744073709551615 18446744073709551615 q
-unfolding onLine
+pub all_three : (q : ℕ) → q < 192 → InThree 18446744073709551615 18446744073709551615 18446744073709551615 q
+unfolding on_line
 all_three q l = go (q / 64) (omega arith)
   where
     go : (w : ℕ) → w < 3 → bit (get_or (18446744073709551615 ∷ 18446744073709551615 ∷ 18446744073709551615 ∷ []) (0 + w) 0) (q % 64) ≡ true
@@ -120,7 +120,7 @@ all_three q l = go (q / 64) (omega arith)
     go (suc (suc (suc w))) h = absurd (omega arith)
 
 module _ (concepts : List ℕ) (N : Nameable concepts) (i : ℕ) (inside : i < count_of concepts) (before one : List ℕ) (a : Bool)
-    (A : Adds (inHalf 0) before one (λ p q. (p ≡ i) × (q ≡ i)) a) where
+    (A : Adds (in_half 0) before one (λ p q. (p ≡ i) × (q ≡ i)) a) where
   own : Grown (count_of concepts) (StartLines concepts) before one
   own =
       grown-by N.few (adds-rows A)
@@ -132,7 +132,7 @@ module _ (concepts : List ℕ) (N : Nameable concepts) (i : ℕ) (inside : i < c
   own-mark : in_row one i i ≡ true
   own-mark = (adds-rows A).taken i i low low (refl, refl)
 
-  pub begun-other : {m : Node} → node concepts i ≡ m → ((n : ℕ) → m ≡ name_at n → ⊥) → (m ≡ topAt → ⊥) → BegunAt concepts before one i
+  pub begun-other : {m : Node} → node concepts i ≡ m → ((n : ℕ) → m ≡ name_at n → ⊥) → (m ≡ top_at → ⊥) → BegunAt concepts before one i
   begun-other e no_name no_top =
       record {
         grown = own;
@@ -141,8 +141,8 @@ module _ (concepts : List ℕ) (N : Nameable concepts) (i : ℕ) (inside : i < c
 
   pub begun-name :
       (names after : List ℕ) (b : Bool) → NamesTo concepts names (count_of concepts) → get_or concepts (i * 3) 0 ≡ 1
-      → Adds (inHalf 0) one after
-      (λ p q. (p ≡ i) × inThree (get_or names (get_or concepts (i * 3 + 1) 0 * 3) 0) (get_or names (get_or concepts (i * 3 + 1) 0 * 3 + 1) 0) (get_or names (get_or concepts (i * 3 + 1) 0 * 3 + 2) 0) q) b
+      → Adds (in_half 0) one after
+      (λ p q. (p ≡ i) × InThree (get_or names (get_or concepts (i * 3 + 1) 0 * 3) 0) (get_or names (get_or concepts (i * 3 + 1) 0 * 3 + 1) 0) (get_or names (get_or concepts (i * 3 + 1) 0 * 3 + 2) 0) q) b
       → BegunAt concepts before after i
   begun-name names after b M k B =
       record {
@@ -167,17 +167,17 @@ module _ (concepts : List ℕ) (N : Nameable concepts) (i : ℕ) (inside : i < c
 
       has-name :
           (j n : ℕ) → j < count_of concepts → node concepts i ≡ name_at n → node concepts j ≡ name_at n
-          → inThree (get_or names (get_or concepts (i * 3 + 1) 0 * 3) 0) (get_or names (get_or concepts (i * 3 + 1) 0 * 3 + 1) 0) (get_or names (get_or concepts (i * 3 + 1) 0 * 3 + 2) 0) j
+          → InThree (get_or names (get_or concepts (i * 3 + 1) 0 * 3) 0) (get_or names (get_or concepts (i * 3 + 1) 0 * 3 + 1) 0) (get_or names (get_or concepts (i * 3 + 1) 0 * 3 + 2) 0) j
       has-name j n h p q =
           line-three names (get_or concepts (i * 3 + 1) 0 * 3) j (omega (arith, N.few))
           ∙ M.every (get_or concepts (i * 3 + 1) 0) j (name-low concepts i N k) h (q ∙ ap name_at (sym (name-node concepts i n p).1))
 
-      no_top : node concepts i ≡ topAt → ⊥
+      no_top : node concepts i ≡ top_at → ⊥
       no_top p = let z : ◌≡◌ {A = ℕ} 0 1 = cc (p, row) in omega arith
 
   pub begun-top :
-      (after : List ℕ) (b : Bool) → node concepts i ≡ topAt
-      → Adds (inHalf 576) one after (λ p q. (p ≡ i) × inThree 18446744073709551615 18446744073709551615 18446744073709551615 q) b → BegunAt concepts before after i
+      (after : List ℕ) (b : Bool) → node concepts i ≡ top_at
+      → Adds (in_half 576) one after (λ p q. (p ≡ i) × InThree 18446744073709551615 18446744073709551615 18446744073709551615 q) b → BegunAt concepts before after i
   begun-top after b row B =
       record {
         grown =
@@ -197,7 +197,7 @@ module _ (concepts : List ℕ) (N : Nameable concepts) (i : ℕ) (inside : i < c
 
 -- kinds 2, 3 and 4 have no line
 module _ (concepts : List ℕ) (N : Nameable concepts) (i : ℕ) (inside : i < count_of concepts) (before one : List ℕ) (a : Bool)
-    (A : Adds (inHalf 0) before one (λ p q. (p ≡ i) × (q ≡ i)) a) where
+    (A : Adds (in_half 0) before one (λ p q. (p ≡ i) × (q ≡ i)) a) where
   pub begun-exists : get_or concepts (i * 3) 0 ≡ 2 → BegunAt concepts before one i
   begun-exists k =
       begun-other concepts N i inside before one a A (node-exists concepts i k) (λ n e. let z : ◌≡◌ {A = ℕ} 0 1 = cc e in omega arith)

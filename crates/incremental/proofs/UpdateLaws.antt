@@ -12,41 +12,41 @@ use Rattle.subsumption.specs.declared.refusal.Refusal.{Refusal}
 use Rattle.subsumption.specs.declared.refusal.Refusal.TheVariants.{BufferTooShort}
 use Rattle.subsumption.specs.declared.refusal.Outcome.{Outcome}
 use Rattle.subsumption.specs.declared.refusal.Outcome.TheVariants.{Done, Refused}
-use Rattle.subsumption.specs.Tables.{Tables, tables, or, both, Node, topAt, name_at, existsAt, andAt, varAt, node, count_of, pairsOf}
+use Rattle.subsumption.specs.Tables.{Tables, tables, or, both, Node, top_at, name_at, exists_at, and_at, var_at, node, count_of, pairs_of}
 use Rattle.subsumption.specs.Atoms.{atoms, pick, chosen}
 use Rattle.subsumption.specs.Roles.{wider}
-use Rattle.subsumption.specs.Refusal.{replyOf, or_else}
-use Rattle.subsumption.specs.Check.{tableFault, bufferFault}
+use Rattle.subsumption.specs.Refusal.{reply_of, or_else}
+use Rattle.subsumption.specs.Check.{table_fault, buffer_fault}
 use Rattle.subsumption.specs.Rules.{follows}
-use Rattle.subsumption.specs.Table.{rowStart, marked}
+use Rattle.subsumption.specs.Table.{row_start, marked}
 use Rattle.subsumption.specs.Inner.Roles.{LowRoles}
-use Rattle.subsumption.specs.Inner.Settling.{chooseFrom}
+use Rattle.subsumption.specs.Inner.Settling.{choose_from}
 use Rattle.subsumption.specs.Inner.Closure.{Ready}
 use Rattle.subsumption.specs.Inner.Listing.{Accepted, Prepared, ForAccepted}
 use Rattle.subsumption.proofs.Bools.{or_cases, or-first, or-second, or-skip, both_true, both-intro, same_bool}
 use Rattle.subsumption.proofs.WellFormed.{WellFormed}
-use Rattle.subsumption.proofs.Accepted.{wellFormed, table-concepts, inclusions-few, roles-low, concepts-named}
+use Rattle.subsumption.proofs.Accepted.{well_formed, table-concepts, inclusions-few, roles-low, concepts-named}
 use Rattle.subsumption.proofs.AtomLaws.{atom-known}
-use Rattle.subsumption.proofs.Chosen.{getD-member, atoms-distinct}
+use Rattle.subsumption.proofs.Chosen.{get_or-member, atoms-distinct}
 use Rattle.subsumption.proofs.Refusals.{stops, goes_on, both-done, refused-lt, done-le, is-done}
 use Rattle.subsumption.proofs.Rules.{Rules, follows-elim, follows-rules}
-use Rattle.incremental.specs.Told.{toldFault, tells, coded, toldAssignment}
-use Rattle.incremental.specs.Update.{updatingFault, ClosedUnder, Holds, ClosureOf, UpdatedBy, Updates}
+use Rattle.incremental.specs.Told.{told_fault, tells, coded, told_assignment}
+use Rattle.incremental.specs.Update.{updating_fault, ClosedUnder, Holds, ClosureOf, UpdatedBy, Updates}
 use Rattle.square.specs.Inner.Square.{in_row}
 use Rattle.incremental.specs.Inner.Lines.{InnerAt, MeetAt, Lines}
 use Rattle.incremental.specs.Inner.Pass.{Within}
 use Rattle.incremental.specs.Inner.Closing.{Closed}
 use Rattle.square.specs.Inner.Loading.{known, Loaded}
 use Rattle.incremental.specs.Inner.Bytes.{Stored}
-use Rattle.incremental.specs.Inner.Told.{toldFaultIn, Readable, ToldChoices}
+use Rattle.incremental.specs.Inner.Told.{told_fault_in, Readable, ToldChoices}
 use Rattle.incremental.proofs.ToldLaws.{told_at, pair-variable, pair-atom}
 
 -- ---- the rules as lines, and back; `choices` has what the assignment has, for the variables
 module _ (t : Tables) (assignment choices : List ℕ) (wf : WellFormed t) (agree : (k : ℕ) → k < t.variables → get_or choices k 0 ≡ get_or assignment k 0) where
   abbrev choose : ℕ → List ℕ
-  choose = chooseFrom (atoms t) choices
+  choose = choose_from (atoms t) choices
 
-  same-choice : (i k : ℕ) → node t.concepts i ≡ varAt k → choose k ≡ chosen t assignment k
+  same-choice : (i k : ℕ) → node t.concepts i ≡ var_at k → choose k ≡ chosen t assignment k
   unfolding chosen
   same-choice i k e = ap (pick (atoms t)) (agree k (wf.numbered i k e))
 
@@ -56,13 +56,13 @@ module _ (t : Tables) (assignment choices : List ℕ) (wf : WellFormed t) (agree
         same = L.start.same;
         named = L.start.named;
         top = L.start.top;
-        first = λ i j a b l k e h. (inner i (andAt a b) l e).0 j k h;
-        second = λ i j a b l k e h. (inner i (andAt a b) l e).1 j k h;
-        meet = λ i j a b l k e h u. met j (andAt a b) k e i l h u;
+        first = λ i j a b l k e h. (inner i (and_at a b) l e).0 j k h;
+        second = λ i j a b l k e h. (inner i (and_at a b) l e).1 j k h;
+        meet = λ i j a b l k e h u. met j (and_at a b) k e i l h u;
         linked = λ i j r s a b l k e f w h. L.link j k i r s a b l e f w h;
         included = λ i j m l k u h v. L.include i l m u h j k v;
-        chooses = λ i j v p l k e m h. inner i (varAt v) l e p (subst (Memᴰ p) (sym (same-choice i v e)) m) j k h;
-        all-chosen = λ i j v l k e f. met j (varAt v) k e i l (λ p m. f p (subst (Memᴰ p) (same-choice j v e) m));
+        chooses = λ i j v p l k e m h. inner i (var_at v) l e p (subst (Memᴰ p) (sym (same-choice i v e)) m) j k h;
+        all-chosen = λ i j v l k e f. met j (var_at v) k e i l (λ p m. f p (subst (Memᴰ p) (same-choice j v e) m));
       }
     where
       inner : (i : ℕ) (m : Node) → i < count_of t.concepts → node t.concepts i ≡ m → InnerAt (count_of t.concepts) choose R i m
@@ -82,23 +82,23 @@ module _ (t : Tables) (assignment choices : List ℕ) (wf : WellFormed t) (agree
       }
     where
       inner : (i : ℕ) → i < count_of t.concepts → (m : Node) → node t.concepts i ≡ m → InnerAt (count_of t.concepts) choose R i m
-      inner i l topAt e = tt
+      inner i l top_at e = tt
       inner i l (name_at n) e = tt
-      inner i l (existsAt s x) e = tt
-      inner i l (andAt a b) e = ((λ j k h. r.first i j a b l k e h), (λ j k h. r.second i j a b l k e h))
-      inner i l (varAt v) e = λ p m j k h. r.chooses i j v p l k e (subst (Memᴰ p) (same-choice i v e) m) h
+      inner i l (exists_at s x) e = tt
+      inner i l (and_at a b) e = ((λ j k h. r.first i j a b l k e h), (λ j k h. r.second i j a b l k e h))
+      inner i l (var_at v) e = λ p m j k h. r.chooses i j v p l k e (subst (Memᴰ p) (same-choice i v e) m) h
 
       met : (j : ℕ) → j < count_of t.concepts → (m : Node) → node t.concepts j ≡ m → MeetAt (count_of t.concepts) choose R j m
-      met j l topAt e = tt
+      met j l top_at e = tt
       met j l (name_at n) e = tt
-      met j l (existsAt s x) e = tt
-      met j l (andAt a b) e = λ i k h u. r.meet i j a b k l e h u
-      met j l (varAt v) e = λ i k f. r.all-chosen i j v k l e (λ p m. f p (subst (Memᴰ p) (sym (same-choice j v e)) m))
+      met j l (exists_at s x) e = tt
+      met j l (and_at a b) e = λ i k h u. r.meet i j a b k l e h u
+      met j l (var_at v) e = λ i k f. r.all-chosen i j v k l e (λ p m. f p (subst (Memᴰ p) (sym (same-choice j v e)) m))
 
 -- ---- the table
 module _ (t : Tables) (assignment choices : List ℕ) (wf : WellFormed t) (agree : (k : ℕ) → k < t.variables → get_or choices k 0 ≡ get_or assignment k 0)
     (before after loaded closed : List ℕ) (L : Loaded (count_of t.concepts) before loaded)
-    (C : Closed t.concepts t.inclusions (wider t.roles) (chooseFrom (atoms t) choices) loaded closed) (S : Stored closed (count_of t.concepts) before after) where
+    (C : Closed t.concepts t.inclusions (wider t.roles) (choose_from (atoms t) choices) loaded closed) (S : Stored closed (count_of t.concepts) before after) where
   few : (i : ℕ) → i < count_of t.concepts → i < 192
   few i l = omega (arith, wf.few)
 
@@ -173,51 +173,51 @@ module _ (t : Tables) (assignment choices : List ℕ) (wf : WellFormed t) (agree
 
 -- ---- the checks
 module _ (t : Tables) (told before : List ℕ) where
-  updates-refused : (r : Refusal) → Refused r ≡ updatingFault t told (length before) → Updates t told before before (replyOf (Refused r))
-  updates-refused r e = record { replied = ap replyOf e; updated = subst (λ (f : Outcome). UpdatedBy f t told before before) e refl }
+  updates-refused : (r : Refusal) → Refused r ≡ updating_fault t told (length before) → Updates t told before before (reply_of (Refused r))
+  updates-refused r e = record { replied = ap reply_of e; updated = subst (λ (f : Outcome). UpdatedBy f t told before before) e refl }
 
-  updates-done : (after : List ℕ) → Done ≡ updatingFault t told (length before) → ClosureOf t (toldAssignment t told) before after → Updates t told before after (replyOf Done)
-  updates-done after e c = record { replied = ap replyOf e; updated = subst (λ (f : Outcome). UpdatedBy f t told before after) e c }
+  updates-done : (after : List ℕ) → Done ≡ updating_fault t told (length before) → ClosureOf t (told_assignment t told) before after → Updates t told before after (reply_of Done)
+  updates-done after e c = record { replied = ap reply_of e; updated = subst (λ (f : Outcome). UpdatedBy f t told before after) e c }
 
-  pub update-refused : (r : Refusal) → Refused r ≡ tableFault t → Updates t told before before (replyOf (Refused r))
-  unfolding updatingFault
+  pub update-refused : (r : Refusal) → Refused r ≡ table_fault t → Updates t told before before (reply_of (Refused r))
+  unfolding updating_fault
   update-refused r e = updates-refused r (stops (Refused r) _ _ r e refl)
 
-module _ (cs is rs : List ℕ) (v : ℕ) (ids told before : List ℕ) (x : Outcome) (ex : x ≡ toldFaultIn ids v told) where
-  told-fault : (qs : List ℕ) → Accepted (tables cs is qs rs v) ids → x ≡ toldFault (tables cs is qs rs v) told
-  unfolding toldFault toldFaultIn
-  told-fault qs a = ex ∙ ap (λ (z : List ℕ). toldFaultIn z v told) a.listed
+module _ (cs is rs : List ℕ) (v : ℕ) (ids told before : List ℕ) (x : Outcome) (ex : x ≡ told_fault_in ids v told) where
+  told-fault : (qs : List ℕ) → Accepted (tables cs is qs rs v) ids → x ≡ told_fault (tables cs is qs rs v) told
+  unfolding told_fault told_fault_in
+  told-fault qs a = ex ∙ ap (λ (z : List ℕ). told_fault_in z v told) a.listed
 
-  pub update-told : (r : Refusal) → x ≡ Refused r → ForAccepted cs is rs v ids (λ t. Updates t told before before (replyOf (Refused r)))
-  unfolding updatingFault
+  pub update-told : (r : Refusal) → x ≡ Refused r → ForAccepted cs is rs v ids (λ t. Updates t told before before (reply_of (Refused r)))
+  unfolding updating_fault
   update-told r h qs a =
       updates-refused (tables cs is qs rs v) told before r (goes_on Done _ _ _ (sym a.passed) refl (stops x _ _ r (told-fault qs a) h))
 
   module _ (hx : x ≡ Done) where
-    pub update-room : length before < count_of cs * 24 → ForAccepted cs is rs v ids (λ t. Updates t told before before (replyOf (Refused (BufferTooShort (count_of cs * 24)))))
-    unfolding updatingFault bufferFault rowStart
+    pub update-room : length before < count_of cs * 24 → ForAccepted cs is rs v ids (λ t. Updates t told before before (reply_of (Refused (BufferTooShort (count_of cs * 24)))))
+    unfolding updating_fault buffer_fault row_start
     update-room h qs a =
         updates-refused (tables cs is qs rs v) told before (BufferTooShort (count_of cs * 24))
         (goes_on Done _ _ _ (sym a.passed) refl (goes_on x _ _ _ (told-fault qs a) hx (refused-lt (length before) (count_of cs * 24) _ h)))
 
     pub update-done :
         (choices loaded closed after : List ℕ) → count_of cs * 24 ≤ length before → ToldChoices ids told choices → Loaded (count_of cs) before loaded
-        → Closed cs is (wider rs) (chooseFrom ids choices) loaded closed → Stored closed (count_of cs) before after
-        → ForAccepted cs is rs v ids (λ t. Updates t told before after (replyOf Done))
-    unfolding updatingFault bufferFault rowStart
+        → Closed cs is (wider rs) (choose_from ids choices) loaded closed → Stored closed (count_of cs) before after
+        → ForAccepted cs is rs v ids (λ t. Updates t told before after (reply_of Done))
+    unfolding updating_fault buffer_fault row_start
     update-done choices loaded closed after room T L C S qs a =
         updates-done t told before after
         (goes_on Done _ _ _ (sym a.passed) refl (goes_on x _ _ _ (told-fault qs a) hx (done-le (length before) (count_of cs * 24) _ room)))
-        (closure-of t (toldAssignment t told) choices wf agree before after loaded closed L
-        (subst (λ (z : List ℕ). Closed cs is (wider rs) (chooseFrom z choices) loaded closed) a.listed C) S)
+        (closure-of t (told_assignment t told) choices wf agree before after loaded closed L
+        (subst (λ (z : List ℕ). Closed cs is (wider rs) (choose_from z choices) loaded closed) a.listed C) S)
       where
         t : Tables
         t = tables cs is qs rs v
 
         wf : WellFormed (tables cs is qs rs v)
-        wf = wellFormed (tables cs is qs rs v) a.passed
+        wf = well_formed (tables cs is qs rs v) a.passed
 
-        agree : (k : ℕ) → k < v → get_or choices k 0 ≡ get_or (toldAssignment (tables cs is qs rs v) told) k 0
+        agree : (k : ℕ) → k < v → get_or choices k 0 ≡ get_or (told_assignment (tables cs is qs rs v) told) k 0
         agree k l =
             T.each k (omega (arith, wf.few-variables)) ∙ ap (λ (z : List ℕ). coded (tells told k) z) a.listed ∙ sym (told_at (tables cs is qs rs v) told k l)
 
@@ -227,21 +227,21 @@ module _ (cs is rs : List ℕ) (v : ℕ) (ids told : List ℕ) (p : Prepared cs 
   t' = tables cs is p.questions rs v
 
   wf' : WellFormed t'
-  wf' = wellFormed t' p.accepted.passed
+  wf' = well_formed t' p.accepted.passed
 
   pub update-few : count_of cs ≤ 192
   update-few = wf'.few
 
-  pub update-pairs : pairsOf is ≤ 96
+  pub update-pairs : pairs_of is ≤ 96
   update-pairs = inclusions-few t' (table-concepts t' p.accepted.passed)
 
   pub update-roles : LowRoles rs
   update-roles = roles-low t' p.accepted.passed
 
-  pub update-readable : (x : Outcome) → x ≡ toldFaultIn ids v told → x ≡ Done → Readable ids told
-  unfolding toldFault toldFaultIn
+  pub update-readable : (x : Outcome) → x ≡ told_fault_in ids v told → x ≡ Done → Readable ids told
+  unfolding told_fault told_fault_in
   update-readable x e h =
-      let passed : toldFault t' told ≡ Done = sym (ap (λ (z : List ℕ). toldFaultIn z v told) p.accepted.listed) ∙ sym e ∙ h in
+      let passed : told_fault t' told ≡ Done = sym (ap (λ (z : List ℕ). told_fault_in z v told) p.accepted.listed) ∙ sym e ∙ h in
       subst (λ (z : List ℕ). Readable z told) (sym p.accepted.listed)
       (record {
         few = wf'.few-atoms;
@@ -264,5 +264,5 @@ module _ (cs is rs : List ℕ) (v : ℕ) (ids told : List ℕ) (p : Prepared cs 
         low-names = concepts-named t' (table-concepts t' p.accepted.passed);
         low-roles = wf'.low-roles;
         few-atoms = wf'.few-atoms;
-        atoms-known = λ q l. atom-known t' (get_or (atoms t') q 0) (getD-member (atoms t') q l);
+        atoms-known = λ q l. atom-known t' (get_or (atoms t') q 0) (get_or-member (atoms t') q l);
       })

@@ -3,15 +3,15 @@ use Rattle.std.specs.Prelude.{ℕ, ◌<◌, ◌≤◌, ◌≡◌, List, Bool, tr
 use Rattle.subsumption.specs.declared.refusal.Outcome.{Outcome}
 use Rattle.subsumption.specs.declared.refusal.Outcome.TheVariants.{Done, Refused}
 use Rattle.subsumption.specs.Tables.{Tables, count_of}
-use Rattle.subsumption.specs.Refusal.{Reply, replyOf, or_else}
-use Rattle.subsumption.specs.Check.{tableFault, bufferFault}
+use Rattle.subsumption.specs.Refusal.{Reply, reply_of, or_else}
+use Rattle.subsumption.specs.Check.{table_fault, buffer_fault}
 use Rattle.subsumption.specs.Rules.{follows}
-use Rattle.subsumption.specs.Table.{rowStart, marked}
-use Rattle.incremental.specs.Told.{toldFault, toldAssignment}
+use Rattle.subsumption.specs.Table.{row_start, marked}
+use Rattle.incremental.specs.Told.{told_fault, told_assignment}
 
 -- The checks 1 to 7, then 9, then 8: the table wants entries × 24 bytes.
-unfoldable pub updatingFault : Tables → List ℕ → ℕ → Outcome
-updatingFault t told size = or_else (tableFault t) (or_else (toldFault t told) (bufferFault (rowStart (count_of t.concepts)) size))
+unfoldable pub updating_fault : Tables → List ℕ → ℕ → Outcome
+updating_fault t told size = or_else (table_fault t) (or_else (told_fault t told) (buffer_fault (row_start (count_of t.concepts)) size))
 
 -- Marks are closed under the rules when every line that follows from them is marked.
 abbrev pub ClosedUnder : Tables → List ℕ → (ℕ → ℕ → Bool) → Type 0
@@ -30,13 +30,13 @@ pub record ClosureOf (t : Tables) (assignment before after : List ℕ) : Type 0 
   pub closed : ClosedUnder t assignment (marked after)
   pub least : (marks : ℕ → ℕ → Bool) → ClosedUnder t assignment marks → Holds t (marked before) marks → Holds t (marked after) marks
   pub past : (i j : ℕ) → i < count_of t.concepts → count_of t.concepts ≤ j → j < 192 → marked after i j ≡ marked before i j
-  pub rest : (p : ℕ) → rowStart (count_of t.concepts) ≤ p → get_or after p 0 ≡ get_or before p 0
+  pub rest : (p : ℕ) → row_start (count_of t.concepts) ≤ p → get_or after p 0 ≡ get_or before p 0
 
 -- A refusal leaves the table as it was.
 abbrev pub UpdatedBy : Outcome → Tables → List ℕ → List ℕ → List ℕ → Type 0
-UpdatedBy Done t told before after = ClosureOf t (toldAssignment t told) before after
+UpdatedBy Done t told before after = ClosureOf t (told_assignment t told) before after
 UpdatedBy (Refused r) t told before after = after ≡ before
 
 pub record Updates (t : Tables) (told before after : List ℕ) (reply : Reply) : Type 0 where
-  pub replied : reply ≡ replyOf (updatingFault t told (length before))
-  pub updated : UpdatedBy (updatingFault t told (length before)) t told before after
+  pub replied : reply ≡ reply_of (updating_fault t told (length before))
+  pub updated : UpdatedBy (updating_fault t told (length before)) t told before after

@@ -1,7 +1,6 @@
 // The marks of the rows are stored by adding them to the bytes of the held table, so that every other bit keeps its value.
 ghost use Rattle.std.specs.Prelude.{◌≡◌, ◌+◌, ◌*◌, ◌<◌, ◌≤◌, length};
 ghost use Rattle.incremental.specs.Inner.Bytes.{WordStored, RowStored, Stored};
-ghost use Rattle.subsumption.specs.Lent.{before, after};
 
 use square::helpers::word_at;
 use subsumption::limits::ROW_BYTES;
@@ -9,7 +8,7 @@ use subsumption::limits::ROW_BYTES;
 // Adds a word's bits to eight bytes.
 fn add_word(word: u64, at: usize, table: &mut [u8])
     requires { at + 8 ≤ length table.old }
-    ensures { WordStored word at (before table) (after table) }
+    ensures { WordStored word at table.old table.new }
 {
     let mut m = 0;
     while m < 8 {
@@ -22,7 +21,7 @@ fn add_word(word: u64, at: usize, table: &mut [u8])
 // The same, and most often there is nothing to add.
 fn store_word(word: u64, at: usize, table: &mut [u8])
     requires { at + 8 ≤ length table.old }
-    ensures { WordStored word at (before table) (after table) }
+    ensures { WordStored word at table.old table.new }
 {
     let old = word_at(table, at);
     if old | word == old {
@@ -34,7 +33,7 @@ fn store_word(word: u64, at: usize, table: &mut [u8])
 fn store_row(square: &[u64], i: usize, table: &mut [u8])
     requires square_len { length square.now ≡ 1152 }
     requires i_bound { (i < 192) × (i * 24 + 24 ≤ length table.old) }
-    ensures { RowStored (before square) i (before table) (after table) }
+    ensures { RowStored square.now i table.old table.new }
 {
     let at = i * ROW_BYTES;
     store_word(square[i * 3], at, table);
@@ -46,7 +45,7 @@ fn store_row(square: &[u64], i: usize, table: &mut [u8])
 pub fn store(square: &[u64], count: usize, table: &mut [u8])
     requires square_len { length square.now ≡ 1152 }
     requires count_bound { (count ≤ 192) × (count * 24 ≤ length table.old) }
-    ensures { Stored (before square) count (before table) (after table) }
+    ensures { Stored square.now count table.old table.new }
 {
     let mut i = 0;
     while i < count {

@@ -1,12 +1,12 @@
 // All the rules, in rounds until one changes nothing. Rules 1 and 2 are taken once.
 ghost use Rattle.std.specs.Prelude.{◌≡◌, ◌≤◌, length};
-ghost use Rattle.subsumption.specs.Lent.{before, after};
-ghost use Rattle.subsumption.specs.Tables.{count_of, pairsOf};
+
+ghost use Rattle.subsumption.specs.Tables.{count_of, pairs_of};
 ghost use Rattle.subsumption.specs.Roles.{wider};
 ghost use Rattle.subsumption.specs.Inner.Roles.{in_set, LowRoles};
-ghost use Rattle.subsumption.specs.Inner.Settling.{chooseFrom};
+ghost use Rattle.subsumption.specs.Inner.Settling.{choose_from};
 ghost use Rattle.subsumption.specs.Inner.Closure.{Ready};
-ghost use Rattle.subsumption.specs.Inner.Sizes.{rolesSize};
+ghost use Rattle.subsumption.specs.Inner.Sizes.{roles_size};
 ghost use Rattle.square.specs.Inner.Square.{Square};
 ghost use Rattle.incremental.specs.Inner.Including.{Chain, Idle};
 ghost use Rattle.incremental.specs.Inner.Links.{Existentials};
@@ -41,15 +41,15 @@ fn round(
     square: &mut [u64],
 ) -> bool
     requires ready { Ready concepts.now inclusions.now atoms.now choices.now }
-    requires inclusions_bound { pairsOf inclusions.now ≤ 96 }
+    requires inclusions_bound { pairs_of inclusions.now ≤ 96 }
     requires chain { Chain inclusions.now chain.now }
     requires idle { Idle inclusions.now idle.now }
     requires order_len { length order.now ≡ 192 }
-    requires into_len { length into.now ≡ rolesSize }
+    requires into_len { length into.now ≡ roles_size }
     requires existentials { Existentials concepts.now outer.now inners.now roles.now (count_of concepts.now) }
     requires square { Square square.old }
-    ensures { RoundPass (before concepts) (before inclusions) (in_set (before into))
-        (chooseFrom (before atoms) (before choices)) (before square) (after square) result }
+    ensures { RoundPass concepts.now inclusions.now (in_set into.now)
+        (choose_from atoms.now choices.now) square.old square.new result }
 {
     let a = close_rows(
         concepts, inclusions, atoms, choices, chain, idle, order, square,
@@ -74,14 +74,14 @@ fn rounds(
     square: &mut [u64],
 )
     requires ready { Ready concepts.now inclusions.now atoms.now choices.now }
-    requires inclusions_bound { pairsOf inclusions.now ≤ 96 }
+    requires inclusions_bound { pairs_of inclusions.now ≤ 96 }
     requires chain { Chain inclusions.now chain.now }
     requires idle { Idle inclusions.now idle.now }
-    requires into_len { length into.now ≡ rolesSize }
+    requires into_len { length into.now ≡ roles_size }
     requires existentials { Existentials concepts.now outer.now inners.now roles.now (count_of concepts.now) }
     requires square { Square square.old }
-    ensures { Rounded (before concepts) (before inclusions) (in_set (before into))
-        (chooseFrom (before atoms) (before choices)) (before square) (after square) }
+    ensures { Rounded concepts.now inclusions.now (in_set into.now)
+        (choose_from atoms.now choices.now) square.old square.new }
 {
     let mut order = [0u16; CONCEPTS];
     note_order(square, concepts.len() / 3, &mut order);
@@ -104,11 +104,11 @@ pub fn close(
     square: &mut [u64],
 )
     requires ready { Ready concepts.now inclusions.now atoms.now choices.now }
-    requires inclusions_bound { pairsOf inclusions.now ≤ 96 }
+    requires inclusions_bound { pairs_of inclusions.now ≤ 96 }
     requires low_roles { LowRoles roles.now }
     requires square { Square square.old }
-    ensures { Closed (before concepts) (before inclusions) (wider (before roles))
-        (chooseFrom (before atoms) (before choices)) (before square) (after square) }
+    ensures { Closed concepts.now inclusions.now (wider roles.now)
+        (choose_from atoms.now choices.now) square.old square.new }
 {
     start(concepts, square);
     let mut chain = [NO_PAIR; CHAIN];

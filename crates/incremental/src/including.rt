@@ -2,7 +2,7 @@
 // in all that its own left sides ask, so that these need no look: in a table that was right, few are left. The order of the rows is free,
 // smaller ones first, so that rows within a row are finished before it.
 ghost use Rattle.std.specs.Prelude.{◌≡◌, true, ℕ, ◌+◌, ◌*◌, ◌<◌, ◌≤◌, length, replicate};
-ghost use Rattle.subsumption.specs.Lent.{before, after};
+
 ghost use Rattle.subsumption.specs.Tables.{count_of};
 ghost use Rattle.square.specs.Inner.Square.{in_row, Square};
 ghost use Rattle.incremental.specs.Inner.Lines.{IncludeAt};
@@ -18,7 +18,7 @@ const NO_PAIR: u16 = 96;
 pub fn note_chain(inclusions: &[u16], chain: &mut [u16])
     requires pairs { Pairs 192 inclusions.now }
     requires chain_value { chain.old ≡ replicate 288 96 }
-    ensures { Chain (before inclusions) (after chain) }
+    ensures { Chain inclusions.now chain.new }
 {
     let mut m = inclusions.len() / 2;
     while m > 0 {
@@ -33,7 +33,7 @@ pub fn note_chain(inclusions: &[u16], chain: &mut [u16])
 pub fn note_idle(inclusions: &[u16], chain: &[u16], idle: &mut [u64])
     requires chain { Chain inclusions.now chain.now }
     requires idle_value { idle.old ≡ replicate 3 0 }
-    ensures { Idle (before inclusions) (after idle) }
+    ensures { Idle inclusions.now idle.new }
 {
     let pairs = inclusions.len() / 2;
     let mut l: usize = 0;
@@ -53,7 +53,7 @@ fn cover(square: &[u64], done: &[u64], covered: &mut [u64], k: usize, i: usize)
     requires done_len { length done.now ≡ 3 }
     requires covered_len { length covered.old ≡ 3 }
     requires k_bound { (k < 192) × (i < 192) }
-    ensures { Covering (before square) (before done) k i (before covered) (after covered) }
+    ensures { Covering square.now done.now k i covered.old covered.new }
 {
     if !has(done, 0, k) {
         return;
@@ -75,7 +75,7 @@ fn next_open(square: &[u64], covered: &[u64], i: usize, from: usize) -> usize
     requires square_len { length square.now ≡ 1152 }
     requires covered_len { length covered.now ≡ 3 }
     requires i_bound { (i < 192) × (from ≤ 192) }
-    ensures { NextOpen (before square) (before covered) i from result }
+    ensures { NextOpen square.now covered.now i from result }
 {
     let mut k = from / 64;
     let mut low = from % 64;
@@ -108,9 +108,9 @@ fn include_left(
     requires covered_len { length covered.old ≡ 3 }
     requires i_lt_count { (i < count) × (l < 192) }
     requires l_value { in_row square.old i l ≡ true }
-    ensures include_pass { IncludePass count (before inclusions)
-        (LeftQuiet count (before inclusions) (before done) i l (before covered) (after covered)) (before square) (after square) result }
-    ensures covered_len_2 { length (after covered) ≡ 3 }
+    ensures include_pass { IncludePass count inclusions.now
+        (LeftQuiet count inclusions.now done.now i l covered.old covered.new) square.old square.new result }
+    ensures covered_len_2 { length covered.new ≡ 3 }
 {
     let pairs = inclusions.len() / 2;
     let mut changed = false;
@@ -143,9 +143,9 @@ fn scan_lefts(
     requires done_len { length done.now ≡ 3 }
     requires covered_len { length covered.old ≡ 3 }
     requires i_lt_count { (i < count) × (from ≤ 192) × (to ≤ 192) }
-    ensures include_pass { IncludePass count (before inclusions)
-        (ScanQuiet count (before inclusions) (before done) i from to (before covered) (after covered)) (before square) (after square) result }
-    ensures covered_len_2 { length (after covered) ≡ 3 }
+    ensures include_pass { IncludePass count inclusions.now
+        (ScanQuiet count inclusions.now done.now i from to covered.old covered.new) square.old square.new result }
+    ensures covered_len_2 { length covered.new ≡ 3 }
 {
     let mut changed = false;
     let mut l = next_open(square, covered, i, from);
@@ -178,9 +178,9 @@ pub fn include_row(
     requires square { Square square.old }
     requires done_len { length done.now ≡ 3 }
     requires i_lt_count { (i < count) × (first < count) × (second < count) × (third < count) }
-    ensures { IncludePass count (before inclusions)
-        (λ s. DoneRows count (before inclusions) s (before done) → IncludeAt count (before inclusions) (in_row s) i)
-        (before square) (after square) result }
+    ensures { IncludePass count inclusions.now
+        (λ s. DoneRows count inclusions.now s done.now → IncludeAt count inclusions.now (in_row s) i)
+        square.old square.new result }
 {
     let mut covered = [idle[0], idle[1], idle[2]];
     cover(square, done, &mut covered, first, i);
@@ -231,7 +231,7 @@ pub fn proposed(order: &[u16], count: usize, n: usize) -> usize
 pub fn member(concepts: &[u16], i: usize, which: usize) -> usize
     requires i_bound { i < count_of concepts.now }
     requires which_bound { which < 3 }
-    ensures { result < count_of (before concepts) }
+    ensures { result < count_of concepts.now }
 {
     let at = i * 3;
     if concepts[at] != 3 {

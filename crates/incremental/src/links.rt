@@ -1,13 +1,13 @@
 // Rule 5. The existentials are noted as sets, by inner id and by role, so that for an existential all those that come below it are found
 // at once: their inner ids are below its own, and their roles count as its own.
 ghost use Rattle.std.specs.Prelude.{◌≡◌, ◌+◌, ◌*◌, ◌<◌, ◌≤◌, length, replicate};
-ghost use Rattle.subsumption.specs.Lent.{before, after};
+
 ghost use Rattle.subsumption.specs.Tables.{count_of};
 ghost use Rattle.subsumption.specs.Inner.Links.{Inner};
 ghost use Rattle.subsumption.specs.Inner.Roles.{in_set};
-ghost use Rattle.subsumption.specs.Inner.Sizes.{rolesSize};
+ghost use Rattle.subsumption.specs.Inner.Sizes.{roles_size};
 ghost use Rattle.square.specs.Inner.Square.{Square};
-ghost use Rattle.incremental.specs.Inner.Marking.{inThree};
+ghost use Rattle.incremental.specs.Inner.Marking.{InThree};
 ghost use Rattle.incremental.specs.Inner.Links.{Existentials, Joins, ByRole, ByInner, LinkPass};
 
 use crate::marking::{holds, take};
@@ -22,7 +22,7 @@ pub fn note_existentials(concepts: &[u16], outer: &mut [u64], inners: &mut [u64]
     requires outer_value { outer.old ≡ replicate 576 0 }
     requires inners_value { inners.old ≡ replicate 3 0 }
     requires roles_value { roles.old ≡ replicate 384 0 }
-    ensures { Existentials (before concepts) (after outer) (after inners) (after roles) (count_of (before concepts)) }
+    ensures { Existentials concepts.now outer.new inners.new roles.new (count_of concepts.now) }
 {
     let count = concepts.len() / 3;
     let mut e: usize = 0;
@@ -52,8 +52,8 @@ struct Words {
 // The set with all lines, from line `from` on, that the word picks.
 fn join(sets: &[u64], from: usize, word: u64, set: Words) -> Words
     requires { from * 3 + 192 ≤ length sets.now }
-    ensures { Joins (before sets) from word (inThree set.first set.second set.third)
-        (inThree result.first result.second result.third) }
+    ensures { Joins sets.now from word (InThree set.first set.second set.third)
+        (InThree result.first result.second result.third) }
 {
     let mut first = set.first;
     let mut second = set.second;
@@ -75,10 +75,10 @@ fn join(sets: &[u64], from: usize, word: u64, set: Words) -> Words
 
 // The existentials whose role counts as that role.
 fn of_role(into: &[u64], roles: &[u64], role: usize) -> Words
-    requires into_len { length into.now ≡ rolesSize }
+    requires into_len { length into.now ≡ roles_size }
     requires roles_len { length roles.now ≡ 384 }
     requires role_bound { role < 100 }
-    ensures { ByRole (before into) (before roles) role (inThree result.first result.second result.third) }
+    ensures { ByRole into.now roles.now role (InThree result.first result.second result.third) }
 {
     let none = Words {
         first: 0,
@@ -97,7 +97,7 @@ fn over(square: &[u64], outer: &[u64], inners: &[u64], inner: usize) -> Words
     requires outer_len { length outer.now ≡ 576 }
     requires inners_len { length inners.now ≡ 3 }
     requires inner_bound { inner < 192 }
-    ensures { ByInner (before square) (before outer) (before inners) inner (inThree result.first result.second result.third) }
+    ensures { ByInner square.now outer.now inners.now inner (InThree result.first result.second result.third) }
 {
     let none = Words {
         first: 0,
@@ -125,10 +125,10 @@ pub fn link_to(
 ) -> bool
     requires inner { Inner concepts.now }
     requires existentials { Existentials concepts.now outer.now inners.now roles.now (count_of concepts.now) }
-    requires into_len { length into.now ≡ rolesSize }
+    requires into_len { length into.now ≡ roles_size }
     requires square { Square square.old }
     requires f_bound { f < count_of concepts.now }
-    ensures { LinkPass (before concepts) (in_set (before into)) f (before square) (after square) result }
+    ensures { LinkPass concepts.now (in_set into.now) f square.old square.new result }
 {
     let at = f * 3;
     if concepts[at] != 2 {

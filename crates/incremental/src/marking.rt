@@ -1,10 +1,10 @@
 // The square of marks, held twice: as rows, what an id is below, and as columns, what is below an id. Three words of 64 bits a line, so
 // that a line takes in another by three words. Each step answers whether it changed anything.
 ghost use Rattle.std.specs.Prelude.{◌≡◌, ◌+◌, ◌<◌, ◌≤◌, true, length};
-ghost use Rattle.subsumption.specs.Lent.{before, after};
+
 ghost use Rattle.subsumption.specs.Inner.Columns.{Absorbs};
 ghost use Rattle.square.specs.Inner.Square.{in_row, Square};
-ghost use Rattle.incremental.specs.Inner.Marking.{inHalf, Base, Adds, in_word, inThree, Holding};
+ghost use Rattle.incremental.specs.Inner.Marking.{in_half, Base, Adds, InWord, InThree, Holding};
 
 use square::helpers::COLUMNS;
 
@@ -13,7 +13,7 @@ pub const ROWS: usize = 0;
 // The one place that changes a word.
 fn absorb(square: &mut [u64], at: usize, add: u64) -> bool
     requires { at < length square.old }
-    ensures { Absorbs (before square) (after square) at add result }
+    ensures { Absorbs square.old square.new at add result }
 {
     let old = square[at];
     let new = old | add;
@@ -26,7 +26,7 @@ pub fn mark(square: &mut [u64], base: usize, x: usize, y: usize) -> bool
     requires square { Square square.old }
     requires base { Base base }
     requires x_bound { (x < 192) × (y < 192) }
-    ensures { Adds (inHalf base) (before square) (after square) (λ p q. (p ≡ x) × (q ≡ y)) result }
+    ensures { Adds (in_half base) square.old square.new (λ p q. (p ≡ x) × (q ≡ y)) result }
 {
     let a = absorb(square, base + x * 3 + y / 64, 1 << (y % 64));
     let other = COLUMNS - base;
@@ -39,7 +39,7 @@ fn take_word(square: &mut [u64], base: usize, x: usize, k: usize, add: u64) -> b
     requires square { Square square.old }
     requires base { Base base }
     requires x_bound { (x < 192) × (k < 3) }
-    ensures { Adds (inHalf base) (before square) (after square) (λ p q. (p ≡ x) × in_word k add q) result }
+    ensures { Adds (in_half base) square.old square.new (λ p q. (p ≡ x) × InWord k add q) result }
 {
     let old = square[base + x * 3 + k];
     let mut rest = (old | add) ^ old;
@@ -56,7 +56,7 @@ fn take_word(square: &mut [u64], base: usize, x: usize, k: usize, add: u64) -> b
 // Whether the line that starts at that word has all of these bits. A no says nothing.
 pub fn holds(square: &[u64], at: usize, first: u64, second: u64, third: u64) -> bool
     requires { at + 3 ≤ length square.now }
-    ensures { Holding (before square) at first second third result }
+    ensures { Holding square.now at first second third result }
 {
     if square[at] | first != square[at] {
         return false;
@@ -72,7 +72,7 @@ pub fn take(square: &mut [u64], base: usize, x: usize, first: u64, second: u64, 
     requires square { Square square.old }
     requires base { Base base }
     requires x_bound { x < 192 }
-    ensures { Adds (inHalf base) (before square) (after square) (λ p q. (p ≡ x) × inThree first second third q) result }
+    ensures { Adds (in_half base) square.old square.new (λ p q. (p ≡ x) × InThree first second third q) result }
 {
     if holds(square, base + x * 3, first, second, third) {
         return false;
@@ -87,7 +87,7 @@ pub fn take(square: &mut [u64], base: usize, x: usize, first: u64, second: u64, 
 pub fn flow(square: &mut [u64], from: usize, to: usize) -> bool
     requires square { Square square.old }
     requires from_bound { (from < 192) × (to < 192) }
-    ensures { Adds in_row (before square) (after square) (λ i j. (i ≡ to) × (in_row (before square) from j ≡ true)) result }
+    ensures { Adds in_row square.old square.new (λ i j. (i ≡ to) × (in_row square.old from j ≡ true)) result }
 {
     let at = from * 3;
     let first = square[at];
@@ -100,8 +100,8 @@ pub fn flow(square: &mut [u64], from: usize, to: usize) -> bool
 pub fn meet(square: &mut [u64], left: usize, right: usize, to: usize) -> bool
     requires square { Square square.old }
     requires left_bound { (left < 192) × (right < 192) × (to < 192) }
-    ensures { Adds in_row (before square) (after square)
-        (λ i j. (j ≡ to) × (in_row (before square) i left ≡ true) × (in_row (before square) i right ≡ true)) result }
+    ensures { Adds in_row square.old square.new
+        (λ i j. (j ≡ to) × (in_row square.old i left ≡ true) × (in_row square.old i right ≡ true)) result }
 {
     let a = COLUMNS + left * 3;
     let b = COLUMNS + right * 3;

@@ -1,12 +1,12 @@
 // Rules 4, 5 and 8 at every column, in rising order: what they read of a column is at smaller ids, so that a tower of existentials is
 // climbed in one pass. A column that gained takes rule 6 at once, for the storeys above it; the rows are asked for the rest.
 ghost use Rattle.std.specs.Prelude.{◌≡◌, ◌<◌, length};
-ghost use Rattle.subsumption.specs.Lent.{before, after};
+
 ghost use Rattle.subsumption.specs.Tables.{count_of};
 ghost use Rattle.subsumption.specs.Inner.Roles.{in_set};
 ghost use Rattle.subsumption.specs.Inner.Links.{Inner};
-ghost use Rattle.subsumption.specs.Inner.Settling.{Settleable, chooseFrom};
-ghost use Rattle.subsumption.specs.Inner.Sizes.{rolesSize};
+ghost use Rattle.subsumption.specs.Inner.Settling.{Settleable, choose_from};
+ghost use Rattle.subsumption.specs.Inner.Sizes.{roles_size};
 ghost use Rattle.square.specs.Inner.Square.{Square};
 ghost use Rattle.incremental.specs.Inner.Including.{Pairs};
 ghost use Rattle.incremental.specs.Inner.Links.{Existentials};
@@ -23,7 +23,7 @@ fn include_column(inclusions: &[u16], count: usize, square: &mut [u64], j: usize
     requires pairs { Pairs count inclusions.now }
     requires square { Square square.old }
     requires j_lt_count { j < count }
-    ensures { ColumnGains count (before inclusions) (before square) (after square) result }
+    ensures { ColumnGains count inclusions.now square.old square.new result }
 {
     let pairs = inclusions.len() / 2;
     let mut changed = false;
@@ -57,12 +57,12 @@ fn rise_column(
     requires settleable { Settleable concepts.now atoms.now choices.now }
     requires pairs { Pairs (count_of concepts.now) inclusions.now }
     requires inner { Inner concepts.now }
-    requires into_len { length into.now ≡ rolesSize }
+    requires into_len { length into.now ≡ roles_size }
     requires existentials { Existentials concepts.now outer.now inners.now roles.now (count_of concepts.now) }
     requires square { Square square.old }
     requires j_bound { j < count_of concepts.now }
-    ensures { RisenPass (before concepts) (before inclusions) (in_set (before into))
-        (chooseFrom (before atoms) (before choices)) j (before square) (after square) result }
+    ensures { RisenPass concepts.now inclusions.now (in_set into.now)
+        (choose_from atoms.now choices.now) j square.old square.new result }
 {
     let a = settle_column(concepts, atoms, choices, square, j);
     let b = link_to(concepts, into, outer, inners, roles, square, j);
@@ -87,11 +87,11 @@ pub fn rise(
     requires settleable { Settleable concepts.now atoms.now choices.now }
     requires pairs { Pairs (count_of concepts.now) inclusions.now }
     requires inner { Inner concepts.now }
-    requires into_len { length into.now ≡ rolesSize }
+    requires into_len { length into.now ≡ roles_size }
     requires existentials { Existentials concepts.now outer.now inners.now roles.now (count_of concepts.now) }
     requires square { Square square.old }
-    ensures { AllRisen (before concepts) (before inclusions) (in_set (before into))
-        (chooseFrom (before atoms) (before choices)) (before square) (after square) result }
+    ensures { AllRisen concepts.now inclusions.now (in_set into.now)
+        (choose_from atoms.now choices.now) square.old square.new result }
 {
     let count = concepts.len() / 3;
     let mut changed = false;

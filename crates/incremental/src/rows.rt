@@ -1,9 +1,9 @@
 // Rules 3, 6 and 7 at every row, in the proposed order. A row is finished when it has taken in all that they ask of it; while nothing
 // changes, it stays so.
 ghost use Rattle.std.specs.Prelude.{◌≡◌, length};
-ghost use Rattle.subsumption.specs.Lent.{before, after};
+
 ghost use Rattle.subsumption.specs.Tables.{count_of};
-ghost use Rattle.subsumption.specs.Inner.Settling.{Settleable, chooseFrom};
+ghost use Rattle.subsumption.specs.Inner.Settling.{Settleable, choose_from};
 ghost use Rattle.square.specs.Inner.Square.{Square};
 ghost use Rattle.incremental.specs.Inner.Including.{Pairs, Chain, Idle};
 ghost use Rattle.incremental.specs.Inner.Rows.{RowsPass};
@@ -28,8 +28,8 @@ pub fn close_rows(
     requires idle { Idle inclusions.now idle.now }
     requires order_len { length order.now ≡ 192 }
     requires square { Square square.old }
-    ensures { RowsPass (before concepts) (before inclusions) (chooseFrom (before atoms) (before choices))
-        (before square) (after square) result }
+    ensures { RowsPass concepts.now inclusions.now (choose_from atoms.now choices.now)
+        square.old square.new result }
 {
     let count = concepts.len() / 3;
     let mut done = [0u64; 3];

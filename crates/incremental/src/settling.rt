@@ -1,11 +1,11 @@
 // Rules 3, 4, 7 and 8, at the rows of "and" and of variables. Rules 3 and 7 move rows, 4 and 8 columns.
 ghost use Rattle.std.specs.Prelude.{◌≡◌, ℕ, ◌<◌, true, length};
 ghost use mathlib.Core.List.{Memᴰ};
-ghost use Rattle.subsumption.specs.Lent.{before, after};
+
 ghost use Rattle.subsumption.specs.Tables.{count_of};
 ghost use Rattle.subsumption.specs.Atoms.{pick};
 ghost use Rattle.subsumption.specs.Inner.Columns.{Known, Common};
-ghost use Rattle.subsumption.specs.Inner.Settling.{Settleable, chooseFrom};
+ghost use Rattle.subsumption.specs.Inner.Settling.{Settleable, choose_from};
 ghost use Rattle.square.specs.Inner.Square.{in_row, Square};
 ghost use Rattle.incremental.specs.Inner.Marking.{Adds};
 ghost use Rattle.incremental.specs.Inner.Settling.{SpreadPass, InnerPass, MeetPass};
@@ -20,7 +20,7 @@ fn spread(atoms: &[u16], choice: u64, square: &mut [u64], to: usize) -> bool
     requires square { Square square.old }
     requires known { Known atoms.now }
     requires to_bound { to < 192 }
-    ensures { SpreadPass (before atoms) choice to (before square) (after square) result }
+    ensures { SpreadPass atoms.now choice to square.old square.new result }
 {
     let mut changed = false;
     let mut q = 0;
@@ -49,9 +49,9 @@ struct Words {
 fn common(atoms: &[u16], choice: u64, columns: &[u64]) -> Words
     requires columns_len { length columns.now ≡ 576 }
     requires known { Known atoms.now }
-    ensures common { Common (length (before atoms)) (before atoms) choice (before columns) 0 result.first }
-    ensures common_2 { Common (length (before atoms)) (before atoms) choice (before columns) 1 result.second }
-    ensures common_3 { Common (length (before atoms)) (before atoms) choice (before columns) 2 result.third }
+    ensures common { Common (length atoms.now) atoms.now choice columns.now 0 result.first }
+    ensures common_2 { Common (length atoms.now) atoms.now choice columns.now 1 result.second }
+    ensures common_3 { Common (length atoms.now) atoms.now choice columns.now 2 result.third }
 {
     let mut first = ALL;
     let mut second = ALL;
@@ -80,8 +80,8 @@ fn gather(atoms: &[u16], choice: u64, square: &mut [u64], to: usize) -> bool
     requires square { Square square.old }
     requires known { Known atoms.now }
     requires to_bound { to < 192 }
-    ensures { Adds in_row (before square) (after square)
-        (λ i j. (j ≡ to) × ((p : ℕ) → Memᴰ p (pick (before atoms) choice) → in_row (before square) i p ≡ true)) result }
+    ensures { Adds in_row square.old square.new
+        (λ i j. (j ≡ to) × ((p : ℕ) → Memᴰ p (pick atoms.now choice) → in_row square.old i p ≡ true)) result }
 {
     let words = common(atoms, choice, &square[COLUMNS..]);
     let first = words.first;
@@ -101,7 +101,7 @@ pub fn settle_row(
     requires settleable { Settleable concepts.now atoms.now choices.now }
     requires square { Square square.old }
     requires i_bound { i < count_of concepts.now }
-    ensures { InnerPass (before concepts) (chooseFrom (before atoms) (before choices)) i (before square) (after square) result }
+    ensures { InnerPass concepts.now (choose_from atoms.now choices.now) i square.old square.new result }
 {
     let at = i * 3;
     let kind = concepts[at];
@@ -130,7 +130,7 @@ pub fn settle_column(
     requires settleable { Settleable concepts.now atoms.now choices.now }
     requires square { Square square.old }
     requires j_bound { j < count_of concepts.now }
-    ensures { MeetPass (before concepts) (chooseFrom (before atoms) (before choices)) j (before square) (after square) result }
+    ensures { MeetPass concepts.now (choose_from atoms.now choices.now) j square.old square.new result }
 {
     let at = j * 3;
     let kind = concepts[at];

@@ -1,6 +1,6 @@
 // Rules 1 and 2, which ask for no mark: an id is below itself, below each id of its own name, and below each top. One walk does them all.
 ghost use Rattle.std.specs.Prelude.{◌≡◌, ◌<◌, replicate};
-ghost use Rattle.subsumption.specs.Lent.{before, after};
+
 ghost use Rattle.subsumption.specs.Tables.{count_of};
 ghost use Rattle.subsumption.specs.Inner.Names.{Nameable};
 ghost use Rattle.square.specs.Inner.Square.{Square};
@@ -17,7 +17,7 @@ const NAME_WORDS: usize = 3000;
 fn note_names(concepts: &[u16], names: &mut [u64])
     requires nameable { Nameable concepts.now }
     requires names_value { names.old ≡ replicate 3000 0 }
-    ensures { NamesTo (before concepts) (after names) (count_of (before concepts)) }
+    ensures { NamesTo concepts.now names.new (count_of concepts.now) }
 {
     let count = concepts.len() / 3;
     let mut i: usize = 0;
@@ -38,7 +38,7 @@ fn start_row(concepts: &[u16], names: &[u64], square: &mut [u64], i: usize)
     requires names_to { NamesTo concepts.now names.now (count_of concepts.now) }
     requires square { Square square.old }
     requires i_bound { i < count_of concepts.now }
-    ensures { BegunAt (before concepts) (before square) (after square) i }
+    ensures { BegunAt concepts.now square.old square.new i }
 {
     mark(square, ROWS, i, i);
     let kind = concepts[i * 3];
@@ -66,7 +66,7 @@ fn start_rows(concepts: &[u16], names: &[u64], square: &mut [u64])
     requires nameable { Nameable concepts.now }
     requires names_to { NamesTo concepts.now names.now (count_of concepts.now) }
     requires square { Square square.old }
-    ensures { Begun (before concepts) (before square) (after square) }
+    ensures { Begun concepts.now square.old square.new }
 {
     let count = concepts.len() / 3;
     let mut i = 0;
@@ -79,7 +79,7 @@ fn start_rows(concepts: &[u16], names: &[u64], square: &mut [u64])
 pub fn start(concepts: &[u16], square: &mut [u64])
     requires nameable { Nameable concepts.now }
     requires square { Square square.old }
-    ensures { Begun (before concepts) (before square) (after square) }
+    ensures { Begun concepts.now square.old square.new }
 {
     let mut names = [0u64; NAME_WORDS];
     note_names(concepts, &mut names);

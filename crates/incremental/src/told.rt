@@ -1,13 +1,12 @@
 // An assignment told as pairs: the check of the pairs, and the choices that they tell.
 ghost use Rattle.std.specs.Prelude.{◌≡◌, replicate};
-ghost use Rattle.incremental.specs.Inner.Told.{badPair, toldFaultIn, PlaceOf, Readable, ToldChoices};
-ghost use Rattle.subsumption.specs.Lent.{before, after};
+ghost use Rattle.incremental.specs.Inner.Told.{bad_pair, told_fault_in, PlaceOf, Readable, ToldChoices};
 
 use subsumption::refusal::{Outcome, Refusal};
 
 // The place of the id among the atoms; their number if it is none.
 fn place_of(atoms: &[u16], id: u16) -> usize
-    ensures { PlaceOf (before atoms) id result }
+    ensures { PlaceOf atoms.now id result }
 {
     let mut q = 0;
     while q < atoms.len() {
@@ -20,7 +19,7 @@ fn place_of(atoms: &[u16], id: u16) -> usize
 }
 
 fn is_bad(atoms: &[u16], variables: u16, variable: u16, id: u16) -> bool
-    ensures { result ≡ badPair (before atoms) variables variable id }
+    ensures { result ≡ bad_pair atoms.now variables variable id }
 {
     if variables <= variable {
         return true;
@@ -31,7 +30,7 @@ fn is_bad(atoms: &[u16], variables: u16, variable: u16, id: u16) -> bool
 
 // Check 9: a ragged list first, then the first bad pair.
 pub fn check_told(atoms: &[u16], variables: u16, told: &[u16]) -> Outcome
-    ensures { result ≡ toldFaultIn (before atoms) variables (before told) }
+    ensures { result ≡ told_fault_in atoms.now variables told.now }
 {
     if told.len() % 2 != 0 {
         return Outcome::Refused(Refusal::BadAssignment(0));
@@ -53,7 +52,7 @@ pub fn check_told(atoms: &[u16], variables: u16, told: &[u16]) -> Outcome
 pub fn read_told(atoms: &[u16], told: &[u16], choices: &mut [u64])
     requires readable { Readable atoms.now told.now }
     requires choices_value { choices.old ≡ replicate 8 0 }
-    ensures { ToldChoices (before atoms) (before told) (after choices) }
+    ensures { ToldChoices atoms.now told.now choices.new }
 {
     let pairs = told.len() / 2;
     let mut m: usize = 0;

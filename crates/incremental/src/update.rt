@@ -1,6 +1,6 @@
 // Updating a held subsumption table.
-ghost use Rattle.subsumption.specs.Lent.{lent, before, after};
-ghost use Rattle.subsumption.specs.Refusal.{replyOf};
+ghost use Rattle.subsumption.specs.Lent.{lent};
+ghost use Rattle.subsumption.specs.Refusal.{reply_of};
 ghost use Rattle.subsumption.specs.Inner.Listing.{ForAccepted, Prepared};
 ghost use Rattle.incremental.specs.Update.{Updates};
 
@@ -25,8 +25,8 @@ fn put_update(
     table: &mut [u8],
 ) -> Outcome
     requires { Prepared concepts.now inclusions.now roles.now variables atoms.now }
-    ensures { ForAccepted (before concepts) (before inclusions) (before roles) variables (before atoms)
-        (λ t. Updates t (before told) (before table) (after table) (replyOf result)) }
+    ensures { ForAccepted concepts.now inclusions.now roles.now variables atoms.now
+        (λ t. Updates t told.now table.old table.new (reply_of result)) }
 {
     let pairs = check_told(atoms, variables, told);
     if let Outcome::Refused(r) = pairs {
@@ -55,7 +55,7 @@ pub fn update_table(
     told: &[u16],
     table: &mut [u8],
 ) -> Outcome
-    ensures { Updates (lent concepts inclusions questions roles variables) (before told) (before table) (after table) (replyOf result) }
+    ensures { Updates (lent concepts inclusions questions roles variables) told.now table.old table.new (reply_of result) }
 {
     let mut ids = [0u16; ATOMS];
     let listed = list_atoms(concepts, inclusions, questions, roles, variables, &mut ids);

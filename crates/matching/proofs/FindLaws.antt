@@ -13,19 +13,19 @@ use lib.Seq.{get_or-take, length-take-le}
 use Rattle.subsumption.specs.declared.refusal.Outcome.{Outcome}
 use Rattle.subsumption.specs.declared.refusal.Outcome.TheVariants.{Done, Refused}
 use Rattle.subsumption.specs.declared.refusal.Refusal.{Refusal}
-use Rattle.subsumption.specs.Tables.{Tables, pairsOf}
+use Rattle.subsumption.specs.Tables.{Tables, pairs_of}
 use Rattle.subsumption.specs.Atoms.{atoms, bit}
-use Rattle.subsumption.specs.Check.{tableFault, bufferFault}
-use Rattle.subsumption.specs.Refusal.{Reply, replyRefused, or_else}
+use Rattle.subsumption.specs.Check.{table_fault, buffer_fault}
+use Rattle.subsumption.specs.Refusal.{Reply, reply_refused, or_else}
 use Rattle.subsumption.specs.Inner.Listing.{Accepted}
 use Rattle.subsumption.proofs.Bools.{both_true}
 use Rattle.subsumption.proofs.Bits.{bit-and, bit-pow}
 use Rattle.subsumption.proofs.Refusals.{stops}
-use Rattle.subsumption.proofs.Accepted.{wellFormed}
-use Rattle.settings.specs.Settings.{Settings, settings, Unrestricted, settingsFault}
+use Rattle.subsumption.proofs.Accepted.{well_formed}
+use Rattle.settings.specs.Settings.{Settings, settings, Unrestricted, settings_fault}
 use Rattle.settings.proofs.SettingsLaws.{settings-accept}
-use Rattle.matching.specs.Find.{findingFault, FindsAfter, Finds}
-use Rattle.matching.specs.Within.{withinFault, FindsWithinAfter, FindsWithin}
+use Rattle.matching.specs.Find.{finding_fault, FindsAfter, Finds}
+use Rattle.matching.specs.Within.{within_fault, FindsWithinAfter, FindsWithin}
 use Rattle.matching.specs.Inner.Find.{Full}
 use Rattle.matching.specs.Inner.Within.{FindsAmong}
 use Rattle.matching.proofs.SearchLaws.Choices.{one_bit}
@@ -62,13 +62,13 @@ pub full-atoms : (count full : ℕ) → full ≡ 2 ^ count - 1 → Full count (r
 full-atoms count full e = record { long = refl; all = λ k l. get_or-replicate 8 k full 0 l ∙ e }
 
 -- ---- all questions are asked
-pub all_asked : (t : Tables) → tableFault t ≡ Done → (m : ℕ) → m < pairsOf t.questions → bit 18446744073709551615 m ≡ true
-all_asked t h m l = bit-of-ones 64 m (omega (arith, (wellFormed t h).few-questions))
+pub all_asked : (t : Tables) → table_fault t ≡ Done → (m : ℕ) → m < pairs_of t.questions → bit 18446744073709551615 m ≡ true
+all_asked t h m l = bit-of-ones 64 m (omega (arith, (well_formed t h).few-questions))
 
 -- ---- settings that permit all
-module _ (t : Tables) (h : tableFault t ≡ Done) (all : List ℕ) (full : Full (length (atoms t)) all) where
+module _ (t : Tables) (h : table_fault t ≡ Done) (all : List ℕ) (full : Full (length (atoms t)) all) where
   few : t.variables ≤ 8
-  few = (wellFormed t h).few-variables
+  few = (well_formed t h).few-variables
 
   pub permitted-of : (k : ℕ) → k < t.variables → get_or (take t.variables all) k 0 ≡ 2 ^ length (atoms t) - 1
   permitted-of k l = get_or-take _ all k 0 l ∙ full.all k (omega (arith, few))
@@ -76,7 +76,7 @@ module _ (t : Tables) (h : tableFault t ≡ Done) (all : List ℕ) (full : Full 
   pub largest-of : (k : ℕ) → k < t.variables → ◌≡◌ {A = ℕ} (get_or (take t.variables (replicate 8 64)) k 0) 64
   largest-of k l = get_or-take _ (replicate 8 64) k 0 l ∙ get_or-replicate 8 k 64 0 (omega (arith, few))
 
-  all-accepted : settingsFault t (settings (take t.variables all) (take t.variables (replicate 8 64))) ≡ Done
+  all-accepted : settings_fault t (settings (take t.variables all) (take t.variables (replicate 8 64))) ≡ Done
   all-accepted =
       settings-accept t _ (length-take-le _ all (omega (arith, few, full.long))) (length-take-le _ (replicate 8 64) few)
       (λ k l. (subst (λ (z : ℕ). z < 2 ^ length (atoms t)) (sym (permitted-of k l)) (ones_lt (length (atoms t))), omega (arith, largest-of k l)))
@@ -89,22 +89,22 @@ module _ (t : Tables) (h : tableFault t ≡ Done) (all : List ℕ) (full : Full 
       }
 
 -- ---- the answer
-pub tables-refuse : (t : Tables) (before : List ℕ) (r : Refusal) → Refused r ≡ tableFault t → Finds t before before (replyRefused r)
-unfolding findingFault
+pub tables-refuse : (t : Tables) (before : List ℕ) (r : Refusal) → Refused r ≡ table_fault t → Finds t before before (reply_refused r)
+unfolding finding_fault
 tables-refuse t before r e =
-    subst (λ (f : Outcome). FindsAfter f t before before (replyRefused r)) (stops (Refused r) _ _ r e refl) (refl, refl)
+    subst (λ (f : Outcome). FindsAfter f t before before (reply_refused r)) (stops (Refused r) _ _ r e refl) (refl, refl)
 
-module _ (t : Tables) (s : Settings) (before after : List ℕ) (reply : Reply) (h : tableFault t ≡ Done) (set : settingsFault t s ≡ Done) (u : Unrestricted t s) where
-  same-fault : withinFault t s (length before) ≡ findingFault t (length before)
-  unfolding withinFault findingFault or_else
-  same-fault = ap (λ (z : Outcome). or_else (tableFault t) (or_else z (bufferFault t.variables (length before)))) set
+module _ (t : Tables) (s : Settings) (before after : List ℕ) (reply : Reply) (h : table_fault t ≡ Done) (set : settings_fault t s ≡ Done) (u : Unrestricted t s) where
+  same-fault : within_fault t s (length before) ≡ finding_fault t (length before)
+  unfolding within_fault finding_fault or_else
+  same-fault = ap (λ (z : Outcome). or_else (table_fault t) (or_else z (buffer_fault t.variables (length before)))) set
 
   after-fault : (f : Outcome) → FindsWithinAfter f t s before after reply → FindsAfter f t before after reply
   after-fault Done (inl (e, f)) =
       inl (
         e,
         record {
-          some = some-solves t (wellFormed t h) _ f.first.solves;
+          some = some-solves t (well_formed t h) _ f.first.solves;
           size = f.size;
           first =
               record {
@@ -120,7 +120,7 @@ module _ (t : Tables) (s : Settings) (before after : List ℕ) (reply : Reply) (
 
   -- with settings that permit all nothing moves
   pub finds-unrestricted : FindsWithin t s before after reply → Finds t before after reply
-  finds-unrestricted x = subst (λ (z : Outcome). FindsAfter z t before after reply) same-fault (after-fault (withinFault t s (length before)) x)
+  finds-unrestricted x = subst (λ (z : Outcome). FindsAfter z t before after reply) same-fault (after-fault (within_fault t s (length before)) x)
 
 pub finds-all :
     (t : Tables) (ids : List ℕ) → Accepted t ids → (count : ℕ) → count ≡ length ids → (all : List ℕ) → Full count all → (before after : List ℕ) (reply : Reply)

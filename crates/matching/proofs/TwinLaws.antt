@@ -8,46 +8,46 @@ use mathlib.Core.Logic.{◌↔◌, ⊎_elim}
 use native.Mathlib.Omega.{arith}
 use lib.ListN.{length, get_or, get_or-eq_default}
 use Rattle.subsumption.specs.declared.refusal.Outcome.TheVariants.{Done}
-use Rattle.subsumption.specs.Tables.{Tables, both, anyBelow, count_of, left_of, rightOf, Concept, tree}
+use Rattle.subsumption.specs.Tables.{Tables, both, any_below, count_of, left_of, right_of, Concept, tree}
 use Rattle.subsumption.specs.Atoms.{stands, twin, keep, atoms, bit, pick, chosen}
-use Rattle.subsumption.specs.Subsumption.{Interpretation, Reading, Member, noVariables}
-use Rattle.subsumption.specs.Check.{assignmentFaultAt, assignmentFault}
-use Rattle.subsumption.proofs.Bools.{both_true, both-intro, anyBelow-intro, anyBelow-elim, le-or-lt}
+use Rattle.subsumption.specs.Subsumption.{Interpretation, Reading, Member, no_variables}
+use Rattle.subsumption.specs.Check.{assignment_fault_at, assignment_fault}
+use Rattle.subsumption.proofs.Bools.{both_true, both-intro, any_below-intro, any_below-elim, le-or-lt}
 use Rattle.subsumption.proofs.Bits.{bit-of-zero}
 use Rattle.subsumption.proofs.Keep.{Kept, keep-member, keep-intro}
 use Rattle.subsumption.proofs.TwinLaws.{twin-same, same-twin}
 use Rattle.subsumption.proofs.AtomLaws.{AtomOf, atom-of, atom-stands}
-use Rattle.subsumption.proofs.Chosen.{Picked, pick-member, pick_intro, getD-member}
+use Rattle.subsumption.proofs.Chosen.{Picked, pick-member, pick_intro, get_or-member}
 use Rattle.matching.specs.Solving.{Solved, Solves}
-use Rattle.matching.specs.Twins.{copies, chosenBefore, FilledBefore, FilledNow, ConceptsIn, Corresponds, TwinsCountOnce}
+use Rattle.matching.specs.Twins.{copies, chosen_before, FilledBefore, FilledNow, ConceptsIn, Corresponds, TwinsCountOnce}
 use Rattle.matching.proofs.SubstitutionLaws.Readings.{member-reads}
-use Rattle.matching.proofs.SubstitutionLaws.Assigning.{assignmentTo, assignmentTo-accepted, assignmentTo-bit, assignmentTo-length, accepted-length}
+use Rattle.matching.proofs.SubstitutionLaws.Assigning.{assignment_to, assignment_to-accepted, assignment_to-bit, assignment_to-length, accepted-length}
 use Rattle.matching.proofs.SubstitutionLaws.Parts.{place}
 
 -- ---- readings that choose the same concepts solve alike
 module _ (t : Tables) (f g : ℕ → List ℕ) (there : (k : ℕ) → ConceptsIn t (f k) (g k)) (back : (k : ℕ) → ConceptsIn t (g k) (f k)) where
   abbrev reads : (ℕ → List ℕ) → Interpretation → Reading
-  reads f I k x = (p : ℕ) → Memᴰ p (f k) → Member I noVariables (tree t.concepts p) x
+  reads f I k x = (p : ℕ) → Memᴰ p (f k) → Member I no_variables (tree t.concepts p) x
 
   pub same-solved : Solved t (reads f) → Solved t (reads g)
   same-solved s m l I obeys x h c =
-      member-reads I (reads f I) (reads g I) (λ k x l r q n. let (p, u, e) = back k q n in subst (λ (d : Concept). Member I noVariables d x) (sym e) (r p u))
-      (tree t.concepts (rightOf t.questions m)) x h
+      member-reads I (reads f I) (reads g I) (λ k x l r q n. let (p, u, e) = back k q n in subst (λ (d : Concept). Member I no_variables d x) (sym e) (r p u))
+      (tree t.concepts (right_of t.questions m)) x h
       (s m l I obeys x h
-      (member-reads I (reads g I) (reads f I) (λ k x l r p n. let (q, u, e) = there k p n in subst (λ (d : Concept). Member I noVariables d x) (sym e) (r q u))
+      (member-reads I (reads g I) (reads f I) (λ k x l r p n. let (q, u, e) = there k p n in subst (λ (d : Concept). Member I no_variables d x) (sym e) (r q u))
       (tree t.concepts (left_of t.questions m)) x h c))
 
 -- ---- an assignment over one list of ids, told over another that has all its concepts
 module _ (t : Tables) (ids others : List ℕ) (into : ConceptsIn t ids others) (assignment : List ℕ) (long : length assignment ≡ t.variables) where
   taken : ℕ → ℕ → Bool
-  taken k q = anyBelow (length ids) (λ m. both (bit (get_or assignment k 0) m) (twin t.concepts (get_or ids m 0) (get_or others q 0)))
+  taken k q = any_below (length ids) (λ m. both (bit (get_or assignment k 0) m) (twin t.concepts (get_or ids m 0) (get_or others q 0)))
 
   pub told : List ℕ
-  told = assignmentTo (length others) t.variables taken
+  told = assignment_to (length others) t.variables taken
 
-  pub told-accepted : assignmentFaultAt (length others) t.variables told ≡ Done
+  pub told-accepted : assignment_fault_at (length others) t.variables told ≡ Done
   unfolding told
-  told-accepted = assignmentTo-accepted (length others) t.variables taken
+  told-accepted = assignment_to-accepted (length others) t.variables taken
 
   known : (list : List ℕ) → length list ≡ t.variables → (xs : List ℕ) (k p : ℕ) → Memᴰ p (pick xs (get_or list k 0)) → k < t.variables
   known list e xs k p m =
@@ -62,7 +62,7 @@ module _ (t : Tables) (ids others : List ℕ) (into : ConceptsIn t ids others) (
   told-there k p m =
       let c = pick-member ids _ p m in
       let l = known assignment long ids k p m in
-      let (q, n, e) = into p (Memᴰ.cast (sym c.here) (getD-member ids c.place c.known)) in
+      let (q, n, e) = into p (Memᴰ.cast (sym c.here) (get_or-member ids c.place c.known)) in
       let (j, u, h) = place 0 others q n in (
         q,
         pick_intro others _ q
@@ -70,8 +70,8 @@ module _ (t : Tables) (ids others : List ℕ) (into : ConceptsIn t ids others) (
               place = j;
               known = u;
               chosen =
-                  assignmentTo-bit (length others) t.variables taken k j l u
-                  ∙ anyBelow-intro _ _ c.place c.known
+                  assignment_to-bit (length others) t.variables taken k j l u
+                  ∙ any_below-intro _ _ c.place c.known
                   (both-intro _ _ c.chosen (same-twin t.concepts _ _ (ap (tree t.concepts) c.here ∙ e ∙ ap (tree t.concepts) (sym h))));
               here = h;
             }),
@@ -82,8 +82,8 @@ module _ (t : Tables) (ids others : List ℕ) (into : ConceptsIn t ids others) (
   unfolding told taken
   told_back k q m =
       let c = pick-member others _ q m in
-      let l = known told (assignmentTo-length (length others) t.variables taken) others k q m in
-      let (j, u, e) = anyBelow-elim _ _ (sym (assignmentTo-bit (length others) t.variables taken k c.place l c.known) ∙ c.chosen) in (
+      let l = known told (assignment_to-length (length others) t.variables taken) others k q m in
+      let (j, u, e) = any_below-elim _ _ (sym (assignment_to-bit (length others) t.variables taken k c.place l c.known) ∙ c.chosen) in (
         get_or ids j 0,
         pick_intro ids _ _ (record { place = j; known = u; chosen = (both_true _ _ e).0; here = refl }),
         sym (twin-same t.concepts _ _ (both_true _ _ e).1 ∙ ap (tree t.concepts) c.here),
@@ -105,15 +105,15 @@ module _ (t : Tables) where
       (q, keep-intro (stands t) 0 (count_of t.concepts) q (record { low = omega arith; high = omega arith; passes = s }), e)
 
   corresponding : (before after : List ℕ) → Corresponds t before after
-      → assignmentFaultAt (length (copies t)) t.variables before ≡ Done → assignmentFault t after ≡ Done → FilledBefore t before ↔ FilledNow t after
+      → assignment_fault_at (length (copies t)) t.variables before ≡ Done → assignment_fault t after ≡ Done → FilledBefore t before ↔ FilledNow t after
   corresponding before after c a b = (
-    λ f. record { accepted = b; solves = same-solved t (chosenBefore t before) (chosen t after) c.lowered c.copied f.solves },
-    λ f. record { accepted = a; solves = same-solved t (chosen t after) (chosenBefore t before) c.copied c.lowered f.solves },
+    λ f. record { accepted = b; solves = same-solved t (chosen_before t before) (chosen t after) c.lowered c.copied f.solves },
+    λ f. record { accepted = a; solves = same-solved t (chosen t after) (chosen_before t before) c.copied c.lowered f.solves },
   )
 
 -- The promise of A.2. It asks nothing of the lists' lengths.
 pub twins-count-once : (t : Tables) → TwinsCountOnce t
-unfolding chosenBefore chosen assignmentFault
+unfolding chosen_before chosen assignment_fault
 twins-count-once t =
     record {
       after =

@@ -12,24 +12,24 @@ use Rattle.subsumption.specs.declared.refusal.Outcome.{Outcome}
 use Rattle.subsumption.specs.declared.refusal.Outcome.TheVariants.{Done, Refused}
 use Rattle.subsumption.specs.declared.refusal.Refusal.{Refusal}
 use Rattle.subsumption.specs.declared.refusal.Refusal.TheVariants.{BufferTooShort, NoAssignment}
-use Rattle.subsumption.specs.Tables.{Tables, pairsOf}
+use Rattle.subsumption.specs.Tables.{Tables, pairs_of}
 use Rattle.subsumption.specs.Atoms.{atoms, bit}
-use Rattle.subsumption.specs.Check.{tableFault, assignmentFault, bufferFault}
-use Rattle.subsumption.specs.Refusal.{Reply, replyRefused}
+use Rattle.subsumption.specs.Check.{table_fault, assignment_fault, buffer_fault}
+use Rattle.subsumption.specs.Refusal.{Reply, reply_refused}
 use Rattle.subsumption.specs.Inner.Listing.{Accepted}
 use Rattle.subsumption.proofs.Bools.{le-or-lt, last-cases}
 use Rattle.subsumption.proofs.Bits.{bit-of-zero}
 use Rattle.subsumption.proofs.Refusals.{stops, goes_on, done-le, refused-lt}
-use Rattle.subsumption.proofs.Accepted.{wellFormed}
-use Rattle.settings.specs.Settings.{Settings, size, Heeds, Unrestricted, settingsFault, settingsFaultAt}
+use Rattle.subsumption.proofs.Accepted.{well_formed}
+use Rattle.settings.specs.Settings.{Settings, size, Heeds, Unrestricted, settings_fault, settings_fault_at}
 use Rattle.settings.specs.Inner.Check.{Loaded}
 use Rattle.settings.proofs.SizeLaws.{size-most, size-zero}
 use Rattle.settings.proofs.SettingsLaws.{settings-long, settings-below}
 use Rattle.matching.specs.Solving.{takes}
-use Rattle.matching.specs.Within.{withinFault, FindsWithinAfter, FindsWithin}
+use Rattle.matching.specs.Within.{within_fault, FindsWithinAfter, FindsWithin}
 use Rattle.matching.specs.Among.{SolvesAmong, FirstAmong, NoneAmong}
 use Rattle.matching.specs.Inner.Search.{Within, Between, Meets, NoSolution}
-use Rattle.matching.specs.Inner.Search.Problem.{mostAt, AskedAt, Problem}
+use Rattle.matching.specs.Inner.Search.Problem.{most_at, AskedAt, Problem}
 use Rattle.matching.specs.Inner.Search.Nogoods.{used, Room, Nogoods}
 use Rattle.matching.specs.Inner.Search.Narrow.{Narrower, Narrowed}
 use Rattle.matching.specs.Inner.Search.Solve.{Answers, Searched}
@@ -37,7 +37,7 @@ use Rattle.matching.specs.Inner.Search.Interval.{IntervalOf}
 use Rattle.matching.specs.Inner.Search.Order.{FirstIn, FirstOf}
 use Rattle.matching.specs.Inner.Within.{Counting, Asking, Found, FoundBy, FoundIn, FirstFound, FoundAmong, FindsAmongAfter, FindsAmong, Copied}
 use Rattle.matching.specs.declared.find.Match.TheVariants.{Filled}
-use Rattle.matching.specs.Find.{matchReply}
+use Rattle.matching.specs.Find.{match_reply}
 use Rattle.matching.proofs.SubstitutionLaws.Locality.{none-among}
 use Rattle.matching.proofs.SearchLaws.Nogoods.{nogoods-none}
 use Rattle.matching.proofs.SearchLaws.Solve.{full-interval, answers-found, answers-none, refuted-none}
@@ -114,12 +114,12 @@ module _ (largest before counted problem : List ℕ) (wanted : ℕ) (counting : 
   pub written-front : (p : ℕ) → p < 931 → get_or problem p 0 ≡ get_or before p 0
   written-front p l = asking.there p (inl (omega arith)) ∙ counting.there p (inl l)
 
-  pub written-most : (k : ℕ) → k < length largest → k < 8 → mostAt problem k ≡ get_or largest k 0
+  pub written-most : (k : ℕ) → k < length largest → k < 8 → most_at problem k ≡ get_or largest k 0
   written-most k l m = asking.there (931 + k) (inl (omega arith)) ∙ counting.here k l
 
 -- ---- the interval of all permitted assignments: every solution that takes permitted atoms only is between nothing and the narrowed high side
-module _ (t : Tables) (h : tableFault t ≡ Done) (problem low permitted high : List ℕ) (zeros : (k : ℕ) → get_or low k 0 ≡ 0) (long : length low ≡ 8)
-    (accepted : assignmentFault t (take t.variables permitted) ≡ Done) (idle : (k q : ℕ) → t.variables ≤ k → takes permitted k q ≡ true → ⊥)
+module _ (t : Tables) (h : table_fault t ≡ Done) (problem low permitted high : List ℕ) (zeros : (k : ℕ) → get_or low k 0 ≡ 0) (long : length low ≡ 8)
+    (accepted : assignment_fault t (take t.variables permitted) ≡ Done) (idle : (k q : ℕ) → t.variables ≤ k → takes permitted k q ≡ true → ⊥)
     (size : length high ≡ 8) (n : Narrower t problem permitted high) where
   none-low : (k q : ℕ) → takes low k q ≡ true → ⊥
   none-low k q e = bit-of-zero q (subst (λ (z : ℕ). bit z q ≡ true) (zeros k) e)
@@ -130,14 +130,14 @@ module _ (t : Tables) (h : tableFault t ≡ Done) (problem low permitted high : 
         low-long = long;
         high-long = size;
         accepted =
-            within-accepted t _ _ accepted (length-take-le _ high (omega (arith, (wellFormed t h).few-variables)))
+            within-accepted t _ _ accepted (length-take-le _ high (omega (arith, (well_formed t h).few-variables)))
             (front-within t.variables high permitted n.fewer);
         ordered = λ k q e. absurd (none-low k q e);
         idle = λ k q l e. idle k q l (n.fewer k q e);
       }
 
   all-between :
-      (other : List ℕ) → assignmentFault t other ≡ Done → Within other (take t.variables permitted) → SolvesAmong (AskedAt problem) t other
+      (other : List ℕ) → assignment_fault t other ≡ Done → Within other (take t.variables permitted) → SolvesAmong (AskedAt problem) t other
       → Between (take t.variables low) (take t.variables high) other
   all-between other a w s =
       record { above = λ k q e. absurd (none-low k q (front-known t.variables low k q e).1); below = n.all other a s w }
@@ -150,7 +150,7 @@ module _ (t : Tables) (h : tableFault t ≡ Done) (problem low permitted high : 
       record {
         long = f.solution.long;
         accepted =
-            within-accepted t _ _ accepted (length-take-le _ choice (omega (arith, f.solution.long, (wellFormed t h).few-variables))) inside;
+            within-accepted t _ _ accepted (length-take-le _ choice (omega (arith, f.solution.long, (well_formed t h).few-variables))) inside;
         inside = inside;
         meets = f.solution.meets;
         first = λ other a w m. f.first other a (all-between other a w m.solves) m;
@@ -167,7 +167,7 @@ module _ (sets problem low permitted high : List ℕ) (zeros : (k : ℕ) → get
     (size : length high ≡ 8) (n : Narrowed sets problem permitted high)
     (before after : List ℕ) (fits : length before ≡ 16385) (none : used before ≡ 0) (found : Bool) (known rest : List ℕ)
     (s : Searched sets problem high low high before after (λ t. Answers t problem low high found known rest)) where
-  module _ (t : Tables) (c : Problem t sets problem) (a : assignmentFault t (take t.variables permitted) ≡ Done)
+  module _ (t : Tables) (c : Problem t sets problem) (a : assignment_fault t (take t.variables permitted) ≡ Done)
       (i : (k q : ℕ) → t.variables ≤ k → takes permitted k q ≡ true → ⊥) where
     start : IntervalOf t low high
     start = whole t c.passed problem low permitted high zeros long a i size (n t c a)
@@ -188,14 +188,14 @@ module _ (sets problem low permitted high : List ℕ) (zeros : (k : ℕ) → get
 -- ---- what settings ask of an assignment
 -- past the variables an accepted assignment takes nothing
 few-each :
-    (t : Tables) (other : List ℕ) → assignmentFault t other ≡ Done → (most : ℕ → ℕ) → ((k : ℕ) → k < t.variables → size (get_or other k 0) ≤ most k)
+    (t : Tables) (other : List ℕ) → assignment_fault t other ≡ Done → (most : ℕ → ℕ) → ((k : ℕ) → k < t.variables → size (get_or other k 0) ≤ most k)
     → (k : ℕ) → size (get_or other k 0) ≤ most k
 few-each t other a most h k =
     ⊎_elim
     (λ (l : t.variables ≤ k). omega (arith, ap size (get_or-eq_default other 0 {n = k} (omega (arith, accepted-long t other a))), size-zero))
     (h k) (le-or-lt t.variables k)
 
-module _ (t : Tables) (s : Settings) (u : Unrestricted t s) (other : List ℕ) (a : assignmentFault t other ≡ Done) where
+module _ (t : Tables) (s : Settings) (u : Unrestricted t s) (other : List ℕ) (a : assignment_fault t other ≡ Done) where
   pub heeds-all : Heeds s other
   heeds-all =
       record {
@@ -203,10 +203,10 @@ module _ (t : Tables) (s : Settings) (u : Unrestricted t s) (other : List ℕ) (
         few = few-each t other a (λ k. get_or s.largest k 0) (λ k l. omega (arith, size-most (get_or other k 0), u.most k l));
       }
 
-module _ (t : Tables) (s : Settings) (ok : settingsFault t s ≡ Done) (permitted : List ℕ) (loaded : Loaded s.permitted permitted) where
-  pub loaded-accepted : tableFault t ≡ Done → assignmentFault t (take t.variables permitted) ≡ Done
+module _ (t : Tables) (s : Settings) (ok : settings_fault t s ≡ Done) (permitted : List ℕ) (loaded : Loaded s.permitted permitted) where
+  pub loaded-accepted : table_fault t ≡ Done → assignment_fault t (take t.variables permitted) ≡ Done
   loaded-accepted h =
-      accept t _ (length-take-le _ permitted (omega (arith, loaded.long, (wellFormed t h).few-variables)))
+      accept t _ (length-take-le _ permitted (omega (arith, loaded.long, (well_formed t h).few-variables)))
       (λ k l. subst (λ (z : ℕ). z < 2 ^ length (atoms t)) (sym (get_or-take _ permitted k 0 l ∙ loaded.same k)) (settings-below t s ok k l))
 
   pub loaded-idle : (k q : ℕ) → t.variables ≤ k → takes permitted k q ≡ true → ⊥
@@ -215,17 +215,17 @@ module _ (t : Tables) (s : Settings) (ok : settingsFault t s ≡ Done) (permitte
       (subst (λ (z : ℕ). bit z q ≡ true)
       (loaded.same k ∙ get_or-eq_default s.permitted 0 {n = k} (omega (arith, (settings-long t s ok).0))) e)
 
-  module _ (h : tableFault t ≡ Done) (before counted problem : List ℕ) (wanted : ℕ)
+  module _ (h : table_fault t ≡ Done) (before counted problem : List ℕ) (wanted : ℕ)
       (counting : Counting s.largest before counted) (asking : Asking wanted counted problem) where
-    most-of : (k : ℕ) → k < t.variables → mostAt problem k ≡ get_or s.largest k 0
+    most-of : (k : ℕ) → k < t.variables → most_at problem k ≡ get_or s.largest k 0
     most-of k l =
         written-most s.largest before counted problem wanted counting asking k (omega (arith, (settings-long t s ok).1))
-        (omega (arith, (wellFormed t h).few-variables))
+        (omega (arith, (well_formed t h).few-variables))
 
-    asked_of : (m : ℕ) → m < pairsOf t.questions → AskedAt problem m ↔ (bit wanted m ≡ true)
-    asked_of m l = asked-bit wanted counted problem asking m (omega (arith, (wellFormed t h).few-questions))
+    asked_of : (m : ℕ) → m < pairs_of t.questions → AskedAt problem m ↔ (bit wanted m ≡ true)
+    asked_of m l = asked-bit wanted counted problem asking m (omega (arith, (well_formed t h).few-questions))
 
-    module _ (other : List ℕ) (a : assignmentFault t other ≡ Done) where
+    module _ (other : List ℕ) (a : assignment_fault t other ≡ Done) where
       heeds-inside : Heeds s other → Within other (take t.variables permitted)
       heeds-inside h k q e =
           front-takes t.variables permitted k q (accepted-bits t other a k q e).0
@@ -235,7 +235,7 @@ module _ (t : Tables) (s : Settings) (ok : settingsFault t s ≡ Done) (permitte
       heeds-meets h x =
           record {
             solves = λ m l y. x m l ((asked_of m l).0 y);
-            few = few-each t other a (mostAt problem) (λ k l. omega (arith, h.few k, most-of k l));
+            few = few-each t other a (most_at problem) (λ k l. omega (arith, h.few k, most-of k l));
           }
 
       inside-heeds : Within other (take t.variables permitted) → Meets t problem other → Heeds s other
@@ -261,28 +261,28 @@ module _ (t : Tables) (s : Settings) (ok : settingsFault t s ≡ Done) (permitte
     found_among false choice f = λ other a h x. f other a (heeds-inside other a h) (heeds-meets other a h x)
 
 -- the check by the number of atoms that are listed
-pub settings-known : (t : Tables) (ids : List ℕ) (s : Settings) (r : Outcome) → Accepted t ids → r ≡ settingsFaultAt (length ids) t.variables s → r ≡ settingsFault t s
-unfolding settingsFault
-settings-known t ids s r A e = subst (λ (z : List ℕ). r ≡ settingsFaultAt (length z) t.variables s) A.listed e
+pub settings-known : (t : Tables) (ids : List ℕ) (s : Settings) (r : Outcome) → Accepted t ids → r ≡ settings_fault_at (length ids) t.variables s → r ≡ settings_fault t s
+unfolding settings_fault
+settings-known t ids s r A e = subst (λ (z : List ℕ). r ≡ settings_fault_at (length z) t.variables s) A.listed e
 
 -- ---- the answer
-pub tables-refuse : (t : Tables) (s : Settings) (before : List ℕ) (r : Refusal) → Refused r ≡ tableFault t → FindsWithin t s before before (replyRefused r)
-unfolding withinFault
+pub tables-refuse : (t : Tables) (s : Settings) (before : List ℕ) (r : Refusal) → Refused r ≡ table_fault t → FindsWithin t s before before (reply_refused r)
+unfolding within_fault
 tables-refuse t s before r e =
-    subst (λ (f : Outcome). FindsWithinAfter f t s before before (replyRefused r)) (stops (Refused r) _ _ r e refl) (refl, refl)
+    subst (λ (f : Outcome). FindsWithinAfter f t s before before (reply_refused r)) (stops (Refused r) _ _ r e refl) (refl, refl)
 
 module _ (asked : ℕ → Type 0) (t : Tables) (s : Settings) (before : List ℕ) where
-  finds-refused : (r : Refusal) → Refused r ≡ withinFault t s (length before) → FindsAmong asked t s before before (replyRefused r)
-  finds-refused r e = subst (λ (f : Outcome). FindsAmongAfter f asked t s before before (replyRefused r)) e (refl, refl)
+  finds-refused : (r : Refusal) → Refused r ≡ within_fault t s (length before) → FindsAmong asked t s before before (reply_refused r)
+  finds-refused r e = subst (λ (f : Outcome). FindsAmongAfter f asked t s before before (reply_refused r)) e (refl, refl)
 
-  pub settings-refuse : tableFault t ≡ Done → (r : Refusal) → Refused r ≡ settingsFault t s → FindsAmong asked t s before before (replyRefused r)
-  unfolding withinFault
+  pub settings-refuse : table_fault t ≡ Done → (r : Refusal) → Refused r ≡ settings_fault t s → FindsAmong asked t s before before (reply_refused r)
+  unfolding within_fault
   settings-refuse h r e = finds-refused r (goes_on Done _ _ _ (sym h) refl (stops (Refused r) _ _ r e refl))
 
   pub buffer-refuses :
-      tableFault t ≡ Done → settingsFault t s ≡ Done → length before < t.variables
-      → FindsAmong asked t s before before (replyRefused (BufferTooShort t.variables))
-  unfolding withinFault bufferFault
+      table_fault t ≡ Done → settings_fault t s ≡ Done → length before < t.variables
+      → FindsAmong asked t s before before (reply_refused (BufferTooShort t.variables))
+  unfolding within_fault buffer_fault
   buffer-refuses h g l =
       finds-refused _ (goes_on Done _ _ _ (sym h) refl (goes_on Done _ _ _ (sym g) refl (refused-lt (length before) t.variables _ l)))
 
@@ -303,32 +303,32 @@ module _ (t : Tables) (choice before after : List ℕ) (c : Copied t.variables c
       ext_get_or 0 _ _ (length-drop _ after ∙ ap (λ (z : ℕ). z - t.variables) c.size ∙ sym (length-drop _ before))
       (λ k m. get_or-drop _ after k 0 ∙ c.rest (t.variables + k) (omega arith) ∙ sym (get_or-drop _ before k 0))
 
-module _ (asked : ℕ → Type 0) (t : Tables) (s : Settings) (before after : List ℕ) (ok : tableFault t ≡ Done) (set : settingsFault t s ≡ Done)
+module _ (asked : ℕ → Type 0) (t : Tables) (s : Settings) (before after : List ℕ) (ok : table_fault t ≡ Done) (set : settings_fault t s ≡ Done)
     (room : t.variables ≤ length before) where
-  passed : Done ≡ withinFault t s (length before)
-  unfolding withinFault bufferFault
+  passed : Done ≡ within_fault t s (length before)
+  unfolding within_fault buffer_fault
   passed = goes_on Done _ _ Done (sym ok) refl (goes_on Done _ _ Done (sym set) refl (done-le (length before) t.variables _ room))
 
   pub finds-filled :
       (b : Bool) (choice : List ℕ) → FoundAmong asked t s b choice → b ≡ true → Copied t.variables choice before after
-      → FindsAmong asked t s before after (matchReply Filled)
+      → FindsAmong asked t s before after (match_reply Filled)
   finds-filled b choice g y c =
       let found : FirstFound asked t s choice = subst (λ (z : Bool). FoundAmong asked t s z choice) y g in
-      subst (λ (z : Outcome). FindsAmongAfter z asked t s before after (matchReply Filled)) passed
+      subst (λ (z : Outcome). FindsAmongAfter z asked t s before after (match_reply Filled)) passed
       (inl (
         refl,
         record {
           size = c.size;
-          first = subst (FirstAmong asked t s) (sym (front-copied t choice before after c found.long (wellFormed t ok).few-variables room)) found.first;
+          first = subst (FirstAmong asked t s) (sym (front-copied t choice before after c found.long (well_formed t ok).few-variables room)) found.first;
           rest = rest-kept t choice before after c;
         },
       ))
 
   pub finds-nothing :
-      (b : Bool) (choice : List ℕ) → FoundAmong asked t s b choice → b ≡ false → after ≡ before → FindsAmong asked t s before after (replyRefused NoAssignment)
+      (b : Bool) (choice : List ℕ) → FoundAmong asked t s b choice → b ≡ false → after ≡ before → FindsAmong asked t s before after (reply_refused NoAssignment)
   finds-nothing b choice g y k =
       let none : NoneAmong asked t s = subst (λ (z : Bool). FoundAmong asked t s z choice) y g in
-      subst (λ (z : Outcome). FindsAmongAfter z asked t s before after (replyRefused NoAssignment)) passed
+      subst (λ (z : Outcome). FindsAmongAfter z asked t s before after (reply_refused NoAssignment)) passed
       (inr (
         refl,
         record {
@@ -339,7 +339,7 @@ module _ (asked : ℕ → Type 0) (t : Tables) (s : Settings) (before after : Li
       ))
 
 -- where all questions are asked
-module _ (asked : ℕ → Type 0) (t : Tables) (s : Settings) (before after : List ℕ) (reply : Reply) (all : (m : ℕ) → m < pairsOf t.questions → asked m) where
+module _ (asked : ℕ → Type 0) (t : Tables) (s : Settings) (before after : List ℕ) (reply : Reply) (all : (m : ℕ) → m < pairs_of t.questions → asked m) where
   after-all : (f : Outcome) → FindsAmongAfter f asked t s before after reply → FindsWithinAfter f t s before after reply
   after-all Done (inl (e, f)) =
       inl (
@@ -368,4 +368,4 @@ module _ (asked : ℕ → Type 0) (t : Tables) (s : Settings) (before after : Li
   after-all (Refused r) x = x
 
   pub finds-within : FindsAmong asked t s before after reply → FindsWithin t s before after reply
-  finds-within = after-all (withinFault t s (length before))
+  finds-within = after-all (within_fault t s (length before))

@@ -5,37 +5,37 @@ use Rattle.subsumption.specs.declared.refusal.Outcome.{Outcome}
 use Rattle.subsumption.specs.declared.refusal.Outcome.TheVariants.{Done, Refused}
 use Rattle.subsumption.specs.Tables.{Tables}
 use Rattle.subsumption.specs.Atoms.{chosen}
-use Rattle.subsumption.specs.Refusal.{Reply, replyDone, replyRefused, replyWith, or_else, refuseIf}
-use Rattle.subsumption.specs.Check.{limitFault, tableFault, assignmentFault, bufferFault}
+use Rattle.subsumption.specs.Refusal.{Reply, reply_done, reply_refused, reply_with, or_else, refuse_if}
+use Rattle.subsumption.specs.Check.{limit_fault, table_fault, assignment_fault, buffer_fault}
 use Rattle.matching.specs.declared.chosen.Chosen.{Chosen}
 use Rattle.matching.specs.declared.chosen.Chosen.TheVariants.{Ids, Rejected}
 
 -- A variable's number that is not below the count is judged within check 2, at place 0.
-unfoldable pub variableFault : ℕ → ℕ → Outcome
-variableFault variables k = refuseIf (not (ltb k variables)) (Malformed 0)
+unfoldable pub variable_fault : ℕ → ℕ → Outcome
+variable_fault variables k = refuse_if (not (ltb k variables)) (Malformed 0)
 
 -- Check 1, the variable's number, the other checks up to 7, then 9 and 8: the buffer wants 64 numbers, however few are written.
-unfoldable pub choosingFault : Tables → List ℕ → ℕ → ℕ → Outcome
-choosingFault t assignment k size =
-    or_else (limitFault t)
-    (or_else (variableFault t.variables k) (or_else (tableFault t) (or_else (assignmentFault t assignment) (bufferFault 64 size))))
+unfoldable pub choosing_fault : Tables → List ℕ → ℕ → ℕ → Outcome
+choosing_fault t assignment k size =
+    or_else (limit_fault t)
+    (or_else (variable_fault t.variables k) (or_else (table_fault t) (or_else (assignment_fault t assignment) (buffer_fault 64 size))))
 
 -- The value is how many ids there are.
-abbrev pub chosenReply : Chosen → Reply
-chosenReply (Ids n) = replyDone n
-chosenReply (Rejected r) = replyRefused r
+abbrev pub chosen_reply : Chosen → Reply
+chosen_reply (Ids n) = reply_done n
+chosen_reply (Rejected r) = reply_refused r
 
 -- The ids stand in front; past them, and after a refusal, the buffer keeps its values.
-unfoldable pub chosenIn : Outcome → List ℕ → List ℕ → List ℕ
-chosenIn Done ids before = ids ++ drop (length ids) before
-chosenIn (Refused r) ids before = before
+unfoldable pub chosen_in : Outcome → List ℕ → List ℕ → List ℕ
+chosen_in Done ids before = ids ++ drop (length ids) before
+chosen_in (Refused r) ids before = before
 
 -- The reply and the buffer after it.
 pub record Chooses (t : Tables) (assignment : List ℕ) (k : ℕ) (before after : List ℕ) (reply : Reply) : Type 0 where
-  pub replied : reply ≡ replyWith (choosingFault t assignment k (length before)) (length (chosen t assignment k))
-  pub written : after ≡ chosenIn (choosingFault t assignment k (length before)) (chosen t assignment k) before
+  pub replied : reply ≡ reply_with (choosing_fault t assignment k (length before)) (length (chosen t assignment k))
+  pub written : after ≡ chosen_in (choosing_fault t assignment k (length before)) (chosen t assignment k) before
 
 -- What is handed back: the list; after a refusal the whole buffer, with its values.
-unfoldable pub handedBack : Outcome → List ℕ → List ℕ → List ℕ
-handedBack Done ids before = ids
-handedBack (Refused r) ids before = before
+unfoldable pub handed_back : Outcome → List ℕ → List ℕ → List ℕ
+handed_back Done ids before = ids
+handed_back (Refused r) ids before = before

@@ -6,13 +6,13 @@ use Rattle.subsumption.specs.declared.refusal.Outcome.TheVariants.{Done, Refused
 use Rattle.matching.specs.declared.find.Match.{Match}
 use Rattle.matching.specs.declared.find.Match.TheVariants.{Filled, Rejected}
 use Rattle.subsumption.specs.Tables.{Tables}
-use Rattle.subsumption.specs.Refusal.{Reply, replyDone, replyRefused, or_else}
-use Rattle.subsumption.specs.Check.{tableFault, bufferFault}
+use Rattle.subsumption.specs.Refusal.{Reply, reply_done, reply_refused, or_else}
+use Rattle.subsumption.specs.Check.{table_fault, buffer_fault}
 use Rattle.matching.specs.Solving.{Substitution, SolvesBy, First}
 
 -- The checks 1 to 7, then 8: the buffer wants as many numbers as variables.
-unfoldable pub findingFault : Tables → ℕ → Outcome
-findingFault t size = or_else (tableFault t) (bufferFault t.variables size)
+unfoldable pub finding_fault : Tables → ℕ → Outcome
+finding_fault t size = or_else (table_fault t) (buffer_fault t.variables size)
 
 -- Some substitution makes every question hold.
 pub record SomeSolves (t : Tables) : Type 0 where
@@ -32,15 +32,15 @@ pub record NoneSolves (t : Tables) (before after : List ℕ) : Type 0 where
   pub kept : after ≡ before
 
 -- No value: what is found is written.
-abbrev pub matchReply : Match → Reply
-matchReply Filled = replyDone 0
-matchReply (Rejected r) = replyRefused r
+abbrev pub match_reply : Match → Reply
+match_reply Filled = reply_done 0
+match_reply (Rejected r) = reply_refused r
 
 -- Where nothing is refused, either the first assignment is written, or none exists and the reply is refusal 10.
 abbrev pub FindsAfter : Outcome → Tables → List ℕ → List ℕ → Reply → Type 0
 FindsAfter Done t before after reply =
-    ((reply ≡ replyDone 0) × FilledBy t before after) ⊎ ((reply ≡ replyRefused NoAssignment) × NoneSolves t before after)
-FindsAfter (Refused r) t before after reply = (reply ≡ replyRefused r) × (after ≡ before)
+    ((reply ≡ reply_done 0) × FilledBy t before after) ⊎ ((reply ≡ reply_refused NoAssignment) × NoneSolves t before after)
+FindsAfter (Refused r) t before after reply = (reply ≡ reply_refused r) × (after ≡ before)
 
 abbrev pub Finds : Tables → List ℕ → List ℕ → Reply → Type 0
-Finds t before after reply = FindsAfter (findingFault t (length before)) t before after reply
+Finds t before after reply = FindsAfter (finding_fault t (length before)) t before after reply

@@ -1,14 +1,14 @@
 -- Assignments and substitutions that make every question hold, and the order of assignments (01, "Tables" and "Below").
 use Rattle.std.specs.Prelude.{ℕ, ◌<◌, ◌≡◌, List, Bool, true, false, ◌⊎◌, get_or}
 use Rattle.subsumption.specs.declared.refusal.Outcome.TheVariants.{Done}
-use Rattle.subsumption.specs.Tables.{Tables, pairsOf, left_of, rightOf, Concept, hasVariable}
+use Rattle.subsumption.specs.Tables.{Tables, pairs_of, left_of, right_of, Concept, has_variable}
 use Rattle.subsumption.specs.Atoms.{bit}
-use Rattle.subsumption.specs.Subsumption.{Interpretation, Reading, Member, noVariables, assigned, SubsumedBy}
-use Rattle.subsumption.specs.Check.{assignmentFault}
+use Rattle.subsumption.specs.Subsumption.{Interpretation, Reading, Member, no_variables, assigned, SubsumedBy}
+use Rattle.subsumption.specs.Check.{assignment_fault}
 
 -- Every question holds, with the variables read so.
 abbrev pub Solved : Tables → (Interpretation → Reading) → Type 0
-Solved t reading = (m : ℕ) → m < pairsOf t.questions → SubsumedBy t reading (left_of t.questions m) (rightOf t.questions m)
+Solved t reading = (m : ℕ) → m < pairs_of t.questions → SubsumedBy t reading (left_of t.questions m) (right_of t.questions m)
 
 -- An assignment (01: a filling) that makes every question hold.
 abbrev pub Solves : Tables → List ℕ → Type 0
@@ -17,10 +17,10 @@ Solves t assignment = Solved t (assigned t assignment)
 -- A substitution (01: a replacement) gives each variable one variable-free concept, of any size, names and roles.
 pub record Substitution (t : Tables) : Type 0 where
   pub concept : ℕ → Concept
-  pub variable-free : (k : ℕ) → k < t.variables → hasVariable (concept k) ≡ false
+  pub variable-free : (k : ℕ) → k < t.variables → has_variable (concept k) ≡ false
 
 abbrev pub substituted : (ℕ → Concept) → Interpretation → Reading
-substituted concept I k x = Member I noVariables (concept k) x
+substituted concept I k x = Member I no_variables (concept k) x
 
 abbrev pub SolvesBy : (t : Tables) → Substitution t → Type 0
 SolvesBy t σ = Solved t (substituted σ.concept)
@@ -41,6 +41,6 @@ pub record Earlier (earlier later : List ℕ) : Type 0 where
 
 -- The first assignment that solves: it is accepted, and every other accepted one that solves comes later.
 pub record First (t : Tables) (assignment : List ℕ) : Type 0 where
-  pub accepted : assignmentFault t assignment ≡ Done
+  pub accepted : assignment_fault t assignment ≡ Done
   pub solves : Solves t assignment
-  pub first : (other : List ℕ) → assignmentFault t other ≡ Done → Solves t other → (other ≡ assignment) ⊎ Earlier assignment other
+  pub first : (other : List ℕ) → assignment_fault t other ≡ Done → Solves t other → (other ≡ assignment) ⊎ Earlier assignment other

@@ -4,22 +4,22 @@ use Rattle.subsumption.specs.declared.refusal.Refusal.TheVariants.{NoAssignment}
 use Rattle.subsumption.specs.declared.refusal.Outcome.{Outcome}
 use Rattle.subsumption.specs.declared.refusal.Outcome.TheVariants.{Done, Refused}
 use Rattle.subsumption.specs.Tables.{Tables}
-use Rattle.subsumption.specs.Refusal.{Reply, replyDone, replyRefused, or_else}
-use Rattle.subsumption.specs.Check.{tableFault, assignmentFault, bufferFault}
-use Rattle.settings.specs.Settings.{Settings, Heeds, Unrestricted, settingsFault}
+use Rattle.subsumption.specs.Refusal.{Reply, reply_done, reply_refused, or_else}
+use Rattle.subsumption.specs.Check.{table_fault, assignment_fault, buffer_fault}
+use Rattle.settings.specs.Settings.{Settings, Heeds, Unrestricted, settings_fault}
 use Rattle.matching.specs.Solving.{Solves, Earlier, Substitution, SolvesBy}
 
 -- The checks 1 to 7, then 19, then 8.
-unfoldable pub withinFault : Tables → Settings → ℕ → Outcome
-withinFault t s size = or_else (tableFault t) (or_else (settingsFault t s) (bufferFault t.variables size))
+unfoldable pub within_fault : Tables → Settings → ℕ → Outcome
+within_fault t s size = or_else (table_fault t) (or_else (settings_fault t s) (buffer_fault t.variables size))
 
 -- The first assignment within the settings that solves: every other accepted one within them that solves comes later.
 pub record FirstWithin (t : Tables) (s : Settings) (assignment : List ℕ) : Type 0 where
-  pub accepted : assignmentFault t assignment ≡ Done
+  pub accepted : assignment_fault t assignment ≡ Done
   pub heeds : Heeds s assignment
   pub solves : Solves t assignment
   pub first :
-      (other : List ℕ) → assignmentFault t other ≡ Done → Heeds s other → Solves t other → (other ≡ assignment) ⊎ Earlier assignment other
+      (other : List ℕ) → assignment_fault t other ≡ Done → Heeds s other → Solves t other → (other ≡ assignment) ⊎ Earlier assignment other
 
 -- One number a variable is written, the first assignment within the settings that solves; the rest of the buffer keeps its values.
 pub record FilledWithin (t : Tables) (s : Settings) (before after : List ℕ) : Type 0 where
@@ -29,15 +29,15 @@ pub record FilledWithin (t : Tables) (s : Settings) (before after : List ℕ) : 
 
 -- No assignment within the settings solves, and where they permit all, no substitution does; nothing is written.
 pub record NoneWithin (t : Tables) (s : Settings) (before after : List ℕ) : Type 0 where
-  pub none : (other : List ℕ) → assignmentFault t other ≡ Done → Heeds s other → Solves t other → ⊥
+  pub none : (other : List ℕ) → assignment_fault t other ≡ Done → Heeds s other → Solves t other → ⊥
   pub by-substitution : Unrestricted t s → (σ : Substitution t) → SolvesBy t σ → ⊥
   pub kept : after ≡ before
 
 -- Where nothing is refused, either the first assignment is written, or none exists and the reply is refusal 10.
 abbrev pub FindsWithinAfter : Outcome → Tables → Settings → List ℕ → List ℕ → Reply → Type 0
 FindsWithinAfter Done t s before after reply =
-    ((reply ≡ replyDone 0) × FilledWithin t s before after) ⊎ ((reply ≡ replyRefused NoAssignment) × NoneWithin t s before after)
-FindsWithinAfter (Refused r) t s before after reply = (reply ≡ replyRefused r) × (after ≡ before)
+    ((reply ≡ reply_done 0) × FilledWithin t s before after) ⊎ ((reply ≡ reply_refused NoAssignment) × NoneWithin t s before after)
+FindsWithinAfter (Refused r) t s before after reply = (reply ≡ reply_refused r) × (after ≡ before)
 
 abbrev pub FindsWithin : Tables → Settings → List ℕ → List ℕ → Reply → Type 0
-FindsWithin t s before after reply = FindsWithinAfter (withinFault t s (length before)) t s before after reply
+FindsWithin t s before after reply = FindsWithinAfter (within_fault t s (length before)) t s before after reply

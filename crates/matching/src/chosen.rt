@@ -1,11 +1,11 @@
 // Listing one variable's chosen ids.
 ghost use Rattle.std.specs.Prelude.{◌≡◌, ◌<◌, ◌≤◌, ◌^◌, length, get_or};
-ghost use Rattle.subsumption.specs.Lent.{lent, before, after};
+ghost use Rattle.subsumption.specs.Lent.{lent};
 ghost use Rattle.subsumption.specs.Atoms.{pick, chosen};
-ghost use Rattle.subsumption.specs.Refusal.{replyWith, replyOf};
-ghost use Rattle.subsumption.specs.Inner.Atoms.{inFront};
-ghost use Rattle.matching.specs.Chosen.{choosingFault, chosenReply, chosenIn, handedBack, Chooses};
-ghost use Rattle.matching.specs.Inner.Chosen.{knownFault, earlierOf, toldOf};
+ghost use Rattle.subsumption.specs.Refusal.{reply_with, reply_of};
+ghost use Rattle.subsumption.specs.Inner.Atoms.{in_front};
+ghost use Rattle.matching.specs.Chosen.{choosing_fault, chosen_reply, chosen_in, handed_back, Chooses};
+ghost use Rattle.matching.specs.Inner.Chosen.{known_fault, earlier_of, told_of};
 
 use subsumption::helpers::check_assignment;
 use subsumption::limits::ATOMS;
@@ -31,8 +31,8 @@ fn put_picked(ids: &[u16], choice: u64, out: &mut [u16]) -> usize
     requires ids_len_bound { length ids.now ≤ 64 }
     requires choice_bound { choice < 2 ^ length ids.now }
     requires in_bounds { 64 ≤ length out.old }
-    ensures value { result ≡ length (pick (before ids) choice) }
-    ensures out_value { after out ≡ inFront (pick (before ids) choice) (before out) }
+    ensures value { result ≡ length (pick ids.now choice) }
+    ensures out_value { out.new ≡ in_front (pick ids.now choice) out.old }
 {
     let count = u64::count_ones(choice) as usize;
     let mut rest = choice;
@@ -55,12 +55,12 @@ fn put_known(
     out: &mut [u16],
 ) -> Chosen
     requires { length ids.now ≤ 64 }
-    ensures result_value { chosenReply result ≡ replyWith
-        (knownFault (length (before ids)) variables (before assignment) variable (length (before out)))
-        (length (pick (before ids) (get_or (before assignment) variable 0))) }
-    ensures out_value { after out ≡ chosenIn
-        (knownFault (length (before ids)) variables (before assignment) variable (length (before out)))
-        (pick (before ids) (get_or (before assignment) variable 0)) (before out) }
+    ensures result_value { chosen_reply result ≡ reply_with
+        (known_fault (length ids.now) variables assignment.now variable (length out.old))
+        (length (pick ids.now (get_or assignment.now variable 0))) }
+    ensures out_value { out.new ≡ chosen_in
+        (known_fault (length ids.now) variables assignment.now variable (length out.old))
+        (pick ids.now (get_or assignment.now variable 0)) out.old }
 {
     if variables <= variable {
         return Chosen::Rejected(Refusal::Malformed(0));
@@ -78,7 +78,7 @@ fn put_known(
 
 // The tables are refused: the variable's number comes before all but check 1.
 fn refused_with(r: Refusal, known: bool) -> Refusal
-    ensures { result ≡ earlierOf r known }
+    ensures { result ≡ earlier_of r known }
 {
     if known {
         return r;
@@ -101,8 +101,8 @@ pub fn put_chosen(
     variable: u16,
     out: &mut [u16],
 ) -> Chosen
-    ensures { Chooses (lent concepts inclusions questions roles variables) (before assignment) variable
-        (before out) (after out) (chosenReply result) }
+    ensures { Chooses (lent concepts inclusions questions roles variables) assignment.now variable
+        out.old out.new (chosen_reply result) }
 {
     let mut ids = [0u16; ATOMS];
     let atoms = list_atoms(concepts, inclusions, questions, roles, variables, &mut ids);
@@ -114,7 +114,7 @@ pub fn put_chosen(
 
 // What an answer tells beside the list: after a refusal the whole buffer goes back.
 fn tell(answer: Chosen, size: usize) -> Told
-    ensures { result ≡ toldOf answer size }
+    ensures { result ≡ told_of answer size }
 {
     match answer {
         Chosen::Ids(n) => Told {
@@ -147,13 +147,13 @@ pub fn list_chosen<'a>(
     number: &mut u16,
     place: &mut u64,
 ) -> &'a mut [u16]
-    ensures result_value { result.now ≡ handedBack
-        (choosingFault (lent concepts inclusions questions roles variables) (before assignment) variable (length (before out)))
-        (chosen (lent concepts inclusions questions roles variables) (before assignment) variable) (before out) }
-    ensures number_value { after number ≡ (replyOf
-        (choosingFault (lent concepts inclusions questions roles variables) (before assignment) variable (length (before out)))).number }
-    ensures place_value { after place ≡ (replyOf
-        (choosingFault (lent concepts inclusions questions roles variables) (before assignment) variable (length (before out)))).place }
+    ensures result_value { result.now ≡ handed_back
+        (choosing_fault (lent concepts inclusions questions roles variables) assignment.now variable (length out.old))
+        (chosen (lent concepts inclusions questions roles variables) assignment.now variable) out.old }
+    ensures number_value { number.new ≡ (reply_of
+        (choosing_fault (lent concepts inclusions questions roles variables) assignment.now variable (length out.old))).number }
+    ensures place_value { place.new ≡ (reply_of
+        (choosing_fault (lent concepts inclusions questions roles variables) assignment.now variable (length out.old))).place }
 {
     let size = out.len();
     let answer = put_chosen(

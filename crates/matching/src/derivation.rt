@@ -3,15 +3,15 @@ pub mod marks;
 pub mod rules;
 
 ghost use Rattle.std.specs.Prelude.{◌≡◌, length, ◌<◌};
-ghost use Rattle.subsumption.specs.Lent.{lent, before};
+ghost use Rattle.subsumption.specs.Lent.{lent};
 ghost use Rattle.subsumption.specs.declared.refusal.Refusal.TheVariants.{BadDerivation};
 ghost use Rattle.subsumption.specs.declared.refusal.Outcome.TheVariants.{Done};
 ghost use Rattle.subsumption.specs.Tables.{count_of};
-ghost use Rattle.subsumption.specs.Refusal.{replyOf, refuseIf};
+ghost use Rattle.subsumption.specs.Refusal.{reply_of, refuse_if};
 ghost use Rattle.subsumption.specs.Inner.Closure.{Ready};
 ghost use Rattle.subsumption.specs.Inner.Listing.{Prepared, ForAccepted};
-ghost use Rattle.subsumption.specs.Inner.Sizes.{rolesSize};
-ghost use Rattle.matching.specs.Derivation.{lines_of, noLines, lastFault, checkingFault};
+ghost use Rattle.subsumption.specs.Inner.Sizes.{roles_size};
+ghost use Rattle.matching.specs.Derivation.{lines_of, no_lines, last_fault, checking_fault};
 ghost use Rattle.matching.specs.Inner.Derivation.{MarksOf, LineTest, RulesTest};
 
 use crate::derivation::marks::{mark_pair, number_at};
@@ -33,10 +33,10 @@ fn line_follows(
     k: usize,
 ) -> bool
     requires ready { Ready concepts.now inclusions.now atoms.now assignment.now }
-    requires into_len { length into.now ≡ rolesSize }
+    requires into_len { length into.now ≡ roles_size }
     requires marks_of { MarksOf (count_of concepts.now) marks.now lines.now k }
     requires k_bound { k < lines_of lines.now }
-    ensures { LineTest (before concepts) (before inclusions) (before into) (before atoms) (before assignment) (before lines) k result }
+    ensures { LineTest concepts.now inclusions.now into.now atoms.now assignment.now lines.now k result }
 {
     let count = concepts.len() / 3;
     let rule = number_at(lines, k * 4);
@@ -65,9 +65,9 @@ fn check_lines(
     marks: &mut [bool],
 ) -> Outcome
     requires ready { Ready concepts.now inclusions.now atoms.now assignment.now }
-    requires into_len { length into.now ≡ rolesSize }
+    requires into_len { length into.now ≡ roles_size }
     requires marks_of { MarksOf (count_of concepts.now) marks.old lines.now 0 }
-    ensures { RulesTest (before concepts) (before inclusions) (before into) (before atoms) (before assignment) (before lines) result }
+    ensures { RulesTest concepts.now inclusions.now into.now atoms.now assignment.now lines.now result }
 {
     let count = concepts.len() / 3;
     let total = lines.len() / 4;
@@ -97,8 +97,8 @@ fn check_rules(
     lines: &[u16],
 ) -> Outcome
     requires ready { Ready concepts.now inclusions.now atoms.now assignment.now }
-    requires into_len { length into.now ≡ rolesSize }
-    ensures { RulesTest (before concepts) (before inclusions) (before into) (before atoms) (before assignment) (before lines) result }
+    requires into_len { length into.now ≡ roles_size }
+    ensures { RulesTest concepts.now inclusions.now into.now atoms.now assignment.now lines.now result }
 {
     let mut marks = [false; SQUARE];
     let count = concepts.len() / 3;
@@ -116,7 +116,7 @@ fn check_rules(
 
 // No lines, or a ragged list.
 fn check_shape(lines: &[u16]) -> Outcome
-    ensures { result ≡ refuseIf (noLines (before lines)) (BadDerivation 0) }
+    ensures { result ≡ refuse_if (no_lines lines.now) (BadDerivation 0) }
 {
     if lines.len() == 0 {
         return Outcome::Refused(Refusal::BadDerivation(0));
@@ -129,8 +129,8 @@ fn check_shape(lines: &[u16]) -> Outcome
 
 // The last line is the asked pair.
 fn check_last(left: u16, right: u16, lines: &[u16]) -> Outcome
-    requires { refuseIf (noLines lines.now) (BadDerivation 0) ≡ Done }
-    ensures { result ≡ lastFault left right (before lines) }
+    requires { refuse_if (no_lines lines.now) (BadDerivation 0) ≡ Done }
+    ensures { result ≡ last_fault left right lines.now }
 {
     let total = lines.len() / 4;
     let last = total - 1;
@@ -157,8 +157,8 @@ fn check_known(
 ) -> Outcome
     requires prepared { Prepared concepts.now inclusions.now roles.now variables atoms.now }
     requires left_bound { (left < count_of concepts.now) × (right < count_of concepts.now) }
-    ensures { ForAccepted (before concepts) (before inclusions) (before roles) variables (before atoms)
-        (λ t. result ≡ checkingFault t (before assignment) left right (before lines)) }
+    ensures { ForAccepted concepts.now inclusions.now roles.now variables atoms.now
+        (λ t. result ≡ checking_fault t assignment.now left right lines.now) }
 {
     let choices = check_assignment(assignment, variables, atoms.len());
     if let Outcome::Refused(r) = choices {
@@ -189,8 +189,8 @@ pub fn check_derivation(
     right: u16,
     lines: &[u16],
 ) -> Outcome
-    ensures { replyOf result ≡ replyOf
-        (checkingFault (lent concepts inclusions questions roles variables) (before assignment) left right (before lines)) }
+    ensures { reply_of result ≡ reply_of
+        (checking_fault (lent concepts inclusions questions roles variables) assignment.now left right lines.now) }
 {
     let mut ids = [0u16; ATOMS];
     let listed = list_asked(

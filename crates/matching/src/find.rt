@@ -1,8 +1,8 @@
 // Finding the first assignment that makes every question hold: within settings that permit every atom, and 64 of them.
 ghost use Rattle.std.specs.Prelude.{◌≤◌};
 ghost use Rattle.matching.specs.Inner.Find.{Full};
-ghost use Rattle.matching.specs.Find.{matchReply, Finds};
-ghost use Rattle.subsumption.specs.Lent.{lent, before, after};
+ghost use Rattle.matching.specs.Find.{match_reply, Finds};
+ghost use Rattle.subsumption.specs.Lent.{lent};
 
 use crate::search::interval::ones;
 use crate::within::{ALL, find_known};
@@ -34,7 +34,7 @@ pub fn find_assignment(
     variables: u16,
     out: &mut [u64],
 ) -> Match
-    ensures { Finds (lent concepts inclusions questions roles variables) (before out) (after out) (matchReply result) }
+    ensures { Finds (lent concepts inclusions questions roles variables) out.old out.new (match_reply result) }
 {
     let mut ids = [0u16; ATOMS];
     let listed = list_atoms(concepts, inclusions, questions, roles, variables, &mut ids);

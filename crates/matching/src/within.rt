@@ -1,17 +1,17 @@
 // Finding the first assignment within settings that makes every question hold, or those that are asked.
 ghost use Rattle.std.specs.Prelude.{◌≡◌, ◌≤◌, length, true};
-ghost use Rattle.subsumption.specs.Lent.{lent, before, after};
+ghost use Rattle.subsumption.specs.Lent.{lent};
 ghost use Rattle.subsumption.specs.Inner.Lent.{given};
 ghost use Rattle.subsumption.specs.declared.refusal.Outcome.TheVariants.{Done};
 ghost use Rattle.subsumption.specs.Atoms.{bit};
 ghost use Rattle.subsumption.specs.Inner.Listing.{Accepted};
-ghost use Rattle.settings.specs.Settings.{lentSettings, settingsFault};
-ghost use Rattle.settings.specs.Inner.Lent.{givenSettings};
+ghost use Rattle.settings.specs.Settings.{lent_settings, settings_fault};
+ghost use Rattle.settings.specs.Inner.Lent.{given_settings};
 ghost use Rattle.matching.specs.Inner.Within.{Counting, Asking, FoundIn, FoundAmong, FindsAmong, Copied};
 ghost use Rattle.matching.specs.Inner.Search.Problem.{Shaped};
-ghost use Rattle.matching.specs.Find.{matchReply};
+ghost use Rattle.matching.specs.Find.{match_reply};
 ghost use Rattle.matching.specs.Within.{FindsWithin};
-ghost use Rattle.matching.specs.Inner.Sizes.{problemSize};
+ghost use Rattle.matching.specs.Inner.Sizes.{problem_size};
 
 use crate::find::Match;
 use crate::limits::{ASKED, MOST, PROBLEM, SCRATCH, SETS, STORE};
@@ -39,7 +39,7 @@ pub struct Solution {
 fn search(sets: &[u64], problem: &[u16], permitted: [u64; 8]) -> Solution
     requires shaped { Shaped sets.now problem.now }
     requires permitted_len { length permitted ≡ 8 }
-    ensures { FoundIn (before sets) (before problem) permitted result.found result.choice }
+    ensures { FoundIn sets.now problem.now permitted result.found result.choice }
 {
     let mut store = [0u64; STORE];
     let mut scratch = [0u64; SCRATCH];
@@ -63,16 +63,16 @@ fn search(sets: &[u64], problem: &[u16], permitted: [u64; 8]) -> Solution
 
 // Writes the largest counts into the problem.
 pub fn put_counts(problem: &mut [u16], largest: &[u16])
-    requires { (length problem.old ≡ problemSize) × (length largest.now ≤ 8) }
-    ensures { Counting (before largest) (before problem) (after problem) }
+    requires { (length problem.old ≡ problem_size) × (length largest.now ≤ 8) }
+    ensures { Counting largest.now problem.old problem.new }
 {
     copy_at(largest, problem, MOST);
 }
 
 // Writes into the problem which questions are asked: those whose bit is set.
 pub fn put_asked(problem: &mut [u16], wanted: u64)
-    requires { length problem.old ≡ problemSize }
-    ensures { Asking wanted (before problem) (after problem) }
+    requires { length problem.old ≡ problem_size }
+    ensures { Asking wanted problem.old problem.new }
 {
     let mut m: usize = 0;
     while m < 32 {
@@ -94,9 +94,9 @@ fn find_first(
     wanted: u64,
 ) -> Solution
     requires accepted { Accepted (given concepts inclusions questions roles variables) ids.now }
-    requires largest_value { settingsFault (given concepts inclusions questions roles variables) (givenSettings permitted largest) ≡ Done }
+    requires largest_value { settings_fault (given concepts inclusions questions roles variables) (given_settings permitted largest) ≡ Done }
     ensures { FoundAmong (λ m. bit wanted m ≡ true) (lent concepts inclusions questions roles variables)
-        (lentSettings permitted largest) result.found result.choice }
+        (lent_settings permitted largest) result.found result.choice }
 {
     let mut sets = [0u64; SETS];
     let mut problem = [0u16; PROBLEM];
@@ -119,7 +119,7 @@ fn find_first(
 pub fn write_choice(choice: [u64; 8], count: usize, out: &mut [u64])
     requires count_bound { count ≤ 8 }
     requires count_in_bounds { count ≤ length out.old }
-    ensures { Copied count choice (before out) (after out) }
+    ensures { Copied count choice out.old out.new }
 {
     let mut k: usize = 0;
     while k < count {
@@ -142,9 +142,9 @@ fn find_set(
     out: &mut [u64],
 ) -> Match
     requires accepted { Accepted (given concepts inclusions questions roles variables) ids.now }
-    requires largest_value { settingsFault (given concepts inclusions questions roles variables) (givenSettings permitted largest) ≡ Done }
+    requires largest_value { settings_fault (given concepts inclusions questions roles variables) (given_settings permitted largest) ≡ Done }
     ensures { FindsAmong (λ m. bit wanted m ≡ true) (lent concepts inclusions questions roles variables)
-        (lentSettings permitted largest) (before out) (after out) (matchReply result) }
+        (lent_settings permitted largest) out.old out.new (match_reply result) }
 {
     let count = variables as usize;
     if out.len() < count {
@@ -176,7 +176,7 @@ pub fn find_known(
 ) -> Match
     requires { Accepted (given concepts inclusions questions roles variables) ids.now }
     ensures { FindsAmong (λ m. bit wanted m ≡ true) (lent concepts inclusions questions roles variables)
-        (lentSettings permitted largest) (before out) (after out) (matchReply result) }
+        (lent_settings permitted largest) out.old out.new (match_reply result) }
 {
     let checked = check_settings(permitted, largest, variables, ids.len());
     match checked {
@@ -198,8 +198,8 @@ pub fn find_within(
     largest: &[u16],
     out: &mut [u64],
 ) -> Match
-    ensures { FindsWithin (lent concepts inclusions questions roles variables) (lentSettings permitted largest)
-        (before out) (after out) (matchReply result) }
+    ensures { FindsWithin (lent concepts inclusions questions roles variables) (lent_settings permitted largest)
+        out.old out.new (match_reply result) }
 {
     let mut ids = [0u16; ATOMS];
     let listed = list_atoms(concepts, inclusions, questions, roles, variables, &mut ids);

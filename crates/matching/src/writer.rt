@@ -5,13 +5,13 @@ pub mod propose;
 pub mod sets;
 
 ghost use Rattle.std.specs.Prelude.{◌≡◌, false, ◌+◌, ◌*◌, ◌<◌, ◌≤◌, eqb, length};
-ghost use Rattle.subsumption.specs.Lent.{lent, before, after};
+ghost use Rattle.subsumption.specs.Lent.{lent};
 ghost use Rattle.subsumption.specs.Tables.{both, count_of};
 ghost use Rattle.subsumption.specs.Inner.Listing.{Prepared, ForAccepted};
-ghost use Rattle.subsumption.specs.Inner.Sizes.{rolesSize};
-ghost use Rattle.matching.specs.Writer.{derivedReply, Derives};
+ghost use Rattle.subsumption.specs.Inner.Sizes.{roles_size};
+ghost use Rattle.matching.specs.Writer.{derived_reply, Derives};
 ghost use Rattle.matching.specs.Inner.Derivation.{seen};
-ghost use Rattle.matching.specs.Inner.Writer.{Grounds, inFront, LineWritten, RestKept, Blank, Asked, Written, WrittenTo, Begun, WrittenFor};
+ghost use Rattle.matching.specs.Inner.Writer.{Grounds, in_front, LineWritten, RestKept, Blank, Asked, Written, WrittenTo, Begun, WrittenFor};
 
 use crate::derivation::marks::{has_mark, mark_pair};
 use crate::limits::SQUARE;
@@ -32,7 +32,7 @@ pub enum Derived {
 // A line in front of the part not yet written.
 fn put_line(rest: &mut [u16], rule: u16, left: u16, right: u16, extra: u16)
     requires { 4 ≤ length rest.old }
-    ensures { after rest ≡ inFront rule left right extra (before rest) }
+    ensures { rest.new ≡ in_front rule left right extra rest.old }
 {
     rest[0] = rule;
     rest[1] = left;
@@ -43,7 +43,7 @@ fn put_line(rest: &mut [u16], rule: u16, left: u16, right: u16, extra: u16)
 // The unwritten rest is lent on for the next line.
 fn write_line(out: &mut [u16], n: usize, rule: u16, left: u16, right: u16, extra: u16)
     requires { (n + 1) * 4 ≤ length out.old }
-    ensures { LineWritten (before out) (after out) n rule left right extra }
+    ensures { LineWritten out.old out.new n rule left right extra }
 {
     let at = n * 4;
     put_line(&mut out[at..], rule, left, right, extra);
@@ -73,14 +73,14 @@ fn write_more(
     written: usize,
 ) -> usize
     requires grounds { Grounds concepts.now inclusions.now atoms.now assignment.now }
-    requires into_len { length into.now ≡ rolesSize }
+    requires into_len { length into.now ≡ roles_size }
     requires asked { Asked concepts.now inclusions.now into.now atoms.now assignment.now left right }
     requires written { Written concepts.now inclusions.now into.now atoms.now assignment.now marks.old out.old written }
     requires right_value { seen (count_of concepts.now) marks.old left right ≡ false }
     requires concepts_in_bounds { count_of concepts.now * count_of concepts.now * 4 ≤ length out.old }
-    ensures written_to { WrittenTo (before concepts) (before inclusions) (before into) (before atoms) (before assignment) left right
-        (after marks) (after out) result }
-    ensures rest_kept { RestKept (before out) (after out) written result }
+    ensures written_to { WrittenTo concepts.now inclusions.now into.now atoms.now assignment.now left right
+        marks.new out.new result }
+    ensures rest_kept { RestKept out.old out.new written result }
 {
     let count = concepts.len() / 3;
     let mut n = written;
@@ -120,13 +120,13 @@ fn write_tested(
     out: &mut [u16],
 ) -> usize
     requires grounds { Grounds concepts.now inclusions.now atoms.now assignment.now }
-    requires into_len { length into.now ≡ rolesSize }
+    requires into_len { length into.now ≡ roles_size }
     requires left_bound { (left < count_of concepts.now) × (right < count_of concepts.now) }
     requires blank { Blank (count_of concepts.now) marks.old }
     requires concepts_in_bounds { count_of concepts.now * count_of concepts.now * 4 ≤ length out.old }
-    ensures begun { Begun (before concepts) (before inclusions) (before into) (before atoms) (before assignment) left right
-        (after marks) (after out) result }
-    ensures rest_kept { RestKept (before out) (after out) 0 result }
+    ensures begun { Begun concepts.now inclusions.now into.now atoms.now assignment.now left right
+        marks.new out.new result }
+    ensures rest_kept { RestKept out.old out.new 0 result }
 {
     let count = concepts.len() / 3;
     let end = number(work, LINES, 0, 0);
@@ -161,13 +161,13 @@ fn write_proposed(
     out: &mut [u16],
 ) -> usize
     requires grounds { Grounds concepts.now inclusions.now atoms.now assignment.now }
-    requires into_len { length into.now ≡ rolesSize }
+    requires into_len { length into.now ≡ roles_size }
     requires left_bound { (left < count_of concepts.now) × (right < count_of concepts.now) }
     requires blank { Blank (count_of concepts.now) marks.old }
     requires concepts_in_bounds { count_of concepts.now * count_of concepts.now * 4 ≤ length out.old }
-    ensures begun { Begun (before concepts) (before inclusions) (before into) (before atoms) (before assignment) left right
-        (after marks) (after out) result }
-    ensures rest_kept { RestKept (before out) (after out) 0 result }
+    ensures begun { Begun concepts.now inclusions.now into.now atoms.now assignment.now left right
+        marks.new out.new result }
+    ensures rest_kept { RestKept out.old out.new 0 result }
 {
     let mut work = [0u64; WORK];
     let first = propose(
@@ -198,13 +198,13 @@ fn write_lines(
     out: &mut [u16],
 ) -> usize
     requires grounds { Grounds concepts.now inclusions.now atoms.now assignment.now }
-    requires into_len { length into.now ≡ rolesSize }
+    requires into_len { length into.now ≡ roles_size }
     requires asked { Asked concepts.now inclusions.now into.now atoms.now assignment.now left right }
     requires blank { Blank (count_of concepts.now) marks.old }
     requires concepts_in_bounds { count_of concepts.now * count_of concepts.now * 4 ≤ length out.old }
-    ensures written_to { WrittenTo (before concepts) (before inclusions) (before into) (before atoms) (before assignment) left right
-        (after marks) (after out) result }
-    ensures rest_kept { RestKept (before out) (after out) 0 result }
+    ensures written_to { WrittenTo concepts.now inclusions.now into.now atoms.now assignment.now left right
+        marks.new out.new result }
+    ensures rest_kept { RestKept out.old out.new 0 result }
 {
     let count = concepts.len() / 3;
     let n = write_proposed(
@@ -230,11 +230,11 @@ fn put_lines(
     out: &mut [u16],
 ) -> usize
     requires grounds { Grounds concepts.now inclusions.now atoms.now assignment.now }
-    requires into_len { length into.now ≡ rolesSize }
+    requires into_len { length into.now ≡ roles_size }
     requires asked { Asked concepts.now inclusions.now into.now atoms.now assignment.now left right }
     requires concepts_in_bounds { count_of concepts.now * count_of concepts.now * 4 ≤ length out.old }
-    ensures { WrittenFor (before concepts) (before inclusions) (before into) (before atoms) (before assignment) left right
-        (before out) (after out) result }
+    ensures { WrittenFor concepts.now inclusions.now into.now atoms.now assignment.now left right
+        out.old out.new result }
 {
     let mut marks = [false; SQUARE];
     let count = concepts.len() / 3;
@@ -266,8 +266,8 @@ fn derive_known(
 ) -> Derived
     requires prepared { Prepared concepts.now inclusions.now roles.now variables atoms.now }
     requires left_bound { (left < count_of concepts.now) × (right < count_of concepts.now) }
-    ensures { ForAccepted (before concepts) (before inclusions) (before roles) variables (before atoms)
-        (λ t. Derives t (before assignment) left right (before out) (after out) (derivedReply result)) }
+    ensures { ForAccepted concepts.now inclusions.now roles.now variables atoms.now
+        (λ t. Derives t assignment.now left right out.old out.new (derived_reply result)) }
 {
     let choices = check_assignment(assignment, variables, atoms.len());
     if let Outcome::Refused(r) = choices {
@@ -304,8 +304,8 @@ pub fn derive(
     right: u16,
     out: &mut [u16],
 ) -> Derived
-    ensures { Derives (lent concepts inclusions questions roles variables) (before assignment) left right
-        (before out) (after out) (derivedReply result) }
+    ensures { Derives (lent concepts inclusions questions roles variables) assignment.now left right
+        out.old out.new (derived_reply result) }
 {
     let mut ids = [0u16; ATOMS];
     let listed = list_asked(

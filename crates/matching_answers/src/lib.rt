@@ -1,8 +1,8 @@
 // Answers in the numbers of the C interface: those of the matcher.
 ghost use Rattle.std.specs.Prelude.{◌≡◌};
-ghost use Rattle.subsumption.specs.Lent.{lent, before, after};
-ghost use Rattle.settings.specs.Settings.{lentSettings};
-ghost use Rattle.matching.specs.Find.{matchReply, Finds};
+ghost use Rattle.subsumption.specs.Lent.{lent};
+ghost use Rattle.settings.specs.Settings.{lent_settings};
+ghost use Rattle.matching.specs.Find.{match_reply, Finds};
 ghost use Rattle.matching.specs.Within.{FindsWithin};
 ghost use Rattle.matching.specs.Chosen.{Chooses};
 ghost use Rattle.answers.specs.Answer.{replied};
@@ -13,7 +13,7 @@ use subsumption::refusal::Outcome;
 
 // What a finder answered.
 pub fn matched(answer: Match) -> Answer
-    ensures { replied result ≡ matchReply answer }
+    ensures { replied result ≡ match_reply answer }
 {
     match answer {
         Match::Rejected(r) => answer_of(Outcome::Refused(r), 0),
@@ -30,7 +30,7 @@ pub fn find(
     variables: u16,
     out: &mut [u64],
 ) -> Answer
-    ensures { Finds (lent concepts inclusions questions roles variables) (before out) (after out) (replied result) }
+    ensures { Finds (lent concepts inclusions questions roles variables) out.old out.new (replied result) }
 {
     let found = matching::find_assignment(concepts, inclusions, questions, roles, variables, out);
     matched(found)
@@ -47,8 +47,8 @@ pub fn find_within(
     largest: &[u16],
     out: &mut [u64],
 ) -> Answer
-    ensures { FindsWithin (lent concepts inclusions questions roles variables) (lentSettings permitted largest)
-        (before out) (after out) (replied result) }
+    ensures { FindsWithin (lent concepts inclusions questions roles variables) (lent_settings permitted largest)
+        out.old out.new (replied result) }
 {
     let answer = matching::find_within(
         concepts, inclusions, questions, roles, variables, permitted, largest, out,
@@ -67,8 +67,8 @@ pub fn chosen(
     variable: u16,
     out: &mut [u16],
 ) -> Answer
-    ensures { Chooses (lent concepts inclusions questions roles variables) (before assignment) variable
-        (before out) (after out) (replied result) }
+    ensures { Chooses (lent concepts inclusions questions roles variables) assignment.now variable
+        out.old out.new (replied result) }
 {
     let answer = matching::put_chosen(
         concepts, inclusions, questions, roles, variables, assignment, variable, out,

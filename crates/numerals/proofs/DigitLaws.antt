@@ -11,26 +11,26 @@ use lib.Seq.{drop_at}
 use borrow.Author.Tests.{lt-ltb, le-ltb, ltb-true, ltb-false, eqb-true}
 use Rattle.subsumption.specs.Tables.{or, both}
 use Rattle.numerals.specs.declared.reading.Run.{Run}
-use Rattle.numerals.specs.Digits.{digitsTo, digits}
-use Rattle.numerals.specs.Reading.{wrongDigit, run_from, run_of}
+use Rattle.numerals.specs.Digits.{digits_to, digits}
+use Rattle.numerals.specs.Reading.{wrong_digit, run_from, run_of}
 use Rattle.numerals.proofs.ReadingLaws.{Digit, digit-right, run-wrong, run-right}
 
-short : (more n : ℕ) → n < 10 → digitsTo more n ≡ (48 + n) ∷ []
-unfolding digitsTo
+short : (more n : ℕ) → n < 10 → digits_to more n ≡ (48 + n) ∷ []
+unfolding digits_to
 short zero n h = refl
-short (suc more) n h = rw (lt-ltb n 10 h, digitsTo)
+short (suc more) n h = rw (lt-ltb n 10 h, digits_to)
 
-longer : (more n : ℕ) → 10 ≤ n → digitsTo (suc more) n ≡ digitsTo more (n / 10) ++ ((48 + n % 10) ∷ [])
-unfolding digitsTo
-longer more n h = rw (le-ltb n 10 h, digitsTo)
+longer : (more n : ℕ) → 10 ≤ n → digits_to (suc more) n ≡ digits_to more (n / 10) ++ ((48 + n % 10) ∷ [])
+unfolding digits_to
+longer more n h = rw (le-ltb n 10 h, digits_to)
 
 -- more room changes nothing
-enough : (f g n : ℕ) → n ≤ f → n ≤ g → digitsTo f n ≡ digitsTo g n
+enough : (f g n : ℕ) → n ≤ f → n ≤ g → digits_to f n ≡ digits_to g n
 enough zero g n h k = short 0 n (omega arith) ∙ sym (short g n (omega arith))
 enough (suc f) zero n h k = short (suc f) n (omega arith) ∙ sym (short 0 n (omega arith))
 enough (suc f) (suc g) n h k = go (ltb n 10) refl (λ q. enough f g (n / 10) (omega arith) (omega arith))
   where
-    go : (b : Bool) → ltb n 10 ≡ b → (10 ≤ n → digitsTo f (n / 10) ≡ digitsTo g (n / 10)) → digitsTo (suc f) n ≡ digitsTo (suc g) n
+    go : (b : Bool) → ltb n 10 ≡ b → (10 ≤ n → digits_to f (n / 10) ≡ digits_to g (n / 10)) → digits_to (suc f) n ≡ digits_to (suc g) n
     go true e ih = short (suc f) n (ltb-true n 10 e) ∙ sym (short (suc g) n (ltb-true n 10 e))
     go false e ih =
         longer f n (ltb-false n 10 e) ∙ ap (λ (z : List ℕ). z ++ ((48 + n % 10) ∷ [])) (ih (ltb-false n 10 e)) ∙ sym (longer g n (ltb-false n 10 e))
@@ -76,8 +76,8 @@ digits-short (suc k) n h = go (ltb n 10) refl (digits-short k (n / 10))
 
 -- ---- the digits of a number are read
 
-right-digit : (value count b : ℕ) → Digit value count b → wrongDigit value count b ≡ false
-unfolding wrongDigit or both
+right-digit : (value count b : ℕ) → Digit value count b → wrong_digit value count b ≡ false
+unfolding wrong_digit or both
 right-digit value count b d =
     rw (le-ltb b 48 d.low, le-ltb 57 b d.high, le-ltb 65535 (value * 10 + (b - 48)) d.small) (go (ltb 0 count) (eqb value 0) refl refl)
   where
@@ -153,10 +153,10 @@ shown-ran front rest v n (some e l h s) =
 ran : (rest front : List ℕ) (v n : ℕ) → Shown front v n → Ran (front ++ rest) (run_from v n rest)
 unfolding run_from
 ran [] front v n s = shown-ran front [] v n s
-ran (b ∷ rest) front v n s = go (wrongDigit v n b) refl (ran rest (front ++ (b ∷ [])) (v * 10 + (b - 48)) (suc n))
+ran (b ∷ rest) front v n s = go (wrong_digit v n b) refl (ran rest (front ++ (b ∷ [])) (v * 10 + (b - 48)) (suc n))
   where
     go :
-        (x : Bool) → wrongDigit v n b ≡ x
+        (x : Bool) → wrong_digit v n b ≡ x
         → (Shown (front ++ (b ∷ [])) (v * 10 + (b - 48)) (suc n) → Ran ((front ++ (b ∷ [])) ++ rest) (run_from (v * 10 + (b - 48)) (suc n) rest))
         → Ran (front ++ (b ∷ rest)) (run_from v n (b ∷ rest))
     go true e ih = subst (λ (r : Run). Ran (front ++ (b ∷ rest)) r) (sym (run-wrong v n b rest e)) (shown-ran front (b ∷ rest) v n s)

@@ -11,7 +11,7 @@ use lib.Seq.{drop-cons}
 use borrow.Author.Tests.{lt-ltb, le-ltb, ltb-false, eq-eqb, ne_eqb, eqb-true}
 use Rattle.subsumption.specs.Tables.{or, both}
 use Rattle.numerals.specs.Bytes.{starts}
-use Rattle.numerals.specs.Reading.{wrongDigit, run_from, run_of}
+use Rattle.numerals.specs.Reading.{wrong_digit, run_from, run_of}
 
 -- ---- the first bytes agree
 module _ (key rest : List ℕ) where
@@ -67,24 +67,24 @@ starts-right (k ∷ key) more = rw (eq-eqb k k refl) (starts-right key more)
 
 -- ---- a byte that cannot go on a number
 module _ (value count b : ℕ) where
-  pub wrong-low : b < 48 → true ≡ wrongDigit value count b
-  unfolding wrongDigit or
+  pub wrong-low : b < 48 → true ≡ wrong_digit value count b
+  unfolding wrong_digit or
   wrong-low h = rw (lt-ltb b 48 h)
 
-  pub wrong-high : 48 ≤ b → 57 < b → true ≡ wrongDigit value count b
-  unfolding wrongDigit or
+  pub wrong-high : 48 ≤ b → 57 < b → true ≡ wrong_digit value count b
+  unfolding wrong_digit or
   wrong-high h k = rw (le-ltb b 48 h, lt-ltb 57 b k)
 
-  pub wrong-zero : 48 ≤ b → b ≤ 57 → (count ≡ 0 → ⊥) → value ≡ 0 → true ≡ wrongDigit value count b
-  unfolding wrongDigit or both
+  pub wrong-zero : 48 ≤ b → b ≤ 57 → (count ≡ 0 → ⊥) → value ≡ 0 → true ≡ wrong_digit value count b
+  unfolding wrong_digit or both
   wrong-zero h k l e = rw (le-ltb b 48 h, le-ltb 57 b k, lt-ltb 0 count (omega arith), eq-eqb value 0 e)
 
-  pub wrong-large-after : 48 ≤ b → b ≤ 57 → (count ≡ 0 → ⊥) → (value ≡ 0 → ⊥) → ltb 65535 (value * 10 + (b - 48)) ≡ wrongDigit value count b
-  unfolding wrongDigit or both
+  pub wrong-large-after : 48 ≤ b → b ≤ 57 → (count ≡ 0 → ⊥) → (value ≡ 0 → ⊥) → ltb 65535 (value * 10 + (b - 48)) ≡ wrong_digit value count b
+  unfolding wrong_digit or both
   wrong-large-after h k l e = rw (le-ltb b 48 h, le-ltb 57 b k, lt-ltb 0 count (omega arith), ne_eqb value 0 e)
 
-  pub wrong-large-first : 48 ≤ b → b ≤ 57 → count ≡ 0 → ltb 65535 (value * 10 + (b - 48)) ≡ wrongDigit value count b
-  unfolding wrongDigit or both
+  pub wrong-large-first : 48 ≤ b → b ≤ 57 → count ≡ 0 → ltb 65535 (value * 10 + (b - 48)) ≡ wrong_digit value count b
+  unfolding wrong_digit or both
   wrong-large-first h k l = rw (le-ltb b 48 h, le-ltb 57 b k, le-ltb 0 count (omega arith))
 
   pub record Digit : Type 0 where
@@ -93,8 +93,8 @@ module _ (value count b : ℕ) where
     pub small : value * 10 + (b - 48) ≤ 65535
     pub lead : 0 < count → value ≡ 0 → ⊥
 
-  pub digit-right : wrongDigit value count b ≡ false → Digit
-  unfolding wrongDigit or both
+  pub digit-right : wrong_digit value count b ≡ false → Digit
+  unfolding wrong_digit or both
   digit-right e =
       record {
         low = ltb-false b 48 (first (ltb b 48) _ e);
@@ -116,11 +116,11 @@ module _ (value count b : ℕ) where
 
 -- ---- a run of digits
 module _ (value count b : ℕ) (rest : List ℕ) where
-  pub run-wrong : wrongDigit value count b ≡ true → run_from value count (b ∷ rest) ≡ record { value = value; length = count }
+  pub run-wrong : wrong_digit value count b ≡ true → run_from value count (b ∷ rest) ≡ record { value = value; length = count }
   unfolding run_from
   run-wrong e = rw (e, run_from) refl
 
-  pub run-right : wrongDigit value count b ≡ false → run_from value count (b ∷ rest) ≡ run_from (value * 10 + (b - 48)) (suc count) rest
+  pub run-right : wrong_digit value count b ≡ false → run_from value count (b ∷ rest) ≡ run_from (value * 10 + (b - 48)) (suc count) rest
   unfolding run_from
   run-right e = rw (e, run_from) refl
 
@@ -138,12 +138,12 @@ module _ (rest : List ℕ) where
   counted-end value n s h = sym (s.left ∙ rw (drop_of_length-le rest h) refl)
 
   pub counted-wrong :
-      (value n : ℕ) → Counted value n → n < length rest → (wrong : Bool) → wrong ≡ wrongDigit value n (get_or rest n 0) → wrong ≡ true
+      (value n : ℕ) → Counted value n → n < length rest → (wrong : Bool) → wrong ≡ wrong_digit value n (get_or rest n 0) → wrong ≡ true
       → record { value = value; length = n } ≡ run_of rest
   counted-wrong value n s h wrong f e = sym (s.left ∙ rw (drop-cons rest n 0 h) (run-wrong value n (get_or rest n 0) (drop (suc n) rest) (sym f ∙ e)))
 
   pub counted-more :
-      (value n : ℕ) → Counted value n → n < length rest → (wrong : Bool) → wrong ≡ wrongDigit value n (get_or rest n 0) → wrong ≡ false
+      (value n : ℕ) → Counted value n → n < length rest → (wrong : Bool) → wrong ≡ wrong_digit value n (get_or rest n 0) → wrong ≡ false
       → Counted (value * 10 + (get_or rest n 0 - 48)) (n + 1)
   counted-more value n s h wrong f e =
       record {

@@ -8,8 +8,8 @@ use lib.ListN.{length, get_or, take, drop, set, length-append, length-drop, take
 use lib.Seq.{length-take-le, take_at, drop-drop, drop-append-add, set_split, take-length, paste, paste-suc}
 use Rattle.subsumption.specs.declared.refusal.Code.{Code}
 use Rattle.numerals.specs.Digits.{digits}
-use Rattle.numerals.specs.Printing.{numberText, pairText, numberKey, placeKey, refusedText}
-use Rattle.numerals.specs.Lines.{top_text, nameKey, someKey, andKey, variableKey, rowText}
+use Rattle.numerals.specs.Printing.{number_text, pair_text, number_key, place_key, refused_text}
+use Rattle.numerals.specs.Lines.{top_text, name_key, some_key, and_key, variable_key, row_text}
 use Rattle.numerals.specs.Inner.Printing.{placed, Wrote}
 use Rattle.numerals.proofs.DigitLaws.{digits-one, digits_more, digits-short}
 
@@ -117,56 +117,56 @@ module _ (before : List ℕ) (at : ℕ) (x y z : List ℕ) (room : at + length (
       wrote-three e after-z wrote-z = wrote-join before at x (y ++ z) a after-x e after-z room-1 wrote-x (wrote-join after-x a y z b after-y e after-z room-2 wrote-y wrote-z)
 
 -- ---- a line of two numbers
-module _ (before key : List ℕ) (at a b : ℕ) (room : at + length (pairText key a b) ≤ length before) where
+module _ (before key : List ℕ) (at a b : ℕ) (room : at + length (pair_text key a b) ≤ length before) where
   pub pair-room-1 : at + length key ≤ length before
-  unfolding pairText numberText
-  pair-room-1 = room-1 before at key (digits a) (numberText (44 ∷ []) b) room
+  unfolding pair_text number_text
+  pair-room-1 = room-1 before at key (digits a) (number_text (44 ∷ []) b) room
 
   module _ (x : ℕ) (one : List ℕ) (wrote-1 : Wrote before at key x one) where
     pub pair-room-2 : x + length (digits a) ≤ length one
-    unfolding pairText numberText
-    pair-room-2 = room-2 before at key (digits a) (numberText (44 ∷ []) b) room x one wrote-1
+    unfolding pair_text number_text
+    pair-room-2 = room-2 before at key (digits a) (number_text (44 ∷ []) b) room x one wrote-1
 
     module _ (y : ℕ) (two : List ℕ) (wrote-2 : Wrote one x (digits a) y two) where
-      pub pair-room-3 : y + length (numberText (44 ∷ []) b) ≤ length two
-      unfolding pairText numberText
-      pair-room-3 = room-3 before at key (digits a) (numberText (44 ∷ []) b) room x one wrote-1 y two wrote-2
+      pub pair-room-3 : y + length (number_text (44 ∷ []) b) ≤ length two
+      unfolding pair_text number_text
+      pair-room-3 = room-3 before at key (digits a) (number_text (44 ∷ []) b) room x one wrote-1 y two wrote-2
 
-      pub wrote-pair : (end : ℕ) (after : List ℕ) → Wrote two y (numberText (44 ∷ []) b) end after → Wrote before at (pairText key a b) end after
-      unfolding pairText numberText
-      wrote-pair end after wrote-3 = wrote-three before at key (digits a) (numberText (44 ∷ []) b) room x one wrote-1 y two wrote-2 end after wrote-3
+      pub wrote-pair : (end : ℕ) (after : List ℕ) → Wrote two y (number_text (44 ∷ []) b) end after → Wrote before at (pair_text key a b) end after
+      unfolding pair_text number_text
+      wrote-pair end after wrote-3 = wrote-three before at key (digits a) (number_text (44 ∷ []) b) room x one wrote-1 y two wrote-2 end after wrote-3
 
 -- ---- a line of the concept table, by its kind
 module _ (kind a b : ℕ) where
-  pub top-row : kind ≡ 0 → rowText kind a b ≡ top_text
-  unfolding rowText
+  pub top-row : kind ≡ 0 → row_text kind a b ≡ top_text
+  unfolding row_text
   top-row h = rw h refl
 
-  pub name-row : kind ≡ 1 → rowText kind a b ≡ numberText nameKey a
-  unfolding rowText
+  pub name-row : kind ≡ 1 → row_text kind a b ≡ number_text name_key a
+  unfolding row_text
   name-row h = rw h refl
 
-  pub some-row : kind ≡ 2 → rowText kind a b ≡ pairText someKey a b
-  unfolding rowText
+  pub some-row : kind ≡ 2 → row_text kind a b ≡ pair_text some_key a b
+  unfolding row_text
   some-row h = rw h refl
 
-  pub and-row : kind ≡ 3 → rowText kind a b ≡ pairText andKey a b
-  unfolding rowText
+  pub and-row : kind ≡ 3 → row_text kind a b ≡ pair_text and_key a b
+  unfolding row_text
   and-row h = rw h refl
 
-  pub variable-row : kind ≡ 4 → rowText kind a b ≡ numberText variableKey a
-  unfolding rowText
+  pub variable-row : kind ≡ 4 → row_text kind a b ≡ number_text variable_key a
+  unfolding row_text
   variable-row h = rw h refl
 
-  module _ (before : List ℕ) (at : ℕ) (line : List ℕ) (same : rowText kind a b ≡ line) where
-    pub row_room : at + length (rowText kind a b) ≤ length before → at + length line ≤ length before
+  module _ (before : List ℕ) (at : ℕ) (line : List ℕ) (same : row_text kind a b ≡ line) where
+    pub row_room : at + length (row_text kind a b) ≤ length before → at + length line ≤ length before
     row_room h = omega (arith, ap length same)
 
-    pub wrote-row : (end : ℕ) (after : List ℕ) → Wrote before at line end after → Wrote before at (rowText kind a b) end after
+    pub wrote-row : (end : ℕ) (after : List ℕ) → Wrote before at line end after → Wrote before at (row_text kind a b) end after
     wrote-row end after w = rw same w
 
-pub other_row : (kind a b : ℕ) → (kind ≡ 0 → ⊥) → (kind ≡ 1 → ⊥) → (kind ≡ 2 → ⊥) → (kind ≡ 3 → ⊥) → (kind ≡ 4 → ⊥) → rowText kind a b ≡ []
-unfolding rowText
+pub other_row : (kind a b : ℕ) → (kind ≡ 0 → ⊥) → (kind ≡ 1 → ⊥) → (kind ≡ 2 → ⊥) → (kind ≡ 3 → ⊥) → (kind ≡ 4 → ⊥) → row_text kind a b ≡ []
+unfolding row_text
 other_row zero a b g h i j k = absurd (g refl)
 other_row (suc zero) a b g h i j k = absurd (h refl)
 other_row (suc (suc zero)) a b g h i j k = absurd (i refl)
@@ -175,12 +175,12 @@ other_row (suc (suc (suc (suc zero)))) a b g h i j k = absurd (k refl)
 other_row (suc (suc (suc (suc (suc kind))))) a b g h i j k = refl
 
 -- ---- how long the lines are
-pub number-length : (key : List ℕ) (n : ℕ) → length (numberText key n) ≡ length key + length (digits n) + 1
-unfolding numberText
+pub number-length : (key : List ℕ) (n : ℕ) → length (number_text key n) ≡ length key + length (digits n) + 1
+unfolding number_text
 number-length key n = omega (arith, length-append key (digits n ++ (10 ∷ [])), length-append (digits n) (10 ∷ []))
 
-pub pair-length : (key : List ℕ) (a b : ℕ) → length (pairText key a b) ≡ length key + length (digits a) + length (digits b) + 2
-unfolding pairText
+pub pair-length : (key : List ℕ) (a b : ℕ) → length (pair_text key a b) ≡ length key + length (digits a) + length (digits b) + 2
+unfolding pair_text
 pair-length key a b =
     omega (
       arith,
@@ -189,14 +189,14 @@ pair-length key a b =
       length-append (digits b) (10 ∷ []),
     )
 
-pub refused-room : (code : Code) (out : List ℕ) → code.number < 65536 → code.place < 2 ^ 64 → 4096 ≤ length out → 0 + length (refusedText code) ≤ length out
-unfolding refusedText
+pub refused-room : (code : Code) (out : List ℕ) → code.number < 65536 → code.place < 2 ^ 64 → 4096 ≤ length out → 0 + length (refused_text code) ≤ length out
+unfolding refused_text
 refused-room code out h l k =
     omega (
       arith,
-      number-length numberKey code.number,
+      number-length number_key code.number,
       digits-short 4 code.number (omega arith),
-      number-length placeKey code.place,
+      number-length place_key code.place,
       digits-short 19 code.place (omega arith),
-      length-append (numberText numberKey code.number) (numberText placeKey code.place),
+      length-append (number_text number_key code.number) (number_text place_key code.place),
     )

@@ -4,27 +4,27 @@ use Rattle.std.specs.Prelude.{ℕ, ◌≤◌, ◌≡◌, List, [], ◌∷◌, �
 use Rattle.subsumption.specs.declared.refusal.Code.{Code}
 use Rattle.numerals.specs.Digits.{digits}
 
-unfoldable pub numberText : List ℕ → ℕ → List ℕ
-numberText key n = key ++ (digits n ++ (10 ∷ []))
+unfoldable pub number_text : List ℕ → ℕ → List ℕ
+number_text key n = key ++ (digits n ++ (10 ∷ []))
 
-unfoldable pub pairText : List ℕ → ℕ → ℕ → List ℕ
-pairText key a b = key ++ (digits a ++ (44 ∷ (digits b ++ (10 ∷ []))))
+unfoldable pub pair_text : List ℕ → ℕ → ℕ → List ℕ
+pair_text key a b = key ++ (digits a ++ (44 ∷ (digits b ++ (10 ∷ []))))
 
 -- ---- a refusal
 
 -- the whole line "answer=refused"
-abbrev pub refusedLine : List ℕ
-refusedLine = 97 ∷ 110 ∷ 115 ∷ 119 ∷ 101 ∷ 114 ∷ 61 ∷ 114 ∷ 101 ∷ 102 ∷ 117 ∷ 115 ∷ 101 ∷ 100 ∷ 10 ∷ []
+abbrev pub refused_line : List ℕ
+refused_line = 97 ∷ 110 ∷ 115 ∷ 119 ∷ 101 ∷ 114 ∷ 61 ∷ 114 ∷ 101 ∷ 102 ∷ 117 ∷ 115 ∷ 101 ∷ 100 ∷ 10 ∷ []
 
 -- "number=", "place="
-abbrev pub numberKey : List ℕ
-numberKey = 110 ∷ 117 ∷ 109 ∷ 98 ∷ 101 ∷ 114 ∷ 61 ∷ []
+abbrev pub number_key : List ℕ
+number_key = 110 ∷ 117 ∷ 109 ∷ 98 ∷ 101 ∷ 114 ∷ 61 ∷ []
 
-abbrev pub placeKey : List ℕ
-placeKey = 112 ∷ 108 ∷ 97 ∷ 99 ∷ 101 ∷ 61 ∷ []
+abbrev pub place_key : List ℕ
+place_key = 112 ∷ 108 ∷ 97 ∷ 99 ∷ 101 ∷ 61 ∷ []
 
-unfoldable pub refusedText : Code → List ℕ
-refusedText code = refusedLine ++ (numberText numberKey code.number ++ numberText placeKey code.place)
+unfoldable pub refused_text : Code → List ℕ
+refused_text code = refused_line ++ (number_text number_key code.number ++ number_text place_key code.place)
 
 -- ---- what a program writes
 

@@ -1,16 +1,15 @@
 // Texts written to a buffer: each function answers the place behind what it wrote.
 ghost use Rattle.std.specs.Prelude.{◌+◌, ◌≤◌, length};
 ghost use Rattle.numerals.specs.Digits.{digits};
-ghost use Rattle.numerals.specs.Printing.{numberText, pairText, refusedText};
-ghost use Rattle.numerals.specs.Lines.{rowText};
+ghost use Rattle.numerals.specs.Printing.{number_text, pair_text, refused_text};
+ghost use Rattle.numerals.specs.Lines.{row_text};
 ghost use Rattle.numerals.specs.Inner.Printing.{Wrote};
-ghost use Rattle.subsumption.specs.Lent.{before, after};
 
 use subsumption::refusal::Code;
 
 pub fn put_bytes(bytes: &[u8], at: usize, out: &mut [u8]) -> usize
     requires { at + length bytes.now ≤ length out.old }
-    ensures { Wrote (before out) at (before bytes) result (after out) }
+    ensures { Wrote out.old at bytes.now result out.new }
 {
     let mut i: usize = 0;
     while i < bytes.len() {
@@ -23,7 +22,7 @@ pub fn put_bytes(bytes: &[u8], at: usize, out: &mut [u8]) -> usize
 // The digits of a number, the highest first.
 pub fn put_number(n: usize, at: usize, out: &mut [u8]) -> usize
     requires { at + length (digits n) ≤ length out.old }
-    ensures { Wrote (before out) at (digits n) result (after out) }
+    ensures { Wrote out.old at (digits n) result out.new }
 {
     if n < 10 {
         out[at] = 48 + n as u8;
@@ -36,8 +35,8 @@ pub fn put_number(n: usize, at: usize, out: &mut [u8]) -> usize
 
 // A line of one number.
 pub fn put_line(key: &[u8], n: usize, at: usize, out: &mut [u8]) -> usize
-    requires { at + length (numberText key.now n) ≤ length out.old }
-    ensures { Wrote (before out) at (numberText (before key) n) result (after out) }
+    requires { at + length (number_text key.now n) ≤ length out.old }
+    ensures { Wrote out.old at (number_text key.now n) result out.new }
 {
     let a = put_bytes(key, at, out);
     let b = put_number(n, a, out);
@@ -46,8 +45,8 @@ pub fn put_line(key: &[u8], n: usize, at: usize, out: &mut [u8]) -> usize
 
 // A line of two numbers.
 pub fn put_pair(key: &[u8], a: usize, b: usize, at: usize, out: &mut [u8]) -> usize
-    requires { at + length (pairText key.now a b) ≤ length out.old }
-    ensures { Wrote (before out) at (pairText (before key) a b) result (after out) }
+    requires { at + length (pair_text key.now a b) ≤ length out.old }
+    ensures { Wrote out.old at (pair_text key.now a b) result out.new }
 {
     let x = put_bytes(key, at, out);
     let y = put_number(a, x, out);
@@ -56,8 +55,8 @@ pub fn put_pair(key: &[u8], a: usize, b: usize, at: usize, out: &mut [u8]) -> us
 
 // The line of a row of the concept table.
 pub fn put_row(kind: usize, a: usize, b: usize, at: usize, out: &mut [u8]) -> usize
-    requires { at + length (rowText kind a b) ≤ length out.old }
-    ensures { Wrote (before out) at (rowText kind a b) result (after out) }
+    requires { at + length (row_text kind a b) ≤ length out.old }
+    ensures { Wrote out.old at (row_text kind a b) result out.new }
 {
     if kind == 0 {
         return put_bytes(b"top=0\n", at, out);
@@ -78,8 +77,8 @@ pub fn put_row(kind: usize, a: usize, b: usize, at: usize, out: &mut [u8]) -> us
 }
 
 pub fn put_refused(code: Code, out: &mut [u8]) -> usize
-    requires { 0 + length (refusedText code) ≤ length out.old }
-    ensures { Wrote (before out) 0 (refusedText code) result (after out) }
+    requires { 0 + length (refused_text code) ≤ length out.old }
+    ensures { Wrote out.old 0 (refused_text code) result out.new }
 {
     let number = code.number;
     let place = code.place;

@@ -1,8 +1,7 @@
 // Reading from the front of a text's remaining part.
 ghost use Rattle.std.specs.Prelude.{◌≡◌, ◌≤◌};
 ghost use Rattle.numerals.specs.Bytes.{starts};
-ghost use Rattle.numerals.specs.Reading.{wrongDigit, run_of};
-ghost use Rattle.subsumption.specs.Lent.{before};
+ghost use Rattle.numerals.specs.Reading.{wrong_digit, run_of};
 
 // A number and how many digits gave it; none gave it where there are none.
 #[derive(Drop)]
@@ -13,7 +12,7 @@ pub struct Run {
 
 // The remaining text starts with these bytes.
 pub fn starts_with(rest: &[u8], key: &[u8]) -> bool
-    ensures { result ≡ starts (before key) (before rest) }
+    ensures { result ≡ starts key.now rest.now }
 {
     let mut i: usize = 0;
     while i < key.len() {
@@ -31,7 +30,7 @@ pub fn starts_with(rest: &[u8], key: &[u8]) -> bool
 // A byte that cannot go on a number of which so many digits are read.
 fn is_wrong_digit(value: u32, count: usize, byte: u8) -> bool
     requires { value ≤ 65535 }
-    ensures { result ≡ wrongDigit value count byte }
+    ensures { result ≡ wrong_digit value count byte }
 {
     if byte < 48 {
         return true;
@@ -51,7 +50,7 @@ fn is_wrong_digit(value: u32, count: usize, byte: u8) -> bool
 
 // The longest run of right digits in front.
 pub fn read_run(rest: &[u8]) -> Run
-    ensures { result ≡ run_of (before rest) }
+    ensures { result ≡ run_of rest.now }
 {
     let mut value: u32 = 0;
     let mut n: usize = 0;

@@ -9,14 +9,14 @@ use borrow.Author.Tests.{lt-ltb, le-ltb, eq-eqb}
 use Rattle.subsumption.specs.declared.refusal.Refusal.{Refusal}
 use Rattle.subsumption.specs.declared.refusal.Outcome.{Outcome}
 use Rattle.subsumption.specs.declared.refusal.Outcome.TheVariants.{Done}
-use Rattle.subsumption.specs.Tables.{tables, or, Node, topAt, name_at, existsAt, andAt, varAt, node, count_of, pairsOf, left_of, rightOf, tree, variablesOf, hasVariable}
+use Rattle.subsumption.specs.Tables.{tables, or, Node, top_at, name_at, exists_at, and_at, var_at, node, count_of, pairs_of, left_of, right_of, tree, variables_of, has_variable}
 use Rattle.subsumption.specs.Inner.Tables.{Rising}
-use Rattle.subsumption.specs.Refusal.{or_else, refuseIf}
-use Rattle.subsumption.specs.Check.{unfit, limitFault, malformedFault, forward, forwardFault, noConcept, pairsFault, conceptFault, idFault, inclusionFault, sidesFault, rolesFault}
+use Rattle.subsumption.specs.Refusal.{or_else, refuse_if}
+use Rattle.subsumption.specs.Check.{unfit, limit_fault, malformed_fault, forward, forward_fault, no_concept, pairs_fault, concept_fault, id_fault, inclusion_fault, sides_fault, roles_fault}
 use Rattle.subsumption.proofs.VariableLaws.{variable-both}
 use Rattle.subsumption.proofs.Refusals.{done-if, both-done, no-fault}
 use Rattle.owl.specs.Judgement.{State, go, judge}
-use Rattle.owl.specs.Grammar.{Sort, Syntax, thing, named, some, all, two, more, meaning, entries, Axiom, axiomsEntries, Means}
+use Rattle.owl.specs.Grammar.{Sort, Syntax, thing, named, some, all, two, more, meaning, entries, Axiom, axioms_entries, Means}
 use Rattle.owl.proofs.EntryLaws.{Under}
 use Rattle.owl.proofs.WrittenLaws.{Catalogued, judged-catalogued}
 use Rattle.owl.proofs.GrammarLaws.{judged-says}
@@ -38,19 +38,19 @@ entries-some (all m) = entries-some m
 entries-some (two c d) = omega arith
 entries-some (more m c) = omega arith
 
-axioms-few : (axioms : List Axiom) → length axioms * 2 ≤ axiomsEntries axioms
-unfolding axiomsEntries
+axioms-few : (axioms : List Axiom) → length axioms * 2 ≤ axioms_entries axioms
+unfolding axioms_entries
 axioms-few [] = omega arith
 axioms-few (a ∷ axioms) = omega (arith, axioms-few axioms, entries-some a.left, entries-some a.right)
 
 -- ---- check 3
 not-forward : (i : ℕ) (m : Node) → Rising i m → forward i m ≡ false
 unfolding forward or
-not-forward i topAt up = refl
+not-forward i top_at up = refl
 not-forward i (name_at n) up = refl
-not-forward i (existsAt r j) up = ap not (lt-ltb j i up)
-not-forward i (andAt j k) up = rw (lt-ltb j i up.0, lt-ltb k i up.1) refl
-not-forward i (varAt k) up = refl
+not-forward i (exists_at r j) up = ap not (lt-ltb j i up)
+not-forward i (and_at j k) up = rw (lt-ltb j i up.0, lt-ltb k i up.1) refl
+not-forward i (var_at k) up = refl
 
 -- ---- check 4
 under_at : (n : ℕ) (ids : List ℕ) (i : ℕ) → Under n ids → i < length ids → get_or ids i 0 < n
@@ -59,8 +59,8 @@ under_at n (j ∷ ids) zero u l = u.0
 under_at n (j ∷ ids) (suc i) u l = under_at n ids i u.1 (omega arith)
 
 -- ---- check 5
-ground : {s : Sort} (c : Syntax s) → hasVariable (meaning c) ≡ false
-unfolding meaning hasVariable variablesOf or
+ground : {s : Sort} (c : Syntax s) → has_variable (meaning c) ≡ false
+unfolding meaning has_variable variables_of or
 ground thing = refl
 ground (named n) = refl
 ground (some r c) = ground c
@@ -69,16 +69,16 @@ ground (two c d) = variable-both (meaning c) (meaning d) ∙ rw (ground c) (grou
 ground (more m c) = variable-both (meaning m) (meaning c) ∙ rw (ground m) (ground c)
 
 means-ground :
-    (rows pairs : List ℕ) (axioms : List Axiom) → Means rows pairs axioms → (m : ℕ) → m < pairsOf pairs
-    → or (hasVariable (tree rows (left_of pairs m))) (hasVariable (tree rows (rightOf pairs m))) ≡ false
+    (rows pairs : List ℕ) (axioms : List Axiom) → Means rows pairs axioms → (m : ℕ) → m < pairs_of pairs
+    → or (has_variable (tree rows (left_of pairs m))) (has_variable (tree rows (right_of pairs m))) ≡ false
 unfolding or
 means-ground rows [] [] h m l = absurd (omega arith)
 means-ground rows [] (a ∷ axioms) h m l = absurd h
 means-ground rows (i ∷ []) axioms h m l = absurd h
 means-ground rows (i ∷ j ∷ pairs) [] h m l = absurd h
 means-ground rows (i ∷ j ∷ pairs) (a ∷ axioms) h zero l =
-    let p : hasVariable (tree rows i) ≡ false = ap hasVariable h.0 ∙ ground a.left in
-    let q : hasVariable (tree rows j) ≡ false = ap hasVariable h.1 ∙ ground a.right in
+    let p : has_variable (tree rows i) ≡ false = ap has_variable h.0 ∙ ground a.left in
+    let q : has_variable (tree rows j) ≡ false = ap has_variable h.1 ∙ ground a.right in
     rw p q
 means-ground rows (i ∷ j ∷ pairs) (a ∷ axioms) h (suc m) l =
     let p : suc m * 2 ≡ suc (suc (m * 2)) = omega arith in
@@ -86,55 +86,55 @@ means-ground rows (i ∷ j ∷ pairs) (a ∷ axioms) h (suc m) l =
     rw (q, p) (means-ground rows pairs axioms h.2 m (omega arith))
 
 -- ---- all of them
-module _ (axioms : List Axiom) (s : State) (few : axiomsEntries axioms ≤ 192) (c : Catalogued axioms s) where
-  count : count_of s.rows ≡ axiomsEntries axioms
+module _ (axioms : List Axiom) (s : State) (few : axioms_entries axioms ≤ 192) (c : Catalogued axioms s) where
+  count : count_of s.rows ≡ axioms_entries axioms
   count = omega (arith, c.tabled.size)
 
-  concepts-pass : conceptFault (tables s.rows s.inclusions [] [] 0) ≡ Done
-  unfolding conceptFault limitFault malformedFault forwardFault
+  concepts-pass : concept_fault (tables s.rows s.inclusions [] [] 0) ≡ Done
+  unfolding concept_fault limit_fault malformed_fault forward_fault
   concepts-pass =
       both-pass _ _ limits
       (both-pass _ _ (sym (no-fault _ _ 0 (count_of s.rows) (λ i l. c.tabled.right i (omega (arith, count)))))
       (sym (no-fault _ _ 0 (count_of s.rows) (λ i l. not-forward i (node s.rows i) (c.tabled.rising i)))))
     where
-      passes : (b : Bool) (r : Refusal) → b ≡ false → refuseIf b r ≡ Done
+      passes : (b : Bool) (r : Refusal) → b ≡ false → refuse_if b r ≡ Done
       passes b r e = sym (done-if b r e)
 
-      limits : limitFault (tables s.rows s.inclusions [] [] 0) ≡ Done
+      limits : limit_fault (tables s.rows s.inclusions [] [] 0) ≡ Done
       limits =
           both-pass _ _ (passes _ _ (fit 3 192 s.rows (omega (arith, c.tabled.size)) (omega (arith, count))))
           (both-pass _ _ (passes _ _ (fit 2 96 s.inclusions (omega (arith, c.size)) (omega (arith, c.size, axioms-few axioms))))
           (both-pass _ _ (passes _ _ (fit 2 32 [] refl (omega arith))) (both-pass _ _ (passes _ _ refl) (passes _ _ (fit 2 32 [] refl (omega arith))))))
 
-  ids-pass : idFault (tables s.rows s.inclusions [] [] 0) ≡ Done
-  unfolding idFault pairsFault noConcept or
+  ids-pass : id_fault (tables s.rows s.inclusions [] [] 0) ≡ Done
+  unfolding id_fault pairs_fault no_concept or
   ids-pass =
       both-pass _ _
-      (sym (no-fault _ _ 0 (pairsOf s.inclusions) (λ m l. rw (lt-ltb (left_of s.inclusions m) _ (left m l), lt-ltb (rightOf s.inclusions m) _ (right m l)) refl)))
+      (sym (no-fault _ _ 0 (pairs_of s.inclusions) (λ m l. rw (lt-ltb (left_of s.inclusions m) _ (left m l), lt-ltb (right_of s.inclusions m) _ (right m l)) refl)))
       (sym (no-fault _ _ 0 0 (λ m l. absurd (omega arith))))
     where
-      left : (m : ℕ) → m < 0 + pairsOf s.inclusions → left_of s.inclusions m < count_of s.rows
+      left : (m : ℕ) → m < 0 + pairs_of s.inclusions → left_of s.inclusions m < count_of s.rows
       left m l = omega (arith, count, under_at _ s.inclusions (m * 2) c.known (omega arith))
 
-      right : (m : ℕ) → m < 0 + pairsOf s.inclusions → rightOf s.inclusions m < count_of s.rows
+      right : (m : ℕ) → m < 0 + pairs_of s.inclusions → right_of s.inclusions m < count_of s.rows
       right m l = omega (arith, count, under_at _ s.inclusions (m * 2 + 1) c.known (omega arith))
 
-  inclusions-pass : inclusionFault s.rows s.inclusions ≡ Done
-  unfolding inclusionFault
-  inclusions-pass = sym (no-fault _ _ 0 (pairsOf s.inclusions) (λ m l. means-ground s.rows s.inclusions axioms c.means m (omega arith)))
+  inclusions-pass : inclusion_fault s.rows s.inclusions ≡ Done
+  unfolding inclusion_fault
+  inclusions-pass = sym (no-fault _ _ 0 (pairs_of s.inclusions) (λ m l. means-ground s.rows s.inclusions axioms c.means m (omega arith)))
 
-sides-pass : (rows : List ℕ) → sidesFault rows [] ≡ Done
-unfolding sidesFault
+sides-pass : (rows : List ℕ) → sides_fault rows [] ≡ Done
+unfolding sides_fault
 sides-pass rows = sym (no-fault _ _ 0 0 (λ m l. absurd (omega arith)))
 
-roles-pass : rolesFault [] ≡ Done
-unfolding rolesFault
+roles-pass : roles_fault [] ≡ Done
+unfolding roles_fault
 roles-pass = sym (no-fault _ _ 0 0 (λ m l. absurd (omega arith)))
 
 pub catalogue-accepted :
     (text : List ℕ) (s : State) → judge text ≡ go s
-    → (conceptFault (tables s.rows s.inclusions [] [] 0) ≡ Done) × (idFault (tables s.rows s.inclusions [] [] 0) ≡ Done)
-    × (inclusionFault s.rows s.inclusions ≡ Done) × (sidesFault s.rows [] ≡ Done) × (rolesFault [] ≡ Done)
+    → (concept_fault (tables s.rows s.inclusions [] [] 0) ≡ Done) × (id_fault (tables s.rows s.inclusions [] [] 0) ≡ Done)
+    × (inclusion_fault s.rows s.inclusions ≡ Done) × (sides_fault s.rows [] ≡ Done) × (roles_fault [] ≡ Done)
 catalogue-accepted text s h =
     let (axioms, says) = judged-says text s h in
     let c = judged-catalogued text s axioms h says in

@@ -7,13 +7,13 @@ use mathlib.Core.Logic.{⊎_elim}
 use native.Mathlib.Omega.{arith}
 use lib.ListN.{length, get_or, length-append, get_or-append, get_or-eq_default}
 use lib.Seq.{get_or-append-add}
-use Rattle.subsumption.specs.Tables.{topAt, node, decode, Concept, and, shape, tree}
+use Rattle.subsumption.specs.Tables.{top_at, node, decode, Concept, and, shape, tree}
 use Rattle.subsumption.specs.Inner.Tables.{Rising}
-use Rattle.subsumption.specs.Check.{malformedRow, malformed}
+use Rattle.subsumption.specs.Check.{malformed_row, malformed}
 use Rattle.subsumption.proofs.Bools.{last-cases, le-or-lt}
 use Rattle.subsumption.proofs.Depth.{by-smaller}
 use Rattle.subsumption.proofs.Trees.{shape-smaller, tree-eq}
-use Rattle.owl.specs.Judgement.{pairRows}
+use Rattle.owl.specs.Judgement.{pair_rows}
 
 -- n entries that pass the checks 1 to 3 without variables
 pub record Tabled (rows : List ℕ) (n : ℕ) : Type 0 where
@@ -38,7 +38,7 @@ unfolding node decode
 none-tabled = record { size = refl; right = λ i l. absurd (omega arith); rising = λ i. tt }
 
 -- ---- one entry more
-module _ (rows : List ℕ) (n : ℕ) (t : Tabled rows n) (kind a b : ℕ) (fine : malformedRow 0 kind a b ≡ false) (up : Rising n (decode kind a b)) where
+module _ (rows : List ℕ) (n : ℕ) (t : Tabled rows n) (kind a b : ℕ) (fine : malformed_row 0 kind a b ≡ false) (up : Rising n (decode kind a b)) where
   after : List ℕ
   after = rows ++ (kind ∷ a ∷ b ∷ [])
 
@@ -64,7 +64,7 @@ module _ (rows : List ℕ) (n : ℕ) (t : Tabled rows n) (kind a b : ℕ) (fine 
   unfolding node
   node-new = rw (at_new (n * 3) 0 (omega arith), at_new (n * 3 + 1) 1 (omega arith), at_new (n * 3 + 2) 2 (omega arith)) refl
 
-  node-past : (i : ℕ) → n < i → node after i ≡ topAt
+  node-past : (i : ℕ) → n < i → node after i ≡ top_at
   unfolding node decode
   node-past i l = rw (get_or-eq_default after 0 {n = i * 3} (omega (arith, length-after)), decode) refl
 
@@ -143,8 +143,8 @@ last-is next left [] h = absurd (omega arith)
 last-is next left (i ∷ []) h = omega arith
 last-is next left (i ∷ j ∷ ids) h = omega (arith, last-is (suc next) next (j ∷ ids) (omega arith))
 
-pub pairs-length : (next left : ℕ) (ids : List ℕ) → length (pairRows next left ids) ≡ length ids * 3
-unfolding pairRows
+pub pairs-length : (next left : ℕ) (ids : List ℕ) → length (pair_rows next left ids) ≡ length ids * 3
+unfolding pair_rows
 pairs-length next left [] = refl
 pairs-length next left (i ∷ ids) = omega (arith, pairs-length (suc next) next ids)
 
@@ -174,11 +174,11 @@ paired-more rows n left i ids middle rows' g e u p =
     }
 
 -- the "and" entries that pair ids from the left
-pub paired : (ids rows : List ℕ) (n left : ℕ) → Tabled rows n → left < n → Under n ids → Paired rows n left ids (rows ++ pairRows n left ids)
-unfolding pairRows malformedRow decode shape
+pub paired : (ids rows : List ℕ) (n left : ℕ) → Tabled rows n → left < n → Under n ids → Paired rows n left ids (rows ++ pair_rows n left ids)
+unfolding pair_rows malformed_row decode shape
 paired [] rows n left t l u = subst (Paired rows n left []) (sym (append-nil rows)) (paired_none rows n left t l)
 paired (i ∷ ids) rows n left t l u =
     let one = one_more rows n t 3 left i refl (l, u.0) in
-    subst (Paired rows n left (i ∷ ids)) (append_assoc rows (3 ∷ left ∷ i ∷ []) (pairRows (suc n) n ids))
+    subst (Paired rows n left (i ∷ ids)) (append_assoc rows (3 ∷ left ∷ i ∷ []) (pair_rows (suc n) n ids))
     (paired-more rows n left i ids (rows ++ (3 ∷ left ∷ i ∷ [])) _ one.0 one.1 u.1
     (paired ids (rows ++ (3 ∷ left ∷ i ∷ [])) (suc n) n one.0.tabled (omega arith) (under_more n (suc n) ids (omega arith) u.1)))

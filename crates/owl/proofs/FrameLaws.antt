@@ -17,8 +17,8 @@ use Rattle.owl.specs.declared.frames.Reader.{Reader}
 use Rattle.owl.specs.declared.frames.Next.{Next}
 use Rattle.owl.specs.declared.frames.Next.TheVariants.{Go, Stop}
 use Rattle.owl.specs.Tokens.{opening}
-use Rattle.owl.specs.Judgement.{Kind, subclass, meet, exist, Frame, Want, item, bracket, role, State, Step, go, stop, first, opened, roled, joins, roomBy, hasRoom, ofRole, itemStep, bracketStep, roleStep, stepOn, step}
-use Rattle.owl.specs.Inner.Frames.{kind_of, wantOf, between, start_of, frame_of, framesOf, state_of, Nested, Bounds, Fits, Holds, NextOf, waiting, room_at, FirstOf, TellsRoom, Opens, Roles}
+use Rattle.owl.specs.Judgement.{Kind, subclass, meet, exist, Frame, Want, item, bracket, role, State, Step, go, stop, first, opened, roled, joins, room_by, has_room, of_role, item_step, bracket_step, role_step, step_on, step}
+use Rattle.owl.specs.Inner.Frames.{kind_of, want_of, between, start_of, frame_of, frames_of, state_of, Nested, Bounds, Fits, Holds, NextOf, waiting, room_at, FirstOf, TellsRoom, Opens, Roles}
 
 -- ---- parts of a list
 pub between-length : (start end : ℕ) (l : List ℕ) → end ≤ length l → length (between start end l) ≡ end - start
@@ -42,15 +42,15 @@ pub between_none : (start : ℕ) (l : List ℕ) → between start start l ≡ []
 between_none start l = let z : start - start ≡ 0 = omega arith in rw z refl
 
 -- ---- the frames
-pub frames-count : (d used : ℕ) (frames pending : List ℕ) → length (framesOf d used frames pending) ≡ d
-unfolding framesOf
+pub frames-count : (d used : ℕ) (frames pending : List ℕ) → length (frames_of d used frames pending) ≡ d
+unfolding frames_of
 frames-count zero used frames pending = refl
 frames-count (suc d) used frames pending = ap suc (frames-count d (start_of d frames) frames pending)
 
 pub top_frame :
     (depth used : ℕ) (frames pending : List ℕ) → 0 < depth
-    → framesOf depth used frames pending ≡ frame_of (depth - 1) used frames pending ∷ framesOf (depth - 1) (start_of (depth - 1) frames) frames pending
-unfolding framesOf
+    → frames_of depth used frames pending ≡ frame_of (depth - 1) used frames pending ∷ frames_of (depth - 1) (start_of (depth - 1) frames) frames pending
+unfolding frames_of
 top_frame zero used frames pending h = absurd (omega arith)
 top_frame (suc d) used frames pending h = let z : suc d - 1 ≡ d = omega arith in rw z refl
 
@@ -59,8 +59,8 @@ top-nested zero used frames h n = absurd (omega arith)
 top-nested (suc d) used frames h n = let z : suc d - 1 ≡ d = omega arith in rw z n
 
 -- a write past the frames, or past the members, leaves them
-frames-kept : (d used p v : ℕ) (frames pending : List ℕ) → d * 3 ≤ p → framesOf d used (set frames p v) pending ≡ framesOf d used frames pending
-unfolding framesOf
+frames-kept : (d used p v : ℕ) (frames pending : List ℕ) → d * 3 ≤ p → frames_of d used (set frames p v) pending ≡ frames_of d used frames pending
+unfolding frames_of
 frames-kept zero used p v frames pending h = refl
 frames-kept (suc d) used p v frames pending h =
     rw (
@@ -77,8 +77,8 @@ nested-kept (suc d) used p v frames h n =
     let e = get_or-set_other frames p (d * 3 + 2) v 0 (λ z. omega arith) in
     subst (λ (k : ℕ). (k ≤ used) × Nested d k (set frames p v)) (sym e) (n.0, nested-kept d (start_of d frames) p v frames (omega arith) n.1)
 
-pub members_kept : (d used p v : ℕ) (frames pending : List ℕ) → Nested d used frames → used ≤ p → framesOf d used frames (set pending p v) ≡ framesOf d used frames pending
-unfolding framesOf
+pub members_kept : (d used p v : ℕ) (frames pending : List ℕ) → Nested d used frames → used ≤ p → frames_of d used frames (set pending p v) ≡ frames_of d used frames pending
+unfolding frames_of
 members_kept zero used p v frames pending n h = refl
 members_kept (suc d) used p v frames pending n h =
     rw (
@@ -90,8 +90,8 @@ members_kept (suc d) used p v frames pending n h =
 -- a member more
 pub member-joins :
     (depth used v : ℕ) (frames pending : List ℕ) → Nested depth used frames → used < length pending
-    → joins v (framesOf depth used frames pending) ≡ framesOf depth (used + 1) frames (set pending used v)
-unfolding framesOf joins
+    → joins v (frames_of depth used frames pending) ≡ frames_of depth (used + 1) frames (set pending used v)
+unfolding frames_of joins
 member-joins zero used v frames pending n h = refl
 member-joins (suc d) used v frames pending n h =
     rw (between_more (start_of d frames) used v pending n.0 h, members_kept d (start_of d frames) used v frames pending n.1 n.0) refl
@@ -136,21 +136,21 @@ kind-exist (suc zero) a b = absurd (b refl)
 kind-exist (suc (suc k)) a b = refl
 
 module _ (r : Reader) (frames : List ℕ) where
-  room-is : (pending : List ℕ) → length pending ≡ 192 → r.used ≤ 192 → room_at r frames pending ≡ roomBy (kind_of (get_or frames ((r.depth - 1) * 3) 0)) (r.used - start_of (r.depth - 1) frames)
-  unfolding hasRoom
+  room-is : (pending : List ℕ) → length pending ≡ 192 → r.used ≤ 192 → room_at r frames pending ≡ room_by (kind_of (get_or frames ((r.depth - 1) * 3) 0)) (r.used - start_of (r.depth - 1) frames)
+  unfolding has_room
   room-is pending l h = rw (between-length (start_of (r.depth - 1) frames) r.used pending (omega arith)) refl
 
   module _ (w : ℕ) (e : w ≡ get_or frames ((r.depth - 1) * 3 + 2) 0) where
     pub room-axiom : get_or frames ((r.depth - 1) * 3) 0 ≡ 0 → TellsRoom r frames (ltb (r.used - w) 2)
-    unfolding roomBy
+    unfolding room_by
     room-axiom k pending l h = sym (room-is pending l h ∙ rw (k, sym e) refl)
 
     pub room-exist : (get_or frames ((r.depth - 1) * 3) 0 ≡ 0 → ⊥) → (get_or frames ((r.depth - 1) * 3) 0 ≡ 1 → ⊥) → TellsRoom r frames (ltb (r.used - w) 1)
-    unfolding roomBy
+    unfolding room_by
     room-exist a b pending l h = sym (room-is pending l h ∙ rw (kind-exist _ a b, sym e) refl)
 
   pub room-meet : get_or frames ((r.depth - 1) * 3) 0 ≡ 1 → TellsRoom r frames true
-  unfolding roomBy
+  unfolding room_by
   room-meet k pending l h = sym (room-is pending l h ∙ rw k refl)
 
 -- ---- an opening bracket
@@ -165,21 +165,21 @@ first-item (suc zero) h n = record { behind = omega arith; is-first = refl }
 first-item (suc (suc k)) h n = absurd (omega arith)
 
 module _ (s : State) (place : ℕ) where
-  item-open : (fs : List Frame) → itemStep place s fs opening ≡ stop (BadSyntax place)
-  unfolding itemStep
+  item-open : (fs : List Frame) → item_step place s fs opening ≡ stop (BadSyntax place)
+  unfolding item_step
   item-open [] = refl
   item-open (f ∷ fs) = refl
 
-  not-open : (want : ℕ) → 3 ≤ want → stepOn s (record { place = place; token = opening }) (wantOf want) ≡ stop (BadSyntax place)
-  unfolding stepOn roleStep
+  not-open : (want : ℕ) → 3 ≤ want → step_on s (record { place = place; token = opening }) (want_of want) ≡ stop (BadSyntax place)
+  unfolding step_on role_step
   not-open zero h = absurd (omega arith)
   not-open (suc zero) h = absurd (omega arith)
   not-open (suc (suc zero)) h = absurd (omega arith)
   not-open (suc (suc (suc zero))) h = item-open s.frames
   not-open (suc (suc (suc (suc want)))) h = refl
 
-  does-open : (want : ℕ) → want < 3 → stepOn s (record { place = place; token = opening }) (wantOf want) ≡ opened (kind_of want) s
-  unfolding stepOn bracketStep
+  does-open : (want : ℕ) → want < 3 → step_on s (record { place = place; token = opening }) (want_of want) ≡ opened (kind_of want) s
+  unfolding step_on bracket_step
   does-open zero h = refl
   does-open (suc zero) h = refl
   does-open (suc (suc zero)) h = refl
@@ -216,15 +216,15 @@ module _ (d kind used : ℕ) (frames : List ℕ) (long : length frames ≡ 99) (
   unfolding pushed two one
   pushed_long = simp length-set long
 
-  pushed-kept : (pending : List ℕ) → framesOf d used pushed pending ≡ framesOf d used frames pending
+  pushed-kept : (pending : List ℕ) → frames_of d used pushed pending ≡ frames_of d used frames pending
   unfolding pushed two one
   pushed-kept pending =
       frames-kept d used (d * 3 + 2) used two pending (omega arith) ∙ frames-kept d used (d * 3 + 1) 0 one pending (omega arith)
       ∙ frames-kept d used (d * 3) kind frames pending (omega arith)
 
   pushed-frames :
-      (pending : List ℕ) → record { kind = kind_of kind; role = 0; members = [] } ∷ framesOf d used frames pending ≡ framesOf (suc d) used pushed pending
-  unfolding framesOf
+      (pending : List ℕ) → record { kind = kind_of kind; role = 0; members = [] } ∷ frames_of d used frames pending ≡ frames_of (suc d) used pushed pending
+  unfolding frames_of
   pushed-frames pending = sym (rw (pushed-kind, pushed-role, pushed_start, between_none used pending, pushed-kept pending) refl)
 
   pushed-nested : Nested d used frames → Nested (suc d) used pushed
@@ -249,7 +249,7 @@ module _ (r : Reader) (place : ℕ) (frames : List ℕ) where
   opens h l want w pending rows inclusions f =
       let room : r.depth < 33 = f.bounds.bracket-room h in
       goes _ pending rows inclusions _ _ _ (does-open (state_of r frames pending rows inclusions) place r.want h)
-      (same-state (pushed-frames r.depth r.want r.used frames l room pending ∙ ap (λ (d : ℕ). framesOf d r.used (pushed r.depth r.want r.used frames l room) pending) (sym (add-one r.depth))) (sym w.is-first) refl refl)
+      (same-state (pushed-frames r.depth r.want r.used frames l room pending ∙ ap (λ (d : ℕ). frames_of d r.used (pushed r.depth r.want r.used frames l room) pending) (sym (add-one r.depth))) (sym w.is-first) refl refl)
       (record {
         bounds = record {
           deep = omega arith;
@@ -269,8 +269,8 @@ module _ (r : Reader) (place : ℕ) (frames : List ℕ) where
 -- ---- a role
 roles-frames :
     (d used q : ℕ) (frames pending : List ℕ) → length frames ≡ 99 → d < 33
-    → roled q (framesOf (suc d) used frames pending) ≡ framesOf (suc d) used (set frames (d * 3 + 1) q) pending
-unfolding framesOf roled
+    → roled q (frames_of (suc d) used frames pending) ≡ frames_of (suc d) used (set frames (d * 3 + 1) q) pending
+unfolding frames_of roled
 roles-frames d used q frames pending l h =
     sym
     (rw (
@@ -296,8 +296,8 @@ NoRole (NameOf n) = Unit {0}
 NoRole (RoleOf q) = ⊥
 NoRole Other = Unit {0}
 
-role-off : (place : ℕ) (s : State) (w : Word) → NoRole w → ofRole place s w ≡ stop (BadSyntax place)
-unfolding ofRole
+role-off : (place : ℕ) (s : State) (w : Word) → NoRole w → of_role place s w ≡ stop (BadSyntax place)
+unfolding of_role
 role-off place s AxiomKey n = refl
 role-off place s TopKey n = refl
 role-off place s AndKey n = refl
@@ -306,8 +306,8 @@ role-off place s (NameOf k) n = refl
 role-off place s (RoleOf q) n = absurd n
 role-off place s Other n = refl
 
-role-on : (place : ℕ) (s : State) (q : ℕ) → ofRole place s (RoleOf q) ≡ go (record { frames = roled q s.frames; want = item; rows = s.rows; inclusions = s.inclusions })
-unfolding ofRole
+role-on : (place : ℕ) (s : State) (q : ℕ) → of_role place s (RoleOf q) ≡ go (record { frames = roled q s.frames; want = item; rows = s.rows; inclusions = s.inclusions })
+unfolding of_role
 role-on place s q = refl
 
 module _ (r : Reader) (place : ℕ) (word : Word) (frames : List ℕ) where
@@ -321,10 +321,10 @@ module _ (r : Reader) (place : ℕ) (word : Word) (frames : List ℕ) where
   roles q e (low, high) l next g pending rows inclusions f =
       let d = r.depth - 1 in
       let z : r.depth ≡ suc d = omega arith in
-      subst (λ (x : Next). NextOf (ofRole place (state_of r frames pending rows inclusions) word) x (set frames (d * 3 + 1) q) pending rows inclusions) (sym g)
+      subst (λ (x : Next). NextOf (of_role place (state_of r frames pending rows inclusions) word) x (set frames (d * 3 + 1) q) pending rows inclusions) (sym g)
       (goes _ pending rows inclusions _ _ _ (taken (state_of r frames pending rows inclusions))
       (same-state
-      (subst (λ (k : ℕ). roled q (framesOf k r.used frames pending) ≡ framesOf k r.used (set frames (d * 3 + 1) q) pending) (sym z) (roles-frames d r.used q frames pending l (omega arith)))
+      (subst (λ (k : ℕ). roled q (frames_of k r.used frames pending) ≡ frames_of k r.used (set frames (d * 3 + 1) q) pending) (sym z) (roles-frames d r.used q frames pending l (omega arith)))
       refl refl refl)
       (record {
         bounds = record { deep = f.bounds.deep; bracket-room = λ k. absurd (omega arith); role-frame = λ k. absurd (omega arith); few = f.bounds.few; apart = f.bounds.apart };
@@ -336,5 +336,5 @@ module _ (r : Reader) (place : ℕ) (word : Word) (frames : List ℕ) where
         inclusions-long = f.inclusions-long;
       }))
     where
-      taken : (s : State) → ofRole place s word ≡ go (record { frames = roled q s.frames; want = item; rows = s.rows; inclusions = s.inclusions })
-      taken s = subst (λ (w : Word). ofRole place s w ≡ go (record { frames = roled q s.frames; want = item; rows = s.rows; inclusions = s.inclusions })) (sym e) (role-on place s q)
+      taken : (s : State) → of_role place s word ≡ go (record { frames = roled q s.frames; want = item; rows = s.rows; inclusions = s.inclusions })
+      taken s = subst (λ (w : Word). of_role place s w ≡ go (record { frames = roled q s.frames; want = item; rows = s.rows; inclusions = s.inclusions })) (sym e) (role-on place s q)

@@ -12,33 +12,33 @@ use Rattle.numerals.specs.Digits.{digits}
 use Rattle.owl.specs.declared.words.Word.{Word}
 use Rattle.owl.specs.declared.words.Word.TheVariants.{AxiomKey, TopKey, AndKey, SomeKey, NameOf, RoleOf, Other}
 use Rattle.owl.specs.Tokens.{Token, opening, closing, word, Placed}
-use Rattle.owl.specs.Words.{axiomText, andText, someText, roleKey, readWord}
-use Rattle.owl.specs.Judgement.{Kind, subclass, meet, exist, Frame, Want, item, bracket, role, State, Step, go, stop, goIf, keyed, first, opened, roled, joins, closed, meetRows, shutBy, shut, begun, outside, ofRole, itemStep, bracketStep, roleStep, stepOn, step, ended, onward, run}
-use Rattle.owl.specs.Grammar.{class, members, Syntax, thing, named, some, all, two, more, written, NoDeeper, entries, InRange, Axiom, axiomWritten, axiomsWritten, axiomsEntries, WithinLimits, AllWithin, unplaced}
+use Rattle.owl.specs.Words.{axiom_text, and_text, some_text, role_key, read_word}
+use Rattle.owl.specs.Judgement.{Kind, subclass, meet, exist, Frame, Want, item, bracket, role, State, Step, go, stop, go_if, keyed, first, opened, roled, joins, closed, meet_rows, shut_by, shut, begun, outside, of_role, item_step, bracket_step, role_step, step_on, step, ended, onward, run}
+use Rattle.owl.specs.Grammar.{class, members, Syntax, thing, named, some, all, two, more, written, NoDeeper, entries, InRange, Axiom, axiom_written, axioms_written, axioms_entries, WithinLimits, AllWithin, unplaced}
 use Rattle.owl.proofs.EntryLaws.{pairs-length}
 use Rattle.owl.proofs.SpellingLaws.{Spelt, spelt}
 use Rattle.owl.proofs.PassLaws.{inside, frame, placed}
 
 -- ---- members so far
-unfoldable allWritten : List (Syntax class) → List Token
-allWritten [] = []
-allWritten (c ∷ cs) = written c ++ allWritten cs
+unfoldable all_written : List (Syntax class) → List Token
+all_written [] = []
+all_written (c ∷ cs) = written c ++ all_written cs
 
-unfoldable allEntries : List (Syntax class) → ℕ
-allEntries [] = 0
-allEntries (c ∷ cs) = entries c + allEntries cs
+unfoldable all_entries : List (Syntax class) → ℕ
+all_entries [] = 0
+all_entries (c ∷ cs) = entries c + all_entries cs
 
 abbrev AllFit : ℕ → List (Syntax class) → Type 0
 AllFit most [] = Unit {0}
 AllFit most (c ∷ cs) = NoDeeper most c × InRange c × AllFit most cs
 
-written_one : (cs : List (Syntax class)) (c : Syntax class) → allWritten (cs ++ (c ∷ [])) ≡ allWritten cs ++ written c
-unfolding allWritten
+written_one : (cs : List (Syntax class)) (c : Syntax class) → all_written (cs ++ (c ∷ [])) ≡ all_written cs ++ written c
+unfolding all_written
 written_one [] c = append-nil (written c)
-written_one (d ∷ cs) c = ap (λ (z : List Token). written d ++ z) (written_one cs c) ∙ sym (append_assoc (written d) (allWritten cs) (written c))
+written_one (d ∷ cs) c = ap (λ (z : List Token). written d ++ z) (written_one cs c) ∙ sym (append_assoc (written d) (all_written cs) (written c))
 
-entries-one : (cs : List (Syntax class)) (c : Syntax class) → allEntries (cs ++ (c ∷ [])) ≡ allEntries cs + entries c
-unfolding allEntries
+entries-one : (cs : List (Syntax class)) (c : Syntax class) → all_entries (cs ++ (c ∷ [])) ≡ all_entries cs + entries c
+unfolding all_entries
 entries-one [] c = omega arith
 entries-one (d ∷ cs) c = omega (arith, entries-one cs c)
 
@@ -51,13 +51,13 @@ unfoldable gather : Syntax members → List (Syntax class) → Syntax members
 gather m [] = m
 gather m (c ∷ cs) = gather (more m c) cs
 
-gather-written : (cs : List (Syntax class)) (m : Syntax members) → written (gather m cs) ≡ written m ++ allWritten cs
-unfolding gather written allWritten
+gather-written : (cs : List (Syntax class)) (m : Syntax members) → written (gather m cs) ≡ written m ++ all_written cs
+unfolding gather written all_written
 gather-written [] m = sym (append-nil (written m))
-gather-written (c ∷ cs) m = gather-written cs (more m c) ∙ append_assoc (written m) (written c) (allWritten cs)
+gather-written (c ∷ cs) m = gather-written cs (more m c) ∙ append_assoc (written m) (written c) (all_written cs)
 
-gather-entries : (cs : List (Syntax class)) (m : Syntax members) → entries (gather m cs) ≡ entries m + allEntries cs + length cs
-unfolding gather entries allEntries
+gather-entries : (cs : List (Syntax class)) (m : Syntax members) → entries (gather m cs) ≡ entries m + all_entries cs + length cs
+unfolding gather entries all_entries
 gather-entries [] m = omega arith
 gather-entries (c ∷ cs) m = omega (arith, gather-entries cs (more m c))
 
@@ -67,16 +67,16 @@ gather-fit most [] m h low range = (low, range)
 gather-fit most (c ∷ cs) m h low range = gather-fit most cs (more m c) h.2 (low, h.0) (range, h.1)
 
 -- ---- what was read
-keyText : Kind → List ℕ
-keyText subclass = axiomText
-keyText meet = andText
-keyText exist = someText
+key_text : Kind → List ℕ
+key_text subclass = axiom_text
+key_text meet = and_text
+key_text exist = some_text
 
 -- an open bracket in front of its members
-openedBy : Kind → ℕ → List Token
-openedBy subclass r = word axiomText ∷ opening ∷ []
-openedBy meet r = word andText ∷ opening ∷ []
-openedBy exist r = word someText ∷ opening ∷ word (roleKey ++ digits r) ∷ []
+opened_by : Kind → ℕ → List Token
+opened_by subclass r = word axiom_text ∷ opening ∷ []
+opened_by meet r = word and_text ∷ opening ∷ []
+opened_by exist r = word some_text ∷ opening ∷ word (role_key ++ digits r) ∷ []
 
 -- an axiom stands in no bracket, a class in one, at most 32 deep
 abbrev Fits : Kind → List Frame → Type 0
@@ -90,19 +90,19 @@ Fits exist (f ∷ fs) = length (f ∷ fs) ≤ 32
 -- no bracket is open: the tokens are those of axioms, which give n entries
 pub record Between (ts : List Token) (n : ℕ) : Type 0 where
   pub axioms : List Axiom
-  pub text : ts ≡ axiomsWritten axioms
+  pub text : ts ≡ axioms_written axioms
   pub within : AllWithin axioms
-  pub count : n ≡ axiomsEntries axioms
+  pub count : n ≡ axioms_entries axioms
 
 -- behind the tokens `before` and their k entries a bracket stands open, with these classes in it
 record InFrame (f : Frame) (fs : List Frame) (before : List Token) (k : ℕ) (ts : List Token) (n : ℕ) : Type 0 where
   classes : List (Syntax class)
-  text : ts ≡ before ++ (openedBy f.kind f.role ++ allWritten classes)
+  text : ts ≡ before ++ (opened_by f.kind f.role ++ all_written classes)
   same : length classes ≡ length f.members
   fit : AllFit (32 - length fs) classes
   low : f.role ≤ 99
   fits : Fits f.kind fs
-  count : n ≡ k + allEntries classes
+  count : n ≡ k + all_entries classes
 
 -- the brackets that are open, the innermost first
 abbrev Held : List Frame → List Token → ℕ → Type 0
@@ -112,10 +112,10 @@ Held (f ∷ fs) ts n = (before : List Token) × (k : ℕ) × Held fs before k ×
 -- the same in front of what may come next: behind a keyword, or where a role is due, the bracket's class is only begun
 abbrev Stands : Want → List Frame → List Token → ℕ → Type 0
 Stands item frames ts n = Held frames ts n
-Stands (bracket kind) frames ts n = (before : List Token) × Held frames before n × (ts ≡ before ++ (word (keyText kind) ∷ [])) × Fits kind frames
+Stands (bracket kind) frames ts n = (before : List Token) × Held frames before n × (ts ≡ before ++ (word (key_text kind) ∷ [])) × Fits kind frames
 Stands role [] ts n = ⊥
 Stands role (f ∷ fs) ts n =
-    (before : List Token) × Held fs before n × (ts ≡ before ++ (word someText ∷ opening ∷ [])) × Fits exist fs × (f ≡ frame exist 0 [])
+    (before : List Token) × Held fs before n × (ts ≡ before ++ (word some_text ∷ opening ∷ [])) × Fits exist fs × (f ≡ frame exist 0 [])
 
 -- what every step keeps
 record Inv (s : State) (ts : List Token) : Type 0 where
@@ -137,7 +137,7 @@ join id g gs before k (b, l, h, x) c low range ts n e f = (
     classes = x.classes ++ (c ∷ []);
     text =
         e ∙ ap (λ (z : List Token). z ++ written c) x.text
-        ∙ simp append_assoc (ap (λ (z : List Token). b ++ (openedBy g.kind g.role ++ z)) (sym (written_one x.classes c)));
+        ∙ simp append_assoc (ap (λ (z : List Token). b ++ (opened_by g.kind g.role ++ z)) (sym (written_one x.classes c)));
     same = omega (arith, x.same, length-append x.classes (c ∷ []), length-append g.members (id ∷ []));
     fit = fit-one _ x.classes c x.fit low range;
     low = x.low;
@@ -147,13 +147,13 @@ join id g gs before k (b, l, h, x) c low range ts n e f = (
 )
 
 -- ---- an axiom closes
-axioms-one : (axioms : List Axiom) (a : Axiom) → axiomsWritten (axioms ++ (a ∷ [])) ≡ axiomsWritten axioms ++ axiomWritten a
-unfolding axiomsWritten
-axioms-one [] a = append-nil (axiomWritten a)
-axioms-one (b ∷ axioms) a = ap (λ (z : List Token). axiomWritten b ++ z) (axioms-one axioms a) ∙ sym (append_assoc (axiomWritten b) (axiomsWritten axioms) (axiomWritten a))
+axioms-one : (axioms : List Axiom) (a : Axiom) → axioms_written (axioms ++ (a ∷ [])) ≡ axioms_written axioms ++ axiom_written a
+unfolding axioms_written
+axioms-one [] a = append-nil (axiom_written a)
+axioms-one (b ∷ axioms) a = ap (λ (z : List Token). axiom_written b ++ z) (axioms-one axioms a) ∙ sym (append_assoc (axiom_written b) (axioms_written axioms) (axiom_written a))
 
-axioms-entries-one : (axioms : List Axiom) (a : Axiom) → axiomsEntries (axioms ++ (a ∷ [])) ≡ axiomsEntries axioms + (entries a.left + entries a.right)
-unfolding axiomsEntries
+axioms-entries-one : (axioms : List Axiom) (a : Axiom) → axioms_entries (axioms ++ (a ∷ [])) ≡ axioms_entries axioms + (entries a.left + entries a.right)
+unfolding axioms_entries
 axioms-entries-one [] a = omega arith
 axioms-entries-one (b ∷ axioms) a = omega (arith, axioms-entries-one axioms a)
 
@@ -162,11 +162,11 @@ within-one [] a h w = (w, tt)
 within-one (b ∷ axioms) a h w = (h.0, within-one axioms a h.1 w)
 
 shut-axiom : (r : ℕ) (ids : List ℕ) (fs : List Frame) (ts : List Token) (n : ℕ) → Held (frame subclass r ids ∷ fs) ts n → length ids ≡ 2 → Held fs (ts ++ (closing ∷ [])) n
-unfolding openedBy allWritten allEntries axiomWritten
+unfolding opened_by all_written all_entries axiom_written
 shut-axiom r ids [] ts n (b, k, h, x) pair = pick x.classes x.text (omega (arith, x.same)) x.fit x.count
   where
     pick :
-        (cs : List (Syntax class)) → ts ≡ b ++ (openedBy subclass r ++ allWritten cs) → length cs ≡ 2 → AllFit 32 cs → n ≡ k + allEntries cs
+        (cs : List (Syntax class)) → ts ≡ b ++ (opened_by subclass r ++ all_written cs) → length cs ≡ 2 → AllFit 32 cs → n ≡ k + all_entries cs
         → Between (ts ++ (closing ∷ [])) n
     pick [] e l fit f = absurd (omega arith)
     pick (c ∷ []) e l fit f = absurd (omega arith)
@@ -176,7 +176,7 @@ shut-axiom r ids [] ts n (b, k, h, x) pair = pick x.classes x.text (omega (arith
           axioms = h.axioms ++ (a ∷ []);
           text =
               ap (λ (z : List Token). z ++ (closing ∷ [])) e
-              ∙ simp (append_assoc, append-nil) (ap (λ (z : List Token). z ++ axiomWritten a) h.text ∙ sym (axioms-one h.axioms a));
+              ∙ simp (append_assoc, append-nil) (ap (λ (z : List Token). z ++ axiom_written a) h.text ∙ sym (axioms-one h.axioms a));
           within =
               within-one h.axioms a h.within
               (record { left-range = fit.1; right-range = fit.2.1; left-depth = fit.0; right-depth = fit.2.0 });
@@ -189,12 +189,12 @@ shut-axiom r ids (f ∷ fs) ts n (b, k, h, x) pair = absurd x.fits
 shut-some :
     (r : ℕ) (ids : List ℕ) (fs : List Frame) (ts : List Token) (n id : ℕ) → Held (frame exist r ids ∷ fs) ts n → length ids ≡ 1
     → Held (joins id fs) (ts ++ (closing ∷ [])) (n + 1)
-unfolding openedBy allWritten allEntries written entries
+unfolding opened_by all_written all_entries written entries
 shut-some r ids [] ts n id (b, k, h, x) one = absurd x.fits
 shut-some r ids (g ∷ gs) ts n id (b, k, h, x) one = pick x.classes x.text (omega (arith, x.same)) x.fit x.count
   where
     pick :
-        (cs : List (Syntax class)) → ts ≡ b ++ (openedBy exist r ++ allWritten cs) → length cs ≡ 1 → AllFit (32 - suc (length gs)) cs → n ≡ k + allEntries cs
+        (cs : List (Syntax class)) → ts ≡ b ++ (opened_by exist r ++ all_written cs) → length cs ≡ 1 → AllFit (32 - suc (length gs)) cs → n ≡ k + all_entries cs
         → Held (joins id (g ∷ gs)) (ts ++ (closing ∷ [])) (n + 1)
     pick [] e l fit f = absurd (omega arith)
     pick (c ∷ []) e l fit f =
@@ -206,12 +206,12 @@ shut-some r ids (g ∷ gs) ts n id (b, k, h, x) one = pick x.classes x.text (ome
 shut-meet :
     (r : ℕ) (ids : List ℕ) (fs : List Frame) (ts : List Token) (n id : ℕ) → Held (frame meet r ids ∷ fs) ts n → 1 < length ids
     → Held (joins id fs) (ts ++ (closing ∷ [])) (n + (length ids - 1))
-unfolding openedBy allWritten allEntries written entries
+unfolding opened_by all_written all_entries written entries
 shut-meet r ids [] ts n id (b, k, h, x) several = absurd x.fits
 shut-meet r ids (g ∷ gs) ts n id (b, k, h, x) several = pick x.classes x.text x.same x.fit x.count
   where
     pick :
-        (cs : List (Syntax class)) → ts ≡ b ++ (openedBy meet r ++ allWritten cs) → length cs ≡ length ids → AllFit (32 - suc (length gs)) cs → n ≡ k + allEntries cs
+        (cs : List (Syntax class)) → ts ≡ b ++ (opened_by meet r ++ all_written cs) → length cs ≡ length ids → AllFit (32 - suc (length gs)) cs → n ≡ k + all_entries cs
         → Held (joins id (g ∷ gs)) (ts ++ (closing ∷ [])) (n + (length ids - 1))
     pick [] e l fit f = absurd (omega arith)
     pick (c ∷ []) e l fit f = absurd (omega arith)
@@ -221,12 +221,12 @@ shut-meet r ids (g ∷ gs) ts n id (b, k, h, x) several = pick x.classes x.text 
         let g-fit = gather-fit (32 - suc (length gs)) cs (two c d) fit.2.2 (fit.0, fit.2.0) (fit.1, fit.2.1) in
         join id g gs b k h (all m) (omega (arith, x.fits), subst (λ (z : ℕ). NoDeeper z m) q g-fit.0) g-fit.1 (ts ++ (closing ∷ [])) (n + (length ids - 1))
         (ap (λ (z : List Token). z ++ (closing ∷ [])) e ∙ append_assoc b _ (closing ∷ [])
-        ∙ ap (λ (z : List Token). b ++ (word andText ∷ opening ∷ (z ++ (closing ∷ [])))) (sym (gather-written cs (two c d) ∙ append_assoc (written c) (written d) (allWritten cs))))
+        ∙ ap (λ (z : List Token). b ++ (word and_text ∷ opening ∷ (z ++ (closing ∷ [])))) (sym (gather-written cs (two c d) ∙ append_assoc (written c) (written d) (all_written cs))))
         (omega (arith, gather-entries cs (two c d)))
 
 -- ---- one step
-goes-if : (test : Bool) (a : Step) (r : Refusal) (s : State) → goIf test a r ≡ go s → (test ≡ true) × (a ≡ go s)
-unfolding goIf
+goes-if : (test : Bool) (a : Step) (r : Refusal) (s : State) → go_if test a r ≡ go s → (test ≡ true) × (a ≡ go s)
+unfolding go_if
 goes-if true a r s e = (refl, e)
 goes-if false a r s e = absurd (let z : ◌≡◌ {A = ℕ} 0 1 = cc e in omega arith)
 
@@ -247,17 +247,17 @@ closes added frames s s' ts n k e f held h =
     let small : count_of (s.rows ++ added) < 193 = ltb-true _ _ few in
     went _ s' ts goes (record { n = n + k; size = size; few = omega arith; stands = held (count_of (s.rows ++ added) - 1) })
 
-meet-length : (next : ℕ) (ids : List ℕ) → 1 < length ids → length (meetRows next ids) ≡ (length ids - 1) * 3
-unfolding meetRows
+meet-length : (next : ℕ) (ids : List ℕ) → 1 < length ids → length (meet_rows next ids) ≡ (length ids - 1) * 3
+unfolding meet_rows
 meet-length next [] h = absurd (omega arith)
 meet-length next (i ∷ ids) h = pairs-length next i ids ∙ (let e : length ids ≡ suc (length ids) - 1 = omega arith in ap (λ (z : ℕ). z * 3) e)
 
 -- ---- a closing bracket
 module _ (r : ℕ) (ids : List ℕ) (fs : List Frame) (rows inclusions : List ℕ) (place : ℕ) (s' : State) (ts : List Token) (n : ℕ) (size : length rows ≡ n * 3) (few : n ≤ 192) where
   keeps-shut :
-      (kind : Kind) → Held (frame kind r ids ∷ fs) ts n → shutBy kind place (frame kind r ids) fs (inside (frame kind r ids ∷ fs) item rows inclusions) ≡ go s'
+      (kind : Kind) → Held (frame kind r ids ∷ fs) ts n → shut_by kind place (frame kind r ids) fs (inside (frame kind r ids ∷ fs) item rows inclusions) ≡ go s'
       → Inv s' (ts ++ (closing ∷ []))
-  unfolding shutBy
+  unfolding shut_by
   keeps-shut subclass held h =
       let (pair, goes) = goes-if _ _ _ s' h in
       went _ s' _ goes (record { n = n; size = size; few = few; stands = shut-axiom r ids fs ts n held (eqb-true _ _ pair) })
@@ -268,14 +268,14 @@ module _ (r : ℕ) (ids : List ℕ) (fs : List Frame) (rows inclusions : List �
   keeps-shut meet held h =
       let (several, goes) = goes-if _ _ _ s' h in
       let l : 1 < length ids = ltb-true _ _ several in
-      closes (meetRows (count_of rows) ids) fs (inside (frame meet r ids ∷ fs) item rows inclusions) s' _ n (length ids - 1) size
+      closes (meet_rows (count_of rows) ids) fs (inside (frame meet r ids ∷ fs) item rows inclusions) s' _ n (length ids - 1) size
       (meet-length (count_of rows) ids l) (λ id. shut-meet r ids fs ts n id held l) goes
 
 -- ---- a word
 module _ (w : List ℕ) (rows inclusions : List ℕ) (place : ℕ) (s' : State) (ts : List Token) (n : ℕ) (size : length rows ≡ n * 3) (few : n ≤ 192) where
   keeps_outside :
       (read : Word) → Spelt w read → Held [] ts n → outside place (inside [] item rows inclusions) read ≡ go s' → Inv s' (ts ++ (word w ∷ []))
-  unfolding outside keyed keyText
+  unfolding outside keyed key_text
   keeps_outside AxiomKey e held h =
       went _ s' _ h (record { n = n; size = size; few = few; stands = (ts, held, ap (λ (z : List ℕ). ts ++ (word z ∷ [])) e, tt) })
   keeps_outside TopKey e held h = stopped _ s' h
@@ -288,7 +288,7 @@ module _ (w : List ℕ) (rows inclusions : List ℕ) (place : ℕ) (s' : State) 
   keeps-begun :
       (f : Frame) (fs : List Frame) (read : Word) → Spelt w read → Held (f ∷ fs) ts n → begun place (inside (f ∷ fs) item rows inclusions) read ≡ go s'
       → Inv s' (ts ++ (word w ∷ []))
-  unfolding begun keyed keyText written entries
+  unfolding begun keyed key_text written entries
   keeps-begun f fs AxiomKey e held h = stopped _ s' h
   keeps-begun f fs (RoleOf m) e held h = stopped _ s' h
   keeps-begun f fs Other e held h = stopped _ s' h
@@ -312,9 +312,9 @@ module _ (w : List ℕ) (rows inclusions : List ℕ) (place : ℕ) (s' : State) 
       went _ s' _ goes (record { n = n; size = size; few = few; stands = (ts, held, ap (λ (z : List ℕ). ts ++ (word z ∷ [])) e, omega arith) })
 
   keeps-role :
-      (f : Frame) (fs : List Frame) (read : Word) → Spelt w read → Stands role (f ∷ fs) ts n → ofRole place (inside (f ∷ fs) role rows inclusions) read ≡ go s'
+      (f : Frame) (fs : List Frame) (read : Word) → Spelt w read → Stands role (f ∷ fs) ts n → of_role place (inside (f ∷ fs) role rows inclusions) read ≡ go s'
       → Inv s' (ts ++ (word w ∷ []))
-  unfolding ofRole roled openedBy allWritten allEntries
+  unfolding of_role roled opened_by all_written all_entries
   keeps-role f fs AxiomKey e held h = stopped _ s' h
   keeps-role f fs TopKey e held h = stopped _ s' h
   keeps-role f fs AndKey e held h = stopped _ s' h
@@ -333,7 +333,7 @@ module _ (w : List ℕ) (rows inclusions : List ℕ) (place : ℕ) (s' : State) 
           held,
           record {
             classes = [];
-            text = ap (λ (z : List Token). z ++ (word w ∷ [])) text ∙ append_assoc before _ (word w ∷ []) ∙ ap (λ (z : List ℕ). before ++ (word someText ∷ opening ∷ word z ∷ [])) e.text;
+            text = ap (λ (z : List Token). z ++ (word w ∷ [])) text ∙ append_assoc before _ (word w ∷ []) ∙ ap (λ (z : List ℕ). before ++ (word some_text ∷ opening ∷ word z ∷ [])) e.text;
             same = refl;
             fit = tt;
             low = e.small;
@@ -347,13 +347,13 @@ module _ (w : List ℕ) (rows inclusions : List ℕ) (place : ℕ) (s' : State) 
 
 -- ---- an opening bracket
 module _ (frames : List Frame) (rows inclusions : List ℕ) (s' : State) (ts : List Token) (n : ℕ) (size : length rows ≡ n * 3) (few : n ≤ 192) where
-  behind-key : (before : List Token) (kind : Kind) → ts ≡ before ++ (word (keyText kind) ∷ []) → ts ++ (opening ∷ []) ≡ before ++ (word (keyText kind) ∷ opening ∷ [])
+  behind-key : (before : List Token) (kind : Kind) → ts ≡ before ++ (word (key_text kind) ∷ []) → ts ++ (opening ∷ []) ≡ before ++ (word (key_text kind) ∷ opening ∷ [])
   behind-key before kind e = ap (λ (z : List Token). z ++ (opening ∷ [])) e ∙ append_assoc before _ (opening ∷ [])
 
   now-open :
-      (kind : Kind) → openedBy kind 0 ++ [] ≡ word (keyText kind) ∷ opening ∷ [] → Stands (bracket kind) frames ts n
+      (kind : Kind) → opened_by kind 0 ++ [] ≡ word (key_text kind) ∷ opening ∷ [] → Stands (bracket kind) frames ts n
       → Held (frame kind 0 [] ∷ frames) (ts ++ (opening ∷ [])) n
-  unfolding allWritten allEntries
+  unfolding all_written all_entries
   now-open kind e (before, held, text, fits) = (
     before,
     n,
@@ -371,7 +371,7 @@ module _ (frames : List Frame) (rows inclusions : List ℕ) (s' : State) (ts : L
 
   keeps-opened :
       (kind : Kind) → Stands (bracket kind) frames ts n → opened kind (inside frames (bracket kind) rows inclusions) ≡ go s' → Inv s' (ts ++ (opening ∷ []))
-  unfolding opened first keyText openedBy
+  unfolding opened first key_text opened_by
   keeps-opened subclass held h = went _ s' _ h (record { n = n; size = size; few = few; stands = now-open subclass refl held })
   keeps-opened meet held h = went _ s' _ h (record { n = n; size = size; few = few; stands = now-open meet refl held })
   keeps-opened exist (before, held, text, fits) h =
@@ -380,35 +380,35 @@ module _ (frames : List Frame) (rows inclusions : List ℕ) (s' : State) (ts : L
 -- ---- any step
 module _ (rows inclusions : List ℕ) (place : ℕ) (s' : State) (ts : List Token) (n : ℕ) (size : length rows ≡ n * 3) (few : n ≤ 192) where
   keeps-item :
-      (frames : List Frame) (t : Token) → Held frames ts n → itemStep place (inside frames item rows inclusions) frames t ≡ go s' → Inv s' (ts ++ (t ∷ []))
-  unfolding itemStep shut
+      (frames : List Frame) (t : Token) → Held frames ts n → item_step place (inside frames item rows inclusions) frames t ≡ go s' → Inv s' (ts ++ (t ∷ []))
+  unfolding item_step shut
   keeps-item [] opening held h = stopped _ s' h
   keeps-item [] closing held h = stopped _ s' h
-  keeps-item [] (word w) held h = keeps_outside w rows inclusions place s' ts n size few (readWord w) (spelt w) held h
+  keeps-item [] (word w) held h = keeps_outside w rows inclusions place s' ts n size few (read_word w) (spelt w) held h
   keeps-item (f ∷ fs) opening held h = stopped _ s' h
   keeps-item (f ∷ fs) closing held h = keeps-shut f.role f.members fs rows inclusions place s' ts n size few f.kind held h
-  keeps-item (f ∷ fs) (word w) held h = keeps-begun w rows inclusions place s' ts n size few f fs (readWord w) (spelt w) held (goes-if _ _ _ s' h).1
+  keeps-item (f ∷ fs) (word w) held h = keeps-begun w rows inclusions place s' ts n size few f fs (read_word w) (spelt w) held (goes-if _ _ _ s' h).1
 
   keeps-bracket :
       (kind : Kind) (frames : List Frame) (t : Token) → Stands (bracket kind) frames ts n
-      → bracketStep place (inside frames (bracket kind) rows inclusions) kind t ≡ go s' → Inv s' (ts ++ (t ∷ []))
-  unfolding bracketStep
+      → bracket_step place (inside frames (bracket kind) rows inclusions) kind t ≡ go s' → Inv s' (ts ++ (t ∷ []))
+  unfolding bracket_step
   keeps-bracket kind frames opening held h = keeps-opened frames rows inclusions s' ts n size few kind held h
   keeps-bracket kind frames closing held h = stopped _ s' h
   keeps-bracket kind frames (word w) held h = stopped _ s' h
 
   keeps-roled :
-      (frames : List Frame) (t : Token) → Stands role frames ts n → roleStep place (inside frames role rows inclusions) t ≡ go s' → Inv s' (ts ++ (t ∷ []))
-  unfolding roleStep
+      (frames : List Frame) (t : Token) → Stands role frames ts n → role_step place (inside frames role rows inclusions) t ≡ go s' → Inv s' (ts ++ (t ∷ []))
+  unfolding role_step
   keeps-roled [] t held h = absurd held
   keeps-roled (f ∷ fs) opening held h = stopped _ s' h
   keeps-roled (f ∷ fs) closing held h = stopped _ s' h
-  keeps-roled (f ∷ fs) (word w) held h = keeps-role w rows inclusions place s' ts n size few f fs (readWord w) (spelt w) held h
+  keeps-roled (f ∷ fs) (word w) held h = keeps-role w rows inclusions place s' ts n size few f fs (read_word w) (spelt w) held h
 
   keeps-wanted :
-      (want : Want) (frames : List Frame) (t : Token) → Stands want frames ts n → stepOn (inside frames want rows inclusions) (placed place t) want ≡ go s'
+      (want : Want) (frames : List Frame) (t : Token) → Stands want frames ts n → step_on (inside frames want rows inclusions) (placed place t) want ≡ go s'
       → Inv s' (ts ++ (t ∷ []))
-  unfolding stepOn
+  unfolding step_on
   keeps-wanted item frames t held h = keeps-item frames t held h
   keeps-wanted (bracket kind) frames t held h = keeps-bracket kind frames t held h
   keeps-wanted role frames t held h = keeps-roled frames t held h
@@ -421,9 +421,9 @@ step_keeps s s' t ts i h =
 -- ---- a whole run
 pub record Accepted (ts : List Token) : Type 0 where
   pub axioms : List Axiom
-  pub text : ts ≡ axiomsWritten axioms
+  pub text : ts ≡ axioms_written axioms
   pub within : AllWithin axioms
-  pub few : axiomsEntries axioms ≤ 192
+  pub few : axioms_entries axioms ≤ 192
 
 keeps-ended :
     (end : ℕ) (s s' : State) (ts : List Token) (n : ℕ) → n ≤ 192 → (frames : List Frame) (want : Want) → Stands want frames ts n → ended end s frames want ≡ go s' → Accepted ts
@@ -447,7 +447,7 @@ run-keeps end (p ∷ ps) s s' ts i h = next (step s p) refl h (λ z j k. run-kee
     next (stop r) e k rest = stopped r s' k
 
 pub run-accepted : (end : ℕ) (ps : List Placed) (s' : State) → run end ps (inside [] item [] []) ≡ go s' → Accepted (unplaced ps)
-unfolding axiomsWritten axiomsEntries
+unfolding axioms_written axioms_entries
 run-accepted end ps s' h =
     run-keeps end ps (inside [] item [] []) s' []
     (record { n = 0; size = refl; few = omega arith; stands = record { axioms = []; text = refl; within = tt; count = refl } }) h

@@ -13,15 +13,15 @@ use Rattle.subsumption.specs.declared.refusal.Refusal.{Refusal}
 use Rattle.subsumption.specs.declared.refusal.Refusal.TheVariants.{BufferTooShort, BadSyntax}
 use Rattle.subsumption.specs.declared.refusal.Outcome.{Outcome}
 use Rattle.subsumption.specs.declared.refusal.Outcome.TheVariants.{Done, Refused}
-use Rattle.subsumption.specs.Refusal.{or_else, refuseIf}
-use Rattle.subsumption.specs.Check.{bufferFault}
+use Rattle.subsumption.specs.Refusal.{or_else, refuse_if}
+use Rattle.subsumption.specs.Check.{buffer_fault}
 use Rattle.owl.specs.declared.frames.Reader.{Reader}
 use Rattle.owl.specs.declared.frames.Next.{Next}
 use Rattle.owl.specs.declared.frames.Next.TheVariants.{Go, Stop}
 use Rattle.owl.specs.declared.read.Catalogue.{Catalogue}
 use Rattle.owl.specs.declared.read.Catalogue.TheVariants.{Tables, Rejected}
 use Rattle.owl.specs.Judgement.{State, Step, go, stop, judge}
-use Rattle.owl.specs.Read.{CatalogueReply, refusedReply, catalogueReply, catalogueFault, inFront, Put, Kept, ReadsBy, reading_of, ReadsCatalogue}
+use Rattle.owl.specs.Read.{CatalogueReply, refused_reply, catalogue_reply, catalogue_fault, in_front, Put, Kept, ReadsBy, reading_of, ReadsCatalogue}
 use Rattle.owl.specs.Inner.Frames.{Fits, NextOf}
 use Rattle.owl.specs.Inner.Judging.{Judged}
 
@@ -51,8 +51,8 @@ module _ (numbers before : List ℕ) where
               ∙ sym (rw (take-suc numbers i 0 h) (append_assoc (take i numbers) (get_or numbers i 0 ∷ []) (drop (suc i) before))));
         }
 
-    pub copied-done : length numbers ≤ i → out ≡ inFront numbers before
-    unfolding inFront
+    pub copied-done : length numbers ≤ i → out ≡ in_front numbers before
+    unfolding in_front
     copied-done h =
         let e : i ≡ length numbers = omega (arith, s.within) in
         s.here ∙ rw e (ap (λ (z : List ℕ). z ++ drop (length numbers) before) (take_all (length numbers) numbers (omega arith)))
@@ -60,12 +60,12 @@ module _ (numbers before : List ℕ) where
 -- ---- the judged tables
 module _ (text : List ℕ) (next : Next) (frames pending rows sides : List ℕ) (held : Judged text next frames pending rows sides) where
   pub reads-stop :
-      (q : Refusal) → next ≡ Stop q → (concepts inclusions : List ℕ) → ReadsBy (judge text) concepts concepts inclusions inclusions (catalogueReply (Rejected q))
+      (q : Refusal) → next ≡ Stop q → (concepts inclusions : List ℕ) → ReadsBy (judge text) concepts concepts inclusions inclusions (catalogue_reply (Rejected q))
   reads-stop q e concepts inclusions = go_on (judge text) (subst (λ (x : Next). NextOf (judge text) x frames pending rows sides) e held.judged)
     where
-      go_on : (z : Step) → NextOf z (Stop q) frames pending rows sides → ReadsBy z concepts concepts inclusions inclusions (catalogueReply (Rejected q))
+      go_on : (z : Step) → NextOf z (Stop q) frames pending rows sides → ReadsBy z concepts concepts inclusions inclusions (catalogue_reply (Rejected q))
       go_on (go s) h = absurd h
-      go_on (stop p) h = record { told = ap (λ (x : Refusal). refusedReply x) h; kept-concepts = refl; kept-inclusions = refl }
+      go_on (stop p) h = record { told = ap (λ (x : Refusal). refused_reply x) h; kept-concepts = refl; kept-inclusions = refl }
 
   module _ (r : Reader) (e : next ≡ Go r) where
     fits : Fits r frames pending rows sides
@@ -97,9 +97,9 @@ module _ (text : List ℕ) (next : Next) (frames pending rows sides : List ℕ) 
     sides-room out h = omega (arith, sides-count, few-tables)
 
     pub reads-tables :
-        (concepts concepts' inclusions inclusions' : List ℕ) → concepts' ≡ inFront (take (r.count * 3) rows) concepts
-        → inclusions' ≡ inFront (take (r.pairs * 2) sides) inclusions
-        → ReadsBy (judge text) concepts concepts' inclusions inclusions' (catalogueReply (Tables r.count r.pairs))
+        (concepts concepts' inclusions inclusions' : List ℕ) → concepts' ≡ in_front (take (r.count * 3) rows) concepts
+        → inclusions' ≡ in_front (take (r.pairs * 2) sides) inclusions
+        → ReadsBy (judge text) concepts concepts' inclusions inclusions' (catalogue_reply (Tables r.count r.pairs))
     reads-tables concepts concepts' inclusions inclusions' c i =
         let n : r.count ≡ length (take (r.count * 3) rows) / 3 = omega (arith, rows-count) in
         let k : r.pairs ≡ length (take (r.pairs * 2) sides) / 2 = omega (arith, sides-count) in
@@ -108,44 +108,44 @@ module _ (text : List ℕ) (next : Next) (frames pending rows sides : List ℕ) 
         go_on :
             (z : Step) → NextOf z (Go r) frames pending rows sides → r.count ≡ length (take (r.count * 3) rows) / 3
             → r.pairs ≡ length (take (r.pairs * 2) sides) / 2
-            → ReadsBy z concepts concepts' inclusions inclusions' (catalogueReply (Tables r.count r.pairs))
+            → ReadsBy z concepts concepts' inclusions inclusions' (catalogue_reply (Tables r.count r.pairs))
         go_on (stop p) h n k = absurd h
         go_on (go s) h n k =
-            subst (λ (z : State). Put z concepts concepts' inclusions inclusions' (catalogueReply (Tables r.count r.pairs))) (sym h.state)
+            subst (λ (z : State). Put z concepts concepts' inclusions inclusions' (catalogue_reply (Tables r.count r.pairs))) (sym h.state)
             (record { told = cc (n, k); put-concepts = c; put-inclusions = i })
 
 -- ---- the checks
 module _ (text concepts inclusions : List ℕ) where
   refuses :
-      (q : Refusal) → catalogueFault text (length concepts) (length inclusions) ≡ Refused q
-      → ReadsCatalogue text concepts concepts inclusions inclusions (catalogueReply (Rejected q))
+      (q : Refusal) → catalogue_fault text (length concepts) (length inclusions) ≡ Refused q
+      → ReadsCatalogue text concepts concepts inclusions inclusions (catalogue_reply (Rejected q))
   unfolding reading_of
   refuses q e =
-      subst (λ (z : Outcome). ReadsBy (reading_of z text) concepts concepts inclusions inclusions (catalogueReply (Rejected q))) (sym e)
+      subst (λ (z : Outcome). ReadsBy (reading_of z text) concepts concepts inclusions inclusions (catalogue_reply (Rejected q))) (sym e)
       (record { told = refl; kept-concepts = refl; kept-inclusions = refl })
 
-  pub short-concepts : length concepts < 576 → ReadsCatalogue text concepts concepts inclusions inclusions (catalogueReply (Rejected (BufferTooShort 576)))
-  unfolding catalogueFault or_else refuseIf bufferFault
+  pub short-concepts : length concepts < 576 → ReadsCatalogue text concepts concepts inclusions inclusions (catalogue_reply (Rejected (BufferTooShort 576)))
+  unfolding catalogue_fault or_else refuse_if buffer_fault
   short-concepts h = refuses (BufferTooShort 576) (rw (lt-ltb (length concepts) 576 h) refl)
 
   module _ (a : 576 ≤ length concepts) where
-    pub short-inclusions : length inclusions < 192 → ReadsCatalogue text concepts concepts inclusions inclusions (catalogueReply (Rejected (BufferTooShort 192)))
-    unfolding catalogueFault or_else refuseIf bufferFault
+    pub short-inclusions : length inclusions < 192 → ReadsCatalogue text concepts concepts inclusions inclusions (catalogue_reply (Rejected (BufferTooShort 192)))
+    unfolding catalogue_fault or_else refuse_if buffer_fault
     short-inclusions h = refuses (BufferTooShort 192) (rw (le-ltb (length concepts) 576 a, lt-ltb (length inclusions) 192 h) refl)
 
     module _ (b : 192 ≤ length inclusions) where
-      pub long-text : 8192 < length text → ReadsCatalogue text concepts concepts inclusions inclusions (catalogueReply (Rejected (BadSyntax 8192)))
-      unfolding catalogueFault or_else refuseIf bufferFault
+      pub long-text : 8192 < length text → ReadsCatalogue text concepts concepts inclusions inclusions (catalogue_reply (Rejected (BadSyntax 8192)))
+      unfolding catalogue_fault or_else refuse_if buffer_fault
       long-text h =
           refuses (BadSyntax 8192) (rw (le-ltb (length concepts) 576 a, le-ltb (length inclusions) 192 b, lt-ltb 8192 (length text) h) refl)
 
       pub reads_on :
           length text ≤ 8192 → (concepts' inclusions' : List ℕ) (answer : Catalogue)
-          → ReadsBy (judge text) concepts concepts' inclusions inclusions' (catalogueReply answer)
-          → ReadsCatalogue text concepts concepts' inclusions inclusions' (catalogueReply answer)
-      unfolding reading_of catalogueFault or_else refuseIf bufferFault
+          → ReadsBy (judge text) concepts concepts' inclusions inclusions' (catalogue_reply answer)
+          → ReadsCatalogue text concepts concepts' inclusions inclusions' (catalogue_reply answer)
+      unfolding reading_of catalogue_fault or_else refuse_if buffer_fault
       reads_on h concepts' inclusions' answer c =
-          let e : catalogueFault text (length concepts) (length inclusions) ≡ Done =
+          let e : catalogue_fault text (length concepts) (length inclusions) ≡ Done =
           rw (le-ltb (length concepts) 576 a, le-ltb (length inclusions) 192 b, le-ltb 8192 (length text) h) refl
           in
-          subst (λ (z : Outcome). ReadsBy (reading_of z text) concepts concepts' inclusions inclusions' (catalogueReply answer)) (sym e) c
+          subst (λ (z : Outcome). ReadsBy (reading_of z text) concepts concepts' inclusions inclusions' (catalogue_reply answer)) (sym e) c

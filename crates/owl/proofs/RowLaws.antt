@@ -14,9 +14,9 @@ use Rattle.subsumption.proofs.Lists.{take-three}
 use Rattle.owl.specs.declared.frames.Reader.{Reader}
 use Rattle.owl.specs.declared.frames.Next.{Next}
 use Rattle.owl.specs.declared.frames.Next.TheVariants.{Go, Stop}
-use Rattle.owl.specs.Judgement.{item, State, Step, go, stop, goIf, joins, closed, pairRows, meetRows}
-use Rattle.owl.specs.Inner.Frames.{between, framesOf, state_of, Fits, NextOf, Closes}
-use Rattle.owl.specs.Inner.Rows.{rowPut, Paired}
+use Rattle.owl.specs.Judgement.{item, State, Step, go, stop, go_if, joins, closed, pair_rows, meet_rows}
+use Rattle.owl.specs.Inner.Frames.{between, frames_of, state_of, Fits, NextOf, Closes}
+use Rattle.owl.specs.Inner.Rows.{row_put, Paired}
 use Rattle.owl.proofs.FrameLaws.{member-joins, nested-more, same-state, stops, goes}
 
 -- ---- a class that is closed, with so many rows
@@ -36,10 +36,10 @@ module _ (r : Reader) (more : ℕ) (row frames pending rows inclusions : List �
   counted = rows-count r.count more rows row (omega (arith, f.bounds.few, f.rows_long)) l
 
   abbrev after : Step
-  after = closed row (framesOf r.depth r.used frames pending) (state_of r frames pending rows inclusions)
+  after = closed row (frames_of r.depth r.used frames pending) (state_of r frames pending rows inclusions)
 
   pub closes-not : 192 < r.count + more → (pending' rows' : List ℕ) → NextOf after (Stop (Limit 0)) frames pending' rows' inclusions
-  unfolding closed goIf
+  unfolding closed go_if
   closes-not h pending' rows' =
       let e : after ≡ stop (Limit 0) = rw (counted, le-ltb (r.count + more) 193 (omega arith)) refl in
       stops frames pending' rows' inclusions after (Limit 0) e
@@ -47,11 +47,11 @@ module _ (r : Reader) (more : ℕ) (row frames pending rows inclusions : List �
   pub closes-row :
       (total last : ℕ) → total ≡ r.count + more → total ≡ suc last → r.count < total → total ≤ 192 → (rows' : List ℕ) → length rows' ≡ 576
       → take (total * 3) rows' ≡ take (r.count * 3) rows ++ row → NextOf after (Go (behind r total)) frames (set pending r.used last) rows' inclusions
-  unfolding closed goIf
+  unfolding closed go_if
   closes-row total last t p m h rows' long put =
       let s : State =
       record {
-        frames = joins last (framesOf r.depth r.used frames pending);
+        frames = joins last (frames_of r.depth r.used frames pending);
         want = item;
         rows = take (r.count * 3) rows ++ row;
         inclusions = take (r.pairs * 2) inclusions;
@@ -81,7 +81,7 @@ module _ (r : Reader) (kind a b : ℕ) (pending rows : List ℕ) where
   full-row h frames inclusions f = closes-not r 1 (kind ∷ a ∷ b ∷ []) frames pending rows inclusions f refl (omega arith) pending rows
 
   pub one-row :
-      r.count < 192 → length rows ≡ 576 → (rows' : List ℕ) → rows' ≡ rowPut rows r.count kind a b
+      r.count < 192 → length rows ≡ 576 → (rows' : List ℕ) → rows' ≡ row_put rows r.count kind a b
       → Closes r (kind ∷ a ∷ b ∷ []) pending (set pending r.used r.count) rows rows' (Go (behind r (r.count + 1)))
   one-row h l rows' e frames inclusions f =
       closes-row r 1 (kind ∷ a ∷ b ∷ []) frames pending rows inclusions f refl (r.count + 1) r.count refl (add-one r.count) (omega arith) (omega arith) rows'
@@ -97,13 +97,13 @@ between_cons start end l h e =
 pub between-end : (start end : ℕ) (l : List ℕ) → end ≤ start → between start end l ≡ []
 between-end start end l h = let z : end - start ≡ 0 = omega arith in rw z refl
 
-pub pair-length : (next left : ℕ) (members : List ℕ) → length (pairRows next left members) ≡ length members * 3
-unfolding pairRows
+pub pair-length : (next left : ℕ) (members : List ℕ) → length (pair_rows next left members) ≡ length members * 3
+unfolding pair_rows
 pair-length next left [] = refl
 pair-length next left (m ∷ more) = omega (arith, pair-length (suc next) next more)
 
-pub meet-length : (next : ℕ) (members : List ℕ) → length (meetRows next members) ≡ (length members - 1) * 3
-unfolding meetRows
+pub meet-length : (next : ℕ) (members : List ℕ) → length (meet_rows next members) ≡ (length members - 1) * 3
+unfolding meet_rows
 meet-length next [] = refl
 meet-length next (m ∷ more) = omega (arith, pair-length next m more)
 
@@ -113,10 +113,10 @@ module _ (start used count : ℕ) (pending rows₀ : List ℕ) where
     pub low : start < m
     pub high : m ≤ used
     pub here : next + start + 1 ≡ count + m
-    pub put : take (next * 3) rows ++ pairRows next left (between m used pending) ≡ take (count * 3) rows₀ ++ meetRows count (between start used pending)
+    pub put : take (next * 3) rows ++ pair_rows next left (between m used pending) ≡ take (count * 3) rows₀ ++ meet_rows count (between start used pending)
 
   pub pairing-none : (start < used) × (used ≤ length pending) → Pairing rows₀ (get_or pending start 0) count (start + 1)
-  unfolding meetRows
+  unfolding meet_rows
   pairing-none (h, l) =
       record {
         long = refl;
@@ -128,8 +128,8 @@ module _ (start used count : ℕ) (pending rows₀ : List ℕ) where
 
   pub pairing-more :
       (rows : List ℕ) (left next m : ℕ) → Pairing rows left next m → m < used → (start < used) × (used ≤ length pending) → count + (used - start) ≤ 193
-      → length rows₀ ≡ 576 → (rows' : List ℕ) → rows' ≡ rowPut rows next 3 left (get_or pending m 0) → Pairing rows' next (next + 1) (m + 1)
-  unfolding pairRows
+      → length rows₀ ≡ 576 → (rows' : List ℕ) → rows' ≡ row_put rows next 3 left (get_or pending m 0) → Pairing rows' next (next + 1) (m + 1)
+  unfolding pair_rows
   pairing-more rows left next m s h (o, l) few size rows' e =
       record {
         long = ap length e ∙ simp length-set s.long;
@@ -138,8 +138,8 @@ module _ (start used count : ℕ) (pending rows₀ : List ℕ) where
         here = omega (arith, s.here);
         put =
             rw (ap (λ (z : List ℕ). take ((next + 1) * 3) z) e ∙ take-three (next * 3) ((next + 1) * 3) 3 left (get_or pending m 0) rows (omega arith) (omega (arith, s.long, s.here, s.low)))
-            (append_assoc (take (next * 3) rows) (3 ∷ left ∷ get_or pending m 0 ∷ []) (pairRows (next + 1) next (between (m + 1) used pending))
-            ∙ rw (add-one next) (sym (ap (λ (z : List ℕ). take (next * 3) rows ++ pairRows next left z) (between_cons m used pending h l)) ∙ s.put));
+            (append_assoc (take (next * 3) rows) (3 ∷ left ∷ get_or pending m 0 ∷ []) (pair_rows (next + 1) next (between (m + 1) used pending))
+            ∙ rw (add-one next) (sym (ap (λ (z : List ℕ). take (next * 3) rows ++ pair_rows next left z) (between_cons m used pending h l)) ∙ s.put));
       }
 
   pub pairing-room :
@@ -147,10 +147,10 @@ module _ (start used count : ℕ) (pending rows₀ : List ℕ) where
   pairing-room rows left next m s h few size = omega (arith, s.long, s.here, s.low)
 
   pub pairing-done : (rows : List ℕ) (left next m : ℕ) → Pairing rows left next m → used ≤ m → Paired start used count pending rows₀ rows
-  unfolding pairRows
+  unfolding pair_rows
   pairing-done rows left next m s h =
       let z : count + (used - start) - 1 ≡ next = omega (arith, s.low, s.high, s.here) in
       record {
         long = s.long;
-        put = rw z (sym (append-nil (take (next * 3) rows)) ∙ sym (ap (λ (y : List ℕ). take (next * 3) rows ++ pairRows next left y) (between-end m used pending h)) ∙ s.put);
+        put = rw z (sym (append-nil (take (next * 3) rows)) ∙ sym (ap (λ (y : List ℕ). take (next * 3) rows ++ pair_rows next left y) (between-end m used pending h)) ∙ s.put);
       }

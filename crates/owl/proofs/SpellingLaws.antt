@@ -17,11 +17,11 @@ use Rattle.numerals.proofs.ReadingLaws.{starts-front, starts-right}
 use Rattle.numerals.proofs.DigitLaws.{digits-some, run-of-digits, run-digits}
 use Rattle.owl.specs.declared.words.Word.{Word}
 use Rattle.owl.specs.declared.words.Word.TheVariants.{AxiomKey, TopKey, AndKey, SomeKey, NameOf, RoleOf, Other}
-use Rattle.owl.specs.Words.{axiomText, top_text, andText, someText, nameKey, roleKey, isText, pickWord, isNumbered, readWord}
+use Rattle.owl.specs.Words.{axiom_text, top_text, and_text, some_text, name_key, role_key, is_text, pick_word, is_numbered, read_word}
 
 -- ---- what a word that is read so is
-text-is : (text w : List ℕ) → isText text w ≡ true → w ≡ text
-unfolding isText
+text-is : (text w : List ℕ) → is_text text w ≡ true → w ≡ text
+unfolding is_text
 text-is text w h =
     let p = both_true _ _ h in
     let q : length w ≡ length text = eqb-true _ _ p.0 in
@@ -32,8 +32,8 @@ pub record Numbered (key : List ℕ) (most : ℕ) (w : List ℕ) (n : ℕ) : Typ
   pub text : w ≡ key ++ digits n
   pub small : n ≤ most
 
-numbered_is : (key : List ℕ) (most : ℕ) (w : List ℕ) → isNumbered key most w ≡ true → Numbered key most w (run_of (drop (length key) w)).value
-unfolding isNumbered
+numbered_is : (key : List ℕ) (most : ℕ) (w : List ℕ) → is_numbered key most w ≡ true → Numbered key most w (run_of (drop (length key) w)).value
+unfolding is_numbered
 numbered_is key most w h =
     let p = both_true _ _ h in
     let q = both_true _ _ p.1 in
@@ -46,93 +46,93 @@ numbered_is key most w h =
 
 -- What a reading tells of its word.
 abbrev pub Spelt : List ℕ → Word → Type 0
-Spelt w AxiomKey = w ≡ axiomText
+Spelt w AxiomKey = w ≡ axiom_text
 Spelt w TopKey = w ≡ top_text
-Spelt w AndKey = w ≡ andText
-Spelt w SomeKey = w ≡ someText
-Spelt w (NameOf n) = Numbered nameKey 999 w n
-Spelt w (RoleOf n) = Numbered roleKey 99 w n
+Spelt w AndKey = w ≡ and_text
+Spelt w SomeKey = w ≡ some_text
+Spelt w (NameOf n) = Numbered name_key 999 w n
+Spelt w (RoleOf n) = Numbered role_key 99 w n
 Spelt w Other = Unit {0}
 
-picked : (P : Word → Type 0) (test : Bool) (a b : Word) → (test ≡ true → P a) → P b → P (pickWord test a b)
-unfolding pickWord
+picked : (P : Word → Type 0) (test : Bool) (a b : Word) → (test ≡ true → P a) → P b → P (pick_word test a b)
+unfolding pick_word
 picked P true a b h k = h refl
 picked P false a b h k = k
 
-pub spelt : (w : List ℕ) → Spelt w (readWord w)
-unfolding readWord
+pub spelt : (w : List ℕ) → Spelt w (read_word w)
+unfolding read_word
 spelt w =
-    picked (Spelt w) _ AxiomKey _ (text-is axiomText w)
+    picked (Spelt w) _ AxiomKey _ (text-is axiom_text w)
     (picked (Spelt w) _ TopKey _ (text-is top_text w)
-    (picked (Spelt w) _ AndKey _ (text-is andText w)
-    (picked (Spelt w) _ SomeKey _ (text-is someText w)
-    (picked (Spelt w) _ (NameOf _) _ (numbered_is nameKey 999 w) (picked (Spelt w) _ (RoleOf _) _ (numbered_is roleKey 99 w) tt)))))
+    (picked (Spelt w) _ AndKey _ (text-is and_text w)
+    (picked (Spelt w) _ SomeKey _ (text-is some_text w)
+    (picked (Spelt w) _ (NameOf _) _ (numbered_is name_key 999 w) (picked (Spelt w) _ (RoleOf _) _ (numbered_is role_key 99 w) tt)))))
 
 -- ---- what a word is read as
-pub axiom-read : readWord axiomText ≡ AxiomKey
-unfolding readWord pickWord isText both starts
+pub axiom-read : read_word axiom_text ≡ AxiomKey
+unfolding read_word pick_word is_text both starts
 axiom-read = refl
 
-pub top_read : readWord top_text ≡ TopKey
-unfolding readWord pickWord isText both starts
+pub top_read : read_word top_text ≡ TopKey
+unfolding read_word pick_word is_text both starts
 top_read = refl
 
-pub and-read : readWord andText ≡ AndKey
-unfolding readWord pickWord isText both starts
+pub and-read : read_word and_text ≡ AndKey
+unfolding read_word pick_word is_text both starts
 and-read = refl
 
-pub some_read : readWord someText ≡ SomeKey
-unfolding readWord pickWord isText both starts
+pub some_read : read_word some_text ≡ SomeKey
+unfolding read_word pick_word is_text both starts
 some_read = refl
 
-other_text : (text w : List ℕ) → starts text w ≡ false → isText text w ≡ false
-unfolding isText
+other_text : (text w : List ℕ) → starts text w ≡ false → is_text text w ≡ false
+unfolding is_text
 other_text text w h = both-second _ _ h
 
-other_key : (key : List ℕ) (most : ℕ) (w : List ℕ) → starts key w ≡ false → isNumbered key most w ≡ false
-unfolding isNumbered
+other_key : (key : List ℕ) (most : ℕ) (w : List ℕ) → starts key w ≡ false → is_numbered key most w ≡ false
+unfolding is_numbered
 other_key key most w h = both-none _ _ h
 
 module _ (key : List ℕ) (most n : ℕ) (low : most ≤ 65535) (small : n ≤ most) where
   behind : run_of (drop (length key) (key ++ digits n)) ≡ record { value = n; length = length (digits n) }
   behind = rw drop-append_seam (run-of-digits n (omega arith))
 
-  own_key : isNumbered key most (key ++ digits n) ≡ true
-  unfolding isNumbered
+  own_key : is_numbered key most (key ++ digits n) ≡ true
+  unfolding is_numbered
   own_key =
       both-intro _ _ (starts-right key (digits n))
       (rw behind
       (both-intro _ _ (lt-ltb 0 (length (digits n)) (digits-some n))
       (both-intro _ _ (eq-eqb _ _ (sym (length-append key (digits n)))) (ap not (le-ltb most n small)))))
 
-passed : (test : Bool) (a b : Word) → test ≡ false → pickWord test a b ≡ b
-unfolding pickWord
+passed : (test : Bool) (a b : Word) → test ≡ false → pick_word test a b ≡ b
+unfolding pick_word
 passed test a b h = rw h
 
-taken : (test : Bool) (a b : Word) → test ≡ true → pickWord test a b ≡ a
-unfolding pickWord
+taken : (test : Bool) (a b : Word) → test ≡ true → pick_word test a b ≡ a
+unfolding pick_word
 taken test a b h = rw h
 
 -- no keyword starts with a colon
 module _ (rest : List ℕ) where
   behind-keywords :
-      readWord (58 ∷ rest)
-      ≡ pickWord (isNumbered nameKey 999 (58 ∷ rest)) (NameOf (run_of (drop 2 (58 ∷ rest))).value)
-      (pickWord (isNumbered roleKey 99 (58 ∷ rest)) (RoleOf (run_of (drop 2 (58 ∷ rest))).value) Other)
-  unfolding readWord starts both
+      read_word (58 ∷ rest)
+      ≡ pick_word (is_numbered name_key 999 (58 ∷ rest)) (NameOf (run_of (drop 2 (58 ∷ rest))).value)
+      (pick_word (is_numbered role_key 99 (58 ∷ rest)) (RoleOf (run_of (drop 2 (58 ∷ rest))).value) Other)
+  unfolding read_word starts both
   behind-keywords =
-      passed _ AxiomKey _ (other_text axiomText (58 ∷ rest) refl)
+      passed _ AxiomKey _ (other_text axiom_text (58 ∷ rest) refl)
       ∙ (passed _ TopKey _ (other_text top_text (58 ∷ rest) refl)
-      ∙ (passed _ AndKey _ (other_text andText (58 ∷ rest) refl) ∙ passed _ SomeKey _ (other_text someText (58 ∷ rest) refl)))
+      ∙ (passed _ AndKey _ (other_text and_text (58 ∷ rest) refl) ∙ passed _ SomeKey _ (other_text some_text (58 ∷ rest) refl)))
 
-pub name-read : (n : ℕ) → n ≤ 999 → readWord (nameKey ++ digits n) ≡ NameOf n
+pub name-read : (n : ℕ) → n ≤ 999 → read_word (name_key ++ digits n) ≡ NameOf n
 name-read n h =
     behind-keywords (99 ∷ digits n)
-    ∙ (taken _ _ _ (own_key nameKey 999 n (omega arith) h) ∙ ap (λ (z : Run). NameOf z.value) (behind nameKey 999 n (omega arith) h))
+    ∙ (taken _ _ _ (own_key name_key 999 n (omega arith) h) ∙ ap (λ (z : Run). NameOf z.value) (behind name_key 999 n (omega arith) h))
 
-pub role-read : (n : ℕ) → n ≤ 99 → readWord (roleKey ++ digits n) ≡ RoleOf n
+pub role-read : (n : ℕ) → n ≤ 99 → read_word (role_key ++ digits n) ≡ RoleOf n
 unfolding starts both
 role-read n h =
     behind-keywords (114 ∷ digits n)
-    ∙ (passed _ _ _ (other_key nameKey 999 (roleKey ++ digits n) refl)
-    ∙ (taken _ _ _ (own_key roleKey 99 n (omega arith) h) ∙ ap (λ (z : Run). RoleOf z.value) (behind roleKey 99 n (omega arith) h)))
+    ∙ (passed _ _ _ (other_key name_key 999 (role_key ++ digits n) refl)
+    ∙ (taken _ _ _ (own_key role_key 99 n (omega arith) h) ∙ ap (λ (z : Run). RoleOf z.value) (behind role_key 99 n (omega arith) h)))

@@ -7,11 +7,11 @@ use native.Mathlib.Omega.{arith}
 use lib.ListN.{length, length-append}
 use borrow.Author.Tests.{le-ltb}
 use Rattle.subsumption.specs.Tables.{or, decode, Concept, exists, and, shape, tree}
-use Rattle.subsumption.specs.Check.{malformedRow}
+use Rattle.subsumption.specs.Check.{malformed_row}
 use Rattle.owl.specs.Tokens.{opening, closing, word, Placed, tokens}
-use Rattle.owl.specs.Words.{axiomText, andText, someText}
-use Rattle.owl.specs.Judgement.{subclass, meet, exist, Frame, item, State, go, joins, pairRows, roomBy, hasRoom, ended, run, start, judge}
-use Rattle.owl.specs.Grammar.{Sort, class, members, Syntax, thing, named, some, all, two, more, written, meaning, NoDeeper, entries, InRange, Axiom, axiomWritten, axiomsWritten, axiomsEntries, AllWithin, unplaced, Says, Means}
+use Rattle.owl.specs.Words.{axiom_text, and_text, some_text}
+use Rattle.owl.specs.Judgement.{subclass, meet, exist, Frame, item, State, go, joins, pair_rows, room_by, has_room, ended, run, start, judge}
+use Rattle.owl.specs.Grammar.{Sort, class, members, Syntax, thing, named, some, all, two, more, written, meaning, NoDeeper, entries, InRange, Axiom, axiom_written, axioms_written, axioms_entries, AllWithin, unplaced, Says, Means}
 use Rattle.owl.proofs.EntryLaws.{Tabled, none-tabled, Grown, grown-none, grown-on, one_more, Under, under_more, under-append, meet_of, meet_one, meet-same, last_of, paired}
 use Rattle.owl.proofs.PassLaws.{Passes, pass-none, pass_on, inside, frame, pass-and, pass-some, pass-thing, pass-named, pass-shut-some, pass-shut-meet, pass-shut-axiom, pass-axiom}
 
@@ -41,15 +41,15 @@ pub record MembersRead (m : Syntax members) (fs : List Frame) (rows inclusions :
 -- room in the innermost frame, depth and entries
 abbrev Reads : (s : Sort) → Syntax s → Type 0
 Reads class c =
-    (f : Frame) (fs : List Frame) (rows inclusions : List ℕ) (n most : ℕ) → hasRoom f ≡ true → length (f ∷ fs) + most ≤ 33 → NoDeeper most c → InRange c
+    (f : Frame) (fs : List Frame) (rows inclusions : List ℕ) (n most : ℕ) → has_room f ≡ true → length (f ∷ fs) + most ≤ 33 → NoDeeper most c → InRange c
     → Tabled rows n → n + entries c ≤ 192 → ClassRead c f fs rows inclusions n
 Reads members m =
     (fs : List Frame) (rows inclusions : List ℕ) (n most : ℕ) → suc (length fs) + most ≤ 33 → NoDeeper most m → InRange m → Tabled rows n
     → n + entries m ≤ 192 → MembersRead m fs rows inclusions n
 
-module _ (f : Frame) (fs : List Frame) (rows inclusions : List ℕ) (n : ℕ) (room : hasRoom f ≡ true) (deep : length (f ∷ fs) ≤ 32) where
+module _ (f : Frame) (fs : List Frame) (rows inclusions : List ℕ) (n : ℕ) (room : has_room f ≡ true) (deep : length (f ∷ fs) ≤ 32) where
   read-thing : Tabled rows n → n < 192 → ClassRead thing f fs rows inclusions n
-  unfolding written entries meaning malformedRow or decode shape
+  unfolding written entries meaning malformed_row or decode shape
   read-thing t few =
       let one = one_more rows n t 0 0 0 refl tt in
       let e : suc n ≡ n + 1 = omega arith in
@@ -63,7 +63,7 @@ module _ (f : Frame) (fs : List Frame) (rows inclusions : List ℕ) (n : ℕ) (r
       }
 
   read_named : (m : ℕ) → m ≤ 999 → Tabled rows n → n < 192 → ClassRead (named m) f fs rows inclusions n
-  unfolding written entries meaning malformedRow or decode shape
+  unfolding written entries meaning malformed_row or decode shape
   read_named m low t few =
       let one = one_more rows n t 1 m 0 (rw (le-ltb 999 m low) refl) tt in
       let e : suc n ≡ n + 1 = omega arith in
@@ -79,7 +79,7 @@ module _ (f : Frame) (fs : List Frame) (rows inclusions : List ℕ) (n : ℕ) (r
   read_some :
       (r : ℕ) (c : Syntax class) → r ≤ 99 → ClassRead c (frame exist r []) (f ∷ fs) rows inclusions n → n + entries c < 192
       → ClassRead (some r c) f fs rows inclusions n
-  unfolding written entries meaning malformedRow decode shape joins
+  unfolding written entries meaning malformed_row decode shape joins
   read_some r c low x few =
       let one = one_more x.rows' (n + entries c) x.grown.tabled 2 r x.id (le-ltb 99 r low) x.known in
       let e : suc (n + entries c) ≡ n + suc (entries c) = omega arith in
@@ -87,7 +87,7 @@ module _ (f : Frame) (fs : List Frame) (rows inclusions : List ℕ) (n : ℕ) (r
         rows' = x.rows' ++ (2 ∷ r ∷ x.id ∷ []);
         id = n + entries c;
         passes =
-            pass_on _ (inside (frame exist r [] ∷ f ∷ fs) item rows inclusions) _ (word someText ∷ opening ∷ word _ ∷ []) (written c ++ (closing ∷ []))
+            pass_on _ (inside (frame exist r [] ∷ f ∷ fs) item rows inclusions) _ (word some_text ∷ opening ∷ word _ ∷ []) (written c ++ (closing ∷ []))
             (pass-some f fs rows inclusions room deep r low)
             (pass_on _ (inside (frame exist r (x.id ∷ []) ∷ f ∷ fs) item x.rows' inclusions) _ (written c) (closing ∷ []) x.passes
             (pass-shut-some (f ∷ fs) x.rows' inclusions r x.id (n + entries c) x.grown.tabled.size few));
@@ -102,14 +102,14 @@ module _ (f : Frame) (fs : List Frame) (rows inclusions : List ℕ) (n : ℕ) (r
   read_all m x few =
       let p = paired x.later x.rows' x.count x.first x.grown.tabled x.known.0 x.known.1 in
       record {
-        rows' = x.rows' ++ pairRows x.count x.first x.later;
+        rows' = x.rows' ++ pair_rows x.count x.first x.later;
         id = last_of x.count x.first x.later;
         passes =
-            pass_on _ (inside (frame meet 0 [] ∷ f ∷ fs) item rows inclusions) _ (word andText ∷ opening ∷ []) (written m ++ (closing ∷ []))
+            pass_on _ (inside (frame meet 0 [] ∷ f ∷ fs) item rows inclusions) _ (word and_text ∷ opening ∷ []) (written m ++ (closing ∷ []))
             (pass-and f fs rows inclusions room deep)
             (pass_on _ (inside (frame meet 0 (x.first ∷ x.later) ∷ f ∷ fs) item x.rows' inclusions) _ (written m) (closing ∷ []) x.passes
             (pass-shut-meet (f ∷ fs) x.rows' inclusions x.first x.later x.count x.several x.grown.tabled.size (omega (arith, x.due))));
-        grown = subst (Grown rows n (x.rows' ++ pairRows x.count x.first x.later)) x.due (grown-on x.grown p.grown);
+        grown = subst (Grown rows n (x.rows' ++ pair_rows x.count x.first x.later)) x.due (grown-on x.grown p.grown);
         known = omega (arith, x.due, p.known);
         means = p.means ∙ x.means;
       }
@@ -157,7 +157,7 @@ module _ (fs : List Frame) (rows inclusions : List ℕ) (n : ℕ) where
       }
 
 pub reads : {s : Sort} (c : Syntax s) → Reads s c
-unfolding entries hasRoom roomBy
+unfolding entries has_room room_by
 reads thing = λ f fs rows inclusions n most room deep low range t few. read-thing f fs rows inclusions n room (omega (arith, low)) t (omega arith)
 reads (named m) = λ f fs rows inclusions n most room deep low range t few. read_named f fs rows inclusions n room (omega (arith, low)) m range t (omega arith)
 reads (some r c) = λ f fs rows inclusions n most room deep low range t few.
@@ -179,15 +179,15 @@ reads (more m c) = λ fs rows inclusions n most deep low range t few.
 pub record AxiomsRead (axioms : List Axiom) (rows inclusions : List ℕ) (n : ℕ) : Type 0 where
   pub rows' : List ℕ
   pub pairs : List ℕ
-  pub passes : Passes (inside [] item rows inclusions) (axiomsWritten axioms) (inside [] item rows' (inclusions ++ pairs))
-  pub grown : Grown rows n rows' (n + axiomsEntries axioms)
-  pub known : Under (n + axiomsEntries axioms) pairs
+  pub passes : Passes (inside [] item rows inclusions) (axioms_written axioms) (inside [] item rows' (inclusions ++ pairs))
+  pub grown : Grown rows n rows' (n + axioms_entries axioms)
+  pub known : Under (n + axioms_entries axioms) pairs
   pub size : length pairs ≡ length axioms * 2
   pub means : Means rows' pairs axioms
 
 module _ (rows inclusions : List ℕ) (n : ℕ) where
   read_none : Tabled rows n → AxiomsRead [] rows inclusions n
-  unfolding axiomsWritten axiomsEntries
+  unfolding axioms_written axioms_entries
   read_none t =
       let e : n ≡ n + 0 = omega arith in
       record {
@@ -204,22 +204,22 @@ module _ (rows inclusions : List ℕ) (n : ℕ) where
       (a : Axiom) (axioms : List Axiom) (x : ClassRead a.left (frame subclass 0 []) [] rows inclusions n)
       (y : ClassRead a.right (frame subclass 0 (x.id ∷ [])) [] x.rows' inclusions (n + entries a.left))
       → AxiomsRead axioms y.rows' (inclusions ++ (x.id ∷ y.id ∷ [])) (n + entries a.left + entries a.right) → AxiomsRead (a ∷ axioms) rows inclusions n
-  unfolding axiomWritten axiomsWritten axiomsEntries joins
+  unfolding axiom_written axioms_written axioms_entries joins
   read-axiom a axioms x y z =
-      let e : n + entries a.left + entries a.right + axiomsEntries axioms ≡ n + (entries a.left + entries a.right + axiomsEntries axioms) = omega arith in
+      let e : n + entries a.left + entries a.right + axioms_entries axioms ≡ n + (entries a.left + entries a.right + axioms_entries axioms) = omega arith in
       let both = grown-on x.grown y.grown in
       record {
         rows' = z.rows';
         pairs = x.id ∷ y.id ∷ z.pairs;
         passes =
-            pass_on _ (inside [] item y.rows' (inclusions ++ (x.id ∷ y.id ∷ []))) _ (axiomWritten a) (axiomsWritten axioms)
-            (pass_on _ (inside (frame subclass 0 [] ∷ []) item rows inclusions) _ (word axiomText ∷ opening ∷ []) (written a.left ++ (written a.right ++ (closing ∷ [])))
+            pass_on _ (inside [] item y.rows' (inclusions ++ (x.id ∷ y.id ∷ []))) _ (axiom_written a) (axioms_written axioms)
+            (pass_on _ (inside (frame subclass 0 [] ∷ []) item rows inclusions) _ (word axiom_text ∷ opening ∷ []) (written a.left ++ (written a.right ++ (closing ∷ [])))
             (pass-axiom rows inclusions)
             (pass_on _ (inside (frame subclass 0 (x.id ∷ []) ∷ []) item x.rows' inclusions) _ (written a.left) (written a.right ++ (closing ∷ [])) x.passes
             (pass_on _ (inside (frame subclass 0 (x.id ∷ y.id ∷ []) ∷ []) item y.rows' inclusions) _ (written a.right) (closing ∷ []) y.passes
             (pass-shut-axiom [] y.rows' inclusions x.id y.id))))
             (subst
-            (λ (i : List ℕ). Passes (inside [] item y.rows' (inclusions ++ (x.id ∷ y.id ∷ []))) (axiomsWritten axioms) (inside [] item z.rows' i))
+            (λ (i : List ℕ). Passes (inside [] item y.rows' (inclusions ++ (x.id ∷ y.id ∷ []))) (axioms_written axioms) (inside [] item z.rows' i))
             (append_assoc inclusions (x.id ∷ y.id ∷ []) z.pairs) z.passes);
         grown = subst (Grown rows n z.rows') e (grown-on both z.grown);
         known = (omega (arith, x.known), (omega (arith, y.known), under_more _ _ z.pairs (omega arith) z.known));
@@ -232,9 +232,9 @@ module _ (rows inclusions : List ℕ) (n : ℕ) where
       }
 
 pub axioms-read :
-    (axioms : List Axiom) (rows inclusions : List ℕ) (n : ℕ) → AllWithin axioms → Tabled rows n → n + axiomsEntries axioms ≤ 192
+    (axioms : List Axiom) (rows inclusions : List ℕ) (n : ℕ) → AllWithin axioms → Tabled rows n → n + axioms_entries axioms ≤ 192
     → AxiomsRead axioms rows inclusions n
-unfolding axiomsEntries hasRoom roomBy
+unfolding axioms_entries has_room room_by
 axioms-read [] rows inclusions n w t few = read_none rows inclusions n t
 axioms-read (a ∷ axioms) rows inclusions n w t few =
     let x = reads a.left (frame subclass 0 []) [] rows inclusions n 32 refl (omega arith) w.0.left-depth w.0.left-range t (omega arith) in
@@ -252,8 +252,8 @@ run_out end (t ∷ ts) rows pairs e = absurd (let z : ◌≡◌ {A = ℕ} 0 1 = 
 
 -- the tables that axioms give
 pub record Catalogued (axioms : List Axiom) (s : State) : Type 0 where
-  pub tabled : Tabled s.rows (axiomsEntries axioms)
-  pub known : Under (axiomsEntries axioms) s.inclusions
+  pub tabled : Tabled s.rows (axioms_entries axioms)
+  pub known : Under (axioms_entries axioms) s.inclusions
   pub size : length s.inclusions ≡ length axioms * 2
   pub means : Means s.rows s.inclusions axioms
 
@@ -261,8 +261,8 @@ pub says-judged : (text : List ℕ) (axioms : List Axiom) → Says text axioms �
 unfolding judge start
 says-judged text axioms says =
     let x = axioms-read axioms [] [] 0 says.within none-tabled (omega (arith, says.few)) in
-    let y = x.passes (length text) (tokens text) [] (says.said ∙ sym (append-nil (axiomsWritten axioms))) in
-    let e : 0 + axiomsEntries axioms ≡ axiomsEntries axioms = omega arith in (
+    let y = x.passes (length text) (tokens text) [] (says.said ∙ sym (append-nil (axioms_written axioms))) in
+    let e : 0 + axioms_entries axioms ≡ axioms_entries axioms = omega arith in (
       inside [] item x.rows' x.pairs,
       y.2 ∙ run_out (length text) y.0 x.rows' x.pairs y.1,
       record {

@@ -4,7 +4,7 @@ use Rattle.std.specs.Prelude.{ℕ, suc, ◌+◌, ◌-◌, ◌≤◌, ◌<◌, �
 use Rattle.subsumption.specs.Tables.{Concept, top, name, exists, and, tree}
 use Rattle.numerals.specs.Digits.{digits}
 use Rattle.owl.specs.Tokens.{Token, opening, closing, word, Placed, tokens}
-use Rattle.owl.specs.Words.{axiomText, top_text, andText, someText, nameKey, roleKey}
+use Rattle.owl.specs.Words.{axiom_text, top_text, and_text, some_text, name_key, role_key}
 
 pub data Sort : Type 0 where
   class : Sort
@@ -21,9 +21,9 @@ pub data Syntax : Sort → Type 0 where
 
 unfoldable pub written : {s : Sort} → Syntax s → List Token
 written thing = word top_text ∷ []
-written (named n) = word (nameKey ++ digits n) ∷ []
-written (some r c) = word someText ∷ opening ∷ word (roleKey ++ digits r) ∷ (written c ++ (closing ∷ []))
-written (all m) = word andText ∷ opening ∷ (written m ++ (closing ∷ []))
+written (named n) = word (name_key ++ digits n) ∷ []
+written (some r c) = word some_text ∷ opening ∷ word (role_key ++ digits r) ∷ (written c ++ (closing ∷ []))
+written (all m) = word and_text ∷ opening ∷ (written m ++ (closing ∷ []))
 written (two c d) = written c ++ written d
 written (more m c) = written m ++ written c
 
@@ -67,16 +67,16 @@ pub record Axiom : Type 0 where
   pub left : Syntax class
   pub right : Syntax class
 
-unfoldable pub axiomWritten : Axiom → List Token
-axiomWritten a = word axiomText ∷ opening ∷ (written a.left ++ (written a.right ++ (closing ∷ [])))
+unfoldable pub axiom_written : Axiom → List Token
+axiom_written a = word axiom_text ∷ opening ∷ (written a.left ++ (written a.right ++ (closing ∷ [])))
 
-unfoldable pub axiomsWritten : List Axiom → List Token
-axiomsWritten [] = []
-axiomsWritten (a ∷ axioms) = axiomWritten a ++ axiomsWritten axioms
+unfoldable pub axioms_written : List Axiom → List Token
+axioms_written [] = []
+axioms_written (a ∷ axioms) = axiom_written a ++ axioms_written axioms
 
-unfoldable pub axiomsEntries : List Axiom → ℕ
-axiomsEntries [] = 0
-axiomsEntries (a ∷ axioms) = entries a.left + entries a.right + axiomsEntries axioms
+unfoldable pub axioms_entries : List Axiom → ℕ
+axioms_entries [] = 0
+axioms_entries (a ∷ axioms) = entries a.left + entries a.right + axioms_entries axioms
 
 pub record WithinLimits (a : Axiom) : Type 0 where
   pub left-range : InRange a.left
@@ -94,9 +94,9 @@ unplaced (t ∷ later) = t.token ∷ unplaced later
 
 -- The text is a run of these axioms, within the limits.
 pub record Says (text : List ℕ) (axioms : List Axiom) : Type 0 where
-  pub said : unplaced (tokens text) ≡ axiomsWritten axioms
+  pub said : unplaced (tokens text) ≡ axioms_written axioms
   pub within : AllWithin axioms
-  pub few : axiomsEntries axioms ≤ 192
+  pub few : axioms_entries axioms ≤ 192
 
 -- The tables mean what the axioms say: pair by pair, the concepts of the ids are the meanings.
 abbrev pub Means : List ℕ → List ℕ → List Axiom → Type 0

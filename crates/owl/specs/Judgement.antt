@@ -6,7 +6,7 @@ use Rattle.subsumption.specs.Tables.{count_of}
 use Rattle.owl.specs.declared.words.Word.{Word}
 use Rattle.owl.specs.declared.words.Word.TheVariants.{AxiomKey, TopKey, AndKey, SomeKey, NameOf, RoleOf, Other}
 use Rattle.owl.specs.Tokens.{Token, opening, closing, word, Placed, tokens}
-use Rattle.owl.specs.Words.{readWord}
+use Rattle.owl.specs.Words.{read_word}
 
 -- An open bracket belongs to an axiom, an intersection or an existential.
 pub data Kind : Type 0 where
@@ -37,9 +37,9 @@ pub data Step : Type 0 where
   go : State → Step
   stop : Refusal → Step
 
-unfoldable pub goIf : Bool → Step → Refusal → Step
-goIf true step r = step
-goIf false step r = stop r
+unfoldable pub go_if : Bool → Step → Refusal → Step
+go_if true step r = step
+go_if false step r = stop r
 
 -- A keyword: its bracket comes next. Only in front of a member is there a frame.
 unfoldable pub keyed : Kind → State → Step
@@ -73,45 +73,45 @@ joins id (f ∷ fs) = record { kind = f.kind; role = f.role; members = f.members
 -- Past 192 entries it is refused.
 unfoldable pub closed : List ℕ → List Frame → State → Step
 closed rows frames s =
-    goIf (ltb (count_of (s.rows ++ rows)) 193)
+    go_if (ltb (count_of (s.rows ++ rows)) 193)
     (go (record { frames = joins (count_of (s.rows ++ rows) - 1) frames; want = item; rows = s.rows ++ rows; inclusions = s.inclusions }))
     (Limit 0)
 
 -- Pairing from the left: one "and" for each member after the first; the first of them gets the id `next`.
-unfoldable pub pairRows : ℕ → ℕ → List ℕ → List ℕ
-pairRows next left [] = []
-pairRows next left (right ∷ more) = 3 ∷ left ∷ right ∷ pairRows (suc next) next more
+unfoldable pub pair_rows : ℕ → ℕ → List ℕ → List ℕ
+pair_rows next left [] = []
+pair_rows next left (right ∷ more) = 3 ∷ left ∷ right ∷ pair_rows (suc next) next more
 
-unfoldable pub meetRows : ℕ → List ℕ → List ℕ
-meetRows next [] = []
-meetRows next (m ∷ more) = pairRows next m more
+unfoldable pub meet_rows : ℕ → List ℕ → List ℕ
+meet_rows next [] = []
+meet_rows next (m ∷ more) = pair_rows next m more
 
 -- A closing bracket: an axiom has two members, an existential one, an intersection two or more.
-unfoldable pub shutBy : Kind → ℕ → Frame → List Frame → State → Step
-shutBy subclass place f fs s =
-    goIf (eqb (length f.members) 2) (go (record { frames = fs; want = item; rows = s.rows; inclusions = s.inclusions ++ f.members }))
+unfoldable pub shut_by : Kind → ℕ → Frame → List Frame → State → Step
+shut_by subclass place f fs s =
+    go_if (eqb (length f.members) 2) (go (record { frames = fs; want = item; rows = s.rows; inclusions = s.inclusions ++ f.members }))
     (BadSyntax place)
-shutBy exist place f fs s = goIf (eqb (length f.members) 1) (closed (2 ∷ f.role ∷ f.members) fs s) (BadSyntax place)
-shutBy meet place f fs s = goIf (ltb 1 (length f.members)) (closed (meetRows (count_of s.rows) f.members) fs s) (BadSyntax place)
+shut_by exist place f fs s = go_if (eqb (length f.members) 1) (closed (2 ∷ f.role ∷ f.members) fs s) (BadSyntax place)
+shut_by meet place f fs s = go_if (ltb 1 (length f.members)) (closed (meet_rows (count_of s.rows) f.members) fs s) (BadSyntax place)
 
 unfoldable pub shut : ℕ → Frame → List Frame → State → Step
-shut place f fs s = shutBy f.kind place f fs s
+shut place f fs s = shut_by f.kind place f fs s
 
-unfoldable pub roomBy : Kind → ℕ → Bool
-roomBy subclass count = ltb count 2
-roomBy exist count = ltb count 1
-roomBy meet count = true
+unfoldable pub room_by : Kind → ℕ → Bool
+room_by subclass count = ltb count 2
+room_by exist count = ltb count 1
+room_by meet count = true
 
-unfoldable pub hasRoom : Frame → Bool
-hasRoom f = roomBy f.kind (length f.members)
+unfoldable pub has_room : Frame → Bool
+has_room f = room_by f.kind (length f.members)
 
 -- A class that begins in the innermost frame is as deep as there are frames.
 unfoldable pub begun : ℕ → State → Word → Step
 begun place s AxiomKey = stop (BadSyntax place)
-begun place s TopKey = goIf (ltb (length s.frames) 33) (closed (0 ∷ 0 ∷ 0 ∷ []) s.frames s) (TooDeep place)
-begun place s (NameOf n) = goIf (ltb (length s.frames) 33) (closed (1 ∷ n ∷ 0 ∷ []) s.frames s) (TooDeep place)
-begun place s AndKey = goIf (ltb (length s.frames) 33) (keyed meet s) (TooDeep place)
-begun place s SomeKey = goIf (ltb (length s.frames) 33) (keyed exist s) (TooDeep place)
+begun place s TopKey = go_if (ltb (length s.frames) 33) (closed (0 ∷ 0 ∷ 0 ∷ []) s.frames s) (TooDeep place)
+begun place s (NameOf n) = go_if (ltb (length s.frames) 33) (closed (1 ∷ n ∷ 0 ∷ []) s.frames s) (TooDeep place)
+begun place s AndKey = go_if (ltb (length s.frames) 33) (keyed meet s) (TooDeep place)
+begun place s SomeKey = go_if (ltb (length s.frames) 33) (keyed exist s) (TooDeep place)
 begun place s (RoleOf r) = stop (BadSyntax place)
 begun place s Other = stop (BadSyntax place)
 
@@ -125,40 +125,40 @@ outside place s SomeKey = stop (BadSyntax place)
 outside place s (RoleOf r) = stop (BadSyntax place)
 outside place s Other = stop (BadSyntax place)
 
-unfoldable pub ofRole : ℕ → State → Word → Step
-ofRole place s AxiomKey = stop (BadSyntax place)
-ofRole place s TopKey = stop (BadSyntax place)
-ofRole place s (NameOf n) = stop (BadSyntax place)
-ofRole place s AndKey = stop (BadSyntax place)
-ofRole place s SomeKey = stop (BadSyntax place)
-ofRole place s (RoleOf r) = go (record { frames = roled r s.frames; want = item; rows = s.rows; inclusions = s.inclusions })
-ofRole place s Other = stop (BadSyntax place)
+unfoldable pub of_role : ℕ → State → Word → Step
+of_role place s AxiomKey = stop (BadSyntax place)
+of_role place s TopKey = stop (BadSyntax place)
+of_role place s (NameOf n) = stop (BadSyntax place)
+of_role place s AndKey = stop (BadSyntax place)
+of_role place s SomeKey = stop (BadSyntax place)
+of_role place s (RoleOf r) = go (record { frames = roled r s.frames; want = item; rows = s.rows; inclusions = s.inclusions })
+of_role place s Other = stop (BadSyntax place)
 
-unfoldable pub itemStep : ℕ → State → List Frame → Token → Step
-itemStep place s [] opening = stop (BadSyntax place)
-itemStep place s [] closing = stop (BadSyntax place)
-itemStep place s [] (word w) = outside place s (readWord w)
-itemStep place s (f ∷ fs) opening = stop (BadSyntax place)
-itemStep place s (f ∷ fs) closing = shut place f fs s
-itemStep place s (f ∷ fs) (word w) = goIf (hasRoom f) (begun place s (readWord w)) (BadSyntax place)
+unfoldable pub item_step : ℕ → State → List Frame → Token → Step
+item_step place s [] opening = stop (BadSyntax place)
+item_step place s [] closing = stop (BadSyntax place)
+item_step place s [] (word w) = outside place s (read_word w)
+item_step place s (f ∷ fs) opening = stop (BadSyntax place)
+item_step place s (f ∷ fs) closing = shut place f fs s
+item_step place s (f ∷ fs) (word w) = go_if (has_room f) (begun place s (read_word w)) (BadSyntax place)
 
-unfoldable pub bracketStep : ℕ → State → Kind → Token → Step
-bracketStep place s kind opening = opened kind s
-bracketStep place s kind closing = stop (BadSyntax place)
-bracketStep place s kind (word w) = stop (BadSyntax place)
+unfoldable pub bracket_step : ℕ → State → Kind → Token → Step
+bracket_step place s kind opening = opened kind s
+bracket_step place s kind closing = stop (BadSyntax place)
+bracket_step place s kind (word w) = stop (BadSyntax place)
 
-unfoldable pub roleStep : ℕ → State → Token → Step
-roleStep place s opening = stop (BadSyntax place)
-roleStep place s closing = stop (BadSyntax place)
-roleStep place s (word w) = ofRole place s (readWord w)
+unfoldable pub role_step : ℕ → State → Token → Step
+role_step place s opening = stop (BadSyntax place)
+role_step place s closing = stop (BadSyntax place)
+role_step place s (word w) = of_role place s (read_word w)
 
-unfoldable pub stepOn : State → Placed → Want → Step
-stepOn s t item = itemStep t.place s s.frames t.token
-stepOn s t (bracket kind) = bracketStep t.place s kind t.token
-stepOn s t role = roleStep t.place s t.token
+unfoldable pub step_on : State → Placed → Want → Step
+step_on s t item = item_step t.place s s.frames t.token
+step_on s t (bracket kind) = bracket_step t.place s kind t.token
+step_on s t role = role_step t.place s t.token
 
 unfoldable pub step : State → Placed → Step
-step s t = stepOn s t s.want
+step s t = step_on s t s.want
 
 -- The text may end between axioms.
 unfoldable pub ended : ℕ → State → List Frame → Want → Step

@@ -4,9 +4,9 @@ use Rattle.subsumption.specs.declared.refusal.Refusal.{Refusal}
 use Rattle.subsumption.specs.declared.refusal.Refusal.TheVariants.{BadSyntax}
 use Rattle.subsumption.specs.declared.refusal.Outcome.{Outcome}
 use Rattle.subsumption.specs.declared.refusal.Outcome.TheVariants.{Done, Refused}
-use Rattle.subsumption.specs.Tables.{count_of, pairsOf}
-use Rattle.subsumption.specs.Refusal.{code_of, or_else, refuseIf}
-use Rattle.subsumption.specs.Check.{bufferFault}
+use Rattle.subsumption.specs.Tables.{count_of, pairs_of}
+use Rattle.subsumption.specs.Refusal.{code_of, or_else, refuse_if}
+use Rattle.subsumption.specs.Check.{buffer_fault}
 use Rattle.owl.specs.declared.read.Catalogue.{Catalogue}
 use Rattle.owl.specs.declared.read.Catalogue.TheVariants.{Tables, Rejected}
 use Rattle.owl.specs.Judgement.{State, Step, go, stop, judge}
@@ -18,30 +18,30 @@ pub record CatalogueReply : Type 0 where
   pub concepts : ℕ
   pub inclusions : ℕ
 
-abbrev pub refusedReply : Refusal → CatalogueReply
-refusedReply r = record { number = (code_of r).number; place = (code_of r).place; concepts = 0; inclusions = 0 }
+abbrev pub refused_reply : Refusal → CatalogueReply
+refused_reply r = record { number = (code_of r).number; place = (code_of r).place; concepts = 0; inclusions = 0 }
 
-abbrev pub catalogueReply : Catalogue → CatalogueReply
-catalogueReply (Tables concepts inclusions) = record { number = 0; place = 0; concepts = concepts; inclusions = inclusions }
-catalogueReply (Rejected r) = refusedReply r
+abbrev pub catalogue_reply : Catalogue → CatalogueReply
+catalogue_reply (Tables concepts inclusions) = record { number = 0; place = 0; concepts = concepts; inclusions = inclusions }
+catalogue_reply (Rejected r) = refused_reply r
 
 -- Check 8, entries before inclusions, then the length of the text; the judgement comes behind them.
-unfoldable pub catalogueFault : List ℕ → ℕ → ℕ → Outcome
-catalogueFault text concepts inclusions =
-    or_else (bufferFault 576 concepts) (or_else (bufferFault 192 inclusions) (refuseIf (ltb 8192 (length text)) (BadSyntax 8192)))
+unfoldable pub catalogue_fault : List ℕ → ℕ → ℕ → Outcome
+catalogue_fault text concepts inclusions =
+    or_else (buffer_fault 576 concepts) (or_else (buffer_fault 192 inclusions) (refuse_if (ltb 8192 (length text)) (BadSyntax 8192)))
 
 -- The numbers in front of a buffer; past them it keeps its values.
-unfoldable pub inFront : List ℕ → List ℕ → List ℕ
-inFront numbers before = numbers ++ drop (length numbers) before
+unfoldable pub in_front : List ℕ → List ℕ → List ℕ
+in_front numbers before = numbers ++ drop (length numbers) before
 
 pub record Put (s : State) (concepts concepts' inclusions inclusions' : List ℕ) (reply : CatalogueReply) : Type 0 where
-  pub told : reply ≡ record { number = 0; place = 0; concepts = count_of s.rows; inclusions = pairsOf s.inclusions }
-  pub put-concepts : concepts' ≡ inFront s.rows concepts
-  pub put-inclusions : inclusions' ≡ inFront s.inclusions inclusions
+  pub told : reply ≡ record { number = 0; place = 0; concepts = count_of s.rows; inclusions = pairs_of s.inclusions }
+  pub put-concepts : concepts' ≡ in_front s.rows concepts
+  pub put-inclusions : inclusions' ≡ in_front s.inclusions inclusions
 
 -- A refusal writes nothing.
 pub record Kept (r : Refusal) (concepts concepts' inclusions inclusions' : List ℕ) (reply : CatalogueReply) : Type 0 where
-  pub told : reply ≡ refusedReply r
+  pub told : reply ≡ refused_reply r
   pub kept-concepts : concepts' ≡ concepts
   pub kept-inclusions : inclusions' ≡ inclusions
 
@@ -55,4 +55,4 @@ reading_of (Refused r) text = stop r
 
 abbrev pub ReadsCatalogue : List ℕ → List ℕ → List ℕ → List ℕ → List ℕ → CatalogueReply → Type 0
 ReadsCatalogue text concepts concepts' inclusions inclusions' reply =
-    ReadsBy (reading_of (catalogueFault text (length concepts) (length inclusions)) text) concepts concepts' inclusions inclusions' reply
+    ReadsBy (reading_of (catalogue_fault text (length concepts) (length inclusions)) text) concepts concepts' inclusions inclusions' reply

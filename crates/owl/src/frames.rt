@@ -2,7 +2,6 @@
 // existential, and where its members start among those that wait.
 ghost use Rattle.std.specs.Prelude.{◌≡◌, ◌-◌, ◌<◌, ◌≤◌, length};
 ghost use Rattle.owl.specs.Inner.Frames.{Bounds, Nested, start_of, TellsRoom, FirstOf, waiting, Opens, Roles};
-ghost use Rattle.subsumption.specs.Lent.{before, after};
 
 use crate::words::Word;
 use subsumption::refusal::Refusal;
@@ -58,7 +57,7 @@ pub fn has_room(frames: &[u16], reader: Reader) -> bool
     requires depth_nonzero { (0 < reader.depth) × (reader.depth ≤ 33) }
     requires frames_len { length frames.now ≡ 99 }
     requires frames_bound { start_of (reader.depth - 1) frames.now ≤ reader.used }
-    ensures { TellsRoom reader (before frames) result }
+    ensures { TellsRoom reader frames.now result }
 {
     let at = (reader.depth - 1) * 3;
     let kind = frames[at];
@@ -87,7 +86,7 @@ fn first(kind: u16) -> u16
 pub fn open_bracket(frames: &mut [u16], reader: Reader, place: usize) -> Next
     requires bounds { Bounds reader }
     requires frames_len { length frames.old ≡ 99 }
-    ensures { Opens reader place (before frames) (after frames) result }
+    ensures { Opens reader place frames.old frames.new result }
 {
     let kind = reader.want;
     if ITEM <= kind {
@@ -111,7 +110,7 @@ pub fn open_bracket(frames: &mut [u16], reader: Reader, place: usize) -> Next
 pub fn take_role(frames: &mut [u16], reader: Reader, word: Word, place: usize) -> Next
     requires depth_nonzero { (0 < reader.depth) × (reader.depth ≤ 33) }
     requires frames_len { length frames.old ≡ 99 }
-    ensures { Roles reader place word (before frames) (after frames) result }
+    ensures { Roles reader place word frames.old frames.new result }
 {
     match word {
         Word::RoleOf(r) => {

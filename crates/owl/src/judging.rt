@@ -1,10 +1,9 @@
 // The judgement, token by token.
 ghost use Rattle.std.specs.Prelude.{◌≡◌, ◌≤◌, ◌<◌, length};
 ghost use Rattle.owl.specs.Tokens.{closing};
-ghost use Rattle.owl.specs.Inner.Tokens.{tokenOf};
+ghost use Rattle.owl.specs.Inner.Tokens.{token_of};
 ghost use Rattle.owl.specs.Inner.Frames.{Bounds, Fits, Starts, Begins};
-ghost use Rattle.owl.specs.Inner.Judging.{deepNext, FitsSomehow, StepsOnWord, Steps, EndsText, Judged};
-ghost use Rattle.subsumption.specs.Lent.{before, after};
+ghost use Rattle.owl.specs.Inner.Judging.{deep_next, FitsSomehow, StepsOnWord, Steps, EndsText, Judged};
 
 use crate::frames::{
     AXIOM, EXIST, ITEM, MEET, Next, Reader, has_room, open_bracket, take_role, waiting,
@@ -32,7 +31,7 @@ fn start_axiom(reader: Reader, word: Word, place: usize) -> Next
 
 // A word in the innermost frame where a class would be too deep.
 fn begin_deep(word: Word, place: usize) -> Next
-    ensures { result ≡ deepNext word place }
+    ensures { result ≡ deep_next word place }
 {
     match word {
         Word::AxiomKey => Next::Stop(Refusal::BadSyntax(place)),
@@ -56,7 +55,7 @@ fn begin_class(
     requires bounds { Bounds reader }
     requires pending_len { length pending.old ≡ 192 }
     requires rows_len { length rows.old ≡ 576 }
-    ensures { Begins reader place word (before pending) (after pending) (before rows) (after rows) result }
+    ensures { Begins reader place word pending.old pending.new rows.old rows.new result }
 {
     if 32 < reader.depth {
         return begin_deep(word, place);
@@ -82,8 +81,8 @@ fn step_word(
     place: usize,
 ) -> Next
     requires { FitsSomehow reader frames.old pending.old rows.old }
-    ensures { StepsOnWord reader place word (before frames) (after frames) (before pending) (after pending)
-        (before rows) (after rows) result }
+    ensures { StepsOnWord reader place word frames.old frames.new pending.old pending.new
+        rows.old rows.new result }
 {
     if ITEM < reader.want {
         return take_role(frames, reader, word, place);
@@ -110,8 +109,8 @@ fn close_bracket(
     place: usize,
 ) -> Next
     requires { Fits reader frames.now pending.old rows.old inclusions.old }
-    ensures { Steps reader place closing (before frames) (before frames) (before pending) (after pending)
-        (before rows) (after rows) (before inclusions) (after inclusions) result }
+    ensures { Steps reader place closing frames.now frames.now pending.old pending.new
+        rows.old rows.new inclusions.old inclusions.new result }
 {
     if reader.want != ITEM {
         return Next::Stop(Refusal::BadSyntax(place));
@@ -134,8 +133,8 @@ fn step_token(
 ) -> Next
     requires token_nonzero { 0 < length token.now }
     requires fits { Fits reader frames.old pending.old rows.old inclusions.old }
-    ensures { Steps reader place (tokenOf (before token)) (before frames) (after frames) (before pending) (after pending)
-        (before rows) (after rows) (before inclusions) (after inclusions) result }
+    ensures { Steps reader place (token_of token.now) frames.old frames.new pending.old pending.new
+        rows.old rows.new inclusions.old inclusions.new result }
 {
     let byte = token[0];
     if byte == 40 {
@@ -173,7 +172,7 @@ pub fn judge_text(
     requires pending_len { length pending.old ≡ 192 }
     requires rows_len { length rows.old ≡ 576 }
     requires inclusions_len { length inclusions.old ≡ 192 }
-    ensures { Judged (before text) result (after frames) (after pending) (after rows) (after inclusions) }
+    ensures { Judged text.now result frames.new pending.new rows.new inclusions.new }
 {
     let mut reader = Reader {
         depth: 0,

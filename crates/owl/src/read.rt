@@ -1,8 +1,7 @@
 // Reading a catalogue: judged into tables of its own, which are copied at the end, so that a refusal writes nothing.
 ghost use Rattle.std.specs.Prelude.{◌≡◌, ◌≤◌, length};
 ghost use Rattle.owl.specs.Judgement.{judge};
-ghost use Rattle.owl.specs.Read.{catalogueReply, ReadsBy, ReadsCatalogue, inFront};
-ghost use Rattle.subsumption.specs.Lent.{before, after};
+ghost use Rattle.owl.specs.Read.{catalogue_reply, ReadsBy, ReadsCatalogue, in_front};
 
 use crate::frames::Next;
 use crate::judging::judge_text;
@@ -26,7 +25,7 @@ pub enum Catalogue {
 // The numbers in front of a buffer.
 fn put_front(numbers: &[u16], out: &mut [u16])
     requires { length numbers.now ≤ length out.old }
-    ensures { after out ≡ inFront (before numbers) (before out) }
+    ensures { out.new ≡ in_front numbers.now out.old }
 {
     let mut i: usize = 0;
     while i < numbers.len() {
@@ -39,8 +38,8 @@ fn put_front(numbers: &[u16], out: &mut [u16])
 fn read_text(text: &[u8], concepts: &mut [u16], inclusions: &mut [u16]) -> Catalogue
     requires in_bounds { 576 ≤ length concepts.old }
     requires in_bounds_2 { 192 ≤ length inclusions.old }
-    ensures { ReadsBy (judge (before text)) (before concepts) (after concepts) (before inclusions) (after inclusions)
-        (catalogueReply result) }
+    ensures { ReadsBy (judge text.now) concepts.old concepts.new inclusions.old inclusions.new
+        (catalogue_reply result) }
 {
     let mut frames = [0u16; FRAMES];
     let mut pending = [0u16; SIDES];
@@ -60,8 +59,8 @@ fn read_text(text: &[u8], concepts: &mut [u16], inclusions: &mut [u16]) -> Catal
 }
 
 pub fn read_catalogue(text: &[u8], concepts: &mut [u16], inclusions: &mut [u16]) -> Catalogue
-    ensures { ReadsCatalogue (before text) (before concepts) (after concepts) (before inclusions) (after inclusions)
-        (catalogueReply result) }
+    ensures { ReadsCatalogue text.now concepts.old concepts.new inclusions.old inclusions.new
+        (catalogue_reply result) }
 {
     if concepts.len() < ROWS {
         return Catalogue::Rejected(Refusal::BufferTooShort(ROWS));

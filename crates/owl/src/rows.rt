@@ -1,8 +1,7 @@
 // Entries for classes that are closed. Each goes behind those before, and its id waits as a member of the innermost frame.
 ghost use Rattle.std.specs.Prelude.{◌≡◌, [], ◌∷◌, ◌+◌, ◌-◌, ◌*◌, ◌<◌, ◌≤◌, length};
 ghost use Rattle.owl.specs.Inner.Frames.{Bounds, Closes};
-ghost use Rattle.owl.specs.Inner.Rows.{rowPut, Paired};
-ghost use Rattle.subsumption.specs.Lent.{before, after};
+ghost use Rattle.owl.specs.Inner.Rows.{row_put, Paired};
 
 use crate::frames::{ITEM, Next, Reader};
 use subsumption::limits::CONCEPTS;
@@ -11,7 +10,7 @@ use subsumption::refusal::Refusal;
 // Row i.
 fn put_row(rows: &mut [u16], i: usize, kind: u16, a: u16, b: u16)
     requires { i * 3 + 2 < length rows.old }
-    ensures { after rows ≡ rowPut (before rows) i kind a b }
+    ensures { rows.new ≡ row_put rows.old i kind a b }
 {
     let at = i * 3;
     rows[at] = kind;
@@ -31,7 +30,7 @@ pub fn close_row(
     requires bounds { Bounds reader }
     requires pending_len { length pending.old ≡ 192 }
     requires rows_len { length rows.old ≡ 576 }
-    ensures { Closes reader (kind ∷ a ∷ b ∷ []) (before pending) (after pending) (before rows) (after rows) result }
+    ensures { Closes reader (kind ∷ a ∷ b ∷ []) pending.old pending.new rows.old rows.new result }
 {
     let count = reader.count;
     if CONCEPTS <= count {
@@ -54,7 +53,7 @@ pub fn put_ands(pending: &[u16], rows: &mut [u16], start: usize, used: usize, co
     requires start_lt_used { (start < used) × (used ≤ length pending.now) }
     requires start_bound { count + (used - start) ≤ 193 }
     requires rows_len { length rows.old ≡ 576 }
-    ensures { Paired start used count (before pending) (before rows) (after rows) }
+    ensures { Paired start used count pending.now rows.old rows.new }
 {
     let mut left = pending[start];
     let mut next = count;

@@ -3,7 +3,6 @@ ghost use Rattle.std.specs.Prelude.{◌≡◌, ◌+◌, ◌*◌, ◌≤◌, ◌<
 ghost use Rattle.owl.specs.Judgement.{meet, exist};
 ghost use Rattle.owl.specs.Inner.Frames.{Bounds, Fits, ShutsAxiom, ShutsClass};
 ghost use Rattle.owl.specs.Inner.Judging.{ShutsFrame};
-ghost use Rattle.subsumption.specs.Lent.{before, after};
 
 use crate::frames::{AXIOM, ITEM, MEET, Next, Reader, wide};
 use crate::rows::{close_row, put_ands};
@@ -22,7 +21,7 @@ fn shut_axiom(
     requires used_bound { outer.pairs * 2 + used ≤ outer.count }
     requires pending_len { length pending.now ≡ 192 }
     requires inclusions_len { length inclusions.old ≡ 192 }
-    ensures { ShutsAxiom outer used place (before pending) (before inclusions) (after inclusions) result }
+    ensures { ShutsAxiom outer used place pending.now inclusions.old inclusions.new result }
 {
     let start = outer.used;
     if used - start != 2 {
@@ -53,7 +52,7 @@ fn shut_exist(
     requires used_le_used { (outer.used ≤ used) × (used ≤ 192) }
     requires pending_len { length pending.old ≡ 192 }
     requires rows_len { length rows.old ≡ 576 }
-    ensures { ShutsClass exist role outer used place (before pending) (after pending) (before rows) (after rows) result }
+    ensures { ShutsClass exist role outer used place pending.old pending.new rows.old rows.new result }
 {
     let start = outer.used;
     if used - start != 1 {
@@ -75,7 +74,7 @@ fn shut_meet(
     requires used_le_used { (outer.used ≤ used) × (used ≤ 192) }
     requires pending_len { length pending.old ≡ 192 }
     requires rows_len { length rows.old ≡ 576 }
-    ensures { ShutsClass meet 0 outer used place (before pending) (after pending) (before rows) (after rows) result }
+    ensures { ShutsClass meet 0 outer used place pending.old pending.new rows.old rows.new result }
 {
     let start = outer.used;
     let members = used - start;
@@ -108,8 +107,8 @@ pub fn shut(
 ) -> Next
     requires depth_nonzero { 0 < reader.depth }
     requires fits { Fits reader frames.now pending.old rows.old inclusions.old }
-    ensures { ShutsFrame reader place (before frames) (before pending) (after pending) (before rows) (after rows)
-        (before inclusions) (after inclusions) result }
+    ensures { ShutsFrame reader place frames.now pending.old pending.new rows.old rows.new
+        inclusions.old inclusions.new result }
 {
     let depth = reader.depth - 1;
     let at = depth * 3;

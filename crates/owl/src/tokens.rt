@@ -1,11 +1,10 @@
 // Where tokens begin and end.
 ghost use Rattle.std.specs.Prelude.{◌≡◌, ◌≤◌, ◌<◌, false, length, get_or};
-ghost use Rattle.owl.specs.Tokens.{isSpace, isBracket};
+ghost use Rattle.owl.specs.Tokens.{is_space, is_bracket};
 ghost use Rattle.owl.specs.Inner.Tokens.{Skips, Ends};
-ghost use Rattle.subsumption.specs.Lent.{before};
 
 fn is_space(b: u8) -> bool
-    ensures { result ≡ isSpace b }
+    ensures { result ≡ is_space b }
 {
     if b == 32 {
         return true;
@@ -17,7 +16,7 @@ fn is_space(b: u8) -> bool
 }
 
 fn is_bracket(b: u8) -> bool
-    ensures { result ≡ isBracket b }
+    ensures { result ≡ is_bracket b }
 {
     if b == 40 {
         return true;
@@ -28,7 +27,7 @@ fn is_bracket(b: u8) -> bool
 // The first place from `at` on that is no space, or the end of the text.
 pub fn skip_spaces(text: &[u8], at: usize) -> usize
     requires { at ≤ length text.now }
-    ensures { Skips (before text) at result }
+    ensures { Skips text.now at result }
 {
     let mut p = at;
     while p < text.len() {
@@ -43,9 +42,9 @@ pub fn skip_spaces(text: &[u8], at: usize) -> usize
 // The place behind the word that begins at `at`.
 fn word_end(text: &[u8], at: usize) -> usize
     requires at_in_bounds { at < length text.now }
-    requires at_value { isSpace (get_or text.now at 0) ≡ false }
-    requires at_value_2 { isBracket (get_or text.now at 0) ≡ false }
-    ensures { Ends (before text) at result }
+    requires at_value { is_space (get_or text.now at 0) ≡ false }
+    requires at_value_2 { is_bracket (get_or text.now at 0) ≡ false }
+    ensures { Ends text.now at result }
 {
     let mut p = at + 1;
     while p < text.len() {
@@ -64,8 +63,8 @@ fn word_end(text: &[u8], at: usize) -> usize
 // The place behind the token that begins at `at`.
 pub fn token_end(text: &[u8], at: usize) -> usize
     requires at_in_bounds { at < length text.now }
-    requires at_value { isSpace (get_or text.now at 0) ≡ false }
-    ensures { Ends (before text) at result }
+    requires at_value { is_space (get_or text.now at 0) ≡ false }
+    ensures { Ends text.now at result }
 {
     if is_bracket(text[at]) {
         return at + 1;

@@ -1,8 +1,7 @@
 // The words of the syntax: keywords, and names and roles with their numbers.
 ghost use Rattle.std.specs.Prelude.{◌≡◌, ◌≤◌, length};
-ghost use Rattle.owl.specs.Words.{isText, isNumbered, readWord};
-ghost use Rattle.owl.specs.Inner.Words.{readNumbered};
-ghost use Rattle.subsumption.specs.Lent.{before};
+ghost use Rattle.owl.specs.Words.{is_text, is_numbered, read_word};
+ghost use Rattle.owl.specs.Inner.Words.{read_numbered};
 
 use numerals::{read_run, starts_with};
 
@@ -18,7 +17,7 @@ pub enum Word {
 }
 
 fn is_text(text: &[u8], word: &[u8]) -> bool
-    ensures { result ≡ isText (before text) (before word) }
+    ensures { result ≡ is_text text.now word.now }
 {
     if word.len() != text.len() {
         return false;
@@ -28,7 +27,7 @@ fn is_text(text: &[u8], word: &[u8]) -> bool
 
 fn is_numbered(key: &[u8], most: u16, word: &[u8]) -> bool
     requires { length key.now ≤ 16 }
-    ensures { result ≡ isNumbered (before key) most (before word) }
+    ensures { result ≡ is_numbered key.now most word.now }
 {
     if !starts_with(word, key) {
         return false;
@@ -45,7 +44,7 @@ fn is_numbered(key: &[u8], most: u16, word: &[u8]) -> bool
 
 // A word that is no keyword.
 fn read_numbered(word: &[u8]) -> Word
-    ensures { result ≡ readNumbered (before word) }
+    ensures { result ≡ read_numbered word.now }
 {
     if is_numbered(b":c", 999, word) {
         let run = read_run(&word[2..]);
@@ -59,7 +58,7 @@ fn read_numbered(word: &[u8]) -> Word
 }
 
 pub fn read_word(word: &[u8]) -> Word
-    ensures { result ≡ readWord (before word) }
+    ensures { result ≡ read_word word.now }
 {
     if is_text(b"SubClassOf", word) {
         return Word::AxiomKey;

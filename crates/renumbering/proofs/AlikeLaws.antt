@@ -7,20 +7,20 @@ use mathlib.Core.Bool.{Bool, true, false, not}
 use mathlib.Core.Logic.{⊎_elim}
 use native.Mathlib.Omega.{arith}
 use lib.ListN.{length, get_or}
-use Rattle.subsumption.specs.Tables.{Tables, or, Node, topAt, name_at, existsAt, andAt, varAt, node, count_of, pairsOf, left_of, rightOf, Concept, top, name, exists, and, var, tree, hasVariable}
-use Rattle.subsumption.specs.Atoms.{occurs, isAtomic, inInclusion, inQuestion, stands, isLowest, isAtom, keep, atoms}
-use Rattle.subsumption.specs.Subsumption.{Interpretation, Member, noVariables, assigned, Obeys, Subsumed}
+use Rattle.subsumption.specs.Tables.{Tables, or, Node, top_at, name_at, exists_at, and_at, var_at, node, count_of, pairs_of, left_of, right_of, Concept, top, name, exists, and, var, tree, has_variable}
+use Rattle.subsumption.specs.Atoms.{occurs, is_atomic, in_inclusion, in_question, stands, is_lowest, is_atom, keep, atoms}
+use Rattle.subsumption.specs.Subsumption.{Interpretation, Member, no_variables, assigned, Obeys, Subsumed}
 use Rattle.subsumption.specs.Table.{one, counted, total}
 use Rattle.subsumption.specs.Inner.Tables.{Rising}
 use Rattle.subsumption.specs.Inner.Atoms.{Known}
-use Rattle.subsumption.proofs.Bools.{or_cases, or-first, or-second, both_true, both-intro, anyBelow-intro, anyBelow-elim, le-or-lt}
+use Rattle.subsumption.proofs.Bools.{or_cases, or-first, or-second, both_true, both-intro, any_below-intro, any_below-elim, le-or-lt}
 use Rattle.subsumption.proofs.WellFormed.{WellFormed}
 use Rattle.subsumption.proofs.Depth.{by-smaller}
 use Rattle.subsumption.proofs.Trees.{tree-top, tree-name, tree-exists, tree-and, tree-var, inner-exists, inner-and}
 use Rattle.subsumption.proofs.Occurs.{occurs-self, occurs-exists, occurs-first, occurs-second, occurs-inward, occurs-le}
 use Rattle.subsumption.proofs.TwinLaws.{lowest-least}
 use Rattle.subsumption.proofs.AtomLaws.{atom-of, atom-passes, atom-stands}
-use Rattle.subsumption.proofs.Chosen.{getD-member, keep-distinct}
+use Rattle.subsumption.proofs.Chosen.{get_or-member, keep-distinct}
 use Rattle.subsumption.proofs.MarkLaws.{distinct-few}
 use Rattle.matching.proofs.SubstitutionLaws.Readings.{member-reads}
 use Rattle.matching.proofs.SubstitutionLaws.Parts.{HasInner, parts, parts_self, parts-closed, place}
@@ -67,20 +67,20 @@ module _ (concepts : List ℕ) (rising : (i : ℕ) → Rising i (node concepts i
 
       go : (i : ℕ) → ((j : ℕ) → j < i → Memᴰ c (parts (tree concepts j)) → IdOf c j) → Memᴰ c (parts (tree concepts i))
           → (m : Node) → node concepts i ≡ m → IdOf c i
-      go i smaller h topAt e =
+      go i smaller h top_at e =
           let s = tree-top concepts rising i e in
           ⊎_elim (λ u. self i (s ∙ sym u)) (λ m. elim m [ ]) (Memᴰ.cases_cons (at i _ s h))
       go i smaller h (name_at n) e =
           let s = tree-name concepts rising i n e in
           ⊎_elim (λ u. self i (s ∙ sym u)) (λ m. elim m [ ]) (Memᴰ.cases_cons (at i _ s h))
-      go i smaller h (existsAt r j) e =
+      go i smaller h (exists_at r j) e =
           let s = tree-exists concepts rising i r j e in
           ⊎_elim (λ u. self i (s ∙ sym u))
           (λ m.
           let q = smaller j (inner-exists concepts rising i r j e) m in
           record { id = q.id; stands = occurs-exists concepts rising q.id i r j e q.stands; same = q.same })
           (Memᴰ.cases_cons (at i _ s h))
-      go i smaller h (andAt j k) e =
+      go i smaller h (and_at j k) e =
           let s = tree-and concepts rising i j k e in
           let (a, b) = inner-and concepts rising i j k e in
           ⊎_elim (λ u. self i (s ∙ sym u))
@@ -94,20 +94,20 @@ module _ (concepts : List ℕ) (rising : (i : ℕ) → Rising i (node concepts i
           record { id = q.id; stands = occurs-second concepts rising q.id i j k e q.stands; same = q.same })
           (Memᴰ.append_cases (parts (tree concepts j)) m))
           (Memᴰ.cases_cons (at i _ s h))
-      go i smaller h (varAt k) e =
+      go i smaller h (var_at k) e =
           let s = tree-var concepts rising i k e in
           ⊎_elim (λ u. self i (s ∙ sym u)) (λ m. elim m [ ]) (Memᴰ.cases_cons (at i _ s h))
 
-  atomic-tree : (i : ℕ) → isAtomic (node concepts i) ≡ atomic (tree concepts i)
-  unfolding isAtomic atomic
+  atomic-tree : (i : ℕ) → is_atomic (node concepts i) ≡ atomic (tree concepts i)
+  unfolding is_atomic atomic
   atomic-tree i = go (node concepts i) refl
     where
-      go : (m : Node) → node concepts i ≡ m → isAtomic (node concepts i) ≡ atomic (tree concepts i)
-      go topAt e = ap isAtomic e ∙ sym (ap atomic (tree-top concepts rising i e))
-      go (name_at n) e = ap isAtomic e ∙ sym (ap atomic (tree-name concepts rising i n e))
-      go (existsAt r j) e = ap isAtomic e ∙ sym (ap atomic (tree-exists concepts rising i r j e))
-      go (andAt j k) e = ap isAtomic e ∙ sym (ap atomic (tree-and concepts rising i j k e))
-      go (varAt k) e = ap isAtomic e ∙ sym (ap atomic (tree-var concepts rising i k e))
+      go : (m : Node) → node concepts i ≡ m → is_atomic (node concepts i) ≡ atomic (tree concepts i)
+      go top_at e = ap is_atomic e ∙ sym (ap atomic (tree-top concepts rising i e))
+      go (name_at n) e = ap is_atomic e ∙ sym (ap atomic (tree-name concepts rising i n e))
+      go (exists_at r j) e = ap is_atomic e ∙ sym (ap atomic (tree-exists concepts rising i r j e))
+      go (and_at j k) e = ap is_atomic e ∙ sym (ap atomic (tree-and concepts rising i j k e))
+      go (var_at k) e = ap is_atomic e ∙ sym (ap atomic (tree-var concepts rising i k e))
 
 -- ---- counting places
 full : (n : ℕ) → counted (λ i. true) n ≡ n
@@ -124,19 +124,19 @@ at_most n places at low apart =
     omega (arith, full places)
 
 -- ---- atoms have a place each
-abbrev pub atomAt : Tables → ℕ → Concept
-atomAt t q = tree t.concepts (get_or (atoms t) q 0)
+abbrev pub atom_at : Tables → ℕ → Concept
+atom_at t q = tree t.concepts (get_or (atoms t) q 0)
 
 -- Atoms are lowest twins, so their concepts differ.
-pub atoms-apart : (t : Tables) (p q : ℕ) → p < length (atoms t) → q < length (atoms t) → atomAt t p ≡ atomAt t q → p ≡ q
-unfolding atoms isAtom
+pub atoms-apart : (t : Tables) (p q : ℕ) → p < length (atoms t) → q < length (atoms t) → atom_at t p ≡ atom_at t q → p ≡ q
+unfolding atoms is_atom
 atoms-apart t p q l h e =
     let a = lowest p l in
     let b = lowest q h in
-    keep-distinct (isAtom t) 0 (count_of t.concepts) p q l h (omega (arith, lowest-least t.concepts _ _ a e, lowest-least t.concepts _ _ b (sym e)))
+    keep-distinct (is_atom t) 0 (count_of t.concepts) p q l h (omega (arith, lowest-least t.concepts _ _ a e, lowest-least t.concepts _ _ b (sym e)))
   where
-    lowest : (p : ℕ) → p < length (atoms t) → isLowest t.concepts (get_or (atoms t) p 0) ≡ true
-    lowest p l = (both_true _ _ (atom-passes t _ (getD-member (atoms t) p l))).0
+    lowest : (p : ℕ) → p < length (atoms t) → is_lowest t.concepts (get_or (atoms t) p 0) ≡ true
+    lowest p l = (both_true _ _ (atom-passes t _ (get_or-member (atoms t) p l))).0
 
 -- ---- tables whose pairs are of the same concepts
 -- Inner ids are smaller, and what pairs name are ids.
@@ -154,9 +154,9 @@ readable t wf =
     }
 
 pub record PairsAlike (concepts pairs concepts' pairs' : List ℕ) : Type 0 where
-  pub many : pairsOf pairs ≡ pairsOf pairs'
-  pub left : (m : ℕ) → m < pairsOf pairs → tree concepts (left_of pairs m) ≡ tree concepts' (left_of pairs' m)
-  pub right : (m : ℕ) → m < pairsOf pairs → tree concepts (rightOf pairs m) ≡ tree concepts' (rightOf pairs' m)
+  pub many : pairs_of pairs ≡ pairs_of pairs'
+  pub left : (m : ℕ) → m < pairs_of pairs → tree concepts (left_of pairs m) ≡ tree concepts' (left_of pairs' m)
+  pub right : (m : ℕ) → m < pairs_of pairs → tree concepts (right_of pairs m) ≡ tree concepts' (right_of pairs' m)
 
 pairs-turned : (concepts pairs concepts' pairs' : List ℕ) → PairsAlike concepts pairs concepts' pairs' → PairsAlike concepts' pairs' concepts pairs
 pairs-turned concepts pairs concepts' pairs' a =
@@ -186,12 +186,12 @@ module _ (t t' : Tables) (R : Readable t) (R' : Readable t') (A : Alike t t') wh
     pub same : tree t.concepts p ≡ tree t'.concepts id
 
   stands-there : (p : ℕ) → stands t p ≡ true → StandsThere p
-  unfolding stands inInclusion inQuestion
+  unfolding stands in_inclusion in_question
   stands-there p h = let (a, u) = both_true _ _ h in ⊎_elim (inclusion a) (question a) (or_cases _ _ u)
     where
       moved :
-          isAtomic (node t.concepts p) ≡ true → (i i' : ℕ) → tree t.concepts i ≡ tree t'.concepts i' → i' < count_of t'.concepts
-          → ((q : ℕ) → occurs t'.concepts q i' ≡ true → or (inInclusion t'.concepts t'.inclusions q) (inQuestion t'.concepts t'.questions q) ≡ true)
+          is_atomic (node t.concepts p) ≡ true → (i i' : ℕ) → tree t.concepts i ≡ tree t'.concepts i' → i' < count_of t'.concepts
+          → ((q : ℕ) → occurs t'.concepts q i' ≡ true → or (in_inclusion t'.concepts t'.inclusions q) (in_question t'.concepts t'.questions q) ≡ true)
           → occurs t.concepts p i ≡ true → StandsThere p
       moved a i i' e l there o =
           let q
@@ -206,22 +206,22 @@ module _ (t t' : Tables) (R : Readable t) (R' : Readable t') (A : Alike t t') wh
             same = sym q.same;
           }
 
-      inclusion : isAtomic (node t.concepts p) ≡ true → inInclusion t.concepts t.inclusions p ≡ true → StandsThere p
+      inclusion : is_atomic (node t.concepts p) ≡ true → in_inclusion t.concepts t.inclusions p ≡ true → StandsThere p
       inclusion a e =
-          let (m, l, o) = anyBelow-elim _ _ e in
-          let l' : m < pairsOf t'.inclusions = omega (arith, A.inclusions.many) in
+          let (m, l, o) = any_below-elim _ _ e in
+          let l' : m < pairs_of t'.inclusions = omega (arith, A.inclusions.many) in
           ⊎_elim
-          (moved a _ _ (A.inclusions.left m l) (R'.inclusions-known.left-known m l') (λ q o. or-first _ _ (anyBelow-intro _ _ m l' (or-first _ _ o))))
-          (moved a _ _ (A.inclusions.right m l) (R'.inclusions-known.right-known m l') (λ q o. or-first _ _ (anyBelow-intro _ _ m l' (or-second _ _ o))))
+          (moved a _ _ (A.inclusions.left m l) (R'.inclusions-known.left-known m l') (λ q o. or-first _ _ (any_below-intro _ _ m l' (or-first _ _ o))))
+          (moved a _ _ (A.inclusions.right m l) (R'.inclusions-known.right-known m l') (λ q o. or-first _ _ (any_below-intro _ _ m l' (or-second _ _ o))))
           (or_cases _ _ o)
 
-      question : isAtomic (node t.concepts p) ≡ true → inQuestion t.concepts t.questions p ≡ true → StandsThere p
+      question : is_atomic (node t.concepts p) ≡ true → in_question t.concepts t.questions p ≡ true → StandsThere p
       question a e =
-          let (m, l, o) = anyBelow-elim _ _ e in
+          let (m, l, o) = any_below-elim _ _ e in
           let (g, o) = both_true _ _ o in
-          let l' : m < pairsOf t'.questions = omega (arith, A.questions.many) in
+          let l' : m < pairs_of t'.questions = omega (arith, A.questions.many) in
           moved a _ _ (A.questions.right m l) (R'.questions-known.right-known m l')
-          (λ q o. or-second _ _ (anyBelow-intro _ _ m l' (both-intro _ _ (ap (λ (c : Concept). not (hasVariable c)) (sym (A.questions.right m l)) ∙ g) o)))
+          (λ q o. or-second _ _ (any_below-intro _ _ m l' (both-intro _ _ (ap (λ (c : Concept). not (has_variable c)) (sym (A.questions.right m l)) ∙ g) o)))
           o
 
   pub atoms-there : ConceptsOf t (atoms t) t' (atoms t')
@@ -232,40 +232,40 @@ module _ (t t' : Tables) (R : Readable t) (R' : Readable t') (A : Alike t t') wh
       (a.atom, a.listed, e ∙ there.same ∙ sym a.same)
 
   -- Each place of an atom has the one of the same concept; past the atoms it is of no concern.
-  placed : (q : ℕ) → (j : ℕ) × (q < length (atoms t) → (j < length (atoms t')) × (atomAt t q ≡ atomAt t' j))
+  placed : (q : ℕ) → (j : ℕ) × (q < length (atoms t) → (j < length (atoms t')) × (atom_at t q ≡ atom_at t' j))
   placed q =
       ⊎_elim (λ h. (0, λ l. absurd (omega arith)))
       (λ l.
-      let (p, m, e) = atoms-there (get_or (atoms t) q 0) (getD-member (atoms t) q l) in
+      let (p, m, e) = atoms-there (get_or (atoms t) q 0) (get_or-member (atoms t) q l) in
       let (j, u, f) = place 0 (atoms t') p m in
       (j, λ k. (u, e ∙ ap (tree t'.concepts) (sym f))))
       (le-or-lt (length (atoms t)) q)
 
-  pub placeThere : ℕ → ℕ
-  placeThere q = (placed q).0
+  pub place_there : ℕ → ℕ
+  place_there q = (placed q).0
 
-  pub place-low : (q : ℕ) → q < length (atoms t) → placeThere q < length (atoms t')
-  unfolding placeThere
+  pub place-low : (q : ℕ) → q < length (atoms t) → place_there q < length (atoms t')
+  unfolding place_there
   place-low q l = ((placed q).1 l).0
 
-  pub place_same : (q : ℕ) → q < length (atoms t) → atomAt t q ≡ atomAt t' (placeThere q)
-  unfolding placeThere
+  pub place_same : (q : ℕ) → q < length (atoms t) → atom_at t q ≡ atom_at t' (place_there q)
+  unfolding place_there
   place_same q l = ((placed q).1 l).1
 
   pub atoms-fewer : length (atoms t) ≤ length (atoms t')
   atoms-fewer =
-      at_most (length (atoms t)) (length (atoms t')) placeThere place-low
-      (λ k m l u e. atoms-apart t k m l u (place_same k l ∙ ap (atomAt t') e ∙ sym (place_same m u)))
+      at_most (length (atoms t)) (length (atoms t')) place_there place-low
+      (λ k m l u e. atoms-apart t k m l u (place_same k l ∙ ap (atom_at t') e ∙ sym (place_same m u)))
 
   -- ---- subsumption
   obeys-back : (I : Interpretation) → Obeys t' I → Obeys t I
   obeys-back I O =
       record {
         inclusions = λ m l x h c.
-            subst (λ (d : Concept). Member I noVariables d x) (sym (A.inclusions.right m l))
-            (O.inclusions m (omega (arith, A.inclusions.many)) x h (subst (λ (d : Concept). Member I noVariables d x) (A.inclusions.left m l) c));
-        roles = λ m l. subst (λ (z : List ℕ). (m : ℕ) → m < pairsOf z → (x y : ℕ) → x < I.size → y < I.size
-            → Memᴰ (record { from = x; role = left_of z m; to = y }) I.links → Memᴰ (record { from = x; role = rightOf z m; to = y }) I.links)
+            subst (λ (d : Concept). Member I no_variables d x) (sym (A.inclusions.right m l))
+            (O.inclusions m (omega (arith, A.inclusions.many)) x h (subst (λ (d : Concept). Member I no_variables d x) (A.inclusions.left m l) c));
+        roles = λ m l. subst (λ (z : List ℕ). (m : ℕ) → m < pairs_of z → (x y : ℕ) → x < I.size → y < I.size
+            → Memᴰ (record { from = x; role = left_of z m; to = y }) I.links → Memᴰ (record { from = x; role = right_of z m; to = y }) I.links)
             (sym A.roles) O.roles m l;
       }
 
@@ -275,8 +275,8 @@ module _ (t t' : Tables) (R : Readable t) (R' : Readable t') (A : Alike t t') wh
   subsumed-there assignment assignment' same i j i' j' e f s I O x h c =
       subst (λ (d : Concept). Member I (assigned t' assignment' I) d x) f
       (member-reads I (assigned t assignment I) (assigned t' assignment' I)
-      (λ k x l r q n. let (p, u, e) = same.back k q n in subst (λ (d : Concept). Member I noVariables d x) (sym e) (r p u)) (tree t.concepts j) x h
+      (λ k x l r q n. let (p, u, e) = same.back k q n in subst (λ (d : Concept). Member I no_variables d x) (sym e) (r p u)) (tree t.concepts j) x h
       (s I (obeys-back I O) x h
       (member-reads I (assigned t' assignment' I) (assigned t assignment I)
-      (λ k x l r p n. let (q, u, e) = same.there k p n in subst (λ (d : Concept). Member I noVariables d x) (sym e) (r q u)) (tree t.concepts i) x h
+      (λ k x l r p n. let (q, u, e) = same.there k p n in subst (λ (d : Concept). Member I no_variables d x) (sym e) (r q u)) (tree t.concepts i) x h
       (subst (λ (d : Concept). Member I (assigned t' assignment' I) d x) (sym e) c))))

@@ -6,7 +6,7 @@ use native.Mathlib.Omega.{arith}
 use Rattle.subsumption.specs.Tables.{Tables, tables, count_of}
 use Rattle.subsumption.specs.Table.{TableOf}
 use Rattle.subsumption.proofs.Bools.{same_bool}
-use Rattle.renumbering.specs.Order.{newId}
+use Rattle.renumbering.specs.Order.{new_id}
 use Rattle.renumbering.specs.Renumbering.{renumbered}
 use Rattle.renumbering.specs.Laws.{Renumberable, SameConcepts, MovedBelow, MovedMarks}
 use Rattle.renumbering.proofs.AlikeLaws.{readable, turned, subsumed-there}
@@ -32,8 +32,8 @@ pub renumbered-marks :
     → SameConcepts t assignment (renumbered order t) assignment' → TableOf t assignment held old → TableOf (renumbered order t) assignment' other new
     → MovedMarks t order old new
 renumbered-marks t order assignment assignment' held old other new R S T T' i j l k =
-    let low : (p : ℕ) → p < count_of t.concepts → newId order p < count_of (renumbered order t).concepts = λ p h.
+    let low : (p : ℕ) → p < count_of t.concepts → new_id order p < count_of (renumbered order t).concepts = λ p h.
     omega (arith, (arranged t order R).low p h, moved-count order t.concepts) in
     same_bool _ _
-    (λ h. T.complete i j l k ((renumbered-below t order assignment assignment' R S i j l k).1 (T'.sound (newId order i) (newId order j) (low i l) (low j k) h)))
-    (λ h. T'.complete (newId order i) (newId order j) (low i l) (low j k) ((renumbered-below t order assignment assignment' R S i j l k).0 (T.sound i j l k h)))
+    (λ h. T.complete i j l k ((renumbered-below t order assignment assignment' R S i j l k).1 (T'.sound (new_id order i) (new_id order j) (low i l) (low j k) h)))
+    (λ h. T'.complete (new_id order i) (new_id order j) (low i l) (low j k) ((renumbered-below t order assignment assignment' R S i j l k).0 (T.sound i j l k h)))

@@ -6,17 +6,17 @@ use mathlib.Core.Bool.{true}
 use mathlib.Core.Logic.{⊎_elim}
 use native.Mathlib.Omega.{arith}
 use lib.ListN.{length, get_or, get_or-eq_default}
-use Rattle.subsumption.specs.Tables.{Tables, pairsOf, tree}
+use Rattle.subsumption.specs.Tables.{Tables, pairs_of, tree}
 use Rattle.subsumption.specs.Atoms.{atoms, bit, chosen}
-use Rattle.subsumption.specs.Check.{assignmentFault}
+use Rattle.subsumption.specs.Check.{assignment_fault}
 use Rattle.subsumption.proofs.Bools.{le-or-lt}
 use Rattle.subsumption.proofs.Bits.{bit-of-zero}
 use Rattle.subsumption.proofs.Chosen.{pick-member, pick_intro, chosen-atom}
-use Rattle.matching.proofs.SubstitutionLaws.Assigning.{assignmentOf, assignmentOf-accepted, assignmentOf-bit, assignmentOf-length, accepted-length}
+use Rattle.matching.proofs.SubstitutionLaws.Assigning.{assignment_of, assignment_of-accepted, assignment_of-bit, assignment_of-length, accepted-length}
 use Rattle.matching.proofs.SubstitutionLaws.Parts.{place}
 use Rattle.renumbering.specs.Laws.{Renumberable, ConceptsOf, SameConcepts, FillsAlike}
 use Rattle.renumbering.specs.Renumbering.{renumbered}
-use Rattle.renumbering.proofs.AlikeLaws.{atoms-apart, Readable, readable, Alike, turned, atoms-there, placeThere, place-low, place_same, subsumed-there}
+use Rattle.renumbering.proofs.AlikeLaws.{atoms-apart, Readable, readable, Alike, turned, atoms-there, place_there, place-low, place_same, subsumed-there}
 use Rattle.renumbering.proofs.TreeLaws.{well}
 use Rattle.renumbering.proofs.AcceptedLaws.{renumbered-readable, renumbered-alike}
 
@@ -33,11 +33,11 @@ chosen-variable t assignment long k p m =
 module _ (t t' : Tables) (R : Readable t) (R' : Readable t') (A : Alike t t') where
   -- the place among the atoms of `t` of the concept at a place of those of `t'`
   abbrev old : ℕ → ℕ
-  old q = placeThere t' t R' R (turned t t' A) q
+  old q = place_there t' t R' R (turned t t' A) q
 
   module _ (assignment : List ℕ) (long : length assignment ≡ t.variables) where
     abbrev moved : List ℕ
-    moved = assignmentOf t' (λ k q. bit (get_or assignment k 0) (old q))
+    moved = assignment_of t' (λ k q. bit (get_or assignment k 0) (old q))
 
     moved-there : (k : ℕ) → ConceptsOf t (chosen t assignment k) t' (chosen t' moved k)
     unfolding chosen
@@ -54,7 +54,7 @@ module _ (t t' : Tables) (R : Readable t) (R' : Readable t') (A : Alike t t') wh
               (record {
                 place = j;
                 known = u;
-                chosen = assignmentOf-bit t' _ k j (omega (arith, A.variables)) u ∙ ap (bit (get_or assignment k 0)) same ∙ c.chosen;
+                chosen = assignment_of-bit t' _ k j (omega (arith, A.variables)) u ∙ ap (bit (get_or assignment k 0)) same ∙ c.chosen;
                 here = h;
               }),
           e,
@@ -64,13 +64,13 @@ module _ (t t' : Tables) (R : Readable t) (R' : Readable t') (A : Alike t t') wh
     unfolding chosen
     moved_back k q m =
         let c = pick-member (atoms t') _ q m in
-        let l = chosen-variable t' moved (assignmentOf-length t' _) k q m in (
+        let l = chosen-variable t' moved (assignment_of-length t' _) k q m in (
           get_or (atoms t) (old c.place) 0,
           pick_intro (atoms t) _ _
               (record {
                 place = old c.place;
                 known = place-low t' t R' R (turned t t' A) c.place c.known;
-                chosen = sym (assignmentOf-bit t' _ k c.place l c.known) ∙ c.chosen;
+                chosen = sym (assignment_of-bit t' _ k c.place l c.known) ∙ c.chosen;
                 here = refl;
               }),
           ap (tree t'.concepts) (sym c.here) ∙ place_same t' t R' R (turned t t' A) c.place c.known,
@@ -80,16 +80,16 @@ module _ (t t' : Tables) (R : Readable t) (R' : Readable t') (A : Alike t t') wh
     same-concepts = record { there = moved-there; back = moved_back }
 
   pub alike-fills : FillsAlike t t'
-  unfolding assignmentFault
+  unfolding assignment_fault
   alike-fills assignment f =
       let long = accepted-length _ _ assignment f.accepted in
       let same = same-concepts assignment long in (
         moved assignment long,
         record {
-          accepted = assignmentOf-accepted t' _;
+          accepted = assignment_of-accepted t' _;
           solves = λ m l.
               let u = A.questions.many in
-              let l' : m < pairsOf t.questions = omega (arith, u) in
+              let l' : m < pairs_of t.questions = omega (arith, u) in
               subsumed-there t t' R R' A assignment _ same _ _ _ _ (A.questions.left m l') (A.questions.right m l') (f.solves m l');
         },
         same,

@@ -14,24 +14,24 @@ use borrow.Author.Tests.{eqb-true}
 use Rattle.subsumption.specs.declared.tables.Row.{Row}
 use Rattle.subsumption.specs.Tables.{or, count_of}
 use Rattle.subsumption.specs.Inner.Tables.{row_of}
-use Rattle.subsumption.specs.Inner.Atoms.{inFront}
+use Rattle.subsumption.specs.Inner.Atoms.{in_front}
 use Rattle.subsumption.proofs.Bools.{or_cases}
 use Rattle.subsumption.proofs.Lists.{front-more}
 use Rattle.subsumption.proofs.Nodes.{node-exists, node-and}
 use Rattle.renumbering.specs.declared.moving.Moved.{Moved}
-use Rattle.renumbering.specs.Order.{newId, place_of, movedIds}
-use Rattle.renumbering.specs.Renumbering.{movedField, movedFirst, movedSecond, moved_row, movedRows, movedConcepts}
-use Rattle.renumbering.specs.Inner.Moving.{Known, Inward, movedParts}
+use Rattle.renumbering.specs.Order.{new_id, place_of, moved_ids}
+use Rattle.renumbering.specs.Renumbering.{moved_field, moved_first, moved_second, moved_row, moved_rows, moved_concepts}
+use Rattle.renumbering.specs.Inner.Moving.{Known, Inward, moved_parts}
 use Rattle.renumbering.proofs.OrderLaws.{moved_length}
 use Rattle.renumbering.proofs.TreeLaws.{rows-length}
 
 -- ---- a field
-pub field-moved : (order : List ℕ) (inner : Bool) (x : ℕ) → inner ≡ true → get_or order x 0 ≡ movedField order inner x
-unfolding movedField
+pub field-moved : (order : List ℕ) (inner : Bool) (x : ℕ) → inner ≡ true → get_or order x 0 ≡ moved_field order inner x
+unfolding moved_field
 field-moved order inner x e = rw e refl
 
-pub field-kept : (order : List ℕ) (inner : Bool) (x : ℕ) → inner ≡ false → x ≡ movedField order inner x
-unfolding movedField
+pub field-kept : (order : List ℕ) (inner : Bool) (x : ℕ) → inner ≡ false → x ≡ moved_field order inner x
+unfolding moved_field
 field-kept order inner x e = rw e refl
 
 bars : (a b : Bool) → (a || b) ≡ or a b
@@ -55,104 +55,104 @@ module _ (concepts order : List ℕ) (inward : Inward concepts) (long : length o
       (or_cases _ _ (sym (bars _ _) ∙ h)))
 
 pub row_moved :
-    (concepts order : List ℕ) (i : ℕ) (row : Row) (first second : ℕ) → row ≡ row_of concepts i → first ≡ movedField order (eqb row.kind 3) row.a
-    → second ≡ movedField order (eqb row.kind 2 || eqb row.kind 3) row.b
-    → record { kind = row.kind; first = first; second = second } ≡ movedParts order concepts i
-unfolding movedFirst movedSecond
+    (concepts order : List ℕ) (i : ℕ) (row : Row) (first second : ℕ) → row ≡ row_of concepts i → first ≡ moved_field order (eqb row.kind 3) row.a
+    → second ≡ moved_field order (eqb row.kind 2 || eqb row.kind 3) row.b
+    → record { kind = row.kind; first = first; second = second } ≡ moved_parts order concepts i
+unfolding moved_first moved_second
 row_moved concepts order i row first second e f g =
     rw (f, g, e) (rw bars refl)
 
 -- ---- one number more in front
-front-next : (xs before : List ℕ) (n v : ℕ) → n ≡ length xs → n < length before → set (inFront xs before) n v ≡ inFront (xs ++ (v ∷ [])) before
+front-next : (xs before : List ℕ) (n v : ℕ) → n ≡ length xs → n < length before → set (in_front xs before) n v ≡ in_front (xs ++ (v ∷ [])) before
 front-next xs before n v e h = rw e (front-more xs before v (omega (arith, e)))
 
-front_long : (xs before : List ℕ) → length xs ≤ length before → length (inFront xs before) ≡ length before
+front_long : (xs before : List ℕ) → length xs ≤ length before → length (in_front xs before) ≡ length before
 front_long xs before h = length_front before xs (length xs) (sym (length-take-le (length xs) before h))
 
 front-three :
     (xs before : List ℕ) (n a b c : ℕ) → n ≡ length xs → n + 2 < length before
-    → set (set (set (inFront xs before) n a) (n + 1) b) (n + 2) c ≡ inFront (xs ++ (a ∷ b ∷ c ∷ [])) before
+    → set (set (set (in_front xs before) n a) (n + 1) b) (n + 2) c ≡ in_front (xs ++ (a ∷ b ∷ c ∷ [])) before
 front-three xs before n a b c e h =
     ap (λ (z : List ℕ). set (set z (n + 1) b) (n + 2) c) (front-next xs before n a e (omega arith))
     ∙ ap (λ (z : List ℕ). set z (n + 2) c) (front-next (xs ++ (a ∷ [])) before (n + 1) b (omega (arith, e, length-append xs (a ∷ []))) (omega arith))
     ∙ front-next ((xs ++ (a ∷ [])) ++ (b ∷ [])) before (n + 2) c (omega (arith, e, length-append xs (a ∷ []), length-append (xs ++ (a ∷ [])) (b ∷ []))) (omega arith)
-    ∙ ap (λ (z : List ℕ). inFront z before) joined
+    ∙ ap (λ (z : List ℕ). in_front z before) joined
   where
     joined : ((xs ++ (a ∷ [])) ++ (b ∷ [])) ++ (c ∷ []) ≡ xs ++ (a ∷ b ∷ c ∷ [])
     joined = simp append_assoc
 
 -- ---- ids
 module _ (order : List ℕ) where
-  ids-join : (ids more : List ℕ) → movedIds order (ids ++ more) ≡ movedIds order ids ++ movedIds order more
-  unfolding movedIds
+  ids-join : (ids more : List ℕ) → moved_ids order (ids ++ more) ≡ moved_ids order ids ++ moved_ids order more
+  unfolding moved_ids
   ids-join [] more = refl
-  ids-join (i ∷ ids) more = ap (λ (z : List ℕ). newId order i ∷ z) (ids-join ids more)
+  ids-join (i ∷ ids) more = ap (λ (z : List ℕ). new_id order i ∷ z) (ids-join ids more)
 
-  ids-one : (i : ℕ) → movedIds order (i ∷ []) ≡ newId order i ∷ []
-  unfolding movedIds
+  ids-one : (i : ℕ) → moved_ids order (i ∷ []) ≡ new_id order i ∷ []
+  unfolding moved_ids
   ids-one i = refl
 
   module _ (ids before : List ℕ) where
     -- the first p ids are written
     pub record IdsTo (out : List ℕ) (p : ℕ) : Type 0 where
       pub within : p ≤ length ids
-      pub buffer : out ≡ inFront (movedIds order (take p ids)) before
+      pub buffer : out ≡ in_front (moved_ids order (take p ids)) before
 
     pub ids-none : IdsTo before 0
-    unfolding movedIds
+    unfolding moved_ids
     ids-none = record { within = omega arith; buffer = refl }
 
     pub ids_more :
-        (out : List ℕ) (p v : ℕ) → IdsTo out p → p < length ids → length ids ≤ length before → v ≡ movedField order true (get_or ids p 0)
+        (out : List ℕ) (p v : ℕ) → IdsTo out p → p < length ids → length ids ≤ length before → v ≡ moved_field order true (get_or ids p 0)
         → IdsTo (set out p v) (p + 1)
-    unfolding movedField
+    unfolding moved_field
     ids_more out p v s h l e =
         record {
           within = omega arith;
           buffer =
               rw s.buffer
-              (front-next (movedIds order (take p ids)) before p v (sym (moved_length order (take p ids) ∙ length-take-le p ids (omega arith))) (omega arith)
-              ∙ ap (λ (z : List ℕ). inFront z before) (sym snoc));
+              (front-next (moved_ids order (take p ids)) before p v (sym (moved_length order (take p ids) ∙ length-take-le p ids (omega arith))) (omega arith)
+              ∙ ap (λ (z : List ℕ). in_front z before) (sym snoc));
         }
       where
-        snoc : movedIds order (take (p + 1) ids) ≡ movedIds order (take p ids) ++ (v ∷ [])
+        snoc : moved_ids order (take (p + 1) ids) ≡ moved_ids order (take p ids) ++ (v ∷ [])
         snoc =
-            ap (movedIds order) (ap (λ (z : ℕ). take z ids) (add-one p) ∙ take-suc ids p 0 h) ∙ ids-join _ _
-            ∙ ap (λ (z : List ℕ). movedIds order (take p ids) ++ z) (ids-one (get_or ids p 0) ∙ ap (λ (n : ℕ). n ∷ []) (sym e))
+            ap (moved_ids order) (ap (λ (z : ℕ). take z ids) (add-one p) ∙ take-suc ids p 0 h) ∙ ids-join _ _
+            ∙ ap (λ (z : List ℕ). moved_ids order (take p ids) ++ z) (ids-one (get_or ids p 0) ∙ ap (λ (n : ℕ). n ∷ []) (sym e))
 
     pub ids-size : (out : List ℕ) (p : ℕ) → IdsTo out p → length ids ≤ length before → length out ≡ length before
     ids-size out p s l =
         ap length s.buffer
-        ∙ front_long (movedIds order (take p ids)) before (omega (arith, s.within, moved_length order (take p ids), length-take-le p ids s.within))
+        ∙ front_long (moved_ids order (take p ids)) before (omega (arith, s.within, moved_length order (take p ids), length-take-le p ids s.within))
 
-    pub ids-done : (out : List ℕ) (p : ℕ) → IdsTo out p → length ids ≤ p → out ≡ inFront (movedIds order ids) before
-    ids-done out p s h = s.buffer ∙ ap (λ (z : List ℕ). inFront (movedIds order z) before) (take_all p ids h)
+    pub ids-done : (out : List ℕ) (p : ℕ) → IdsTo out p → length ids ≤ p → out ≡ in_front (moved_ids order ids) before
+    ids-done out p s h = s.buffer ∙ ap (λ (z : List ℕ). in_front (moved_ids order z) before) (take_all p ids h)
 
 -- ---- rows
 module _ (order concepts : List ℕ) where
-  rows_snoc : (from count : ℕ) → movedRows order concepts from (suc count) ≡ movedRows order concepts from count ++ moved_row order concepts (place_of (from + count) order)
-  unfolding movedRows moved_row
+  rows_snoc : (from count : ℕ) → moved_rows order concepts from (suc count) ≡ moved_rows order concepts from count ++ moved_row order concepts (place_of (from + count) order)
+  unfolding moved_rows moved_row
   rows_snoc from zero = let e : from + 0 ≡ from = omega arith in rw e refl
   rows_snoc from (suc count) =
       let e : from + suc count ≡ suc from + count = omega arith in
       rw e (ap (λ (z : List ℕ). moved_row order concepts (place_of from order) ++ z) (rows_snoc (suc from) count))
 
-  rows_more : (k : ℕ) → movedRows order concepts 0 (k + 1) ≡ movedRows order concepts 0 k ++ moved_row order concepts (place_of k order)
-  rows_more k = rw add-one (rows_snoc 0 k ∙ ap (λ (z : ℕ). movedRows order concepts 0 k ++ moved_row order concepts (place_of z order)) (zero-add k))
+  rows_more : (k : ℕ) → moved_rows order concepts 0 (k + 1) ≡ moved_rows order concepts 0 k ++ moved_row order concepts (place_of k order)
+  rows_more k = rw add-one (rows_snoc 0 k ∙ ap (λ (z : ℕ). moved_rows order concepts 0 k ++ moved_row order concepts (place_of z order)) (zero-add k))
 
   module _ (before : List ℕ) where
     -- the rows of the first k new ids are written
     pub record RowsTo (out : List ℕ) (k : ℕ) : Type 0 where
       pub within : k ≤ count_of concepts
-      pub buffer : out ≡ inFront (movedRows order concepts 0 k) before
+      pub buffer : out ≡ in_front (moved_rows order concepts 0 k) before
 
     pub rows_none : RowsTo before 0
-    unfolding movedRows
+    unfolding moved_rows
     rows_none = record { within = omega arith; buffer = refl }
 
     module _ (room : length concepts ≤ length before) where
       pub rows_step :
-          (out : List ℕ) (k i : ℕ) (row : Moved) → RowsTo out k → k < count_of concepts → i ≡ place_of k order → row ≡ movedParts order concepts i
+          (out : List ℕ) (k i : ℕ) (row : Moved) → RowsTo out k → k < count_of concepts → i ≡ place_of k order → row ≡ moved_parts order concepts i
           → RowsTo (set (set (set out (k * 3) row.kind) (k * 3 + 1) row.first) (k * 3 + 2) row.second) (k + 1)
       unfolding moved_row
       rows_step out k i row s h q e =
@@ -160,13 +160,13 @@ module _ (order concepts : List ℕ) where
             within = omega arith;
             buffer =
                 rw (s.buffer, e, q)
-                (front-three (movedRows order concepts 0 k) before (k * 3) _ _ _ (sym (rows-length order concepts 0 k)) (omega arith)
-                ∙ ap (λ (z : List ℕ). inFront z before) (sym (rows_more k)));
+                (front-three (moved_rows order concepts 0 k) before (k * 3) _ _ _ (sym (rows-length order concepts 0 k)) (omega arith)
+                ∙ ap (λ (z : List ℕ). in_front z before) (sym (rows_more k)));
           }
 
       pub rows-size : (out : List ℕ) (k : ℕ) → RowsTo out k → length out ≡ length before
-      rows-size out k s = ap length s.buffer ∙ front_long (movedRows order concepts 0 k) before (omega (arith, s.within, rows-length order concepts 0 k))
+      rows-size out k s = ap length s.buffer ∙ front_long (moved_rows order concepts 0 k) before (omega (arith, s.within, rows-length order concepts 0 k))
 
-    pub rows-done : (out : List ℕ) (k : ℕ) → RowsTo out k → count_of concepts ≤ k → out ≡ inFront (movedConcepts order concepts) before
-    unfolding movedConcepts
-    rows-done out k s h = let e : k ≡ count_of concepts = omega (arith, s.within) in s.buffer ∙ ap (λ (n : ℕ). inFront (movedRows order concepts 0 n) before) e
+    pub rows-done : (out : List ℕ) (k : ℕ) → RowsTo out k → count_of concepts ≤ k → out ≡ in_front (moved_concepts order concepts) before
+    unfolding moved_concepts
+    rows-done out k s h = let e : k ≡ count_of concepts = omega (arith, s.within) in s.buffer ∙ ap (λ (n : ℕ). in_front (moved_rows order concepts 0 n) before) e

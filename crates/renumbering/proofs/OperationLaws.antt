@@ -9,73 +9,73 @@ use Rattle.subsumption.specs.declared.refusal.Refusal.TheVariants.{BufferTooShor
 use Rattle.subsumption.specs.declared.refusal.Outcome.{Outcome}
 use Rattle.subsumption.specs.declared.refusal.Outcome.TheVariants.{Done, Refused}
 use Rattle.subsumption.specs.Tables.{Tables, count_of}
-use Rattle.subsumption.specs.Refusal.{replyOf}
-use Rattle.subsumption.specs.Check.{tableFault, bufferFault}
-use Rattle.subsumption.specs.Inner.Atoms.{inFront}
-use Rattle.subsumption.proofs.Accepted.{wellFormed}
+use Rattle.subsumption.specs.Refusal.{reply_of}
+use Rattle.subsumption.specs.Check.{table_fault, buffer_fault}
+use Rattle.subsumption.specs.Inner.Atoms.{in_front}
+use Rattle.subsumption.proofs.Accepted.{well_formed}
 use Rattle.subsumption.proofs.Refusals.{stops, goes_on, refused-lt, done-le, is-done, passed_first, passed-second, buffer-fits}
 use Rattle.subsumption.proofs.Replies.{by-refusal, by_value, same-reply}
 use Rattle.subsumption.proofs.Trees.{inner-exists, inner-and}
-use Rattle.renumbering.specs.Order.{orderFault, movedIds}
-use Rattle.renumbering.specs.Renumbering.{risingFault, movedConcepts}
-use Rattle.renumbering.specs.Renumber.{renumberingFault, put_in, Renumbers}
+use Rattle.renumbering.specs.Order.{order_fault, moved_ids}
+use Rattle.renumbering.specs.Renumbering.{rising_fault, moved_concepts}
+use Rattle.renumbering.specs.Renumber.{renumbering_fault, put_in, Renumbers}
 use Rattle.renumbering.specs.Inner.Order.{Arranges}
 use Rattle.renumbering.specs.Inner.Moving.{Inward, IdsBelow}
 use Rattle.renumbering.proofs.OrderLaws.{order-arranges}
 use Rattle.renumbering.proofs.PairLaws.{inclusions-below, questions-below}
 
 -- ---- what passed checks tell
-module _ (t : Tables) (accepted : tableFault t ≡ Done) where
+module _ (t : Tables) (accepted : table_fault t ≡ Done) where
   pub accepted-few : count_of t.concepts ≤ 192
-  accepted-few = (wellFormed t accepted).few
+  accepted-few = (well_formed t accepted).few
 
   pub accepted-inward : Inward t.concepts
   accepted-inward =
       record {
-        some = λ i r j l e. inner-exists t.concepts (wellFormed t accepted).rising i r j e;
-        and = λ i j k l e. inner-and t.concepts (wellFormed t accepted).rising i j k e;
+        some = λ i r j l e. inner-exists t.concepts (well_formed t accepted).rising i r j e;
+        and = λ i j k l e. inner-and t.concepts (well_formed t accepted).rising i j k e;
       }
 
-  module _ (order : List ℕ) (listed : orderFault (count_of t.concepts) order ≡ Done) where
+  module _ (order : List ℕ) (listed : order_fault (count_of t.concepts) order ≡ Done) where
     pub listed-long : length order ≡ count_of t.concepts
     listed-long = (order-arranges _ order listed).long
 
 -- the tables' checks reply what they answer
-pub same_outcome : (x fault : Outcome) → replyOf x ≡ replyOf fault → x ≡ fault
+pub same_outcome : (x fault : Outcome) → reply_of x ≡ reply_of fault → x ≡ fault
 same_outcome Done fault e = sym (by_value fault 0 0 e).0
 same_outcome (Refused r) fault e = by-refusal fault 0 r e
 
 -- ---- the checks in their order
 module _ (t : Tables) (order : List ℕ) (concepts inclusions questions : ℕ) where
-  module _ (x : Outcome) (e : replyOf x ≡ replyOf (tableFault t)) where
-    pub tables-refuse : (r : Refusal) → x ≡ Refused r → Refused r ≡ renumberingFault t order concepts inclusions questions
-    unfolding renumberingFault
-    tables-refuse r h = stops x _ _ r (same_outcome x (tableFault t) e) h
+  module _ (x : Outcome) (e : reply_of x ≡ reply_of (table_fault t)) where
+    pub tables-refuse : (r : Refusal) → x ≡ Refused r → Refused r ≡ renumbering_fault t order concepts inclusions questions
+    unfolding renumbering_fault
+    tables-refuse r h = stops x _ _ r (same_outcome x (table_fault t) e) h
 
-    pub tables-pass : x ≡ Done → tableFault t ≡ Done
-    tables-pass h = is-done x _ (same_outcome x (tableFault t) e) h
+    pub tables-pass : x ≡ Done → table_fault t ≡ Done
+    tables-pass h = is-done x _ (same_outcome x (table_fault t) e) h
 
-  module _ (accepted : tableFault t ≡ Done) (y : Outcome) (e : y ≡ orderFault (count_of t.concepts) order) where
-    pub order-refuses : (r : Refusal) → y ≡ Refused r → Refused r ≡ renumberingFault t order concepts inclusions questions
-    unfolding renumberingFault
+  module _ (accepted : table_fault t ≡ Done) (y : Outcome) (e : y ≡ order_fault (count_of t.concepts) order) where
+    pub order-refuses : (r : Refusal) → y ≡ Refused r → Refused r ≡ renumbering_fault t order concepts inclusions questions
+    unfolding renumbering_fault
     order-refuses r h = goes_on Done _ _ _ (sym accepted) refl (stops y _ _ r e h)
 
-  module _ (accepted : tableFault t ≡ Done) (listed : orderFault (count_of t.concepts) order ≡ Done) (z : Outcome) (e : z ≡ risingFault t.concepts order) where
-    pub rising-refuses : (r : Refusal) → z ≡ Refused r → Refused r ≡ renumberingFault t order concepts inclusions questions
-    unfolding renumberingFault
+  module _ (accepted : table_fault t ≡ Done) (listed : order_fault (count_of t.concepts) order ≡ Done) (z : Outcome) (e : z ≡ rising_fault t.concepts order) where
+    pub rising-refuses : (r : Refusal) → z ≡ Refused r → Refused r ≡ renumbering_fault t order concepts inclusions questions
+    unfolding renumbering_fault
     rising-refuses r h = goes_on Done _ _ _ (sym accepted) refl (goes_on Done _ _ _ (sym listed) refl (stops z _ _ r e h))
 
     module _ (h : z ≡ Done) where
-      pub concepts-short : concepts < length t.concepts → Refused (BufferTooShort (length t.concepts)) ≡ renumberingFault t order concepts inclusions questions
-      unfolding renumberingFault bufferFault
+      pub concepts-short : concepts < length t.concepts → Refused (BufferTooShort (length t.concepts)) ≡ renumbering_fault t order concepts inclusions questions
+      unfolding renumbering_fault buffer_fault
       concepts-short l =
           goes_on Done _ _ _ (sym accepted) refl
           (goes_on Done _ _ _ (sym listed) refl (goes_on z _ _ _ e h (stops _ _ _ _ (refused-lt concepts (length t.concepts) _ l) refl)))
 
       module _ (l : length t.concepts ≤ concepts) where
         pub inclusions-short :
-            inclusions < length t.inclusions → Refused (BufferTooShort (length t.inclusions)) ≡ renumberingFault t order concepts inclusions questions
-        unfolding renumberingFault bufferFault
+            inclusions < length t.inclusions → Refused (BufferTooShort (length t.inclusions)) ≡ renumbering_fault t order concepts inclusions questions
+        unfolding renumbering_fault buffer_fault
         inclusions-short m =
             goes_on Done _ _ _ (sym accepted) refl
             (goes_on Done _ _ _ (sym listed) refl
@@ -83,8 +83,8 @@ module _ (t : Tables) (order : List ℕ) (concepts inclusions questions : ℕ) w
             (goes_on Done _ _ _ (done-le concepts (length t.concepts) _ l) refl (stops _ _ _ _ (refused-lt inclusions (length t.inclusions) _ m) refl))))
 
         module _ (m : length t.inclusions ≤ inclusions) where
-          pub questions-judged : (w : Outcome) → w ≡ bufferFault (length t.questions) questions → w ≡ renumberingFault t order concepts inclusions questions
-          unfolding renumberingFault bufferFault
+          pub questions-judged : (w : Outcome) → w ≡ buffer_fault (length t.questions) questions → w ≡ renumbering_fault t order concepts inclusions questions
+          unfolding renumbering_fault buffer_fault
           questions-judged w f =
               goes_on Done _ _ _ (sym accepted) refl
               (goes_on Done _ _ _ (sym listed) refl
@@ -92,25 +92,25 @@ module _ (t : Tables) (order : List ℕ) (concepts inclusions questions : ℕ) w
               (goes_on Done _ _ _ (done-le concepts (length t.concepts) _ l) refl (goes_on Done _ _ _ (done-le inclusions (length t.inclusions) _ m) refl f))))
 
           pub questions-short :
-              questions < length t.questions → Refused (BufferTooShort (length t.questions)) ≡ renumberingFault t order concepts inclusions questions
-          unfolding bufferFault
+              questions < length t.questions → Refused (BufferTooShort (length t.questions)) ≡ renumbering_fault t order concepts inclusions questions
+          unfolding buffer_fault
           questions-short n = questions-judged _ (refused-lt questions (length t.questions) _ n)
 
-          pub all_pass : length t.questions ≤ questions → Done ≡ renumberingFault t order concepts inclusions questions
-          unfolding bufferFault
+          pub all_pass : length t.questions ≤ questions → Done ≡ renumbering_fault t order concepts inclusions questions
+          unfolding buffer_fault
           all_pass n = questions-judged _ (done-le questions (length t.questions) _ n)
 
   -- ---- all of them passed
-  module _ (x : Outcome) (e : x ≡ renumberingFault t order concepts inclusions questions) (h : x ≡ Done) where
-    passed : renumberingFault t order concepts inclusions questions ≡ Done
+  module _ (x : Outcome) (e : x ≡ renumbering_fault t order concepts inclusions questions) (h : x ≡ Done) where
+    passed : renumbering_fault t order concepts inclusions questions ≡ Done
     passed = is-done x _ e h
 
-    pub passed-tables : tableFault t ≡ Done
-    unfolding renumberingFault
+    pub passed-tables : table_fault t ≡ Done
+    unfolding renumbering_fault
     passed-tables = passed_first _ _ passed
 
     pub passed-order : Arranges (count_of t.concepts) order
-    unfolding renumberingFault
+    unfolding renumbering_fault
     passed-order = order-arranges _ order (passed_first _ _ (passed-second _ _ passed))
 
     pub passed-own : Arranges (length order) order
@@ -120,30 +120,30 @@ module _ (t : Tables) (order : List ℕ) (concepts inclusions questions : ℕ) w
     passed-few = omega (arith, passed-order.long, accepted-few t passed-tables)
 
     pub passed-inclusions : IdsBelow (length order) t.inclusions
-    passed-inclusions = λ p l. omega (arith, passed-order.long, inclusions-below t (wellFormed t passed-tables) p l)
+    passed-inclusions = λ p l. omega (arith, passed-order.long, inclusions-below t (well_formed t passed-tables) p l)
 
     pub passed-questions : IdsBelow (length order) t.questions
-    passed-questions = λ p l. omega (arith, passed-order.long, questions-below t (wellFormed t passed-tables) p l)
+    passed-questions = λ p l. omega (arith, passed-order.long, questions-below t (well_formed t passed-tables) p l)
 
     pub concepts-room : length t.concepts ≤ concepts
-    unfolding renumberingFault
+    unfolding renumbering_fault
     concepts-room = buffer-fits _ _ (passed_first _ _ (passed-second _ _ (passed-second _ _ (passed-second _ _ passed))))
 
     pub inclusions-room : length t.inclusions ≤ inclusions
-    unfolding renumberingFault
+    unfolding renumbering_fault
     inclusions-room = buffer-fits _ _ (passed_first _ _ (passed-second _ _ (passed-second _ _ (passed-second _ _ (passed-second _ _ passed)))))
 
     pub questions-room : length t.questions ≤ questions
-    unfolding renumberingFault
+    unfolding renumbering_fault
     questions-room = buffer-fits _ _ (passed-second _ _ (passed-second _ _ (passed-second _ _ (passed-second _ _ (passed-second _ _ passed)))))
 
 -- ---- what is written
 module _ (t : Tables) (order concepts inclusions questions : List ℕ) (x : Outcome)
-    (e : x ≡ renumberingFault t order (length concepts) (length inclusions) (length questions)) where
-  pub renumber-refused : (r : Refusal) → x ≡ Refused r → Renumbers t order concepts concepts inclusions inclusions questions questions (replyOf (Refused r))
+    (e : x ≡ renumbering_fault t order (length concepts) (length inclusions) (length questions)) where
+  pub renumber-refused : (r : Refusal) → x ≡ Refused r → Renumbers t order concepts concepts inclusions inclusions questions questions (reply_of (Refused r))
   unfolding put_in
   renumber-refused r h =
-      let q : renumberingFault t order (length concepts) (length inclusions) (length questions) ≡ Refused r = sym e ∙ h in
+      let q : renumbering_fault t order (length concepts) (length inclusions) (length questions) ≡ Refused r = sym e ∙ h in
       record {
         replied = same-reply _ _ (sym q);
         put-concepts = rw q refl;
@@ -152,12 +152,12 @@ module _ (t : Tables) (order concepts inclusions questions : List ℕ) (x : Outc
       }
 
   pub renumber-done :
-      x ≡ Done → (concepts' inclusions' questions' : List ℕ) → concepts' ≡ inFront (movedConcepts order t.concepts) concepts
-      → inclusions' ≡ inFront (movedIds order t.inclusions) inclusions → questions' ≡ inFront (movedIds order t.questions) questions
-      → Renumbers t order concepts concepts' inclusions inclusions' questions questions' (replyOf Done)
+      x ≡ Done → (concepts' inclusions' questions' : List ℕ) → concepts' ≡ in_front (moved_concepts order t.concepts) concepts
+      → inclusions' ≡ in_front (moved_ids order t.inclusions) inclusions → questions' ≡ in_front (moved_ids order t.questions) questions
+      → Renumbers t order concepts concepts' inclusions inclusions' questions questions' (reply_of Done)
   unfolding put_in
   renumber-done h concepts' inclusions' questions' c i q =
-      let d : renumberingFault t order (length concepts) (length inclusions) (length questions) ≡ Done = sym e ∙ h in
+      let d : renumbering_fault t order (length concepts) (length inclusions) (length questions) ≡ Done = sym e ∙ h in
       record {
         replied = same-reply _ _ (sym d);
         put-concepts = rw d c;

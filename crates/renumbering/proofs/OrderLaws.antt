@@ -12,9 +12,9 @@ use lib.Seq.{ext_get_or}
 use borrow.Author.Tests.{eqb-true, ltb-true, lt-ltb, eq-eqb, ne_eqb, not-false}
 use Rattle.subsumption.specs.declared.refusal.Outcome.TheVariants.{Done}
 use Rattle.subsumption.specs.Tables.{or}
-use Rattle.subsumption.proofs.Bools.{or-false, or-skip, last-cases, anyBelow-intro, anyBelow-elim, le-or-lt, eq-or-ne}
+use Rattle.subsumption.proofs.Bools.{or-false, or-skip, last-cases, any_below-intro, any_below-elim, le-or-lt, eq-or-ne}
 use Rattle.subsumption.proofs.Refusals.{both-done, done-if, passed_first, passed-second, passed-if, passed-at, no-fault}
-use Rattle.renumbering.specs.Order.{newId, stood, orderFault, place_of, places_of, inverse, movedIds, composed}
+use Rattle.renumbering.specs.Order.{new_id, stood, order_fault, place_of, places_of, inverse, moved_ids, composed}
 use Rattle.renumbering.specs.Inner.Order.{Arranges}
 
 -- ---- A map of the numbers below n into themselves that sends no two to one is onto: without its last number it still is such a map, once
@@ -76,20 +76,20 @@ onto (suc n) f low apart k h =
 
 -- ---- check 21
 module _ (count : ℕ) (order : List ℕ) where
-  module _ (h : orderFault count order ≡ Done) where
+  module _ (h : order_fault count order ≡ Done) where
     order-long : length order ≡ count
-    unfolding orderFault
+    unfolding order_fault
     order-long = eqb-true _ _ (not-false _ (passed-if _ _ (passed-second _ _ h)))
 
-    order-at : (m : ℕ) → m < length order → or (not (ltb (newId order m) count)) (stood order m) ≡ false
-    unfolding orderFault
-    order-at m l = passed-at _ (λ m. or (not (ltb (newId order m) count)) (stood order m)) 0 _ (passed_first _ _ h) m (omega arith) (omega arith)
+    order-at : (m : ℕ) → m < length order → or (not (ltb (new_id order m) count)) (stood order m) ≡ false
+    unfolding order_fault
+    order-at m l = passed-at _ (λ m. or (not (ltb (new_id order m) count)) (stood order m)) 0 _ (passed_first _ _ h) m (omega arith) (omega arith)
 
-    order-before : (i j : ℕ) → i < j → j < length order → newId order i ≡ newId order j → ⊥
+    order-before : (i j : ℕ) → i < j → j < length order → new_id order i ≡ new_id order j → ⊥
     unfolding stood
     order-before i j l k e =
         true≢false
-        (sym (anyBelow-intro j (λ n. eqb (newId order n) (newId order j)) i l (eq-eqb _ _ e)) ∙ (or-false _ _ (order-at j k)).1)
+        (sym (any_below-intro j (λ n. eqb (new_id order n) (new_id order j)) i l (eq-eqb _ _ e)) ∙ (or-false _ _ (order-at j k)).1)
 
     pub order-arranges : Arranges count order
     order-arranges =
@@ -106,31 +106,31 @@ module _ (count : ℕ) (order : List ℕ) where
     not-stood : (m : ℕ) → m < length order → (b : Bool) → stood order m ≡ b → b ≡ false
     unfolding stood
     not-stood m l true e =
-        let (i, k, q) = anyBelow-elim m (λ n. eqb (newId order n) (newId order m)) e in
+        let (i, k, q) = any_below-elim m (λ n. eqb (new_id order n) (new_id order m)) e in
         let z = A.apart i m (omega (arith, A.long)) (omega (arith, A.long)) (eqb-true _ _ q) in
         absurd (omega arith)
     not-stood m l false e = refl
 
-    order-sound : (m : ℕ) → m < length order → or (not (ltb (newId order m) count)) (stood order m) ≡ false
+    order-sound : (m : ℕ) → m < length order → or (not (ltb (new_id order m) count)) (stood order m) ≡ false
     order-sound m l = or-skip _ _ (ap not (lt-ltb _ _ (A.low m (omega (arith, A.long))))) ∙ not-stood m l (stood order m) refl
 
-    pub arranges-order : orderFault count order ≡ Done
-    unfolding orderFault
+    pub arranges-order : order_fault count order ≡ Done
+    unfolding order_fault
     arranges-order =
         sym
-        (both-done Done _ Done _ (no-fault _ (λ m. or (not (ltb (newId order m) count)) (stood order m)) 0 (length order) (λ m l. order-sound m (omega arith)))
+        (both-done Done _ Done _ (no-fault _ (λ m. or (not (ltb (new_id order m) count)) (stood order m)) 0 (length order) (λ m l. order-sound m (omega arith)))
         refl (done-if _ _ (ap not (eq-eqb _ _ A.long))) refl)
 
 -- ---- the place of a new id
-place_found : (order : List ℕ) (k i : ℕ) → i < length order → newId order i ≡ k → (place_of k order < length order) × (newId order (place_of k order) ≡ k)
+place_found : (order : List ℕ) (k i : ℕ) → i < length order → new_id order i ≡ k → (place_of k order < length order) × (new_id order (place_of k order) ≡ k)
 unfolding place_of
 place_found [] k i l e = absurd (omega arith)
 place_found (x ∷ xs) k zero l e = rw (eq-eqb x k e) (omega arith, e)
 place_found (x ∷ xs) k (suc i) l e = step (place_found xs k i (omega arith) e) (eqb x k) refl
   where
     step :
-        (place_of k xs < length xs) × (newId xs (place_of k xs) ≡ k) → (b : Bool) → eqb x k ≡ b
-        → (place_of k (x ∷ xs) < length (x ∷ xs)) × (newId (x ∷ xs) (place_of k (x ∷ xs)) ≡ k)
+        (place_of k xs < length xs) × (new_id xs (place_of k xs) ≡ k) → (b : Bool) → eqb x k ≡ b
+        → (place_of k (x ∷ xs) < length (x ∷ xs)) × (new_id (x ∷ xs) (place_of k (x ∷ xs)) ≡ k)
     step s true e = rw e (omega arith, eqb-true x k e)
     step s false e = rw e (omega (arith, s.0), s.1)
 
@@ -150,32 +150,32 @@ pub inverse-length : (order : List ℕ) → length (inverse order) ≡ length or
 unfolding inverse
 inverse-length order = places-length order 0 (length order)
 
-pub inverse-at : (order : List ℕ) (k : ℕ) → k < length order → newId (inverse order) k ≡ place_of k order
+pub inverse-at : (order : List ℕ) (k : ℕ) → k < length order → new_id (inverse order) k ≡ place_of k order
 unfolding inverse
 inverse-at order k l = places-at order 0 (length order) k l ∙ ap (λ (z : ℕ). place_of z order) (omega arith)
 
-pub moved_length : (order ids : List ℕ) → length (movedIds order ids) ≡ length ids
-unfolding movedIds
+pub moved_length : (order ids : List ℕ) → length (moved_ids order ids) ≡ length ids
+unfolding moved_ids
 moved_length order [] = refl
 moved_length order (i ∷ ids) = ap suc (moved_length order ids)
 
-pub moved_at : (order ids : List ℕ) (p : ℕ) → p < length ids → get_or (movedIds order ids) p 0 ≡ newId order (get_or ids p 0)
-unfolding movedIds
+pub moved_at : (order ids : List ℕ) (p : ℕ) → p < length ids → get_or (moved_ids order ids) p 0 ≡ new_id order (get_or ids p 0)
+unfolding moved_ids
 moved_at order [] p l = absurd (omega arith)
 moved_at order (i ∷ ids) zero l = refl
 moved_at order (i ∷ ids) (suc p) l = moved_at order ids p (omega arith)
 
 module _ (count : ℕ) (order : List ℕ) (A : Arranges count order) where
-  pub place-of : (k : ℕ) → k < count → (place_of k order < count) × (newId order (place_of k order) ≡ k)
+  pub place-of : (k : ℕ) → k < count → (place_of k order < count) × (new_id order (place_of k order) ≡ k)
   place-of k l =
-      let (i, h, e) = onto count (newId order) A.low A.apart k l in
+      let (i, h, e) = onto count (new_id order) A.low A.apart k l in
       let (u, v) = place_found order k i (omega (arith, A.long)) e in
       (omega (arith, A.long), v)
 
-  pub of-place : (i : ℕ) → i < count → place_of (newId order i) order ≡ i
-  of-place i l = let (u, v) = place-of (newId order i) (A.low i l) in A.apart _ i u l v
+  pub of-place : (i : ℕ) → i < count → place_of (new_id order i) order ≡ i
+  of-place i l = let (u, v) = place-of (new_id order i) (A.low i l) in A.apart _ i u l v
 
-  pub inverse-new : (k : ℕ) → k < count → newId (inverse order) k ≡ place_of k order
+  pub inverse-new : (k : ℕ) → k < count → new_id (inverse order) k ≡ place_of k order
   inverse-new k l = inverse-at order k (omega (arith, A.long))
 
   pub inverse-arranges : Arranges count (inverse order)
@@ -184,22 +184,22 @@ module _ (count : ℕ) (order : List ℕ) (A : Arranges count order) where
         long = inverse-length order ∙ A.long;
         low = λ k l. omega (arith, inverse-new k l, (place-of k l).0);
         apart = λ k m l h e.
-            sym (place-of k l).1 ∙ ap (newId order) (sym (inverse-new k l) ∙ e ∙ inverse-new m h) ∙ (place-of m h).1;
+            sym (place-of k l).1 ∙ ap (new_id order) (sym (inverse-new k l) ∙ e ∙ inverse-new m h) ∙ (place-of m h).1;
       }
 
   -- the list that leads back leads back
-  pub back-there : (i : ℕ) → i < count → newId (inverse order) (newId order i) ≡ i
-  back-there i l = inverse-new (newId order i) (A.low i l) ∙ of-place i l
+  pub back-there : (i : ℕ) → i < count → new_id (inverse order) (new_id order i) ≡ i
+  back-there i l = inverse-new (new_id order i) (A.low i l) ∙ of-place i l
 
-  pub there_back : (k : ℕ) → k < count → newId order (newId (inverse order) k) ≡ k
-  there_back k l = ap (newId order) (inverse-new k l) ∙ (place-of k l).1
+  pub there_back : (k : ℕ) → k < count → new_id order (new_id (inverse order) k) ≡ k
+  there_back k l = ap (new_id order) (inverse-new k l) ∙ (place-of k l).1
 
 module _ (count : ℕ) (order : List ℕ) (A : Arranges count order) where
   -- the place in the list that leads back is the new id
-  pub place-inverse : (i : ℕ) → i < count → place_of i (inverse order) ≡ newId order i
+  pub place-inverse : (i : ℕ) → i < count → place_of i (inverse order) ≡ new_id order i
   place-inverse i l =
       ap (λ (z : ℕ). place_of z (inverse order)) (sym (back-there count order A i l))
-      ∙ of-place count (inverse order) (inverse-arranges count order A) (newId order i) (A.low i l)
+      ∙ of-place count (inverse order) (inverse-arranges count order A) (new_id order i) (A.low i l)
 
   pub inverse-inverse : inverse (inverse order) ≡ order
   inverse-inverse =
@@ -209,7 +209,7 @@ module _ (count : ℕ) (order : List ℕ) (A : Arranges count order) where
       inverse-new count (inverse order) (inverse-arranges count order A) i h ∙ place-inverse i h)
 
 module _ (count : ℕ) (order next : List ℕ) (A : Arranges count order) (B : Arranges count next) where
-  pub composed-new : (i : ℕ) → i < count → newId (composed order next) i ≡ newId next (newId order i)
+  pub composed-new : (i : ℕ) → i < count → new_id (composed order next) i ≡ new_id next (new_id order i)
   unfolding composed
   composed-new i l = moved_at next order i (omega (arith, A.long))
 
@@ -221,9 +221,9 @@ module _ (count : ℕ) (order next : List ℕ) (A : Arranges count order) (B : A
   composed-arranges =
       record {
         long = composed-long;
-        low = λ i l. omega (arith, composed-new i l, B.low (newId order i) (A.low i l));
+        low = λ i l. omega (arith, composed-new i l, B.low (new_id order i) (A.low i l));
         apart = λ i j l k e.
-            A.apart i j l k (B.apart (newId order i) (newId order j) (A.low i l) (A.low j k) (sym (composed-new i l) ∙ e ∙ composed-new j k));
+            A.apart i j l k (B.apart (new_id order i) (new_id order j) (A.low i l) (A.low j k) (sym (composed-new i l) ∙ e ∙ composed-new j k));
       }
 
 module _ (count : ℕ) (order next : List ℕ) (A : Arranges count order) (B : Arranges count next) where
@@ -231,5 +231,5 @@ module _ (count : ℕ) (order next : List ℕ) (A : Arranges count order) (B : A
   place-composed k l =
       let (u, v) = place-of count next B k l in
       let (p, q) = place-of count order A (place_of k next) u in
-      ap (λ (z : ℕ). place_of z (composed order next)) (sym (composed-new count order next A B _ p ∙ ap (newId next) q ∙ v))
+      ap (λ (z : ℕ). place_of z (composed order next)) (sym (composed-new count order next A B _ p ∙ ap (new_id next) q ∙ v))
       ∙ of-place count (composed order next) (composed-arranges count order next A B) (place_of (place_of k next) order) p

@@ -16,8 +16,8 @@ use Rattle.subsumption.proofs.Bools.{or_cases, eq-or-ne}
 use Rattle.subsumption.proofs.Refusals.{no-fault}
 use Rattle.subsumption.proofs.Nodes.{node-exists, node-and}
 use Rattle.subsumption.proofs.Trees.{inner-exists, inner-and}
-use Rattle.renumbering.specs.Order.{newId, orderFault, place_of, inverse, composed}
-use Rattle.renumbering.specs.Renumbering.{movedField, movedFirst, movedSecond, movedNode, risingFault, movedConcepts, renumbered}
+use Rattle.renumbering.specs.Order.{new_id, order_fault, place_of, inverse, composed}
+use Rattle.renumbering.specs.Renumbering.{moved_field, moved_first, moved_second, moved_node, rising_fault, moved_concepts, renumbered}
 use Rattle.renumbering.specs.Inner.Order.{Arranges}
 use Rattle.renumbering.specs.Laws.{Renumberable, Restored, Composes}
 use Rattle.renumbering.proofs.OrderLaws.{arranges-order, place-of, of-place, inverse-new, inverse-arranges, place-inverse, back-there, composed-new, composed-arranges, place-composed}
@@ -26,15 +26,15 @@ use Rattle.renumbering.proofs.AcceptedLaws.{renumbered-accepted}
 use Rattle.renumbering.proofs.TreeLaws.{moved-long, moved-count, moved-kind, moved-first, moved-second, arranged, well, rising-forward, rising-moved}
 
 -- ---- the numbers of a row, renumbered and then renumbered again
-field_back : (order back : List ℕ) (inner : Bool) (x : ℕ) → (inner ≡ true → newId back (newId order x) ≡ x) → movedField back inner (movedField order inner x) ≡ x
-unfolding movedField
+field_back : (order back : List ℕ) (inner : Bool) (x : ℕ) → (inner ≡ true → new_id back (new_id order x) ≡ x) → moved_field back inner (moved_field order inner x) ≡ x
+unfolding moved_field
 field_back order back true x h = h refl
 field_back order back false x h = refl
 
 field-twice :
-    (order next whole : List ℕ) (inner : Bool) (x : ℕ) → (inner ≡ true → newId whole x ≡ newId next (newId order x))
-    → movedField next inner (movedField order inner x) ≡ movedField whole inner x
-unfolding movedField
+    (order next whole : List ℕ) (inner : Bool) (x : ℕ) → (inner ≡ true → new_id whole x ≡ new_id next (new_id order x))
+    → moved_field next inner (moved_field order inner x) ≡ moved_field whole inner x
+unfolding moved_field
 field-twice order next whole true x h = sym (h refl)
 field-twice order next whole false x h = refl
 
@@ -43,35 +43,35 @@ module _ (t : Tables) (order : List ℕ) (R : Renumberable t order) where
   cs = t.concepts
 
   abbrev new : List ℕ
-  new = movedConcepts order cs
+  new = moved_concepts order cs
 
   A : Arranges (count_of cs) order
   A = arranged t order R
 
-  placed : (i : ℕ) → i < count_of cs → place_of (newId order i) order ≡ i
+  placed : (i : ℕ) → i < count_of cs → place_of (new_id order i) order ≡ i
   placed = of-place (count_of cs) order A
 
-  kind-again : (i : ℕ) → i < count_of cs → get_or new (newId order i * 3) 0 ≡ get_or cs (i * 3) 0
-  kind-again i l = moved-kind order cs (newId order i) (A.low i l) ∙ ap (λ (z : ℕ). get_or cs (z * 3) 0) (placed i l)
+  kind-again : (i : ℕ) → i < count_of cs → get_or new (new_id order i * 3) 0 ≡ get_or cs (i * 3) 0
+  kind-again i l = moved-kind order cs (new_id order i) (A.low i l) ∙ ap (λ (z : ℕ). get_or cs (z * 3) 0) (placed i l)
 
   first-again :
       (next : List ℕ) (i : ℕ) → i < count_of cs
-      → movedFirst next new (newId order i)
-      ≡ movedField next (eqb (get_or cs (i * 3) 0) 3) (movedField order (eqb (get_or cs (i * 3) 0) 3) (get_or cs (i * 3 + 1) 0))
-  unfolding movedFirst
+      → moved_first next new (new_id order i)
+      ≡ moved_field next (eqb (get_or cs (i * 3) 0) 3) (moved_field order (eqb (get_or cs (i * 3) 0) 3) (get_or cs (i * 3 + 1) 0))
+  unfolding moved_first
   first-again next i l =
-      ap₂ (λ (kind a : ℕ). movedField next (eqb kind 3) a) (kind-again i l)
-      (moved-first order cs (newId order i) (A.low i l) ∙ ap (movedFirst order cs) (placed i l))
+      ap₂ (λ (kind a : ℕ). moved_field next (eqb kind 3) a) (kind-again i l)
+      (moved-first order cs (new_id order i) (A.low i l) ∙ ap (moved_first order cs) (placed i l))
 
   second-again :
       (next : List ℕ) (i : ℕ) → i < count_of cs
-      → movedSecond next new (newId order i)
-      ≡ movedField next (or (eqb (get_or cs (i * 3) 0) 2) (eqb (get_or cs (i * 3) 0) 3))
-      (movedField order (or (eqb (get_or cs (i * 3) 0) 2) (eqb (get_or cs (i * 3) 0) 3)) (get_or cs (i * 3 + 2) 0))
-  unfolding movedSecond
+      → moved_second next new (new_id order i)
+      ≡ moved_field next (or (eqb (get_or cs (i * 3) 0) 2) (eqb (get_or cs (i * 3) 0) 3))
+      (moved_field order (or (eqb (get_or cs (i * 3) 0) 2) (eqb (get_or cs (i * 3) 0) 3)) (get_or cs (i * 3 + 2) 0))
+  unfolding moved_second
   second-again next i l =
-      ap₂ (λ (kind b : ℕ). movedField next (or (eqb kind 2) (eqb kind 3)) b) (kind-again i l)
-      (moved-second order cs (newId order i) (A.low i l) ∙ ap (movedSecond order cs) (placed i l))
+      ap₂ (λ (kind b : ℕ). moved_field next (or (eqb kind 2) (eqb kind 3)) b) (kind-again i l)
+      (moved-second order cs (new_id order i) (A.low i l) ∙ ap (moved_second order cs) (placed i l))
 
   -- inner ids are ids
   first-known : (i : ℕ) → i < count_of cs → eqb (get_or cs (i * 3) 0) 3 ≡ true → get_or cs (i * 3 + 1) 0 < count_of cs
@@ -108,54 +108,54 @@ same_tables t concepts inclusions questions e f g =
 
 -- ---- back
 module _ (t : Tables) (order : List ℕ) (R : Renumberable t order) where
-  first_back : (i : ℕ) → i < count_of t.concepts → movedFirst (inverse order) (movedConcepts order t.concepts) (newId order i) ≡ get_or t.concepts (i * 3 + 1) 0
+  first_back : (i : ℕ) → i < count_of t.concepts → moved_first (inverse order) (moved_concepts order t.concepts) (new_id order i) ≡ get_or t.concepts (i * 3 + 1) 0
   first_back i l =
       first-again t order R (inverse order) i l
       ∙ field_back order (inverse order) _ _ (λ e. back-there (count_of t.concepts) order (arranged t order R) _ (first-known t order R i l e))
 
-  second_back : (i : ℕ) → i < count_of t.concepts → movedSecond (inverse order) (movedConcepts order t.concepts) (newId order i) ≡ get_or t.concepts (i * 3 + 2) 0
+  second_back : (i : ℕ) → i < count_of t.concepts → moved_second (inverse order) (moved_concepts order t.concepts) (new_id order i) ≡ get_or t.concepts (i * 3 + 2) 0
   second_back i l =
       second-again t order R (inverse order) i l
       ∙ field_back order (inverse order) _ _ (λ e. back-there (count_of t.concepts) order (arranged t order R) _ (second-known t order R i l e))
 
-  node-back : (i : ℕ) → i < count_of t.concepts → movedNode (inverse order) (movedConcepts order t.concepts) (newId order i) ≡ node t.concepts i
-  unfolding movedNode node
+  node-back : (i : ℕ) → i < count_of t.concepts → moved_node (inverse order) (moved_concepts order t.concepts) (new_id order i) ≡ node t.concepts i
+  unfolding moved_node node
   node-back i l = rw (kind-again t order R i l, first_back i l, second_back i l) refl
 
-  inverse-place : (i : ℕ) → i < count_of t.concepts → place_of i (inverse order) ≡ newId order i
+  inverse-place : (i : ℕ) → i < count_of t.concepts → place_of i (inverse order) ≡ new_id order i
   inverse-place = place-inverse (count_of t.concepts) order (arranged t order R)
 
-  inverse-listed : orderFault (count_of (movedConcepts order t.concepts)) (inverse order) ≡ Done
+  inverse-listed : order_fault (count_of (moved_concepts order t.concepts)) (inverse order) ≡ Done
   inverse-listed =
-      subst (λ (n : ℕ). orderFault n (inverse order) ≡ Done) (sym (moved-count order t.concepts))
+      subst (λ (n : ℕ). order_fault n (inverse order) ≡ Done) (sym (moved-count order t.concepts))
       (arranges-order _ _ (inverse-arranges (count_of t.concepts) order (arranged t order R)))
 
-  inverse-rising : risingFault (movedConcepts order t.concepts) (inverse order) ≡ Done
-  unfolding risingFault
+  inverse-rising : rising_fault (moved_concepts order t.concepts) (inverse order) ≡ Done
+  unfolding rising_fault
   inverse-rising =
       sym
-      (no-fault _ (λ k. forward (newId (inverse order) k) (movedNode (inverse order) (movedConcepts order t.concepts) k)) 0 _
+      (no-fault _ (λ k. forward (new_id (inverse order) k) (moved_node (inverse order) (moved_concepts order t.concepts) k)) 0 _
       (λ k l.
       let h : k < count_of t.concepts = omega (arith, moved-count order t.concepts) in
       let (u, v) = place-of (count_of t.concepts) order (arranged t order R) k h in
       ap₂ forward (inverse-new (count_of t.concepts) order (arranged t order R) k h)
-      (ap (movedNode (inverse order) (movedConcepts order t.concepts)) (sym v) ∙ node-back (place_of k order) u)
+      (ap (moved_node (inverse order) (moved_concepts order t.concepts)) (sym v) ∙ node-back (place_of k order) u)
       ∙ rising-forward _ _ ((well t order R).rising (place_of k order))))
 
-  concepts-back : movedConcepts (inverse order) (movedConcepts order t.concepts) ≡ t.concepts
+  concepts-back : moved_concepts (inverse order) (moved_concepts order t.concepts) ≡ t.concepts
   concepts-back =
       rows_same (count_of t.concepts) _ _
-      (moved-long (inverse order) (movedConcepts order t.concepts) ∙ ap (λ (n : ℕ). n * 3) (moved-count order t.concepts))
+      (moved-long (inverse order) (moved_concepts order t.concepts) ∙ ap (λ (n : ℕ). n * 3) (moved-count order t.concepts))
       (well t order R).whole
       (λ i l.
-      moved-kind (inverse order) (movedConcepts order t.concepts) i (omega (arith, moved-count order t.concepts))
-      ∙ ap (λ (z : ℕ). get_or (movedConcepts order t.concepts) (z * 3) 0) (inverse-place i l) ∙ kind-again t order R i l)
+      moved-kind (inverse order) (moved_concepts order t.concepts) i (omega (arith, moved-count order t.concepts))
+      ∙ ap (λ (z : ℕ). get_or (moved_concepts order t.concepts) (z * 3) 0) (inverse-place i l) ∙ kind-again t order R i l)
       (λ i l.
-      moved-first (inverse order) (movedConcepts order t.concepts) i (omega (arith, moved-count order t.concepts))
-      ∙ ap (movedFirst (inverse order) (movedConcepts order t.concepts)) (inverse-place i l) ∙ first_back i l)
+      moved-first (inverse order) (moved_concepts order t.concepts) i (omega (arith, moved-count order t.concepts))
+      ∙ ap (moved_first (inverse order) (moved_concepts order t.concepts)) (inverse-place i l) ∙ first_back i l)
       (λ i l.
-      moved-second (inverse order) (movedConcepts order t.concepts) i (omega (arith, moved-count order t.concepts))
-      ∙ ap (movedSecond (inverse order) (movedConcepts order t.concepts)) (inverse-place i l) ∙ second_back i l)
+      moved-second (inverse order) (moved_concepts order t.concepts) i (omega (arith, moved-count order t.concepts))
+      ∙ ap (moved_second (inverse order) (moved_concepts order t.concepts)) (inverse-place i l) ∙ second_back i l)
 
 -- The inverse list restores the tables, number by number.
 pub renumbered-back : (t : Tables) (order : List ℕ) → Renumberable t order → Restored t order
@@ -173,65 +173,65 @@ module _ (t : Tables) (order next : List ℕ) (R : Renumberable t order) (N : Re
   next-arranged : Arranges (count_of t.concepts) next
   next-arranged = subst (λ (n : ℕ). Arranges n next) (moved-count order t.concepts) (arranged (renumbered order t) next N)
 
-  twice-new : (i : ℕ) → i < count_of t.concepts → newId (composed order next) i ≡ newId next (newId order i)
+  twice-new : (i : ℕ) → i < count_of t.concepts → new_id (composed order next) i ≡ new_id next (new_id order i)
   twice-new = composed-new (count_of t.concepts) order next (arranged t order R) next-arranged
 
-  first-twice : (i : ℕ) → i < count_of t.concepts → movedFirst next (movedConcepts order t.concepts) (newId order i) ≡ movedFirst (composed order next) t.concepts i
-  unfolding movedFirst
+  first-twice : (i : ℕ) → i < count_of t.concepts → moved_first next (moved_concepts order t.concepts) (new_id order i) ≡ moved_first (composed order next) t.concepts i
+  unfolding moved_first
   first-twice i l = first-again t order R next i l ∙ field-twice order next (composed order next) _ _ (λ e. twice-new _ (first-known t order R i l e))
 
-  second-twice : (i : ℕ) → i < count_of t.concepts → movedSecond next (movedConcepts order t.concepts) (newId order i) ≡ movedSecond (composed order next) t.concepts i
-  unfolding movedSecond
+  second-twice : (i : ℕ) → i < count_of t.concepts → moved_second next (moved_concepts order t.concepts) (new_id order i) ≡ moved_second (composed order next) t.concepts i
+  unfolding moved_second
   second-twice i l = second-again t order R next i l ∙ field-twice order next (composed order next) _ _ (λ e. twice-new _ (second-known t order R i l e))
 
-  node-twice : (i : ℕ) → i < count_of t.concepts → movedNode next (movedConcepts order t.concepts) (newId order i) ≡ movedNode (composed order next) t.concepts i
-  unfolding movedNode
+  node-twice : (i : ℕ) → i < count_of t.concepts → moved_node next (moved_concepts order t.concepts) (new_id order i) ≡ moved_node (composed order next) t.concepts i
+  unfolding moved_node
   node-twice i l = rw (kind-again t order R i l, first-twice i l, second-twice i l) refl
 
-  twice-rising : risingFault t.concepts (composed order next) ≡ Done
-  unfolding risingFault
+  twice-rising : rising_fault t.concepts (composed order next) ≡ Done
+  unfolding rising_fault
   twice-rising =
       sym
-      (no-fault _ (λ i. forward (newId (composed order next) i) (movedNode (composed order next) t.concepts i)) 0 _
+      (no-fault _ (λ i. forward (new_id (composed order next) i) (moved_node (composed order next) t.concepts i)) 0 _
       (λ i l.
       let h : i < count_of t.concepts = omega arith in
       ap₂ forward (twice-new i h) (sym (node-twice i h))
-      ∙ rising-forward _ _ (rising-moved (renumbered order t) next N (newId order i) (omega (arith, (arranged t order R).low i h, moved-count order t.concepts)))))
+      ∙ rising-forward _ _ (rising-moved (renumbered order t) next N (new_id order i) (omega (arith, (arranged t order R).low i h, moved-count order t.concepts)))))
 
   module _ (k : ℕ) (l : k < count_of t.concepts) where
     place-next : place_of k next < count_of t.concepts
     place-next = (place-of (count_of t.concepts) next next-arranged k l).0
 
     -- the old id, two lists back
-    place-whole : (place_of (place_of k next) order < count_of t.concepts) × (newId order (place_of (place_of k next) order) ≡ place_of k next)
+    place-whole : (place_of (place_of k next) order < count_of t.concepts) × (new_id order (place_of (place_of k next) order) ≡ place_of k next)
     place-whole = place-of (count_of t.concepts) order (arranged t order R) (place_of k next) place-next
 
     place_twice : place_of (place_of k next) order ≡ place_of k (composed order next)
     place_twice = sym (place-composed (count_of t.concepts) order next (arranged t order R) next-arranged k l)
 
-    in-new : k < count_of (movedConcepts order t.concepts)
+    in-new : k < count_of (moved_concepts order t.concepts)
     in-new = omega (arith, moved-count order t.concepts)
 
     -- what each row has at its old id, it has at the new one
-    along : (f g : ℕ → ℕ) → ((i : ℕ) → i < count_of t.concepts → f (newId order i) ≡ g i) → f (place_of k next) ≡ g (place_of k (composed order next))
+    along : (f g : ℕ → ℕ) → ((i : ℕ) → i < count_of t.concepts → f (new_id order i) ≡ g i) → f (place_of k next) ≡ g (place_of k (composed order next))
     along f g h = ap f (sym place-whole.1) ∙ h (place_of (place_of k next) order) place-whole.0 ∙ ap g place_twice
 
-  concepts-twice : movedConcepts next (movedConcepts order t.concepts) ≡ movedConcepts (composed order next) t.concepts
+  concepts-twice : moved_concepts next (moved_concepts order t.concepts) ≡ moved_concepts (composed order next) t.concepts
   concepts-twice =
       rows_same (count_of t.concepts) _ _
-      (moved-long next (movedConcepts order t.concepts) ∙ ap (λ (n : ℕ). n * 3) (moved-count order t.concepts))
+      (moved-long next (moved_concepts order t.concepts) ∙ ap (λ (n : ℕ). n * 3) (moved-count order t.concepts))
       (moved-long (composed order next) t.concepts)
       (λ k l.
-      moved-kind next (movedConcepts order t.concepts) k (in-new k l)
-      ∙ along k l (λ z. get_or (movedConcepts order t.concepts) (z * 3) 0) (λ z. get_or t.concepts (z * 3) 0) (kind-again t order R)
+      moved-kind next (moved_concepts order t.concepts) k (in-new k l)
+      ∙ along k l (λ z. get_or (moved_concepts order t.concepts) (z * 3) 0) (λ z. get_or t.concepts (z * 3) 0) (kind-again t order R)
       ∙ sym (moved-kind (composed order next) t.concepts k l))
       (λ k l.
-      moved-first next (movedConcepts order t.concepts) k (in-new k l)
-      ∙ along k l (movedFirst next (movedConcepts order t.concepts)) (movedFirst (composed order next) t.concepts) first-twice
+      moved-first next (moved_concepts order t.concepts) k (in-new k l)
+      ∙ along k l (moved_first next (moved_concepts order t.concepts)) (moved_first (composed order next) t.concepts) first-twice
       ∙ sym (moved-first (composed order next) t.concepts k l))
       (λ k l.
-      moved-second next (movedConcepts order t.concepts) k (in-new k l)
-      ∙ along k l (movedSecond next (movedConcepts order t.concepts)) (movedSecond (composed order next) t.concepts) second-twice
+      moved-second next (moved_concepts order t.concepts) k (in-new k l)
+      ∙ along k l (moved_second next (moved_concepts order t.concepts)) (moved_second (composed order next) t.concepts) second-twice
       ∙ sym (moved-second (composed order next) t.concepts k l))
 
 -- One renumbering after another is the composed one.

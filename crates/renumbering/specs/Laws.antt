@@ -5,17 +5,17 @@ use Rattle.subsumption.specs.declared.refusal.Outcome.TheVariants.{Done}
 use Rattle.subsumption.specs.Tables.{Tables, count_of, tree}
 use Rattle.subsumption.specs.Atoms.{chosen}
 use Rattle.subsumption.specs.Subsumption.{Subsumed}
-use Rattle.subsumption.specs.Check.{tableFault}
+use Rattle.subsumption.specs.Check.{table_fault}
 use Rattle.subsumption.specs.Table.{marked}
 use Rattle.matching.specs.Twins.{FilledNow}
-use Rattle.renumbering.specs.Order.{newId, orderFault, inverse, composed}
-use Rattle.renumbering.specs.Renumbering.{risingFault, renumbered}
+use Rattle.renumbering.specs.Order.{new_id, order_fault, inverse, composed}
+use Rattle.renumbering.specs.Renumbering.{rising_fault, renumbered}
 
 -- The tables are accepted, and the list passes its own checks.
 pub record Renumberable (t : Tables) (order : List ℕ) : Type 0 where
-  pub accepted : tableFault t ≡ Done
-  pub listed : orderFault (count_of t.concepts) order ≡ Done
-  pub rising : risingFault t.concepts order ≡ Done
+  pub accepted : table_fault t ≡ Done
+  pub listed : order_fault (count_of t.concepts) order ≡ Done
+  pub rising : rising_fault t.concepts order ≡ Done
 
 -- The inverse renumbering restores the tables exactly.
 pub record Restored (t : Tables) (order : List ℕ) : Type 0 where
@@ -40,11 +40,11 @@ pub record SameConcepts (t : Tables) (assignment : List ℕ) (t' : Tables) (assi
 abbrev pub MovedBelow : Tables → List ℕ → List ℕ → List ℕ → Type 0
 MovedBelow t order assignment assignment' =
     (i j : ℕ) → i < count_of t.concepts → j < count_of t.concepts
-    → Subsumed t assignment i j ↔ Subsumed (renumbered order t) assignment' (newId order i) (newId order j)
+    → Subsumed t assignment i j ↔ Subsumed (renumbered order t) assignment' (new_id order i) (new_id order j)
 
 abbrev pub MovedMarks : Tables → List ℕ → List ℕ → List ℕ → Type 0
 MovedMarks t order old new =
-    (i j : ℕ) → i < count_of t.concepts → j < count_of t.concepts → marked new (newId order i) (newId order j) ≡ marked old i j
+    (i j : ℕ) → i < count_of t.concepts → j < count_of t.concepts → marked new (new_id order i) (new_id order j) ≡ marked old i j
 
 -- To each filling there is one of the renumbered tables, of the same concepts.
 abbrev pub FillsAlike : Tables → Tables → Type 0

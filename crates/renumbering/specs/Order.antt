@@ -2,22 +2,22 @@
 use Rattle.std.specs.Prelude.{ℕ, zero, suc, List, [], ◌∷◌, Bool, true, false, not, eqb, ltb, length, get_or}
 use Rattle.subsumption.specs.declared.refusal.Refusal.TheVariants.{BadOrder}
 use Rattle.subsumption.specs.declared.refusal.Outcome.{Outcome}
-use Rattle.subsumption.specs.Tables.{or, anyBelow}
-use Rattle.subsumption.specs.Refusal.{or_else, refuseIf, first_at}
+use Rattle.subsumption.specs.Tables.{or, any_below}
+use Rattle.subsumption.specs.Refusal.{or_else, refuse_if, first_at}
 
 -- The new id of an id.
-abbrev pub newId : List ℕ → ℕ → ℕ
-newId order i = get_or order i 0
+abbrev pub new_id : List ℕ → ℕ → ℕ
+new_id order i = get_or order i 0
 
 -- The number at place m stood before it.
 unfoldable pub stood : List ℕ → ℕ → Bool
-stood order m = anyBelow m (λ n. eqb (newId order n) (newId order m))
+stood order m = any_below m (λ n. eqb (new_id order n) (new_id order m))
 
 -- Check 21: the first number that is no id or stood before; where only that is wrong, the length.
-unfoldable pub orderFault : ℕ → List ℕ → Outcome
-orderFault count order =
-    or_else (first_at BadOrder (λ m. or (not (ltb (newId order m) count)) (stood order m)) 0 (length order))
-    (refuseIf (not (eqb (length order) count)) (BadOrder (length order)))
+unfoldable pub order_fault : ℕ → List ℕ → Outcome
+order_fault count order =
+    or_else (first_at BadOrder (λ m. or (not (ltb (new_id order m) count)) (stood order m)) 0 (length order))
+    (refuse_if (not (eqb (length order) count)) (BadOrder (length order)))
 
 -- The old id of a new one: its place in the list.
 unfoldable pub place_of : ℕ → List ℕ → ℕ
@@ -38,10 +38,10 @@ unfoldable pub inverse : List ℕ → List ℕ
 inverse order = places_of order 0 (length order)
 
 -- Each id of a list is replaced by its new one.
-unfoldable pub movedIds : List ℕ → List ℕ → List ℕ
-movedIds order [] = []
-movedIds order (i ∷ ids) = newId order i ∷ movedIds order ids
+unfoldable pub moved_ids : List ℕ → List ℕ → List ℕ
+moved_ids order [] = []
+moved_ids order (i ∷ ids) = new_id order i ∷ moved_ids order ids
 
 -- One list after another, as one.
 unfoldable pub composed : List ℕ → List ℕ → List ℕ
-composed order next = movedIds next order
+composed order next = moved_ids next order

@@ -6,39 +6,39 @@ use Rattle.subsumption.specs.declared.refusal.Outcome.{Outcome}
 use Rattle.subsumption.specs.Tables.{Tables, tables, or, Node, decode, count_of}
 use Rattle.subsumption.specs.Refusal.{first_at}
 use Rattle.subsumption.specs.Check.{forward}
-use Rattle.renumbering.specs.Order.{newId, place_of, movedIds}
+use Rattle.renumbering.specs.Order.{new_id, place_of, moved_ids}
 
-unfoldable pub movedField : List ℕ → Bool → ℕ → ℕ
-movedField order true i = newId order i
-movedField order false x = x
+unfoldable pub moved_field : List ℕ → Bool → ℕ → ℕ
+moved_field order true i = new_id order i
+moved_field order false x = x
 
 -- Inner ids are the second field of "some" (kind 2) and both fields of "and" (kind 3).
-unfoldable pub movedFirst : List ℕ → List ℕ → ℕ → ℕ
-movedFirst order concepts i = movedField order (eqb (get_or concepts (i * 3) 0) 3) (get_or concepts (i * 3 + 1) 0)
+unfoldable pub moved_first : List ℕ → List ℕ → ℕ → ℕ
+moved_first order concepts i = moved_field order (eqb (get_or concepts (i * 3) 0) 3) (get_or concepts (i * 3 + 1) 0)
 
-unfoldable pub movedSecond : List ℕ → List ℕ → ℕ → ℕ
-movedSecond order concepts i =
-    movedField order (or (eqb (get_or concepts (i * 3) 0) 2) (eqb (get_or concepts (i * 3) 0) 3)) (get_or concepts (i * 3 + 2) 0)
+unfoldable pub moved_second : List ℕ → List ℕ → ℕ → ℕ
+moved_second order concepts i =
+    moved_field order (or (eqb (get_or concepts (i * 3) 0) 2) (eqb (get_or concepts (i * 3) 0) 3)) (get_or concepts (i * 3 + 2) 0)
 
 -- The row of the id i, its inner ids replaced: as three numbers, and as a node.
 unfoldable pub moved_row : List ℕ → List ℕ → ℕ → List ℕ
-moved_row order concepts i = get_or concepts (i * 3) 0 ∷ movedFirst order concepts i ∷ movedSecond order concepts i ∷ []
+moved_row order concepts i = get_or concepts (i * 3) 0 ∷ moved_first order concepts i ∷ moved_second order concepts i ∷ []
 
-unfoldable pub movedNode : List ℕ → List ℕ → ℕ → Node
-movedNode order concepts i = decode (get_or concepts (i * 3) 0) (movedFirst order concepts i) (movedSecond order concepts i)
+unfoldable pub moved_node : List ℕ → List ℕ → ℕ → Node
+moved_node order concepts i = decode (get_or concepts (i * 3) 0) (moved_first order concepts i) (moved_second order concepts i)
 
 -- Check 22: the lowest old id with an inner id that would not be smaller.
-unfoldable pub risingFault : List ℕ → List ℕ → Outcome
-risingFault concepts order = first_at ForwardInOrder (λ i. forward (newId order i) (movedNode order concepts i)) 0 (count_of concepts)
+unfoldable pub rising_fault : List ℕ → List ℕ → Outcome
+rising_fault concepts order = first_at ForwardInOrder (λ i. forward (new_id order i) (moved_node order concepts i)) 0 (count_of concepts)
 
 -- The rows of the new ids from `from` on, of `count`.
-unfoldable pub movedRows : List ℕ → List ℕ → ℕ → ℕ → List ℕ
-movedRows order concepts from zero = []
-movedRows order concepts from (suc count) = moved_row order concepts (place_of from order) ++ movedRows order concepts (suc from) count
+unfoldable pub moved_rows : List ℕ → List ℕ → ℕ → ℕ → List ℕ
+moved_rows order concepts from zero = []
+moved_rows order concepts from (suc count) = moved_row order concepts (place_of from order) ++ moved_rows order concepts (suc from) count
 
-unfoldable pub movedConcepts : List ℕ → List ℕ → List ℕ
-movedConcepts order concepts = movedRows order concepts 0 (count_of concepts)
+unfoldable pub moved_concepts : List ℕ → List ℕ → List ℕ
+moved_concepts order concepts = moved_rows order concepts 0 (count_of concepts)
 
 abbrev pub renumbered : List ℕ → Tables → Tables
 renumbered order t =
-    tables (movedConcepts order t.concepts) (movedIds order t.inclusions) (movedIds order t.questions) t.roles t.variables
+    tables (moved_concepts order t.concepts) (moved_ids order t.inclusions) (moved_ids order t.questions) t.roles t.variables

@@ -1,12 +1,12 @@
 // Rows and pairs with their ids replaced.
 ghost use Rattle.std.specs.Prelude.{◌≡◌, ◌++◌, ◌≤◌, ◌<◌, length, drop};
-ghost use Rattle.subsumption.specs.Lent.{before, after};
+
 ghost use Rattle.subsumption.specs.Tables.{count_of, decode};
 ghost use Rattle.subsumption.specs.Check.{forward};
-ghost use Rattle.renumbering.specs.Order.{movedIds};
-ghost use Rattle.renumbering.specs.Renumbering.{movedField, movedConcepts, risingFault};
+ghost use Rattle.renumbering.specs.Order.{moved_ids};
+ghost use Rattle.renumbering.specs.Renumbering.{moved_field, moved_concepts, rising_fault};
 ghost use Rattle.renumbering.specs.Inner.Order.{Arranges, LeadsBack};
-ghost use Rattle.renumbering.specs.Inner.Moving.{Known, Inward, movedParts, IdsBelow};
+ghost use Rattle.renumbering.specs.Inner.Moving.{Known, Inward, moved_parts, IdsBelow};
 
 use subsumption::helpers::row_at;
 use subsumption::refusal::{Outcome, Refusal};
@@ -14,7 +14,7 @@ use subsumption::refusal::{Outcome, Refusal};
 // A field of a row: an inner id is replaced.
 fn moved_field(order: &[u16], inner: bool, x: u16) -> u16
     requires { Known order.now inner x }
-    ensures { result ≡ movedField (before order) inner x }
+    ensures { result ≡ moved_field order.now inner x }
 {
     if inner {
         return order[x as usize];
@@ -34,7 +34,7 @@ fn moved_row(concepts: &[u16], order: &[u16], i: usize) -> Moved
     requires inward { Inward concepts.now }
     requires order_len { length order.now ≡ count_of concepts.now }
     requires i_bound { i < count_of concepts.now }
-    ensures { result ≡ movedParts (before order) (before concepts) i }
+    ensures { result ≡ moved_parts order.now concepts.now i }
 {
     let row = row_at(concepts, i);
     let kind = row.kind;
@@ -67,7 +67,7 @@ fn is_forward(own: u16, kind: u16, first: u16, second: u16) -> bool
 pub fn check_rising(concepts: &[u16], order: &[u16]) -> Outcome
     requires inward { Inward concepts.now }
     requires order_len { length order.now ≡ count_of concepts.now }
-    ensures { result ≡ risingFault (before concepts) (before order) }
+    ensures { result ≡ rising_fault concepts.now order.now }
 {
     let count = concepts.len() / 3;
     let mut i: usize = 0;
@@ -89,8 +89,8 @@ pub fn put_rows(concepts: &[u16], order: &[u16], back: &[u16], out: &mut [u16])
     requires order_len { length order.now ≡ count_of concepts.now }
     requires arranges { Arranges (count_of concepts.now) order.now }
     requires leads_back { LeadsBack order.now back.now }
-    ensures { after out ≡ movedConcepts (before order) (before concepts) ++ drop
-        (length (movedConcepts (before order) (before concepts))) (before out) }
+    ensures { out.new ≡ moved_concepts order.now concepts.now ++ drop
+        (length (moved_concepts order.now concepts.now)) out.old }
 {
     let count = concepts.len() / 3;
     let mut k: usize = 0;
@@ -108,8 +108,8 @@ pub fn put_rows(concepts: &[u16], order: &[u16], back: &[u16], out: &mut [u16])
 pub fn put_ids(order: &[u16], ids: &[u16], out: &mut [u16])
     requires ids_below { IdsBelow (length order.now) ids.now }
     requires ids_in_bounds { length ids.now ≤ length out.old }
-    ensures { after out ≡ movedIds (before order) (before ids) ++ drop (length (movedIds (before order) (before ids)))
-        (before out) }
+    ensures { out.new ≡ moved_ids order.now ids.now ++ drop (length (moved_ids order.now ids.now))
+        out.old }
 {
     let mut p: usize = 0;
     while p < ids.len() {

@@ -1,8 +1,7 @@
 // Lists that give each id its new one: their checks, and the list that leads back.
 ghost use Rattle.std.specs.Prelude.{◌≡◌, ◌≤◌, length};
-ghost use Rattle.renumbering.specs.Order.{orderFault};
+ghost use Rattle.renumbering.specs.Order.{order_fault};
 ghost use Rattle.renumbering.specs.Inner.Order.{Arranges, LeadsBack};
-ghost use Rattle.subsumption.specs.Lent.{before, after};
 
 use subsumption::limits::CONCEPTS;
 use subsumption::refusal::{Outcome, Refusal};
@@ -10,7 +9,7 @@ use subsumption::refusal::{Outcome, Refusal};
 // Check 21.
 pub fn check_order(order: &[u16], count: usize) -> Outcome
     requires { count ≤ 192 }
-    ensures { result ≡ orderFault count (before order) }
+    ensures { result ≡ order_fault count order.now }
 {
     let mut seen = [false; CONCEPTS];
     let mut m: usize = 0;
@@ -36,7 +35,7 @@ pub fn invert(order: &[u16], back: &mut [u16])
     requires arranges { Arranges (length order.now) order.now }
     requires order_len_bound { length order.now ≤ 192 }
     requires back_len { length back.old ≡ 192 }
-    ensures { LeadsBack (before order) (after back) }
+    ensures { LeadsBack order.now back.new }
 {
     let mut i: usize = 0;
     while i < order.len() {

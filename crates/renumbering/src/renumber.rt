@@ -1,8 +1,8 @@
 // Renumbering tables into a second set of buffers.
 ghost use Rattle.std.specs.Prelude.{◌≡◌, length};
-ghost use Rattle.subsumption.specs.Lent.{lent, before, after};
-ghost use Rattle.subsumption.specs.Refusal.{replyOf};
-ghost use Rattle.renumbering.specs.Renumber.{renumberingFault, Renumbers};
+ghost use Rattle.subsumption.specs.Lent.{lent};
+ghost use Rattle.subsumption.specs.Refusal.{reply_of};
+ghost use Rattle.renumbering.specs.Renumber.{renumbering_fault, Renumbers};
 
 use crate::moving::{check_rising, put_ids, put_rows};
 use crate::order::{check_order, invert};
@@ -22,8 +22,8 @@ fn check_renumbering(
     inclusions_size: usize,
     questions_size: usize,
 ) -> Outcome
-    ensures { result ≡ renumberingFault (lent concepts inclusions questions roles variables)
-        (before order) concepts_size inclusions_size questions_size }
+    ensures { result ≡ renumbering_fault (lent concepts inclusions questions roles variables)
+        order.now concepts_size inclusions_size questions_size }
 {
     let checked = check_tables(concepts, inclusions, questions, roles, variables);
     if let Outcome::Refused(r) = checked {
@@ -61,9 +61,9 @@ pub fn renumber_tables(
     inclusions_out: &mut [u16],
     questions_out: &mut [u16],
 ) -> Outcome
-    ensures { Renumbers (lent concepts inclusions questions roles variables) (before order) (before concepts_out)
-        (after concepts_out) (before inclusions_out) (after inclusions_out) (before questions_out) (after questions_out)
-        (replyOf result) }
+    ensures { Renumbers (lent concepts inclusions questions roles variables) order.now concepts_out.old
+        concepts_out.new inclusions_out.old inclusions_out.new questions_out.old questions_out.new
+        (reply_of result) }
 {
     let checked = check_renumbering(
         concepts,

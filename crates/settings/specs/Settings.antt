@@ -2,11 +2,11 @@
 use Rattle.std.specs.Prelude.{ℕ, ◌<◌, ◌≤◌, ◌^◌, ◌≡◌, List, Bool, true, not, eqb, ltb, length, get_or}
 use Rattle.subsumption.specs.declared.refusal.Refusal.TheVariants.{BadSettings}
 use Rattle.subsumption.specs.declared.refusal.Outcome.{Outcome}
-use Rattle.subsumption.specs.Lent.{before, Slices}
+use Rattle.subsumption.specs.Lent.{Slices}
 use Rattle.subsumption.specs.Tables.{Tables, or}
 use Rattle.subsumption.specs.Atoms.{atoms, bit}
 use Rattle.subsumption.specs.Table.{counted}
-use Rattle.subsumption.specs.Refusal.{or_else, refuseIf, first_at}
+use Rattle.subsumption.specs.Refusal.{or_else, refuse_if, first_at}
 
 -- For each variable the atoms that it may take, in the bits of a choice, and how many of them at most.
 pub record Settings : Type 0 where
@@ -17,8 +17,8 @@ abbrev pub settings : List ℕ → List ℕ → Settings
 settings permitted largest = record { permitted = permitted; largest = largest }
 
 -- The settings that an operation is lent, as they were at the call.
-abbrev pub lentSettings : Slices → Slices → Settings
-lentSettings permitted largest = settings (before permitted) (before largest)
+abbrev pub lent_settings : Slices → Slices → Settings
+lent_settings permitted largest = settings permitted.entry.now largest.entry.now
 
 -- How many atoms a choice takes.
 unfoldable pub size : ℕ → ℕ
@@ -35,13 +35,13 @@ pub record Unrestricted (t : Tables) (s : Settings) : Type 0 where
   pub most : (k : ℕ) → k < t.variables → get_or s.largest k 0 ≡ 64
 
 -- Check 19: another number of settings than variables, tested first; or a permitted bit past the atoms, or a count over 64.
-unfoldable pub faultyAt : ℕ → Settings → ℕ → Bool
-faultyAt atomCount s k = or (not (ltb (get_or s.permitted k 0) (2 ^ atomCount))) (ltb 64 (get_or s.largest k 0))
+unfoldable pub faulty_at : ℕ → Settings → ℕ → Bool
+faulty_at atomCount s k = or (not (ltb (get_or s.permitted k 0) (2 ^ atomCount))) (ltb 64 (get_or s.largest k 0))
 
-unfoldable pub settingsFaultAt : ℕ → ℕ → Settings → Outcome
-settingsFaultAt atomCount variables s =
-    or_else (refuseIf (or (not (eqb (length s.permitted) variables)) (not (eqb (length s.largest) variables))) (BadSettings variables))
-    (first_at BadSettings (faultyAt atomCount s) 0 variables)
+unfoldable pub settings_fault_at : ℕ → ℕ → Settings → Outcome
+settings_fault_at atomCount variables s =
+    or_else (refuse_if (or (not (eqb (length s.permitted) variables)) (not (eqb (length s.largest) variables))) (BadSettings variables))
+    (first_at BadSettings (faulty_at atomCount s) 0 variables)
 
-unfoldable pub settingsFault : Tables → Settings → Outcome
-settingsFault t s = settingsFaultAt (length (atoms t)) t.variables s
+unfoldable pub settings_fault : Tables → Settings → Outcome
+settings_fault t s = settings_fault_at (length (atoms t)) t.variables s

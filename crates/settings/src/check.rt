@@ -1,8 +1,7 @@
 // The check of settings, and reading them.
 ghost use Rattle.std.specs.Prelude.{◌≡◌, ◌<◌, ◌≤◌, length};
-ghost use Rattle.settings.specs.Settings.{lentSettings, faultyAt, settingsFaultAt};
+ghost use Rattle.settings.specs.Settings.{lent_settings, faulty_at, settings_fault_at};
 ghost use Rattle.settings.specs.Inner.Check.{Loaded};
-ghost use Rattle.subsumption.specs.Lent.{before};
 
 use subsumption::helpers::is_past;
 use subsumption::limits::ATOMS;
@@ -12,7 +11,7 @@ use subsumption::refusal::{Outcome, Refusal};
 fn is_faulty(permitted: &[u64], largest: &[u16], k: usize, atoms: usize) -> bool
     requires atoms_bound { atoms ≤ 64 }
     requires k_in_bounds { (k < length permitted.now) × (k < length largest.now) }
-    ensures { result ≡ faultyAt atoms (lentSettings permitted largest) k }
+    ensures { result ≡ faulty_at atoms (lent_settings permitted largest) k }
 {
     if is_past(permitted[k], atoms) {
         return true;
@@ -23,7 +22,7 @@ fn is_faulty(permitted: &[u64], largest: &[u16], k: usize, atoms: usize) -> bool
 // Check 19, given the number of atoms.
 pub fn check_settings(permitted: &[u64], largest: &[u16], variables: u16, atoms: usize) -> Outcome
     requires { atoms ≤ 64 }
-    ensures { result ≡ settingsFaultAt atoms variables (lentSettings permitted largest) }
+    ensures { result ≡ settings_fault_at atoms variables (lent_settings permitted largest) }
 {
     let count = variables as usize;
     if permitted.len() != count {
@@ -45,7 +44,7 @@ pub fn check_settings(permitted: &[u64], largest: &[u16], variables: u16, atoms:
 // The permitted atoms, none past the variables.
 pub fn load_permitted(permitted: &[u64]) -> [u64; 8]
     requires { length permitted.now ≤ 8 }
-    ensures { Loaded (before permitted) result }
+    ensures { Loaded permitted.now result }
 {
     let mut choice = [0u64; 8];
     let mut k: usize = 0;

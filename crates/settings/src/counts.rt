@@ -4,7 +4,6 @@
 ghost use Rattle.std.specs.Prelude.{◌≡◌, length};
 ghost use Rattle.settings.specs.Settings.{size};
 ghost use Rattle.settings.specs.Inner.Counts.{Counted, Clamped, Unclamped};
-ghost use Rattle.subsumption.specs.Lent.{before};
 
 // How many atoms a choice takes.
 pub fn size_of(choice: u64) -> u32
@@ -16,7 +15,7 @@ pub fn size_of(choice: u64) -> u32
 // Whether no variable takes more than its largest count.
 pub fn is_few(most: &[u16], choice: [u64; 8]) -> bool
     requires { (length most.now ≡ 8) × (length choice ≡ 8) }
-    ensures { Counted (before most) choice result }
+    ensures { Counted most.now choice result }
 {
     let mut k: usize = 0;
     while k < 8 {
@@ -35,7 +34,7 @@ pub fn is_few(most: &[u16], choice: [u64; 8]) -> bool
 // The high side, without what a variable would take past its count.
 pub fn clamp(most: &[u16], low: [u64; 8], high: [u64; 8]) -> [u64; 8]
     requires { (length most.now ≡ 8) × (length low ≡ 8) × (length high ≡ 8) }
-    ensures { Clamped (before most) low high result }
+    ensures { Clamped most.now low high result }
 {
     let mut inner = high;
     let mut k: usize = 0;

@@ -14,11 +14,11 @@ use lib.Bits.{bit_or}
 use borrow.Author.Tests.{lt-ltb, le-ltb}
 use Rattle.subsumption.specs.Tables.{or, both}
 use Rattle.subsumption.specs.Atoms.{bit}
-use Rattle.subsumption.specs.Table.{rowStart, marked}
+use Rattle.subsumption.specs.Table.{row_start, marked}
 use Rattle.subsumption.proofs.Bools.{or-skip, both-skip, both-none, le-or-lt, last-cases}
 use Rattle.subsumption.proofs.Bits.{bit-or, bit-mod, bit_past, bit-shl, bit-shl-low}
 use Rattle.subsumption.proofs.MarkLaws.{shifted}
-use Rattle.square.specs.Inner.Square.{onLine, in_row}
+use Rattle.square.specs.Inner.Square.{on_line, in_row}
 use Rattle.square.specs.Inner.Turning.{Transposed}
 use Rattle.square.specs.Inner.Loading.{WordOf, Masked, known, Loaded, RowLoaded, RowsLoaded}
 use Rattle.square.proofs.BitLaws.{no_bits}
@@ -127,7 +127,7 @@ module _ (bytes : List ℕ) (count i : ℕ) (before : List ℕ) (low : i < 192) 
   word-bit (suc (suc (suc w))) b h l = absurd (omega arith)
 
   pub row_loaded : RowLoaded bytes count i before three
-  unfolding onLine marked rowStart
+  unfolding on_line marked row_start
   row_loaded =
       record {
         long = length-set two (i * 3 + 2) third ∙ length-set one (i * 3 + 1) second ∙ length-set before (i * 3) first;
@@ -160,7 +160,7 @@ module _ (bytes : List ℕ) (count : ℕ) where
   loaded-first s n = record { within = omega arith; long = n; marks = λ i j h. absurd (omega arith) }
 
   pub loaded-more : (n : ℕ) (mid after : List ℕ) → n < count → RowsLoadedTo bytes count n mid → RowLoaded bytes count n mid after → RowsLoadedTo bytes count (n + 1) after
-  unfolding onLine
+  unfolding on_line
   loaded-more n mid after h T R =
       record {
         within = omega arith;
@@ -175,7 +175,7 @@ module _ (bytes : List ℕ) (count : ℕ) where
   loaded-done n after h T = record { long = T.long; marks = λ i j l. T.marks i j (omega arith) }
 
   pub loaded : (before after : List ℕ) → count ≤ 192 → RowsLoaded bytes count before → Transposed before after → Loaded count bytes after
-  unfolding onLine
+  unfolding on_line
   loaded before after few R T =
       record {
         whole =

@@ -13,7 +13,7 @@ use Rattle.subsumption.specs.Atoms.{bit}
 use Rattle.subsumption.proofs.Bools.{eq-or-ne}
 use Rattle.subsumption.proofs.Bits.{bit-and, bit-or-cases, bit_or_left, bit_or_right, bit-pow, bit-pow-other}
 use Rattle.subsumption.proofs.MarkLaws.{shifted}
-use Rattle.square.specs.Inner.Square.{onLine}
+use Rattle.square.specs.Inner.Square.{on_line}
 use Rattle.square.specs.Inner.Sets.{Inserted}
 use Rattle.square.proofs.BitLaws.{no_bits}
 
@@ -31,8 +31,8 @@ module _ (before : List ℕ) (at y : ℕ) (low : y < 192) (fits : at + 3 ≤ len
   else : (p : ℕ) → (p ≡ at + y / 64 → ⊥) → get_or after p 0 ≡ get_or before p 0
   else p n = get_or-set_other before (at + y / 64) p word 0 n
 
-  insert-kept : (from q : ℕ) → onLine before from q ≡ true → onLine after from q ≡ true
-  unfolding onLine
+  insert-kept : (from q : ℕ) → on_line before from q ≡ true → on_line after from q ≡ true
+  unfolding on_line
   insert-kept from q u =
       ⊎_elim
       (λ (e : from + q / 64 ≡ at + y / 64).
@@ -40,8 +40,8 @@ module _ (before : List ℕ) (at y : ℕ) (low : y < 192) (fits : at + 3 ≤ len
       (ap (λ (w : ℕ). bit w (q % 64)) here ∙ bit_or_left (get_or before (at + y / 64) 0) (2 ^ (y % 64)) (q % 64) (subst (λ (z : ℕ). bit (get_or before z 0) (q % 64) ≡ true) e u)))
       (λ n. ap (λ (w : ℕ). bit w (q % 64)) (else (from + q / 64) n) ∙ u) (eq-or-ne (from + q / 64) (at + y / 64))
 
-  insert-bits : (q : ℕ) → q < 192 → onLine after at q ≡ true → (onLine before at q ≡ true) ⊎ (q ≡ y)
-  unfolding onLine
+  insert-bits : (q : ℕ) → q < 192 → on_line after at q ≡ true → (on_line before at q ≡ true) ⊎ (q ≡ y)
+  unfolding on_line
   insert-bits q l u =
       ⊎_elim
       (λ (e : at + q / 64 ≡ at + y / 64).
@@ -51,27 +51,27 @@ module _ (before : List ℕ) (at y : ℕ) (low : y < 192) (fits : at + 3 ≤ len
       (ap (λ (w : ℕ). bit w (q % 64)) (sym here) ∙ subst (λ (z : ℕ). bit (get_or after z 0) (q % 64) ≡ true) e u)))
       (λ n. inl (ap (λ (w : ℕ). bit w (q % 64)) (sym (else (at + q / 64) n)) ∙ u)) (eq-or-ne (at + q / 64) (at + y / 64))
 
-  insert-there : (from q : ℕ) → q < 192 → (from + 3 ≤ at) ⊎ (at + 3 ≤ from) → onLine after from q ≡ onLine before from q
-  unfolding onLine
+  insert-there : (from q : ℕ) → q < 192 → (from + 3 ≤ at) ⊎ (at + 3 ≤ from) → on_line after from q ≡ on_line before from q
+  unfolding on_line
   insert-there from q l (inl h) = ap (λ (w : ℕ). bit w (q % 64)) (else (from + q / 64) (λ e. omega arith))
   insert-there from q l (inr h) = ap (λ (w : ℕ). bit w (q % 64)) (else (from + q / 64) (λ e. omega arith))
 
-  insert-taken : onLine after at y ≡ true
-  unfolding onLine
+  insert-taken : on_line after at y ≡ true
+  unfolding on_line
   insert-taken = ap (λ (w : ℕ). bit w (y % 64)) here ∙ bit_or_right (get_or before (at + y / 64) 0) (2 ^ (y % 64)) (y % 64) (bit-pow (y % 64))
 
   pub inserted : Inserted before after at y
   inserted = record { long = length-set before _ word; kept = insert-kept; bits = insert-bits; taken = insert-taken; there = insert-there }
 
 -- sets that hold nothing
-pub empty-line : (n at y : ℕ) → y < 192 → at + 3 ≤ n → onLine (replicate n 0) at y ≡ true → ⊥
-unfolding onLine
+pub empty-line : (n at y : ℕ) → y < 192 → at + 3 ≤ n → on_line (replicate n 0) at y ≡ true → ⊥
+unfolding on_line
 empty-line n at y l h e = false≢true (sym (ap (λ (w : ℕ). bit w (y % 64)) (get_or-replicate n (at + y / 64) 0 0 (omega arith)) ∙ no_bits (y % 64)) ∙ e)
 
 -- ---- three words
 -- three words read from the line at that place are its bits
-pub line-three : (s : List ℕ) (at y : ℕ) → y < 192 → onLine (get_or s at 0 ∷ get_or s (at + 1) 0 ∷ get_or s (at + 2) 0 ∷ []) 0 y ≡ onLine s at y
-unfolding onLine
+pub line-three : (s : List ℕ) (at y : ℕ) → y < 192 → on_line (get_or s at 0 ∷ get_or s (at + 1) 0 ∷ get_or s (at + 2) 0 ∷ []) 0 y ≡ on_line s at y
+unfolding on_line
 line-three s at y l = ap (λ (w : ℕ). bit w (y % 64)) (go (y / 64) (omega arith))
   where
     go : (w : ℕ) → w < 3 → get_or (get_or s at 0 ∷ get_or s (at + 1) 0 ∷ get_or s (at + 2) 0 ∷ []) (0 + w) 0 ≡ get_or s (at + w) 0
@@ -82,9 +82,9 @@ line-three s at y l = ap (λ (w : ℕ). bit w (y % 64)) (go (y / 64) (omega arit
 
 pub both-three :
     (s : List ℕ) (a b y : ℕ) → y < 192
-    → onLine (bit_and (get_or s a 0) (get_or s b 0) ∷ bit_and (get_or s (a + 1) 0) (get_or s (b + 1) 0) ∷ bit_and (get_or s (a + 2) 0) (get_or s (b + 2) 0) ∷ []) 0 y
-    ≡ both (onLine s a y) (onLine s b y)
-unfolding onLine
+    → on_line (bit_and (get_or s a 0) (get_or s b 0) ∷ bit_and (get_or s (a + 1) 0) (get_or s (b + 1) 0) ∷ bit_and (get_or s (a + 2) 0) (get_or s (b + 2) 0) ∷ []) 0 y
+    ≡ both (on_line s a y) (on_line s b y)
+unfolding on_line
 both-three s a b y l =
     ap (λ (w : ℕ). bit w (y % 64)) (go (y / 64) (omega arith)) ∙ bit-and (get_or s (a + y / 64) 0) (get_or s (b + y / 64) 0) (y % 64)
   where

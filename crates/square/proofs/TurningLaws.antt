@@ -25,8 +25,8 @@ or-none false b e = e
 abbrev pub first_word : ℕ → ℕ → ℕ → ℕ → ℕ
 first_word by low a b = bit_or (bit_and a low) (bit_and b low * 2 ^ by % 18446744073709551616)
 
-abbrev pub secondWord : ℕ → ℕ → ℕ → ℕ → ℕ → ℕ
-secondWord by low high a b = bit_or (bit_and (a / 2 ^ by) low) (bit_and b high)
+abbrev pub second_word : ℕ → ℕ → ℕ → ℕ → ℕ → ℕ
+second_word by low high a b = bit_or (bit_and (a / 2 ^ by) low) (bit_and b high)
 
 module _ (s by low high : ℕ) (E : Exchange s by low high) (a b c : ℕ) (l : c < 64) where
   is-low : c / by % 2 ≡ 0 → bit low c ≡ true
@@ -54,13 +54,13 @@ module _ (s by low high : ℕ) (E : Exchange s by low high) (a b c : ℕ) (l : c
       ∙ bit-shl (bit_and b low) by c (E.down c l n).0 l ∙ bit-and b low (c - by)
       ∙ both_first _ _ (E.low_bit (c - by) (omega arith) ∙ eq-eqb _ 0 (E.down c l n).1)
 
-  second-low : c / by % 2 ≡ 0 → bit (secondWord by low high a b) c ≡ bit a (by + c)
+  second-low : c / by % 2 ≡ 0 → bit (second_word by low high a b) c ≡ bit a (by + c)
   second-low e =
       bit-or (bit_and (a / 2 ^ by) low) (bit_and b high) c
       ∙ or-none _ _ (bit-and b high c ∙ both-second _ _ (E.high_bit c l ∙ ap not (eq-eqb _ 0 e)))
       ∙ bit-and (a / 2 ^ by) low c ∙ both_first _ _ (is-low e) ∙ bit-shr a by c
 
-  second-high : (c / by % 2 ≡ 0 → ⊥) → bit (secondWord by low high a b) c ≡ bit b c
+  second-high : (c / by % 2 ≡ 0 → ⊥) → bit (second_word by low high a b) c ≡ bit b c
   second-high n =
       bit-or (bit_and (a / 2 ^ by) low) (bit_and b high) c ∙ or-skip _ _ (bit-and (a / 2 ^ by) low c ∙ both-second _ _ (not_low n))
       ∙ bit-and b high c ∙ both_first _ _ (E.high_bit c l ∙ ap not (ne_eqb _ 0 n))
@@ -70,7 +70,7 @@ pub record StagedTo (by low high : ℕ) (before : List ℕ) (p : ℕ) (after : L
   pub within : p ≤ 32
   pub long : length after ≡ 64
   pub firsts : (x : ℕ) → x < 64 → pair_of by x < p → x / by % 2 ≡ 0 → get_or after x 0 ≡ first_word by low (get_or before x 0) (get_or before (x + by) 0)
-  pub seconds : (x y : ℕ) → x < 64 → pair_of by x < p → (x / by % 2 ≡ 0 → ⊥) → y + by ≡ x → get_or after x 0 ≡ secondWord by low high (get_or before y 0) (get_or before x 0)
+  pub seconds : (x y : ℕ) → x < 64 → pair_of by x < p → (x / by % 2 ≡ 0 → ⊥) → y + by ≡ x → get_or after x 0 ≡ second_word by low high (get_or before y 0) (get_or before x 0)
   pub rest : (x : ℕ) → x < 64 → p ≤ pair_of by x → get_or after x 0 ≡ get_or before x 0
 
 module _ (s by low high : ℕ) (E : Exchange s by low high) (before : List ℕ) where
@@ -83,7 +83,7 @@ module _ (s by low high : ℕ) (E : Exchange s by low high) (before : List ℕ) 
     one = set mid k (first_word by low (get_or mid k 0) (get_or mid (k + by) 0))
 
     abbrev two : List ℕ
-    two = set one (k + by) (secondWord by low high (get_or mid k 0) (get_or mid (k + by) 0))
+    two = set one (k + by) (second_word by low high (get_or mid k 0) (get_or mid (k + by) 0))
 
     k-low : k + by < 64
     k-low = subst (λ (z : ℕ). z + by < 64) (sym is) (E.inside p inside)
@@ -108,10 +108,10 @@ module _ (s by low high : ℕ) (E : Exchange s by low high) (before : List ℕ) 
         get_or-set_other one (k + by) k _ 0 apart ∙ get_or-set_same mid k _ 0 (omega (arith, k-low, T.long))
         ∙ ap₂ (first_word by low) (T.rest k (omega (arith, k-low)) (omega (arith, k-pair))) (T.rest (k + by) k-low (omega (arith, next-pair)))
 
-    at_next : get_or two (k + by) 0 ≡ secondWord by low high (get_or before k 0) (get_or before (k + by) 0)
+    at_next : get_or two (k + by) 0 ≡ second_word by low high (get_or before k 0) (get_or before (k + by) 0)
     at_next =
         get_or-set_same one (k + by) _ 0 (omega (arith, k-low, T.long, length-set mid k (first_word by low (get_or mid k 0) (get_or mid (k + by) 0))))
-        ∙ ap₂ (secondWord by low high) (T.rest k (omega (arith, k-low)) (omega (arith, k-pair))) (T.rest (k + by) k-low (omega (arith, next-pair)))
+        ∙ ap₂ (second_word by low high) (T.rest k (omega (arith, k-low)) (omega (arith, k-pair))) (T.rest (k + by) k-low (omega (arith, next-pair)))
 
     other : (x : ℕ) → (pair_of by x ≡ p → ⊥) → get_or two x 0 ≡ get_or mid x 0
     other x n =
@@ -135,8 +135,8 @@ module _ (s by low high : ℕ) (E : Exchange s by low high) (before : List ℕ) 
               (λ (u : pair_of by x ≡ p).
               let q : x ≡ k + by = E.is-second x l e ∙ ap (λ (z : ℕ). first_of by z + by) u ∙ ap (λ (z : ℕ). z + by) (sym is) in
               let r : y ≡ k = omega arith in
-              subst (λ (z : ℕ). get_or two x 0 ≡ secondWord by low high (get_or before z 0) (get_or before x 0)) (sym r)
-              (subst (λ (z : ℕ). get_or two z 0 ≡ secondWord by low high (get_or before k 0) (get_or before z 0)) (sym q) at_next))
+              subst (λ (z : ℕ). get_or two x 0 ≡ second_word by low high (get_or before z 0) (get_or before x 0)) (sym r)
+              (subst (λ (z : ℕ). get_or two z 0 ≡ second_word by low high (get_or before k 0) (get_or before z 0)) (sym q) at_next))
               (λ n. other x n ∙ T.seconds x y l (omega (arith, n)) e f) (eq-or-ne (pair_of by x) p);
           rest = λ x l h. other x (λ e. omega arith) ∙ T.rest x l (omega arith);
         }
@@ -178,12 +178,12 @@ module _ (s by low high : ℕ) (E : Exchange s by low high) (before : List ℕ) 
     staged_done = record { long = T.long; bits = staged-bits }
 
 -- ---- the masks, over all 64 places
-sameBool : Bool → Bool → Bool
-sameBool true b = b
-sameBool false b = not b
+bools_agree : Bool → Bool → Bool
+bools_agree true b = b
+bools_agree false b = not b
 
-same_true : (a b : Bool) → sameBool a b ≡ true → a ≡ b
-unfolding sameBool
+same_true : (a b : Bool) → bools_agree a b ≡ true → a ≡ b
+unfolding bools_agree
 same_true true b e = sym e
 same_true false true e = e
 same_true false false e = refl
@@ -199,23 +199,23 @@ all-elim (suc n) test h m l =
     let u = both_true (test n) (all_below n test) h in
     ⊎_elim (λ (e : m ≡ n). ap test e ∙ u.0) (λ k. all-elim n test u.1 m k) (last-cases m n l)
 
-lowMask : ℕ → ℕ → ℕ → Bool
-lowMask by low c = sameBool (bit low c) (eqb (c / by % 2) 0)
+low_mask_at : ℕ → ℕ → ℕ → Bool
+low_mask_at by low c = bools_agree (bit low c) (eqb (c / by % 2) 0)
 
-highMask : ℕ → ℕ → ℕ → Bool
-highMask by high c = sameBool (bit high c) (not (eqb (c / by % 2) 0))
+high_mask_at : ℕ → ℕ → ℕ → Bool
+high_mask_at by high c = bools_agree (bit high c) (not (eqb (c / by % 2) 0))
 
 module _ (by low : ℕ) where
-  low_mask : all_below 64 (lowMask by low) ≡ true → (c : ℕ) → c < 64 → bit low c ≡ eqb (c / by % 2) 0
-  unfolding lowMask
-  low_mask e c l = same_true _ _ (all-elim 64 (lowMask by low) e c l)
+  low_mask : all_below 64 (low_mask_at by low) ≡ true → (c : ℕ) → c < 64 → bit low c ≡ eqb (c / by % 2) 0
+  unfolding low_mask_at
+  low_mask e c l = same_true _ _ (all-elim 64 (low_mask_at by low) e c l)
 
-  high-mask : all_below 64 (highMask by low) ≡ true → (c : ℕ) → c < 64 → bit low c ≡ not (eqb (c / by % 2) 0)
-  unfolding highMask
-  high-mask e c l = same_true _ _ (all-elim 64 (highMask by low) e c l)
+  high-mask : all_below 64 (high_mask_at by low) ≡ true → (c : ℕ) → c < 64 → bit low c ≡ not (eqb (c / by % 2) 0)
+  unfolding high_mask_at
+  high-mask e c l = same_true _ _ (all-elim 64 (high_mask_at by low) e c l)
 
 pub exchange-32 : Exchange 5 32 0x00000000ffffffff 0xffffffff00000000
-unfolding all_below lowMask highMask sameBool both bit
+unfolding all_below low_mask_at high_mask_at bools_agree both bit
 exchange-32 =
     record {
       short = omega arith;
@@ -240,7 +240,7 @@ exchange-32 =
     }
 
 pub exchange-16 : Exchange 4 16 0x0000ffff0000ffff 0xffff0000ffff0000
-unfolding all_below lowMask highMask sameBool both bit
+unfolding all_below low_mask_at high_mask_at bools_agree both bit
 exchange-16 =
     record {
       short = omega arith;
@@ -265,7 +265,7 @@ exchange-16 =
     }
 
 pub exchange-8 : Exchange 3 8 0x00ff00ff00ff00ff 0xff00ff00ff00ff00
-unfolding all_below lowMask highMask sameBool both bit
+unfolding all_below low_mask_at high_mask_at bools_agree both bit
 exchange-8 =
     record {
       short = omega arith;
@@ -290,7 +290,7 @@ exchange-8 =
     }
 
 pub exchange-4 : Exchange 2 4 0x0f0f0f0f0f0f0f0f 0xf0f0f0f0f0f0f0f0
-unfolding all_below lowMask highMask sameBool both bit
+unfolding all_below low_mask_at high_mask_at bools_agree both bit
 exchange-4 =
     record {
       short = omega arith;
@@ -315,7 +315,7 @@ exchange-4 =
     }
 
 pub exchange-2 : Exchange 1 2 0x3333333333333333 0xcccccccccccccccc
-unfolding all_below lowMask highMask sameBool both bit
+unfolding all_below low_mask_at high_mask_at bools_agree both bit
 exchange-2 =
     record {
       short = omega arith;
@@ -340,7 +340,7 @@ exchange-2 =
     }
 
 pub exchange-1 : Exchange 0 1 0x5555555555555555 0xaaaaaaaaaaaaaaaa
-unfolding all_below lowMask highMask sameBool both bit
+unfolding all_below low_mask_at high_mask_at bools_agree both bit
 exchange-1 =
     record {
       short = omega arith;

@@ -1,7 +1,6 @@
 // The rows of a written table as words. Only the bits of ids are loaded.
 ghost use Rattle.std.specs.Prelude.{◌≡◌, ◌+◌, ◌*◌, ◌<◌, ◌≤◌, length};
 ghost use Rattle.square.specs.Inner.Loading.{WordOf, Masked, RowLoaded, RowsLoaded, Loaded};
-ghost use Rattle.subsumption.specs.Lent.{before, after};
 
 use crate::turning::turn;
 use subsumption::limits::ROW_BYTES;
@@ -12,7 +11,7 @@ pub const SQUARE: usize = 1152;
 // Eight bytes as one word.
 pub fn word_at(table: &[u8], at: usize) -> u64
     requires { at + 8 ≤ length table.now }
-    ensures { WordOf (before table) at result }
+    ensures { WordOf table.now at result }
 {
     let a = table[at] as u64;
     let b = table[at + 1] as u64;
@@ -43,7 +42,7 @@ fn masked(word: u64, k: usize, count: usize) -> u64
 fn load_row(table: &[u8], count: usize, i: usize, square: &mut [u64])
     requires square_len { length square.old ≡ 1152 }
     requires i_bound { (i < 192) × (i * 24 + 24 ≤ length table.now) }
-    ensures { RowLoaded (before table) count i (before square) (after square) }
+    ensures { RowLoaded table.now count i square.old square.new }
 {
     let at = i * ROW_BYTES;
     let first = masked(word_at(table, at), 0, count);
@@ -57,7 +56,7 @@ fn load_row(table: &[u8], count: usize, i: usize, square: &mut [u64])
 fn load_rows(table: &[u8], count: usize, square: &mut [u64])
     requires square_len { length square.old ≡ 1152 }
     requires count_bound { (count ≤ 192) × (count * 24 ≤ length table.now) }
-    ensures { RowsLoaded (before table) count (after square) }
+    ensures { RowsLoaded table.now count square.new }
 {
     let mut i = 0;
     while i < count {
@@ -70,7 +69,7 @@ fn load_rows(table: &[u8], count: usize, square: &mut [u64])
 pub fn load(table: &[u8], count: usize, square: &mut [u64])
     requires square_len { length square.old ≡ 1152 }
     requires count_bound { (count ≤ 192) × (count * 24 ≤ length table.now) }
-    ensures { Loaded count (before table) (after square) }
+    ensures { Loaded count table.now square.new }
 {
     load_rows(table, count, square);
     turn(square);

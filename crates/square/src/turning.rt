@@ -2,7 +2,6 @@
 // 4, 2, 1 apart exchange the places that differ in that digit.
 ghost use Rattle.std.specs.Prelude.{◌≡◌, ◌<◌, length};
 ghost use Rattle.square.specs.Inner.Turning.{Exchange, Staged, Turned, BlockOf, BlockSet, Transposed};
-ghost use Rattle.subsumption.specs.Lent.{before, after};
 
 // Where the columns start.
 pub const COLUMNS: usize = 576;
@@ -12,7 +11,7 @@ const BLOCK: usize = 64;
 fn stage(block: &mut [u64], s: usize, by: usize, low: u64, high: u64)
     requires block_len { length block.old ≡ 64 }
     requires exchange { Exchange s by low high }
-    ensures { Staged by (before block) (after block) }
+    ensures { Staged by block.old block.new }
 {
     let mut p = 0;
     while p < 32 {
@@ -27,7 +26,7 @@ fn stage(block: &mut [u64], s: usize, by: usize, low: u64, high: u64)
 
 fn transpose(block: &mut [u64])
     requires { length block.old ≡ 64 }
-    ensures { Turned (before block) (after block) }
+    ensures { Turned block.old block.new }
 {
     stage(block, 5, 32, 0x00000000ffffffff, 0xffffffff00000000);
     stage(block, 4, 16, 0x0000ffff0000ffff, 0xffff0000ffff0000);
@@ -42,7 +41,7 @@ fn read_block(square: &[u64], a: usize, b: usize, block: &mut [u64])
     requires square_len { length square.now ≡ 1152 }
     requires block_len { length block.old ≡ 64 }
     requires a_bound { (a < 3) × (b < 3) }
-    ensures { BlockOf (before square) a b (after block) }
+    ensures { BlockOf square.now a b block.new }
 {
     let mut k = 0;
     while k < BLOCK {
@@ -56,7 +55,7 @@ fn write_block(block: &[u64], a: usize, b: usize, square: &mut [u64])
     requires square_len { length square.old ≡ 1152 }
     requires block_len { length block.now ≡ 64 }
     requires a_bound { (a < 3) × (b < 3) }
-    ensures { BlockSet (before block) a b (before square) (after square) }
+    ensures { BlockSet block.now a b square.old square.new }
 {
     let mut k = 0;
     while k < BLOCK {
@@ -67,7 +66,7 @@ fn write_block(block: &[u64], a: usize, b: usize, square: &mut [u64])
 
 pub fn turn(square: &mut [u64])
     requires { length square.old ≡ 1152 }
-    ensures { Transposed (before square) (after square) }
+    ensures { Transposed square.old square.new }
 {
     let mut block = [0u64; BLOCK];
     let mut n = 0;

@@ -13,12 +13,12 @@ use borrow.Author.Tests.{eqb-true, ltb-true, ltb-false, lt-ltb, le-ltb, eq-eqb, 
 use Rattle.subsumption.specs.declared.refusal.Refusal.TheVariants.{BadAssignment}
 use Rattle.subsumption.specs.declared.refusal.Outcome.{Outcome}
 use Rattle.subsumption.specs.declared.refusal.Outcome.TheVariants.{Done, Refused}
-use Rattle.subsumption.specs.Refusal.{or_else, refuseIf, first_at}
+use Rattle.subsumption.specs.Refusal.{or_else, refuse_if, first_at}
 use Rattle.subsumption.specs.declared.tables.Pair.{Pair}
 use Rattle.subsumption.specs.Inner.Tables.{pair_of, Rising}
-use Rattle.subsumption.specs.Tables.{Tables, or, both, Node, topAt, name_at, existsAt, andAt, varAt, node, decode, count_of, pairsOf, left_of, rightOf, tree, hasVariable}
+use Rattle.subsumption.specs.Tables.{Tables, or, both, Node, top_at, name_at, exists_at, and_at, var_at, node, decode, count_of, pairs_of, left_of, right_of, tree, has_variable}
 use Rattle.subsumption.specs.Atoms.{atoms}
-use Rattle.subsumption.specs.Check.{unfit, limitFault, malformedRow, malformed, malformedFault, forward, forwardFault, noConcept, pairsFault, inclusionFault, sidesFault, rolesFault, atomsFault, conceptFault, idFault, useFault, tableFault, assignmentFaultAt}
+use Rattle.subsumption.specs.Check.{unfit, limit_fault, malformed_row, malformed, malformed_fault, forward, forward_fault, no_concept, pairs_fault, inclusion_fault, sides_fault, roles_fault, atoms_fault, concept_fault, id_fault, use_fault, table_fault, assignment_fault_at}
 use Rattle.subsumption.specs.Inner.Atoms.{Layered, Known, VariableSets, held}
 use Rattle.subsumption.specs.Inner.Roles.{LowRoles}
 use Rattle.subsumption.proofs.Marks.{held-set}
@@ -42,8 +42,8 @@ pub record Limited (t : Tables) : Type 0 where
   pub variables-fit : ltb 8 t.variables ≡ false
   pub roles-fit : unfit 2 32 t.roles ≡ false
 
-limited : (t : Tables) → limitFault t ≡ Done → Limited t
-unfolding limitFault
+limited : (t : Tables) → limit_fault t ≡ Done → Limited t
+unfolding limit_fault
 limited t h =
     record {
       concepts-fit = passed-if _ _ (passed_first _ _ h);
@@ -56,18 +56,18 @@ limited t h =
 -- ---- checks 2 and 3
 rising-of : (i : ℕ) (m : Node) → forward i m ≡ false → Rising i m
 unfolding forward
-rising-of i topAt h = tt
+rising-of i top_at h = tt
 rising-of i (name_at n) h = tt
-rising-of i (existsAt r j) h = ltb-true j i (not-false _ h)
-rising-of i (andAt j k) h = (ltb-true j i (not-false _ (or-false _ _ h).0), ltb-true k i (not-false _ (or-false _ _ h).1))
-rising-of i (varAt k) h = tt
+rising-of i (exists_at r j) h = ltb-true j i (not-false _ h)
+rising-of i (and_at j k) h = (ltb-true j i (not-false _ (or-false _ _ h).0), ltb-true k i (not-false _ (or-false _ _ h).1))
+rising-of i (var_at k) h = tt
 
-top-past : (concepts : List ℕ) (i : ℕ) → length concepts ≤ i * 3 → node concepts i ≡ topAt
+top-past : (concepts : List ℕ) (i : ℕ) → length concepts ≤ i * 3 → node concepts i ≡ top_at
 unfolding node decode
 top-past concepts i h = rw (get_or-eq_default concepts 0 {n = i * 3} h, decode) refl
 
-variable-of : (v kind a b k : ℕ) → malformedRow v kind a b ≡ false → decode kind a b ≡ varAt k → k < v
-unfolding malformedRow decode
+variable-of : (v kind a b k : ℕ) → malformed_row v kind a b ≡ false → decode kind a b ≡ var_at k → k < v
+unfolding malformed_row decode
 variable-of v zero a b k h e = absurd (let z : ◌≡◌ {A = ℕ} 0 1 = cc e in omega arith)
 variable-of v (suc zero) a b k h e = absurd (let z : ◌≡◌ {A = ℕ} 0 1 = cc e in omega arith)
 variable-of v (suc (suc zero)) a b k h e = absurd (let z : ◌≡◌ {A = ℕ} 0 1 = cc e in omega arith)
@@ -75,8 +75,8 @@ variable-of v (suc (suc (suc zero))) a b k h e = absurd (let z : ◌≡◌ {A = 
 variable-of v (suc (suc (suc (suc zero)))) a b k h e = let q : a ≡ k = cc e in omega (arith, ltb-true a v (not-false _ (or-false _ _ h).0))
 variable-of v (suc (suc (suc (suc (suc kind))))) a b k h e = absurd (true≢false h)
 
-name_of : (v kind a b n : ℕ) → malformedRow v kind a b ≡ false → decode kind a b ≡ name_at n → n < 1000
-unfolding malformedRow decode
+name_of : (v kind a b n : ℕ) → malformed_row v kind a b ≡ false → decode kind a b ≡ name_at n → n < 1000
+unfolding malformed_row decode
 name_of v zero a b n h e = absurd (let z : ◌≡◌ {A = ℕ} 0 1 = cc e in omega arith)
 name_of v (suc zero) a b n h e = let q : a ≡ n = cc e in omega (arith, ltb-false 999 a (or-false _ _ h).0)
 name_of v (suc (suc zero)) a b n h e = absurd (let z : ◌≡◌ {A = ℕ} 0 1 = cc e in omega arith)
@@ -84,8 +84,8 @@ name_of v (suc (suc (suc zero))) a b n h e = absurd (let z : ◌≡◌ {A = ℕ}
 name_of v (suc (suc (suc (suc zero)))) a b n h e = absurd (let z : ◌≡◌ {A = ℕ} 0 1 = cc e in omega arith)
 name_of v (suc (suc (suc (suc (suc kind))))) a b n h e = absurd (true≢false h)
 
-role-of : (v kind a b r j : ℕ) → malformedRow v kind a b ≡ false → decode kind a b ≡ existsAt r j → r < 100
-unfolding malformedRow decode
+role-of : (v kind a b r j : ℕ) → malformed_row v kind a b ≡ false → decode kind a b ≡ exists_at r j → r < 100
+unfolding malformed_row decode
 role-of v zero a b r j h e = absurd (let z : ◌≡◌ {A = ℕ} 0 1 = cc e in omega arith)
 role-of v (suc zero) a b r j h e = absurd (let z : ◌≡◌ {A = ℕ} 0 1 = cc e in omega arith)
 role-of v (suc (suc zero)) a b r j h e = let q : a ≡ r = cc e in omega (arith, ltb-false 99 a h)
@@ -93,17 +93,17 @@ role-of v (suc (suc (suc zero))) a b r j h e = absurd (let z : ◌≡◌ {A = �
 role-of v (suc (suc (suc (suc zero)))) a b r j h e = absurd (let z : ◌≡◌ {A = ℕ} 0 1 = cc e in omega arith)
 role-of v (suc (suc (suc (suc (suc kind))))) a b r j h e = absurd (true≢false h)
 
-module _ (t : Tables) (h : conceptFault t ≡ Done) where
+module _ (t : Tables) (h : concept_fault t ≡ Done) where
   pub concept-limits : Limited t
-  unfolding conceptFault
+  unfolding concept_fault
   concept-limits = limited t (passed_first _ _ h)
 
-  concept-rows : malformedFault t.concepts t.variables ≡ Done
-  unfolding conceptFault
+  concept-rows : malformed_fault t.concepts t.variables ≡ Done
+  unfolding concept_fault
   concept-rows = passed_first _ _ (passed-second _ _ h)
 
-  concept-inner : forwardFault t.concepts ≡ Done
-  unfolding conceptFault
+  concept-inner : forward_fault t.concepts ≡ Done
+  unfolding concept_fault
   concept-inner = passed-second _ _ (passed-second _ _ h)
 
   pub concepts-whole : length t.concepts ≡ count_of t.concepts * 3
@@ -112,14 +112,14 @@ module _ (t : Tables) (h : conceptFault t ≡ Done) where
   pub concepts-few : count_of t.concepts ≤ 192
   concepts-few = fit-few 3 192 t.concepts concept-limits.concepts-fit
 
-  pub inclusions-few : pairsOf t.inclusions ≤ 96
+  pub inclusions-few : pairs_of t.inclusions ≤ 96
   inclusions-few = fit-few 2 96 t.inclusions concept-limits.inclusions-fit
 
-  pub questions-few : pairsOf t.questions ≤ 32
+  pub questions-few : pairs_of t.questions ≤ 32
   questions-few = fit-few 2 32 t.questions concept-limits.questions-fit
 
   concepts-rising : (i : ℕ) → Rising i (node t.concepts i)
-  unfolding forwardFault
+  unfolding forward_fault
   concepts-rising i =
       ⊎_elim
       (λ l. subst (Rising i) (sym (top-past t.concepts i (omega (arith, concepts-whole)))) tt)
@@ -129,8 +129,8 @@ module _ (t : Tables) (h : conceptFault t ≡ Done) where
   pub concepts-layered : Layered t.concepts
   concepts-layered = record { whole = concepts-whole; few = concepts-few; rising = concepts-rising }
 
-  pub concepts-numbered : (i k : ℕ) → node t.concepts i ≡ varAt k → k < t.variables
-  unfolding malformedFault malformed node
+  pub concepts-numbered : (i k : ℕ) → node t.concepts i ≡ var_at k → k < t.variables
+  unfolding malformed_fault malformed node
   concepts-numbered i k e =
       ⊎_elim
       (λ l. absurd (let q = top-past t.concepts i (omega (arith, concepts-whole)) in let z : ◌≡◌ {A = ℕ} 0 1 = cc (e, q) in omega arith))
@@ -138,71 +138,71 @@ module _ (t : Tables) (h : conceptFault t ≡ Done) where
       (le-or-lt (count_of t.concepts) i)
 
   pub concepts-named : (i n : ℕ) → node t.concepts i ≡ name_at n → n < 1000
-  unfolding malformedFault malformed node
+  unfolding malformed_fault malformed node
   concepts-named i n e =
       ⊎_elim
       (λ l. absurd (let q = top-past t.concepts i (omega (arith, concepts-whole)) in let z : ◌≡◌ {A = ℕ} 0 1 = cc (e, q) in omega arith))
       (λ l. name_of _ _ _ _ n (passed-at _ (malformed t.concepts t.variables) 0 _ concept-rows i (omega arith) (omega arith)) e)
       (le-or-lt (count_of t.concepts) i)
 
-  pub concepts-roles : (i r j : ℕ) → node t.concepts i ≡ existsAt r j → r < 100
-  unfolding malformedFault malformed node
+  pub concepts-roles : (i r j : ℕ) → node t.concepts i ≡ exists_at r j → r < 100
+  unfolding malformed_fault malformed node
   concepts-roles i r j e =
       ⊎_elim
       (λ l. absurd (let q = top-past t.concepts i (omega (arith, concepts-whole)) in let z : ◌≡◌ {A = ℕ} 0 1 = cc (e, q) in omega arith))
       (λ l. role-of _ _ _ _ r j (passed-at _ (malformed t.concepts t.variables) 0 _ concept-rows i (omega arith) (omega arith)) e)
       (le-or-lt (count_of t.concepts) i)
 
-  pub few-numbers : (i k : ℕ) → node t.concepts i ≡ varAt k → k < 8
+  pub few-numbers : (i k : ℕ) → node t.concepts i ≡ var_at k → k < 8
   few-numbers i k e = omega (arith, concepts-numbered i k e, ltb-false 8 t.variables concept-limits.variables-fit)
 
 -- ---- check 4
-pairs-known : (before count : ℕ) (pairs : List ℕ) → pairsFault before count pairs ≡ Done → Known count pairs
-unfolding pairsFault noConcept
+pairs-known : (before count : ℕ) (pairs : List ℕ) → pairs_fault before count pairs ≡ Done → Known count pairs
+unfolding pairs_fault no_concept
 pairs-known before count pairs h =
     record {
       left-known = λ m l. ltb-true _ _ (not-false _ (or-false _ _ (at m l)).0);
       right-known = λ m l. ltb-true _ _ (not-false _ (or-false _ _ (at m l)).1);
     }
   where
-    at : (m : ℕ) → m < pairsOf pairs → noConcept count (left_of pairs m) (rightOf pairs m) ≡ false
-    at m l = passed-at _ (λ m. noConcept count (left_of pairs m) (rightOf pairs m)) 0 _ h m (omega arith) (omega arith)
+    at : (m : ℕ) → m < pairs_of pairs → no_concept count (left_of pairs m) (right_of pairs m) ≡ false
+    at m l = passed-at _ (λ m. no_concept count (left_of pairs m) (right_of pairs m)) 0 _ h m (omega arith) (omega arith)
 
-module _ (t : Tables) (h : idFault t ≡ Done) where
+module _ (t : Tables) (h : id_fault t ≡ Done) where
   pub inclusions-known : Known (count_of t.concepts) t.inclusions
-  unfolding idFault
+  unfolding id_fault
   inclusions-known = pairs-known _ _ _ (passed_first _ _ h)
 
   pub questions-known : Known (count_of t.concepts) t.questions
-  unfolding idFault
+  unfolding id_fault
   questions-known = pairs-known _ _ _ (passed-second _ _ h)
 
 -- ---- checks 5 and 6, by the sets of the variables
 module _ (concepts pairs sets : List ℕ) (m : ℕ) (pair : Pair) (known-sets : VariableSets concepts sets) (known : Known (count_of concepts) pairs)
-    (h : m < pairsOf pairs) (e : pair ≡ pair_of pairs m) where
-  pub held-left : held sets pair.left ≡ hasVariable (tree concepts (left_of pairs m))
+    (h : m < pairs_of pairs) (e : pair ≡ pair_of pairs m) where
+  pub held-left : held sets pair.left ≡ has_variable (tree concepts (left_of pairs m))
   held-left =
       let q : pair.left ≡ left_of pairs m = cc e in
       ap (held sets) q ∙ held-set concepts sets known-sets (left_of pairs m) (known.left-known m h)
 
-  pub held-right : held sets pair.right ≡ hasVariable (tree concepts (rightOf pairs m))
+  pub held-right : held sets pair.right ≡ has_variable (tree concepts (right_of pairs m))
   held-right =
-      let q : pair.right ≡ rightOf pairs m = cc e in
-      ap (held sets) q ∙ held-set concepts sets known-sets (rightOf pairs m) (known.right-known m h)
+      let q : pair.right ≡ right_of pairs m = cc e in
+      ap (held sets) q ∙ held-set concepts sets known-sets (right_of pairs m) (known.right-known m h)
 
-  pub either_held : (r : Bool) → r ≡ or (held sets pair.left) (held sets pair.right) → or (hasVariable (tree concepts (left_of pairs m))) (hasVariable (tree concepts (rightOf pairs m))) ≡ r
+  pub either_held : (r : Bool) → r ≡ or (held sets pair.left) (held sets pair.right) → or (has_variable (tree concepts (left_of pairs m))) (has_variable (tree concepts (right_of pairs m))) ≡ r
   either_held r f = rw (← held-left, ← held-right) (sym f)
 
-  pub both-held : (r : Bool) → r ≡ both (held sets pair.left) (held sets pair.right) → both (hasVariable (tree concepts (left_of pairs m))) (hasVariable (tree concepts (rightOf pairs m))) ≡ r
+  pub both-held : (r : Bool) → r ≡ both (held sets pair.left) (held sets pair.right) → both (has_variable (tree concepts (left_of pairs m))) (has_variable (tree concepts (right_of pairs m))) ≡ r
   both-held r f = rw (← held-left, ← held-right) (sym f)
 
 -- ---- check 16
 pub role-over :
     (roles : List ℕ) (m : ℕ) (pair : Pair) → pair ≡ pair_of roles m → (r : Bool) → r ≡ or (ltb 99 pair.left) (ltb 99 pair.right)
-    → or (ltb 99 (left_of roles m)) (ltb 99 (rightOf roles m)) ≡ r
+    → or (ltb 99 (left_of roles m)) (ltb 99 (right_of roles m)) ≡ r
 role-over roles m pair e r f =
     let p : pair.left ≡ left_of roles m = cc e in
-    let q : pair.right ≡ rightOf roles m = cc e in
+    let q : pair.right ≡ right_of roles m = cc e in
     sym (f ∙ ap₂ (λ (x y : ℕ). or (ltb 99 x) (ltb 99 y)) p q)
 
 -- ---- check 9
@@ -220,64 +220,64 @@ bits-past choice atomCount =
     no h e = omega (arith, (div-lt_iff_lt-mul {k = 2 ^ atomCount} {x = choice} {y = 1} (pow_pos atomCount)).0 (omega arith))
 
 module _ (atomCount variables : ℕ) (assignment : List ℕ) where
-  pub wrong-count : (length assignment ≡ variables → ⊥) → Refused (BadAssignment variables) ≡ assignmentFaultAt atomCount variables assignment
-  unfolding assignmentFaultAt or_else refuseIf
+  pub wrong-count : (length assignment ≡ variables → ⊥) → Refused (BadAssignment variables) ≡ assignment_fault_at atomCount variables assignment
+  unfolding assignment_fault_at or_else refuse_if
   wrong-count h = rw (ne_eqb (length assignment) variables h)
 
   pub right-count :
       (r : Outcome) → length assignment ≡ variables → r ≡ first_at BadAssignment (λ k. not (ltb (get_or assignment k 0) (2 ^ atomCount))) 0 variables
-      → r ≡ assignmentFaultAt atomCount variables assignment
-  unfolding assignmentFaultAt or_else refuseIf
+      → r ≡ assignment_fault_at atomCount variables assignment
+  unfolding assignment_fault_at or_else refuse_if
   right-count r e h = rw (eq-eqb (length assignment) variables e) h
 
 -- ---- all of them
-module _ (t : Tables) (h : tableFault t ≡ Done) where
-  pub table-concepts : conceptFault t ≡ Done
-  unfolding tableFault
+module _ (t : Tables) (h : table_fault t ≡ Done) where
+  pub table-concepts : concept_fault t ≡ Done
+  unfolding table_fault
   table-concepts = passed_first _ _ h
 
-  pub table-ids : idFault t ≡ Done
-  unfolding tableFault
+  pub table-ids : id_fault t ≡ Done
+  unfolding table_fault
   table-ids = passed_first _ _ (passed-second _ _ h)
 
-  table-use : useFault t ≡ Done
-  unfolding tableFault
+  table-use : use_fault t ≡ Done
+  unfolding table_fault
   table-use = passed-second _ _ (passed-second _ _ h)
 
-  ground-at : (m : ℕ) → m < pairsOf t.inclusions
-      → or (hasVariable (tree t.concepts (left_of t.inclusions m))) (hasVariable (tree t.concepts (rightOf t.inclusions m))) ≡ false
-  unfolding useFault inclusionFault
+  ground-at : (m : ℕ) → m < pairs_of t.inclusions
+      → or (has_variable (tree t.concepts (left_of t.inclusions m))) (has_variable (tree t.concepts (right_of t.inclusions m))) ≡ false
+  unfolding use_fault inclusion_fault
   ground-at m l =
-      passed-at _ (λ m. or (hasVariable (tree t.concepts (left_of t.inclusions m))) (hasVariable (tree t.concepts (rightOf t.inclusions m)))) 0 _
+      passed-at _ (λ m. or (has_variable (tree t.concepts (left_of t.inclusions m))) (has_variable (tree t.concepts (right_of t.inclusions m)))) 0 _
       (passed_first _ _ table-use) m (omega arith) (omega arith)
 
   atoms-few : length (atoms t) ≤ 64
-  unfolding useFault atomsFault
+  unfolding use_fault atoms_fault
   atoms-few = ltb-false _ _ (passed-if _ _ (passed-second _ _ (passed-second _ _ (passed-second _ _ table-use))))
 
-  pub one-sided : (m : ℕ) → m < pairsOf t.questions
-      → both (hasVariable (tree t.concepts (left_of t.questions m))) (hasVariable (tree t.concepts (rightOf t.questions m))) ≡ false
-  unfolding useFault sidesFault
+  pub one-sided : (m : ℕ) → m < pairs_of t.questions
+      → both (has_variable (tree t.concepts (left_of t.questions m))) (has_variable (tree t.concepts (right_of t.questions m))) ≡ false
+  unfolding use_fault sides_fault
   one-sided m l =
-      passed-at _ (λ m. both (hasVariable (tree t.concepts (left_of t.questions m))) (hasVariable (tree t.concepts (rightOf t.questions m)))) 0 _
+      passed-at _ (λ m. both (has_variable (tree t.concepts (left_of t.questions m))) (has_variable (tree t.concepts (right_of t.questions m)))) 0 _
       (passed_first _ _ (passed-second _ _ table-use)) m (omega arith) (omega arith)
 
   -- check 16
   pub roles-low : LowRoles t.roles
-  unfolding useFault rolesFault
+  unfolding use_fault roles_fault
   roles-low =
       record {
         narrow = λ m l. omega (arith, ltb-false 99 (left_of t.roles m) (or-false _ _ (low m l)).0);
-        wide = λ m l. omega (arith, ltb-false 99 (rightOf t.roles m) (or-false _ _ (low m l)).1);
+        wide = λ m l. omega (arith, ltb-false 99 (right_of t.roles m) (or-false _ _ (low m l)).1);
       }
     where
-      low : (m : ℕ) → m < pairsOf t.roles → or (ltb 99 (left_of t.roles m)) (ltb 99 (rightOf t.roles m)) ≡ false
+      low : (m : ℕ) → m < pairs_of t.roles → or (ltb 99 (left_of t.roles m)) (ltb 99 (right_of t.roles m)) ≡ false
       low m l =
-          passed-at _ (λ m. or (ltb 99 (left_of t.roles m)) (ltb 99 (rightOf t.roles m))) 0 _
+          passed-at _ (λ m. or (ltb 99 (left_of t.roles m)) (ltb 99 (right_of t.roles m))) 0 _
           (passed_first _ _ (passed-second _ _ (passed-second _ _ table-use))) m (omega arith) (omega arith)
 
-  pub wellFormed : WellFormed t
-  wellFormed =
+  pub well_formed : WellFormed t
+  well_formed =
       record {
         whole = concepts-whole t table-concepts;
         few = concepts-few t table-concepts;

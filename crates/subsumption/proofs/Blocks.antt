@@ -21,26 +21,26 @@ use Rattle.subsumption.proofs.Bits.{bit-and, bit-or, bit-of-zero, bit-shr, bit-s
 
 -- ---- one exchange
 -- the place that the bit at k comes from
-sourceIf : Bool → Bool → ℕ → ℕ → ℕ
-sourceIf true down by k = by + k
-sourceIf false true by k = k - by
-sourceIf false false by k = k
+source_if : Bool → Bool → ℕ → ℕ → ℕ
+source_if true down by k = by + k
+source_if false true by k = k - by
+source_if false false by k = k
 
 -- just one of the three masks has the place, and there is one `by` places below if `down` has it
-fitsIf : Bool → Bool → Bool → Bool → Bool
-fitsIf true true down low = false
-fitsIf true false true low = false
-fitsIf true false false low = true
-fitsIf false true true low = false
-fitsIf false true false low = true
-fitsIf false false true low = low
-fitsIf false false false low = false
+fits_if : Bool → Bool → Bool → Bool → Bool
+fits_if true true down low = false
+fits_if true false true low = false
+fits_if true false false low = true
+fits_if false true true low = false
+fits_if false true false low = true
+fits_if false false true low = low
+fits_if false false false low = false
 
 source : ℕ → ℕ → ℕ → ℕ → ℕ
-source by up down k = sourceIf (bit up k) (bit down k) by k
+source by up down k = source_if (bit up k) (bit down k) by k
 
 fits : ℕ → ℕ → ℕ → ℕ → ℕ → Bool
-fits by stay up down k = fitsIf (bit stay k) (bit up k) (bit down k) (leb by k)
+fits by stay up down k = fits_if (bit stay k) (bit up k) (bit down k) (leb by k)
 
 first-only : (a b c : Bool) → or (or (both a true) (both b false)) (both c false) ≡ a
 unfolding or both
@@ -81,9 +81,9 @@ module _ (x by stay up down k : ℕ) (h : k < 64) where
       (bit-and (x * 2 ^ by % 2 ^ 64) down k)
 
   go :
-      (s u d : Bool) → fitsIf s u d (leb by k) ≡ true
-      → or (or (both (bit x k) s) (both (bit (x / 2 ^ by) k) u)) (both (bit (x * 2 ^ by % 2 ^ 64) k) d) ≡ bit x (sourceIf u d by k)
-  unfolding fitsIf sourceIf
+      (s u d : Bool) → fits_if s u d (leb by k) ≡ true
+      → or (or (both (bit x k) s) (both (bit (x / 2 ^ by) k) u)) (both (bit (x * 2 ^ by % 2 ^ 64) k) d) ≡ bit x (source_if u d by k)
+  unfolding fits_if source_if
   go true true d e = cc e
   go true false true e = cc e
   go true false false e = first-only (bit x k) (bit (x / 2 ^ by) k) (bit (x * 2 ^ by % 2 ^ 64) k)
@@ -133,7 +133,7 @@ mirrors k =
     (both (both (fits2 (from4 k)) (ltb (from2 (from4 k)) 64)) (both (fits1 (from2 (from4 k))) (eqb (from1 (from2 (from4 k))) (k % 8 * 8 + k / 8))))
 
 all-mirror : all_below 64 mirrors ≡ true
-unfolding all_below mirrors fits1 fits2 fits4 from1 from2 from4 fits source fitsIf sourceIf bit both
+unfolding all_below mirrors fits1 fits2 fits4 from1 from2 from4 fits source fits_if source_if bit both
 all-mirror = refl
 
 module _ (x ones twos y : ℕ) (e : ones ≡ exchanged x 7 0xaa55aa55aa55aa55 0x00aa00aa00aa00aa 0x5500550055005500)

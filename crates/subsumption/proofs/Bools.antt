@@ -1,4 +1,4 @@
--- Laws of the tests `or`, `both` and `anyBelow`.
+-- Laws of the tests `or`, `both` and `any_below`.
 use Prim.Native.Nat.{ℕ, zero, suc, ◌<◌, ◌≤◌}
 use mathlib.Core.Path.{◌≡◌, refl, sym, subst}
 use mathlib.Core.Bool.{Bool, true, false, false≢true}
@@ -6,7 +6,7 @@ use mathlib.Core.Logic.{◌⊎◌, inl, inr, ⊎_elim}
 use native.Mathlib.Omega.{arith}
 use lib.Dec.{eqb, leb}
 use borrow.Author.Tests.{eqb-true, eqb-false, leb-true, leb-false}
-use Rattle.subsumption.specs.Tables.{or, both, anyBelow}
+use Rattle.subsumption.specs.Tables.{or, both, any_below}
 
 pub or_cases : (a b : Bool) → or a b ≡ true → (a ≡ true) ⊎ (b ≡ true)
 unfolding or
@@ -46,18 +46,18 @@ last-cases m n h = go (eqb m n) refl
     go true e = inl (eqb-true m n e)
     go false e = inr (omega (arith, eqb-false m n e))
 
-pub anyBelow-intro : (n : ℕ) (test : ℕ → Bool) (m : ℕ) → m < n → test m ≡ true → anyBelow n test ≡ true
-unfolding anyBelow
-anyBelow-intro zero test m h k = absurd (omega arith)
-anyBelow-intro (suc n) test m h k =
+pub any_below-intro : (n : ℕ) (test : ℕ → Bool) (m : ℕ) → m < n → test m ≡ true → any_below n test ≡ true
+unfolding any_below
+any_below-intro zero test m h k = absurd (omega arith)
+any_below-intro (suc n) test m h k =
     ⊎_elim (λ (e : m ≡ n). or-first (test n) _ (subst (λ (z : ℕ). test z ≡ true) e k))
-    (λ l. or-second (test n) _ (anyBelow-intro n test m l k)) (last-cases m n h)
+    (λ l. or-second (test n) _ (any_below-intro n test m l k)) (last-cases m n h)
 
-pub anyBelow-elim : (n : ℕ) (test : ℕ → Bool) → anyBelow n test ≡ true → (m : ℕ) × (m < n) × (test m ≡ true)
-unfolding anyBelow
-anyBelow-elim zero test h = absurd (false≢true h)
-anyBelow-elim (suc n) test h =
-    ⊎_elim (λ e. (n, omega arith, e)) (λ k. let r = anyBelow-elim n test k in (r.0, omega (arith, r.1), r.2)) (or_cases (test n) _ h)
+pub any_below-elim : (n : ℕ) (test : ℕ → Bool) → any_below n test ≡ true → (m : ℕ) × (m < n) × (test m ≡ true)
+unfolding any_below
+any_below-elim zero test h = absurd (false≢true h)
+any_below-elim (suc n) test h =
+    ⊎_elim (λ e. (n, omega arith, e)) (λ k. let r = any_below-elim n test k in (r.0, omega (arith, r.1), r.2)) (or_cases (test n) _ h)
 
 pub or-skip : (a b : Bool) → a ≡ false → or a b ≡ b
 unfolding or

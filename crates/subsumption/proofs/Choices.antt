@@ -11,7 +11,7 @@ use lib.Dec.{eqb}
 use lib.Bits.{bit_and}
 use borrow.Author.Tests.{eqb-true, eqb-false, eq-eqb}
 use Rattle.subsumption.specs.Atoms.{bit, pick}
-use Rattle.subsumption.specs.Inner.Columns.{has, slack, Takes, inThree, Common}
+use Rattle.subsumption.specs.Inner.Columns.{has, slack, Takes, InThree, Common}
 use Rattle.subsumption.proofs.Bools.{both_true, both-intro}
 use Rattle.subsumption.proofs.Bits.{zero_bit, bit-ones, bit-and}
 use Rattle.subsumption.proofs.Picks.{ChosenBelow, picked-at, at-picked}
@@ -81,20 +81,20 @@ module _ (atoms : List ℕ) (choice : ℕ) (columns : List ℕ) (first second th
   word-common (suc (suc zero)) h = C
   word-common (suc (suc (suc q))) h = absurd (omega arith)
 
-  gathered-all : (i : ℕ) → i < 192 → inThree first second third i → (p : ℕ) → Memᴰ p (pick atoms choice) → has columns i p ≡ true
+  gathered-all : (i : ℕ) → i < 192 → InThree first second third i → (p : ℕ) → Memᴰ p (pick atoms choice) → has columns i p ≡ true
   unfolding has
   gathered-all i h u p m =
       let c : ChosenBelow (length atoms) atoms choice p = at-picked atoms choice p m in
       subst (λ (x : ℕ). bit (get_or columns (x * 3 + i / 64) 0) (i % 64) ≡ true) c.found
       ((word-common (i / 64) (omega arith)).only (i % 64) c.place (omega arith) u c.before c.picked)
 
-  all-gathered : (i : ℕ) → i < 192 → ((p : ℕ) → Memᴰ p (pick atoms choice) → has columns i p ≡ true) → inThree first second third i
+  all-gathered : (i : ℕ) → i < 192 → ((p : ℕ) → Memᴰ p (pick atoms choice) → has columns i p ≡ true) → InThree first second third i
   unfolding has
   all-gathered i h f =
       (word-common (i / 64) (omega arith)).every (i % 64) (omega arith) (λ q l p. f (get_or atoms q 0) (picked-at atoms choice q l p))
 
   pub gather-takes :
-      {after : List ℕ} {to : ℕ → Type 0} {changed : Bool} → Takes columns after to (inThree first second third) changed
+      {after : List ℕ} {to : ℕ → Type 0} {changed : Bool} → Takes columns after to (InThree first second third) changed
       → Takes columns after to (λ i. (p : ℕ) → Memᴰ p (pick atoms choice) → has columns i p ≡ true) changed
   gather-takes t = takes-as t gathered-all all-gathered
 

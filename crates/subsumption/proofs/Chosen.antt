@@ -47,13 +47,13 @@ pick_intro xs choice p k = go xs choice k.place k.known k.chosen k.here
         on m true c = rw c (Memᴰ.tail m)
         on m false c = rw c m
 
-pub getD-member : (xs : List ℕ) (q : ℕ) → q < length xs → Memᴰ (get_or xs q 0) xs
-getD-member [] q l = absurd (omega arith)
-getD-member (x ∷ xs) zero l = Memᴰ.head refl
-getD-member (x ∷ xs) (suc q) l = Memᴰ.tail (getD-member xs q (omega arith))
+pub get_or-member : (xs : List ℕ) (q : ℕ) → q < length xs → Memᴰ (get_or xs q 0) xs
+get_or-member [] q l = absurd (omega arith)
+get_or-member (x ∷ xs) zero l = Memᴰ.head refl
+get_or-member (x ∷ xs) (suc q) l = Memᴰ.tail (get_or-member xs q (omega arith))
 
 member-from : (test : ℕ → Bool) (from count q : ℕ) → q < length (keep test from count) → from ≤ get_or (keep test from count) q 0
-member-from test from count q l = (keep-member test from count _ (getD-member (keep test from count) q l)).low
+member-from test from count q l = (keep-member test from count _ (get_or-member (keep test from count) q l)).low
 
 -- What is kept stands there once.
 pub keep-distinct :
@@ -85,7 +85,7 @@ module _ (t : Tables) (assignment : List ℕ) (k p : ℕ) where
   unfolding chosen
   chosen-atom h =
       let c = pick-member (atoms t) (get_or assignment k 0) p h in
-      Memᴰ.cast (sym c.here) (getD-member (atoms t) c.place c.known)
+      Memᴰ.cast (sym c.here) (get_or-member (atoms t) c.place c.known)
 
   pub chosen-known : Memᴰ p (chosen t assignment k) → p < count_of t.concepts
   chosen-known h = atom-known t p (chosen-atom h)

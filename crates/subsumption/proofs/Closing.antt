@@ -6,7 +6,7 @@ use mathlib.Core.Bool.{Bool, true, false, ◌||◌}
 use native.Mathlib.Omega.{arith}
 use native.Mathlib.Nat.{le_antisymm}
 use lib.ListN.{length, get_or, replicate, length-replicate}
-use Rattle.subsumption.specs.Tables.{Node, topAt, name_at, andAt, varAt, node, count_of}
+use Rattle.subsumption.specs.Tables.{Node, top_at, name_at, and_at, var_at, node, count_of}
 use Rattle.subsumption.specs.Atoms.{bit}
 use Rattle.subsumption.specs.Inner.Columns.{has, slack, Empty}
 use Rattle.subsumption.specs.Inner.Names.{Firsts}
@@ -77,18 +77,18 @@ module _ (concepts inclusions : List ℕ) (wide : ℕ → ℕ → Bool) (choose 
     all-steps =
         record {
           same = λ j h. (A.descended j h).same;
-          top = λ i j h l e. up j topAt l e i h;
+          top = λ i j h l e. up j top_at l e i h;
           named =
               λ i j k n h l m p q r.
               (up k (name_at n) m q).1 i h
               (subst (λ (x : ℕ). has columns i x ≡ true) (one-first j k n l m p q) ((up j (name_at n) l p).0 i h r));
-          first = λ i j a b h l e r. (down j (andAt a b) l e).0 i h r;
-          second = λ i j a b h l e r. (down j (andAt a b) l e).1 i h r;
-          meet = λ i j a b h l e r s. up j (andAt a b) l e i h r s;
+          first = λ i j a b h l e r. (down j (and_at a b) l e).0 i h r;
+          second = λ i j a b h l e r. (down j (and_at a b) l e).1 i h r;
+          meet = λ i j a b h l e r s. up j (and_at a b) l e i h r s;
           included = λ i m h l r. A.included m l i h r;
           linked = λ i e f r s x y h l m p q w u t. A.linked f m e s y l q (record { narrow = r; from = x; row = p; counting = w; below = u }) i h t;
-          chooses = λ i v k p h l e m r. down v (varAt k) l e p m i h r;
-          all-chosen = λ i v k h l e r. up v (varAt k) l e i h r;
+          chooses = λ i v k p h l e m r. down v (var_at k) l e p m i h r;
+          all-chosen = λ i v k h l e r. up v (var_at k) l e i h r;
         }
 
   pub closing-done :

@@ -13,7 +13,7 @@ use native.Mathlib.Nat.{one-mul}
 use lib.Bits.{bit_and, bit_or}
 use borrow.Author.Tests.{eqb-true, eqb-false, not-true, not-false}
 use Rattle.subsumption.specs.Atoms.{bit}
-use Rattle.subsumption.specs.Inner.Columns.{has, slack, Absorbs, Takes, inThree}
+use Rattle.subsumption.specs.Inner.Columns.{has, slack, Absorbs, Takes, InThree}
 use Rattle.subsumption.proofs.Bools.{both_true, both-intro}
 use Rattle.subsumption.proofs.Bits.{or-grows, bit-or-cases, bit_or_right, bit-and, bit-ones, bit-pow, bit-pow-other}
 
@@ -71,11 +71,11 @@ module _ (before one two after : List ℕ) (to first second third : ℕ) (a b c 
   elsewhere : (i j : ℕ) → i < 192 → (j ≡ to → ⊥) → get_or after (j * 3 + i / 64) 0 ≡ get_or before (j * 3 + i / 64) 0
   elsewhere i j h ne = C.there _ (λ e. ne (omega arith)) ∙ B.there _ (λ e. ne (omega arith)) ∙ A.there _ (λ e. ne (omega arith))
 
-  took-bits : (i j : ℕ) → i < 192 → has after i j ≡ true → (has before i j ≡ true) ⊎ ((j ≡ to) × inThree first second third i)
+  took-bits : (i j : ℕ) → i < 192 → has after i j ≡ true → (has before i j ≡ true) ⊎ ((j ≡ to) × InThree first second third i)
   unfolding has
   took-bits i j h e = go (eqb j to) refl
     where
-      go : (t : Bool) → eqb j to ≡ t → (has before i j ≡ true) ⊎ ((j ≡ to) × inThree first second third i)
+      go : (t : Bool) → eqb j to ≡ t → (has before i j ≡ true) ⊎ ((j ≡ to) × InThree first second third i)
       go true p =
           let s : j ≡ to = eqb-true j to p in
           ⊎_elim (λ u. inl (subst (λ (k : ℕ). bit (get_or before (k * 3 + i / 64) 0) (i % 64) ≡ true) (sym s) u)) (λ u. inr (s, u))
@@ -90,7 +90,7 @@ module _ (before one two after : List ℕ) (to first second third : ℕ) (a b c 
       let v : (a ≡ false) × (b ≡ false) = any_false a b u.0 in
       C.quiet u.1 ∙ B.quiet v.1 ∙ A.quiet v.0
 
-  took-all : ((a || b) || c) ≡ false → (i j : ℕ) → i < 192 → j ≡ to → inThree first second third i → has before i j ≡ true
+  took-all : ((a || b) || c) ≡ false → (i j : ℕ) → i < 192 → j ≡ to → InThree first second third i → has before i j ≡ true
   unfolding has
   took-all e i j h s u =
       subst (λ (k : ℕ). bit (get_or before (k * 3 + i / 64) 0) (i % 64) ≡ true) (sym s)
@@ -109,7 +109,7 @@ module _ (before one two after : List ℕ) (to first second third : ℕ) (a b c 
       (any-true (a || b) c e)
 
   -- three words
-  pub takes : Takes before after (λ j. j ≡ to) (inThree first second third) ((a || b) || c)
+  pub takes : Takes before after (λ j. j ≡ to) (InThree first second third) ((a || b) || c)
   takes =
       record {
         long = C.long ∙ B.long ∙ A.long;
@@ -140,7 +140,7 @@ three-has l from (suc (suc (suc q))) h = absurd (omega arith)
 
 pub flow-takes :
     {before after : List ℕ} {to : ℕ → Type 0} {changed : Bool} (from : ℕ)
-    → Takes before after to (inThree (get_or before (from * 3) 0) (get_or before (from * 3 + 1) 0) (get_or before (from * 3 + 2) 0)) changed
+    → Takes before after to (InThree (get_or before (from * 3) 0) (get_or before (from * 3 + 1) 0) (get_or before (from * 3 + 2) 0)) changed
     → Takes before after to (λ i. has before i from ≡ true) changed
 unfolding has
 flow-takes {before} from t =
@@ -161,7 +161,7 @@ module _ (l : List ℕ) (left right : ℕ) where
 pub meet-takes :
     {before after : List ℕ} {to : ℕ → Type 0} {changed : Bool} (left right : ℕ)
     → Takes before after to
-    (inThree (bit_and (get_or before (left * 3) 0) (get_or before (right * 3) 0)) (bit_and (get_or before (left * 3 + 1) 0) (get_or before (right * 3 + 1) 0))
+    (InThree (bit_and (get_or before (left * 3) 0) (get_or before (right * 3) 0)) (bit_and (get_or before (left * 3 + 1) 0) (get_or before (right * 3 + 1) 0))
     (bit_and (get_or before (left * 3 + 2) 0) (get_or before (right * 3 + 2) 0))) changed
     → Takes before after to (λ i. (has before i left ≡ true) × (has before i right ≡ true)) changed
 unfolding has
@@ -184,7 +184,7 @@ all_ones (suc (suc (suc q))) k h l = absurd (omega arith)
 
 pub fill-takes :
     {before after : List ℕ} {to : ℕ → Type 0} {changed : Bool}
-    → Takes before after to (inThree (2 ^ 64 - 1) (2 ^ 64 - 1) (2 ^ 64 - 1)) changed → Takes before after to (λ i. Unit {0}) changed
+    → Takes before after to (InThree (2 ^ 64 - 1) (2 ^ 64 - 1) (2 ^ 64 - 1)) changed → Takes before after to (λ i. Unit {0}) changed
 fill-takes t = takes-as t (λ i h u. tt) (λ i h _. all_ones (i / 64) (i % 64) (omega arith) (omega arith))
 
 same-column : (j k a b : ℕ) → a < 3 → b < 3 → j * 3 + a ≡ k * 3 + b → j ≡ k

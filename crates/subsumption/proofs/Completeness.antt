@@ -8,7 +8,7 @@ use Rattle.subsumption.specs.Atoms.{atoms, chosen}
 use Rattle.subsumption.specs.Roles.{wider}
 use Rattle.subsumption.specs.Subsumption.{Subsumed}
 use Rattle.subsumption.specs.Inner.Columns.{has}
-use Rattle.subsumption.specs.Inner.Settling.{chooseFrom}
+use Rattle.subsumption.specs.Inner.Settling.{choose_from}
 use Rattle.subsumption.specs.Inner.Closure.{Steps, Closed, ColumnsOf}
 use Rattle.subsumption.proofs.WellFormed.{WellFormed}
 use Rattle.subsumption.proofs.Inward.{below-inward}
@@ -52,7 +52,7 @@ module _ (t : Tables) (assignment : List ℕ) (wf : WellFormed t) (marks : ℕ �
 pub closed-exactly :
     (t : Tables) (assignment given columns : List ℕ) → WellFormed t
     → ((i j : ℕ) → i < count_of t.concepts → j < count_of t.concepts → has given i j ≡ true → Subsumed t assignment i j)
-    → Closed t.concepts t.inclusions (wider t.roles) (chooseFrom (atoms t) assignment) given columns → ColumnsOf t assignment columns
+    → Closed t.concepts t.inclusions (wider t.roles) (choose_from (atoms t) assignment) given columns → ColumnsOf t assignment columns
 unfolding chosen
 closed-exactly t assignment given columns wf start c =
     record {

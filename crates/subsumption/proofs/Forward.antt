@@ -9,9 +9,9 @@ use Rattle.subsumption.proofs.Bools.{le-or-lt}
 use borrow.Author.Tests.{lt-ltb, le-ltb, le-leb, lt-leb}
 use Rattle.subsumption.specs.declared.tables.Row.{Row}
 use Rattle.subsumption.specs.declared.tables.Pair.{Pair}
-use Rattle.subsumption.specs.Tables.{or, decode, node, left_of, rightOf}
+use Rattle.subsumption.specs.Tables.{or, decode, node, left_of, right_of}
 use Rattle.subsumption.specs.Inner.Tables.{row_of, pair_of}
-use Rattle.subsumption.specs.Check.{forward, noConcept}
+use Rattle.subsumption.specs.Check.{forward, no_concept}
 
 -- the code's test and the paper's
 pub leb-not-ltb : (i j : ℕ) → leb i j ≡ not (ltb j i)
@@ -44,15 +44,15 @@ unfolding node
 row-forward cs i row r e h = sym (rw e at h)
 
 module _ (count left right : ℕ) where
-  pub no-left : count ≤ left → true ≡ noConcept count left right
-  unfolding noConcept or
+  pub no-left : count ≤ left → true ≡ no_concept count left right
+  unfolding no_concept or
   no-left h = rw (le-ltb left count h)
 
-  pub no-right : left < count → leb count right ≡ noConcept count left right
-  unfolding noConcept or
+  pub no-right : left < count → leb count right ≡ no_concept count left right
+  unfolding no_concept or
   no-right h = rw (lt-ltb left count h, leb-not-ltb count right)
 
 pub pair-unknown :
-    (count : ℕ) (pairs : List ℕ) (m : ℕ) (pair : Pair) (r : Bool) → pair ≡ pair_of pairs m → r ≡ noConcept count pair.left pair.right
-    → noConcept count (left_of pairs m) (rightOf pairs m) ≡ r
+    (count : ℕ) (pairs : List ℕ) (m : ℕ) (pair : Pair) (r : Bool) → pair ≡ pair_of pairs m → r ≡ no_concept count pair.left pair.right
+    → no_concept count (left_of pairs m) (right_of pairs m) ≡ r
 pair-unknown count pairs m pair r e h = sym (rw e at h)

@@ -10,11 +10,11 @@ use lib.Seq.{get_or-set_same, get_or-set_other}
 use lib.Bits.{bit_and}
 use lib.Dec.{eqb}
 use borrow.Author.Tests.{eqb-true, eqb-false}
-use Rattle.subsumption.specs.Tables.{Node, name_at, existsAt, node, count_of}
+use Rattle.subsumption.specs.Tables.{Node, name_at, exists_at, node, count_of}
 use Rattle.subsumption.specs.Roles.{wider}
 use Rattle.subsumption.specs.Inner.Tables.{Rising}
 use Rattle.subsumption.specs.Atoms.{bit}
-use Rattle.subsumption.specs.Inner.Columns.{has, inThree, Takes}
+use Rattle.subsumption.specs.Inner.Columns.{has, InThree, Takes}
 use Rattle.subsumption.specs.Inner.Roles.{in_set, RoleSets}
 use Rattle.subsumption.specs.Inner.Names.{FirstNamed, Nameable, Seen, Firsts, IsNamed}
 use Rattle.subsumption.specs.Inner.Links.{Inner, LinkedTo, Inserted, Put, Union, WithInner, WithRole, Existentials, KindsTo, Laid, Sorted}
@@ -98,7 +98,7 @@ module _ (concepts : List ℕ) (n : ℕ) where
     abbrev role : ℕ
     role = get_or concepts (n * 3 + 1) 0
 
-    row : node concepts n ≡ existsAt role inner
+    row : node concepts n ≡ exists_at role inner
     row = node-exists concepts n k
 
     same-inner : (x e : ℕ) → e ≡ n → WithInner concepts (n + 1) x e → x ≡ inner
@@ -116,7 +116,7 @@ module _ (concepts : List ℕ) (n : ℕ) where
           outer-only =
               λ x e l u.
               ⊎_elim (λ v. more-inner x e (E.outer-only x e l v))
-              (λ (v : (x ≡ inner) × (e ≡ n)). record { before = omega (arith, v.1); role = role; row = ap (node concepts) v.1 ∙ row ∙ ap (existsAt role) (sym v.0) })
+              (λ (v : (x ≡ inner) × (e ≡ n)). record { before = omega (arith, v.1); role = role; row = ap (node concepts) v.1 ∙ row ∙ ap (exists_at role) (sym v.0) })
               (A.bits e x l u);
           outer-every =
               λ x e w.
@@ -130,7 +130,7 @@ module _ (concepts : List ℕ) (n : ℕ) where
           lines-only =
               λ r e l u.
               ⊎_elim (λ v. more-role r e (E.lines-only r e l v))
-              (λ (v : (r ≡ role) × (e ≡ n)). record { before = omega (arith, v.1); inner = inner; row = ap (node concepts) v.1 ∙ row ∙ ap (λ (z : ℕ). existsAt z inner) (sym v.0) })
+              (λ (v : (r ≡ role) × (e ≡ n)). record { before = omega (arith, v.1); inner = inner; row = ap (node concepts) v.1 ∙ row ∙ ap (λ (z : ℕ). exists_at z inner) (sym v.0) })
               (C.bits e r l u);
           lines-every =
               λ r e w.
@@ -147,7 +147,7 @@ existentials-all concepts outer inners lines n h l E = subst (λ (z : ℕ). Exis
 -- ---- the existentials by the roles that theirs counts as
 -- the set of roles as three words
 module _ (into : List ℕ) (s : ℕ) where
-  roles-only : (r : ℕ) → r < 192 → inThree (get_or into (s * 2) 0) (get_or into (s * 2 + 1) 0) 0 r → in_set into r s ≡ true
+  roles-only : (r : ℕ) → r < 192 → InThree (get_or into (s * 2) 0) (get_or into (s * 2 + 1) 0) 0 r → in_set into r s ≡ true
   unfolding in_set
   roles-only r l u = go (r / 64) (omega arith) u
     where
@@ -157,7 +157,7 @@ module _ (into : List ℕ) (s : ℕ) where
       go (suc (suc zero)) h v = absurd (bit-of-zero (r % 64) v)
       go (suc (suc (suc w))) h v = absurd (omega arith)
 
-  roles-every : (r : ℕ) → r < 128 → in_set into r s ≡ true → inThree (get_or into (s * 2) 0) (get_or into (s * 2 + 1) 0) 0 r
+  roles-every : (r : ℕ) → r < 128 → in_set into r s ≡ true → InThree (get_or into (s * 2) 0) (get_or into (s * 2 + 1) 0) 0 r
   unfolding in_set
   roles-every r l u = go (r / 64) (omega arith) u
     where
@@ -172,7 +172,7 @@ module _ (into lines : List ℕ) where
 
   pub kinds-more :
       (kinds kinds' : List ℕ) (s first second third : ℕ) → KindsTo into lines kinds s
-      → Union lines (inThree (get_or into (s * 2) 0) (get_or into (s * 2 + 1) 0) 0) (inThree first second third) → Put kinds kinds' s first second third
+      → Union lines (InThree (get_or into (s * 2) 0) (get_or into (s * 2 + 1) 0) 0) (InThree first second third) → Put kinds kinds' s first second third
       → KindsTo into lines kinds' (s + 1)
   kinds-more kinds kinds' s first second third K U P =
       record {
@@ -220,7 +220,7 @@ laid concepts into outer inners lines kinds E K = record { outer-long = E.outer-
 -- ---- what an existential takes in
 pub over-union :
     (columns outer inners : List ℕ) (y : ℕ) (set : ℕ → Type 0)
-    → Union outer (inThree (bit_and (get_or columns (y * 3) 0) (get_or inners 0 0)) (bit_and (get_or columns (y * 3 + 1) 0) (get_or inners 1 0)) (bit_and (get_or columns (y * 3 + 2) 0) (get_or inners 2 0))) set
+    → Union outer (InThree (bit_and (get_or columns (y * 3) 0) (get_or inners 0 0)) (bit_and (get_or columns (y * 3 + 1) 0) (get_or inners 1 0)) (bit_and (get_or columns (y * 3 + 2) 0) (get_or inners 2 0))) set
     → Union outer (λ x. (has columns x y ≡ true) × (has inners x 0 ≡ true)) set
 unfolding has
 over-union columns outer inners y set U =
@@ -242,18 +242,18 @@ module _ (concepts outer inners kinds : List ℕ) (I : Inner concepts) (f : ℕ)
   not-linked columns ne inclusions wide choose S = pass-none (λ e r y h n l. absurd (ne (exists-node concepts f r y n).0))
 
   module _ (kind : get_or concepts (f * 3) 0 ≡ 2) (before after : List ℕ) (changed : Bool) (a b c first second third : ℕ)
-      (O : Union outer (λ x. (has before x (get_or concepts (f * 3 + 2) 0) ≡ true) × (has inners x 0 ≡ true)) (inThree a b c))
+      (O : Union outer (λ x. (has before x (get_or concepts (f * 3 + 2) 0) ≡ true) × (has inners x 0 ≡ true)) (InThree a b c))
       (U : Union before
-      (inThree (bit_and a (get_or kinds (get_or concepts (f * 3 + 1) 0 * 3) 0)) (bit_and b (get_or kinds (get_or concepts (f * 3 + 1) 0 * 3 + 1) 0))
-      (bit_and c (get_or kinds (get_or concepts (f * 3 + 1) 0 * 3 + 2) 0))) (inThree first second third))
-      (T : Takes before after (λ j. j ≡ f) (inThree first second third) changed) where
+      (InThree (bit_and a (get_or kinds (get_or concepts (f * 3 + 1) 0 * 3) 0)) (bit_and b (get_or kinds (get_or concepts (f * 3 + 1) 0 * 3 + 1) 0))
+      (bit_and c (get_or kinds (get_or concepts (f * 3 + 1) 0 * 3 + 2) 0))) (InThree first second third))
+      (T : Takes before after (λ j. j ≡ f) (InThree first second third) changed) where
     abbrev s : ℕ
     s = get_or concepts (f * 3 + 1) 0
 
     abbrev y : ℕ
     y = get_or concepts (f * 3 + 2) 0
 
-    row-f : node concepts f ≡ existsAt s y
+    row-f : node concepts f ≡ exists_at s y
     row-f = node-exists concepts f kind
 
     pub linked-pass : LinkPass concepts outer inners kinds (λ wide. LinkedTo concepts wide f) before after changed
@@ -262,11 +262,11 @@ module _ (concepts outer inners kinds : List ℕ) (I : Inner concepts) (f : ℕ)
         low : s < 100
         low = I.low f s y row-f
 
-        row_of : (i r x t z : ℕ) → node concepts i ≡ existsAt r x → node concepts i ≡ existsAt t z → node concepts i ≡ existsAt t x
-        row_of i r x t z p q = q ∙ ap (existsAt t) (sym (exists-node concepts i t z q).2 ∙ (exists-node concepts i r x p).2)
+        row_of : (i r x t z : ℕ) → node concepts i ≡ exists_at r x → node concepts i ≡ exists_at t z → node concepts i ≡ exists_at t x
+        row_of i r x t z p q = q ∙ ap (exists_at t) (sym (exists-node concepts i t z q).2 ∙ (exists-node concepts i r x p).2)
 
         flows :
-            (g : List ℕ) → Sound concepts inclusions wide choose g before → (i j : ℕ) → i < count_of concepts → j < count_of concepts → j ≡ f → inThree first second third i
+            (g : List ℕ) → Sound concepts inclusions wide choose g before → (i j : ℕ) → i < count_of concepts → j < count_of concepts → j ≡ f → InThree first second third i
             → Flow concepts inclusions wide choose g i j
         flows g k i j l _ p u =
             let (e, el, v, w) = U.only i (omega (arith, I.few)) u in
@@ -279,13 +279,13 @@ module _ (concepts outer inners kinds : List ℕ) (I : Inner concepts) (f : ℕ)
             (flow-linked i e f r s x y l o.before inside row-e row-f rs
             (k x y (I.known e r x o.before row-e) (I.known f s y inside row-f) xy.0) (k i e l o.before w))
 
-        done : ((i j : ℕ) → i < count_of concepts → j ≡ f → inThree first second third i → has before i j ≡ true) → LinkedTo concepts wide f before
+        done : ((i j : ℕ) → i < count_of concepts → j ≡ f → InThree first second third i → has before i j ≡ true) → LinkedTo concepts wide f before
         done q e s' y' l n k i h u =
             let same = exists-node concepts f s' y' n in
             let el : e < 192 = omega (arith, I.few) in
             let w : WithInner concepts (count_of concepts) k.from e = record { before = l; role = k.narrow; row = k.row } in
             let xl : k.from < 192 = omega (arith, I.known e _ _ l k.row, I.few) in
-            let found : inThree a b c e = O.every e k.from el xl (subst (λ (z : ℕ). has before k.from z ≡ true) (sym same.2) k.below, S.inners-every k.from e w) (S.outer-every k.from e w) in
+            let found : InThree a b c e = O.every e k.from el xl (subst (λ (z : ℕ). has before k.from z ≡ true) (sym same.2) k.below, S.inners-every k.from e w) (S.outer-every k.from e w) in
             let of : has kinds e s ≡ true = S.kinds-every s e k.narrow low (subst (λ (z : ℕ). wide k.narrow z ≡ true) (sym same.1) k.counting) (record { before = l; inner = k.from; row = k.row }) in
             q i f h refl
             (U.every i e (omega (arith, I.few)) el

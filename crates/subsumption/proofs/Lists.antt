@@ -10,9 +10,9 @@ use mathlib.Core.Logic.{⊎_elim}
 use lib.ListN.{length, take, set, length-append, length-set}
 use lib.Seq.{set-append_seam, drop-cons, take-suc-set}
 use Rattle.subsumption.specs.Atoms.{keep}
-use Rattle.subsumption.specs.Inner.Atoms.{inFront}
+use Rattle.subsumption.specs.Inner.Atoms.{in_front}
 
-pub front-more : (xs before : List ℕ) (v : ℕ) → length xs < length before → set (inFront xs before) (length xs) v ≡ inFront (xs ++ (v ∷ [])) before
+pub front-more : (xs before : List ℕ) (v : ℕ) → length xs < length before → set (in_front xs before) (length xs) v ≡ in_front (xs ++ (v ∷ [])) before
 front-more xs before v h =
     rw (drop-cons before (length xs) 0 h, set-append_seam, append_assoc)
     (rw (length-append xs (v ∷ []), add-one) refl)
@@ -94,7 +94,7 @@ module _ (test : ℕ → Bool) where
   -- ---- listing
   pub record ListedTo (before out : List ℕ) (listed p : ℕ) : Type 0 where
     pub count : listed ≡ length (keep test 0 p)
-    pub buffer : out ≡ inFront (keep test 0 p) before
+    pub buffer : out ≡ in_front (keep test 0 p) before
 
   pub listed-none : (before : List ℕ) → ListedTo before before 0 0
   unfolding keep

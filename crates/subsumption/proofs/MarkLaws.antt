@@ -13,14 +13,14 @@ use lib.ListN.{length, get_or}
 use borrow.Author.Tests.{eq-eqb, ne_eqb, eqb-true}
 use Rattle.subsumption.specs.Tables.{Tables, both, count_of}
 use Rattle.subsumption.specs.Atoms.{bit}
-use Rattle.subsumption.specs.Table.{marked, one, counted, total, marksIn, TableOf}
+use Rattle.subsumption.specs.Table.{marked, one, counted, total, marks_in, TableOf}
 use Rattle.subsumption.specs.declared.refusal.Outcome.TheVariants.{Done}
-use Rattle.subsumption.specs.Check.{tableFault}
+use Rattle.subsumption.specs.Check.{table_fault}
 use Rattle.subsumption.specs.Inner.Columns.{has}
 use Rattle.subsumption.specs.Inner.Rows.{Written}
 use Rattle.subsumption.proofs.Bools.{both_true, both-intro, both-second, last-cases, le-or-lt, eq-or-ne}
 use Rattle.subsumption.proofs.Bits.{bit-half, bit-mod, bit_past}
-use Rattle.subsumption.proofs.Accepted.{wellFormed}
+use Rattle.subsumption.proofs.Accepted.{well_formed}
 use Rattle.subsumption.proofs.Blocks.{shows-below, shows-over}
 
 -- ---- counting
@@ -112,14 +112,14 @@ total-past f n (suc more) h =
 
 -- ---- distinct pairs that pass a test are at most the pairs that do
 module _ (rows columns : ℕ) where
-  abbrev pairsOf : (ℕ → ℕ → Bool) → ℕ
-  pairsOf test = total (λ j. counted (λ i. test i j) rows) columns
+  abbrev pairs_of : (ℕ → ℕ → Bool) → ℕ
+  pairs_of test = total (λ j. counted (λ i. test i j) rows) columns
 
   -- the test without one pair
   abbrev without : (ℕ → ℕ → Bool) → ℕ → ℕ → ℕ → ℕ → Bool
   without test x y i j = both (test i j) (not (both (eqb i x) (eqb j y)))
 
-  without-less : (test : ℕ → ℕ → Bool) (x y : ℕ) → x < rows → y < columns → test x y ≡ true → pairsOf (without test x y) < pairsOf test
+  without-less : (test : ℕ → ℕ → Bool) (x y : ℕ) → x < rows → y < columns → test x y ≡ true → pairs_of (without test x y) < pairs_of test
   without-less test x y l h e =
       total-less _ _ columns y h (counted-less _ _ rows x l gone e (λ i u k. (both_true _ _ k).0)) (λ j u. counted-le _ _ rows (λ i w k. (both_true _ _ k).0))
     where
@@ -128,7 +128,7 @@ module _ (rows columns : ℕ) where
 
   pub distinct-few :
       (n : ℕ) (x y : ℕ → ℕ) (test : ℕ → ℕ → Bool) → ((k : ℕ) → k < n → (x k < rows) × (y k < columns) × (test (x k) (y k) ≡ true))
-      → ((k m : ℕ) → k < m → m < n → x k ≡ x m → y k ≡ y m → ⊥) → n ≤ pairsOf test
+      → ((k m : ℕ) → k < m → m < n → x k ≡ x m → y k ≡ y m → ⊥) → n ≤ pairs_of test
   distinct-few zero x y test each once = omega arith
   distinct-few (suc n) x y test each once =
       let (l, h, e) = each n (omega arith) in
@@ -267,8 +267,8 @@ module _ (columns : List ℕ) (count : ℕ) where
 
 -- ---- the marks written are the pairs counted
 pub marks-counted : (columns : List ℕ) (count : ℕ) (before after : List ℕ) → count ≤ 192 → Written columns count before after
-    → total (λ j. counted (λ i. has columns i j) count) count ≡ marksIn count after
-unfolding marksIn
+    → total (λ j. counted (λ i. has columns i j) count) count ≡ marks_in count after
+unfolding marks_in
 marks-counted columns count before after few W =
     total-same _ _ count (λ j l. counted_same _ _ count (λ i h. sym (W.bits i j h (omega arith) ∙ shows-below columns count i j l)))
     ∙ sym (ap (total (λ j. counted (λ i. marked after i j) count)) whole ∙ total-past _ count (192 - count) (λ j l h. counted_none _ count (λ i k. W.bits i j k (omega arith) ∙ shows-over columns count i j l)))
@@ -286,11 +286,11 @@ total-between f (suc n) most h =
     (omega arith, omega (arith, suc-mul n most))
 
 -- The number of marks of a table lies between the number of concepts and its square.
-pub marks-between : (t : Tables) (assignment before after : List ℕ) → tableFault t ≡ Done → TableOf t assignment before after
-    → (count_of t.concepts ≤ marksIn (count_of t.concepts) after) × (marksIn (count_of t.concepts) after ≤ count_of t.concepts * count_of t.concepts)
-unfolding marksIn
+pub marks-between : (t : Tables) (assignment before after : List ℕ) → table_fault t ≡ Done → TableOf t assignment before after
+    → (count_of t.concepts ≤ marks_in (count_of t.concepts) after) × (marks_in (count_of t.concepts) after ≤ count_of t.concepts * count_of t.concepts)
+unfolding marks_in
 marks-between t assignment before after ok T =
-    let few = (wellFormed t ok).few in
+    let few = (well_formed t ok).few in
     let count = count_of t.concepts in
     let e : total (λ j. counted (λ i. marked after i j) count) 192 ≡ total (λ j. counted (λ i. marked after i j) count) count
     = ap (total (λ j. counted (λ i. marked after i j) count)) (whole count few) ∙ total-past _ count (192 - count) (λ j l h. counted_none _ count (λ i k. T.zero i j k l (omega arith))) in
@@ -302,6 +302,6 @@ marks-between t assignment before after ok T =
     whole n l = omega arith
 
 -- Without concepts there is none.
-pub marks-none : (bytes : List ℕ) → marksIn 0 bytes ≡ 0
-unfolding marksIn counted total
+pub marks-none : (bytes : List ℕ) → marks_in 0 bytes ≡ 0
+unfolding marks_in counted total
 marks-none bytes = total-past (λ j. counted (λ i. marked bytes i j) 0) 0 192 (λ j l h. refl)

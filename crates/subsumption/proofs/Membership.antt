@@ -3,14 +3,14 @@ use Prim.Native.Nat.{ℕ}
 use mathlib.Core.Path.{◌≡◌, sym, ◌∙◌}
 use mathlib.Core.List.{List}
 use mathlib.Core.Bool.{false, true≢false}
-use Rattle.subsumption.specs.Tables.{Tables, Concept, top, name, exists, and, var, variablesOf, hasVariable}
+use Rattle.subsumption.specs.Tables.{Tables, Concept, top, name, exists, and, var, variables_of, has_variable}
 use Rattle.subsumption.specs.Subsumption.{Interpretation, Reading, Member, assigned, SubsumedBy, Subsumed}
 use Rattle.subsumption.proofs.Bools.{or-false}
 use Rattle.subsumption.proofs.VariableLaws.{variable-both, variable-one}
 use Rattle.subsumption.proofs.Inward.{Ground}
 
-pub member-ground : (I : Interpretation) (ρ ρ' : Reading) (c : Concept) → hasVariable c ≡ false → (x : ℕ) → Member I ρ c x → Member I ρ' c x
-unfolding hasVariable variablesOf
+pub member-ground : (I : Interpretation) (ρ ρ' : Reading) (c : Concept) → has_variable c ≡ false → (x : ℕ) → Member I ρ c x → Member I ρ' c x
+unfolding has_variable variables_of
 member-ground I ρ ρ' top g x h = h
 member-ground I ρ ρ' (name n) g x h = h
 member-ground I ρ ρ' (exists r c) g x (y, l, k, h) = (y, l, k, member-ground I ρ ρ' c g y h)

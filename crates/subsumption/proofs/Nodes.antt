@@ -4,26 +4,26 @@ use mathlib.Core.Path.{◌≡◌, refl}
 use mathlib.Core.List.{List}
 use native.Mathlib.Omega.{arith}
 use lib.ListN.{get_or}
-use Rattle.subsumption.specs.Tables.{topAt, name_at, existsAt, andAt, varAt, node, decode}
+use Rattle.subsumption.specs.Tables.{top_at, name_at, exists_at, and_at, var_at, node, decode}
 
 module _ (concepts : List ℕ) (i : ℕ) where
   pub node-name : get_or concepts (i * 3) 0 ≡ 1 → node concepts i ≡ name_at (get_or concepts (i * 3 + 1) 0)
   unfolding node decode
   node-name e = rw (e, decode) refl
 
-  pub node-exists : get_or concepts (i * 3) 0 ≡ 2 → node concepts i ≡ existsAt (get_or concepts (i * 3 + 1) 0) (get_or concepts (i * 3 + 2) 0)
+  pub node-exists : get_or concepts (i * 3) 0 ≡ 2 → node concepts i ≡ exists_at (get_or concepts (i * 3 + 1) 0) (get_or concepts (i * 3 + 2) 0)
   unfolding node decode
   node-exists e = rw (e, decode) refl
 
-  pub node-and : get_or concepts (i * 3) 0 ≡ 3 → node concepts i ≡ andAt (get_or concepts (i * 3 + 1) 0) (get_or concepts (i * 3 + 2) 0)
+  pub node-and : get_or concepts (i * 3) 0 ≡ 3 → node concepts i ≡ and_at (get_or concepts (i * 3 + 1) 0) (get_or concepts (i * 3 + 2) 0)
   unfolding node decode
   node-and e = rw (e, decode) refl
 
-  pub node-var : get_or concepts (i * 3) 0 ≡ 4 → node concepts i ≡ varAt (get_or concepts (i * 3 + 1) 0)
+  pub node-var : get_or concepts (i * 3) 0 ≡ 4 → node concepts i ≡ var_at (get_or concepts (i * 3 + 1) 0)
   unfolding node decode
   node-var e = rw (e, decode) refl
 
-other-decoded : (kind a b : ℕ) → (kind ≡ 1 → ⊥) → (kind ≡ 2 → ⊥) → (kind ≡ 3 → ⊥) → (kind ≡ 4 → ⊥) → decode kind a b ≡ topAt
+other-decoded : (kind a b : ℕ) → (kind ≡ 1 → ⊥) → (kind ≡ 2 → ⊥) → (kind ≡ 3 → ⊥) → (kind ≡ 4 → ⊥) → decode kind a b ≡ top_at
 unfolding decode
 other-decoded zero a b p q r s = refl
 other-decoded (suc zero) a b p q r s = absurd (p refl)
@@ -41,7 +41,7 @@ name-decoded (suc (suc (suc zero))) a b m e = let z : ◌≡◌ {A = ℕ} 0 1 = 
 name-decoded (suc (suc (suc (suc zero)))) a b m e = let z : ◌≡◌ {A = ℕ} 0 1 = cc in absurd (omega arith)
 name-decoded (suc (suc (suc (suc (suc k))))) a b m e = let z : ◌≡◌ {A = ℕ} 0 1 = cc in absurd (omega arith)
 
-exists-decoded : (kind a b r x : ℕ) → decode kind a b ≡ existsAt r x → (kind ≡ 2) × (a ≡ r) × (b ≡ x)
+exists-decoded : (kind a b r x : ℕ) → decode kind a b ≡ exists_at r x → (kind ≡ 2) × (a ≡ r) × (b ≡ x)
 unfolding decode
 exists-decoded zero a b r x e = let z : ◌≡◌ {A = ℕ} 0 1 = cc in absurd (omega arith)
 exists-decoded (suc zero) a b r x e = let z : ◌≡◌ {A = ℕ} 0 1 = cc in absurd (omega arith)
@@ -50,7 +50,7 @@ exists-decoded (suc (suc (suc zero))) a b r x e = let z : ◌≡◌ {A = ℕ} 0 
 exists-decoded (suc (suc (suc (suc zero)))) a b r x e = let z : ◌≡◌ {A = ℕ} 0 1 = cc in absurd (omega arith)
 exists-decoded (suc (suc (suc (suc (suc k))))) a b r x e = let z : ◌≡◌ {A = ℕ} 0 1 = cc in absurd (omega arith)
 
-and-decoded : (kind a b x y : ℕ) → decode kind a b ≡ andAt x y → (kind ≡ 3) × (a ≡ x) × (b ≡ y)
+and-decoded : (kind a b x y : ℕ) → decode kind a b ≡ and_at x y → (kind ≡ 3) × (a ≡ x) × (b ≡ y)
 unfolding decode
 and-decoded zero a b x y e = let z : ◌≡◌ {A = ℕ} 0 1 = cc in absurd (omega arith)
 and-decoded (suc zero) a b x y e = let z : ◌≡◌ {A = ℕ} 0 1 = cc in absurd (omega arith)
@@ -59,7 +59,7 @@ and-decoded (suc (suc (suc zero))) a b x y e = (refl, (cc), (cc))
 and-decoded (suc (suc (suc (suc zero)))) a b x y e = let z : ◌≡◌ {A = ℕ} 0 1 = cc in absurd (omega arith)
 and-decoded (suc (suc (suc (suc (suc k))))) a b x y e = let z : ◌≡◌ {A = ℕ} 0 1 = cc in absurd (omega arith)
 
-var-decoded : (kind a b k : ℕ) → decode kind a b ≡ varAt k → (kind ≡ 4) × (a ≡ k)
+var-decoded : (kind a b k : ℕ) → decode kind a b ≡ var_at k → (kind ≡ 4) × (a ≡ k)
 unfolding decode
 var-decoded zero a b k e = let z : ◌≡◌ {A = ℕ} 0 1 = cc in absurd (omega arith)
 var-decoded (suc zero) a b k e = let z : ◌≡◌ {A = ℕ} 0 1 = cc in absurd (omega arith)
@@ -71,7 +71,7 @@ var-decoded (suc (suc (suc (suc (suc x))))) a b k e = let z : ◌≡◌ {A = ℕ
 module _ (concepts : List ℕ) (i : ℕ) where
   pub node-other :
       (get_or concepts (i * 3) 0 ≡ 1 → ⊥) → (get_or concepts (i * 3) 0 ≡ 2 → ⊥) → (get_or concepts (i * 3) 0 ≡ 3 → ⊥) → (get_or concepts (i * 3) 0 ≡ 4 → ⊥)
-      → node concepts i ≡ topAt
+      → node concepts i ≡ top_at
   unfolding node
   node-other p q r s = other-decoded _ _ _ p q r s
 
@@ -80,17 +80,17 @@ module _ (concepts : List ℕ) (i : ℕ) where
   name-node m e = name-decoded _ _ _ m e
 
   pub exists-node :
-      (r x : ℕ) → node concepts i ≡ existsAt r x
+      (r x : ℕ) → node concepts i ≡ exists_at r x
       → (get_or concepts (i * 3) 0 ≡ 2) × (get_or concepts (i * 3 + 1) 0 ≡ r) × (get_or concepts (i * 3 + 2) 0 ≡ x)
   unfolding node
   exists-node r x e = exists-decoded _ _ _ r x e
 
   pub and-node :
-      (x y : ℕ) → node concepts i ≡ andAt x y
+      (x y : ℕ) → node concepts i ≡ and_at x y
       → (get_or concepts (i * 3) 0 ≡ 3) × (get_or concepts (i * 3 + 1) 0 ≡ x) × (get_or concepts (i * 3 + 2) 0 ≡ y)
   unfolding node
   and-node x y e = and-decoded _ _ _ x y e
 
-  pub var-node : (k : ℕ) → node concepts i ≡ varAt k → (get_or concepts (i * 3) 0 ≡ 4) × (get_or concepts (i * 3 + 1) 0 ≡ k)
+  pub var-node : (k : ℕ) → node concepts i ≡ var_at k → (get_or concepts (i * 3) 0 ≡ 4) × (get_or concepts (i * 3 + 1) 0 ≡ k)
   unfolding node
   var-node k e = var-decoded _ _ _ k e

@@ -10,21 +10,21 @@ use borrow.Author.Tests.{lt-ltb, le-ltb, ltb-false}
 use Rattle.subsumption.specs.declared.refusal.Refusal.{Refusal}
 use Rattle.subsumption.specs.declared.refusal.Outcome.{Outcome}
 use Rattle.subsumption.specs.declared.refusal.Outcome.TheVariants.{Done, Refused}
-use Rattle.subsumption.specs.Refusal.{or_else, refuseIf, first_at}
-use Rattle.subsumption.specs.Check.{bufferFault}
+use Rattle.subsumption.specs.Refusal.{or_else, refuse_if, first_at}
+use Rattle.subsumption.specs.Check.{buffer_fault}
 
-pub refused-if : (b : Bool) (r : Refusal) → b ≡ true → Refused r ≡ refuseIf b r
-unfolding refuseIf
+pub refused-if : (b : Bool) (r : Refusal) → b ≡ true → Refused r ≡ refuse_if b r
+unfolding refuse_if
 refused-if b r e = rw e
 
-pub done-if : (b : Bool) (r : Refusal) → b ≡ false → Done ≡ refuseIf b r
-unfolding refuseIf
+pub done-if : (b : Bool) (r : Refusal) → b ≡ false → Done ≡ refuse_if b r
+unfolding refuse_if
 done-if b r e = rw e
 
-pub refused-lt : (a b : ℕ) (r : Refusal) → a < b → Refused r ≡ refuseIf (ltb a b) r
+pub refused-lt : (a b : ℕ) (r : Refusal) → a < b → Refused r ≡ refuse_if (ltb a b) r
 refused-lt a b r h = refused-if (ltb a b) r (lt-ltb a b h)
 
-pub done-le : (a b : ℕ) (r : Refusal) → b ≤ a → Done ≡ refuseIf (ltb a b) r
+pub done-le : (a b : ℕ) (r : Refusal) → b ≤ a → Done ≡ refuse_if (ltb a b) r
 done-le a b r h = done-if (ltb a b) r (le-ltb a b h)
 
 -- the first check refuses
@@ -62,8 +62,8 @@ unfolding or_else
 passed-second Done b e = e
 passed-second (Refused r) b e = not-refused r e
 
-pub passed-if : (b : Bool) (r : Refusal) → refuseIf b r ≡ Done → b ≡ false
-unfolding refuseIf
+pub passed-if : (b : Bool) (r : Refusal) → refuse_if b r ≡ Done → b ≡ false
+unfolding refuse_if
 passed-if true r e = not-refused r e
 passed-if false r e = refl
 
@@ -75,8 +75,8 @@ unfolding first_at
 passed-at refusal faulty from zero e i h l = absurd (omega arith)
 passed-at refusal faulty from (suc count) e i h l =
     ⊎_elim
-    (λ q. subst (λ (k : ℕ). faulty k ≡ false) q (passed-if (faulty from) (refusal from) (passed_first (refuseIf (faulty from) (refusal from)) (first_at refusal faulty (suc from) count) e)))
-    (λ q. passed-at refusal faulty (suc from) count (passed-second (refuseIf (faulty from) (refusal from)) (first_at refusal faulty (suc from) count) e) i q (omega arith))
+    (λ q. subst (λ (k : ℕ). faulty k ≡ false) q (passed-if (faulty from) (refusal from) (passed_first (refuse_if (faulty from) (refusal from)) (first_at refusal faulty (suc from) count) e)))
+    (λ q. passed-at refusal faulty (suc from) count (passed-second (refuse_if (faulty from) (refusal from)) (first_at refusal faulty (suc from) count) e) i q (omega arith))
     (eq-or-lt_of_le h)
 
 -- a scan that meets no fault passes
@@ -89,6 +89,6 @@ no-fault refusal faulty from (suc count) none =
     both-done Done _ Done _ (done-if (faulty from) (refusal from) (none from (omega arith))) refl
     (no-fault refusal faulty (suc from) count (λ i l. none i (omega arith))) refl
 
-pub buffer-fits : (wanted size : ℕ) → bufferFault wanted size ≡ Done → wanted ≤ size
-unfolding bufferFault
+pub buffer-fits : (wanted size : ℕ) → buffer_fault wanted size ≡ Done → wanted ≤ size
+unfolding buffer_fault
 buffer-fits wanted size h = ltb-false size wanted (passed-if _ _ h)

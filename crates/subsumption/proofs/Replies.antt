@@ -6,40 +6,40 @@ use Rattle.subsumption.specs.declared.refusal.Refusal.{Refusal}
 use Rattle.subsumption.specs.declared.refusal.Refusal.TheVariants.{Limit, Malformed, ForwardId, NoConcept, VariableInInclusion, VariablesOnBothSides, TooManyAtoms, BufferTooShort, BadAssignment, NoAssignment, NotSubsumed, BadDerivation, BadText, AllowanceSpent, NoCountermodel, BadRole, BadSyntax, TooDeep, BadSettings, BadBatch, BadOrder, ForwardInOrder}
 use Rattle.subsumption.specs.declared.refusal.Outcome.{Outcome}
 use Rattle.subsumption.specs.declared.refusal.Outcome.TheVariants.{Done, Refused}
-use Rattle.subsumption.specs.Refusal.{code_of, Reply, replyDone, replyRefused, replyWith, replyOf}
+use Rattle.subsumption.specs.Refusal.{code_of, Reply, reply_done, reply_refused, reply_with, reply_of}
 
 -- the refusal of a number and a place; numbers from 17 on by themselves
-laterAt : ℕ → ℕ → Refusal
-laterAt (suc (suc (suc (suc zero)))) place = BadOrder place
-laterAt (suc (suc (suc (suc (suc zero))))) place = ForwardInOrder place
-laterAt (suc (suc (suc (suc (suc (suc number)))))) place = TooManyAtoms
-laterAt zero place = BadSyntax place
-laterAt (suc zero) place = TooDeep place
-laterAt (suc (suc zero)) place = BadSettings place
-laterAt (suc (suc (suc zero))) place = BadBatch place
+later_at : ℕ → ℕ → Refusal
+later_at (suc (suc (suc (suc zero)))) place = BadOrder place
+later_at (suc (suc (suc (suc (suc zero))))) place = ForwardInOrder place
+later_at (suc (suc (suc (suc (suc (suc number)))))) place = TooManyAtoms
+later_at zero place = BadSyntax place
+later_at (suc zero) place = TooDeep place
+later_at (suc (suc zero)) place = BadSettings place
+later_at (suc (suc (suc zero))) place = BadBatch place
 
-refusalAt : ℕ → ℕ → Refusal
-refusalAt zero place = TooManyAtoms
-refusalAt (suc zero) place = Limit place
-refusalAt (suc (suc zero)) place = Malformed place
-refusalAt (suc (suc (suc zero))) place = ForwardId place
-refusalAt (suc (suc (suc (suc zero)))) place = NoConcept place
-refusalAt (suc (suc (suc (suc (suc zero))))) place = VariableInInclusion place
-refusalAt (suc (suc (suc (suc (suc (suc zero)))))) place = VariablesOnBothSides place
-refusalAt (suc (suc (suc (suc (suc (suc (suc zero))))))) place = TooManyAtoms
-refusalAt (suc (suc (suc (suc (suc (suc (suc (suc zero)))))))) place = BufferTooShort place
-refusalAt (suc (suc (suc (suc (suc (suc (suc (suc (suc zero))))))))) place = BadAssignment place
-refusalAt (suc (suc (suc (suc (suc (suc (suc (suc (suc (suc zero)))))))))) place = NoAssignment
-refusalAt (suc (suc (suc (suc (suc (suc (suc (suc (suc (suc (suc zero))))))))))) place = NotSubsumed
-refusalAt (suc (suc (suc (suc (suc (suc (suc (suc (suc (suc (suc (suc zero)))))))))))) place = BadDerivation place
-refusalAt (suc (suc (suc (suc (suc (suc (suc (suc (suc (suc (suc (suc (suc zero))))))))))))) place = BadText place
-refusalAt (suc (suc (suc (suc (suc (suc (suc (suc (suc (suc (suc (suc (suc (suc zero)))))))))))))) place = AllowanceSpent
-refusalAt (suc (suc (suc (suc (suc (suc (suc (suc (suc (suc (suc (suc (suc (suc (suc zero))))))))))))))) place = NoCountermodel
-refusalAt (suc (suc (suc (suc (suc (suc (suc (suc (suc (suc (suc (suc (suc (suc (suc (suc zero)))))))))))))))) place = BadRole place
-refusalAt (suc (suc (suc (suc (suc (suc (suc (suc (suc (suc (suc (suc (suc (suc (suc (suc (suc number))))))))))))))))) place = laterAt number place
+refusal_at : ℕ → ℕ → Refusal
+refusal_at zero place = TooManyAtoms
+refusal_at (suc zero) place = Limit place
+refusal_at (suc (suc zero)) place = Malformed place
+refusal_at (suc (suc (suc zero))) place = ForwardId place
+refusal_at (suc (suc (suc (suc zero)))) place = NoConcept place
+refusal_at (suc (suc (suc (suc (suc zero))))) place = VariableInInclusion place
+refusal_at (suc (suc (suc (suc (suc (suc zero)))))) place = VariablesOnBothSides place
+refusal_at (suc (suc (suc (suc (suc (suc (suc zero))))))) place = TooManyAtoms
+refusal_at (suc (suc (suc (suc (suc (suc (suc (suc zero)))))))) place = BufferTooShort place
+refusal_at (suc (suc (suc (suc (suc (suc (suc (suc (suc zero))))))))) place = BadAssignment place
+refusal_at (suc (suc (suc (suc (suc (suc (suc (suc (suc (suc zero)))))))))) place = NoAssignment
+refusal_at (suc (suc (suc (suc (suc (suc (suc (suc (suc (suc (suc zero))))))))))) place = NotSubsumed
+refusal_at (suc (suc (suc (suc (suc (suc (suc (suc (suc (suc (suc (suc zero)))))))))))) place = BadDerivation place
+refusal_at (suc (suc (suc (suc (suc (suc (suc (suc (suc (suc (suc (suc (suc zero))))))))))))) place = BadText place
+refusal_at (suc (suc (suc (suc (suc (suc (suc (suc (suc (suc (suc (suc (suc (suc zero)))))))))))))) place = AllowanceSpent
+refusal_at (suc (suc (suc (suc (suc (suc (suc (suc (suc (suc (suc (suc (suc (suc (suc zero))))))))))))))) place = NoCountermodel
+refusal_at (suc (suc (suc (suc (suc (suc (suc (suc (suc (suc (suc (suc (suc (suc (suc (suc zero)))))))))))))))) place = BadRole place
+refusal_at (suc (suc (suc (suc (suc (suc (suc (suc (suc (suc (suc (suc (suc (suc (suc (suc (suc number))))))))))))))))) place = later_at number place
 
-refusal-back : (r : Refusal) → refusalAt (code_of r).number (code_of r).place ≡ r
-unfolding refusalAt laterAt
+refusal-back : (r : Refusal) → refusal_at (code_of r).number (code_of r).place ≡ r
+unfolding refusal_at later_at
 refusal-back (Limit place) = refl
 refusal-back (Malformed place) = refl
 refusal-back (ForwardId place) = refl
@@ -63,8 +63,8 @@ refusal-back (BadBatch place) = refl
 refusal-back (BadOrder place) = refl
 refusal-back (ForwardInOrder place) = refl
 
-pub same-refusal : (q r : Refusal) → replyRefused q ≡ replyRefused r → q ≡ r
-same-refusal q r e = sym (refusal-back q) ∙ ap (λ (z : Reply). refusalAt z.number z.place) e ∙ refusal-back r
+pub same-refusal : (q r : Refusal) → reply_refused q ≡ reply_refused r → q ≡ r
+same-refusal q r e = sym (refusal-back q) ∙ ap (λ (z : Reply). refusal_at z.number z.place) e ∙ refusal-back r
 
 -- a refusal's number with 0 told apart from the others
 pub is_refused : (r : Refusal) → (code_of r).number ≡ 0 → ⊥
@@ -91,36 +91,36 @@ is_refused (BadBatch place) e = omega arith
 is_refused (BadOrder place) e = omega arith
 is_refused (ForwardInOrder place) e = omega arith
 
-pub not_done : (r : Refusal) (n : ℕ) {A : Type 0} → replyRefused r ≡ replyDone n → A
+pub not_done : (r : Refusal) (n : ℕ) {A : Type 0} → reply_refused r ≡ reply_done n → A
 not_done r n e = absurd (is_refused r (ap (λ (z : Reply). z.number) e))
 
-pub same-value : (m n : ℕ) → replyDone m ≡ replyDone n → m ≡ n
+pub same-value : (m n : ℕ) → reply_done m ≡ reply_done n → m ≡ n
 same-value m n e = ap (λ (z : Reply). z.value) e
 
 -- what a reply by these checks was
 module _ (fault : Outcome) (n : ℕ) where
-  pub by-refusal : (r : Refusal) → replyRefused r ≡ replyWith fault n → Refused r ≡ fault
+  pub by-refusal : (r : Refusal) → reply_refused r ≡ reply_with fault n → Refused r ≡ fault
   by-refusal r e = go fault e
     where
-      go : (f : Outcome) → replyRefused r ≡ replyWith f n → Refused r ≡ f
+      go : (f : Outcome) → reply_refused r ≡ reply_with f n → Refused r ≡ f
       go Done e = not_done r n e
       go (Refused q) e = ap Refused (same-refusal r q e)
 
-  pub by_value : (m : ℕ) → replyDone m ≡ replyWith fault n → (fault ≡ Done) × (m ≡ n)
+  pub by_value : (m : ℕ) → reply_done m ≡ reply_with fault n → (fault ≡ Done) × (m ≡ n)
   by_value m e = go fault e
     where
-      go : (f : Outcome) → replyDone m ≡ replyWith f n → (f ≡ Done) × (m ≡ n)
+      go : (f : Outcome) → reply_done m ≡ reply_with f n → (f ≡ Done) × (m ≡ n)
       go Done e = (refl, same-value m n e)
       go (Refused q) e = not_done q m (sym e)
 
-pub same-reply : (x y : Outcome) → x ≡ y → replyOf x ≡ replyOf y
-same-reply x y e = ap replyOf e
+pub same-reply : (x y : Outcome) → x ≡ y → reply_of x ≡ reply_of y
+same-reply x y e = ap reply_of e
 
-pub same-refused : (r : Refusal) (f : Outcome) → Refused r ≡ f → replyRefused r ≡ replyOf f
-same-refused r f e = ap replyOf e
+pub same-refused : (r : Refusal) (f : Outcome) → Refused r ≡ f → reply_refused r ≡ reply_of f
+same-refused r f e = ap reply_of e
 
-pub with-refused : (r : Refusal) (f : Outcome) (n : ℕ) → Refused r ≡ f → replyRefused r ≡ replyWith f n
-with-refused r f n e = ap (λ (z : Outcome). replyWith z n) e
+pub with-refused : (r : Refusal) (f : Outcome) (n : ℕ) → Refused r ≡ f → reply_refused r ≡ reply_with f n
+with-refused r f n e = ap (λ (z : Outcome). reply_with z n) e
 
-pub with_value : (m : ℕ) (f : Outcome) (n : ℕ) → f ≡ Done → m ≡ n → replyDone m ≡ replyWith f n
-with_value m f n e h = ap replyDone h ∙ ap (λ (z : Outcome). replyWith z n) (sym e)
+pub with_value : (m : ℕ) (f : Outcome) (n : ℕ) → f ≡ Done → m ≡ n → reply_done m ≡ reply_with f n
+with_value m f n e h = ap reply_done h ∙ ap (λ (z : Outcome). reply_with z n) (sym e)

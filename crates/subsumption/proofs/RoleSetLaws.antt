@@ -10,9 +10,9 @@ use lib.Dec.{eqb}
 use lib.ListN.{length, get_or, set, length-set, replicate, get_or-replicate}
 use lib.Seq.{get_or-set_same, get_or-set_other}
 use borrow.Author.Tests.{eq-eqb, ne_eqb, eqb-true}
-use Rattle.subsumption.specs.Tables.{or, both, pairsOf, left_of, rightOf}
+use Rattle.subsumption.specs.Tables.{or, both, pairs_of, left_of, right_of}
 use Rattle.subsumption.specs.Atoms.{bit}
-use Rattle.subsumption.specs.Roles.{widerTo, wider}
+use Rattle.subsumption.specs.Roles.{wider_to, wider}
 use Rattle.subsumption.specs.Inner.Roles.{in_set, LowRoles, Started, Joined, Widened, RoleSets}
 use Rattle.subsumption.proofs.Bools.{or-first, or-skip, both_first, both-second, both-skip, both-none, same_bool, last-cases, le-or-lt, eq-or-ne}
 use Rattle.subsumption.proofs.Bits.{bit-or, bit-pow, bit-pow-other, bit-of-zero}
@@ -205,18 +205,18 @@ widened-done before after narrow wide s W h = record { long = W.long; each = λ 
 
 -- ---- all pairs
 pub record SetsTo (roles into : List ℕ) (m : ℕ) : Type 0 where
-  pub within : m ≤ pairsOf roles
+  pub within : m ≤ pairs_of roles
   pub long : length into ≡ 200
-  pub each : (r s : ℕ) → r < 100 → s < 100 → in_set into r s ≡ widerTo roles m r s
+  pub each : (r s : ℕ) → r < 100 → s < 100 → in_set into r s ≡ wider_to roles m r s
 
 pub sets-none : (roles into : List ℕ) → Started into → SetsTo roles into 0
-unfolding widerTo
+unfolding wider_to
 sets-none roles into S = record { within = omega arith; long = S.long; each = S.each }
 
 pub sets_more :
-    (roles before after : List ℕ) (m narrow wide : ℕ) → LowRoles roles → m < pairsOf roles → SetsTo roles before m → narrow ≡ left_of roles m → wide ≡ rightOf roles m
+    (roles before after : List ℕ) (m narrow wide : ℕ) → LowRoles roles → m < pairs_of roles → SetsTo roles before m → narrow ≡ left_of roles m → wide ≡ right_of roles m
     → Widened before after narrow wide → SetsTo roles after (m + 1)
-unfolding widerTo
+unfolding wider_to
 sets_more roles before after m narrow wide low l S en ew W =
     record {
       within = omega arith;
@@ -226,12 +226,12 @@ sets_more roles before after m narrow wide low l S en ew W =
           let e : m + 1 ≡ suc m = omega arith in
           W.each r s h u
           ∙ ap₂ or (S.each r s h u)
-          (ap₂ both (S.each r narrow h (omega (arith, low.narrow m l)) ∙ ap (widerTo roles m r) en)
-          (S.each wide s (omega (arith, low.wide m l)) u ∙ ap (λ (z : ℕ). widerTo roles m z s) ew))
-          ∙ sym (ap (λ (z : ℕ). widerTo roles z r s) e);
+          (ap₂ both (S.each r narrow h (omega (arith, low.narrow m l)) ∙ ap (wider_to roles m r) en)
+          (S.each wide s (omega (arith, low.wide m l)) u ∙ ap (λ (z : ℕ). wider_to roles m z s) ew))
+          ∙ sym (ap (λ (z : ℕ). wider_to roles z r s) e);
     }
 
-pub sets-done : (roles into : List ℕ) (m : ℕ) → SetsTo roles into m → pairsOf roles ≤ m → RoleSets roles into
+pub sets-done : (roles into : List ℕ) (m : ℕ) → SetsTo roles into m → pairs_of roles ≤ m → RoleSets roles into
 unfolding wider
 sets-done roles into m S h =
-    record { long = S.long; each = λ r s l u. let e : m ≡ pairsOf roles = omega (arith, S.within) in S.each r s l u ∙ ap (λ (z : ℕ). widerTo roles z r s) e }
+    record { long = S.long; each = λ r s l u. let e : m ≡ pairs_of roles = omega (arith, S.within) in S.each r s l u ∙ ap (λ (z : ℕ). wider_to roles z r s) e }

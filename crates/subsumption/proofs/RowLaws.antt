@@ -11,14 +11,14 @@ use borrow.Author.Tests.{eqb-true, eqb-false}
 use Rattle.subsumption.specs.Tables.{Tables, count_of}
 use Rattle.subsumption.specs.Atoms.{bit}
 use Rattle.subsumption.specs.Inner.Columns.{has}
-use Rattle.subsumption.specs.Table.{rowStart, marked, TableOf}
+use Rattle.subsumption.specs.Table.{row_start, marked, TableOf}
 use Rattle.subsumption.specs.Inner.Closure.{ColumnsOf}
 use Rattle.subsumption.specs.Inner.Rows.{shown, banded, BandOf, RowWritten, Written}
 use Rattle.subsumption.proofs.Bits.{bit-shr, bit-mod}
 use Rattle.subsumption.proofs.Blocks.{shows-below, shows-over}
 
-pub start_is : (i start : ℕ) → start ≡ rowStart i → start ≡ i * 24
-unfolding rowStart
+pub start_is : (i start : ℕ) → start ≡ row_start i → start ≡ i * 24
+unfolding row_start
 start_is i start e = e
 
 -- the bytes of a row
@@ -27,16 +27,16 @@ module _ (band : List ℕ) (i : ℕ) (before : List ℕ) where
     pub within : at ≤ 24
     pub size : length after ≡ length before
     pub bits : (j : ℕ) → j < at * 8 → marked after i j ≡ banded band i j
-    pub under : (p : ℕ) → p < rowStart i → get_or after p 0 ≡ get_or before p 0
-    pub over : (p : ℕ) → rowStart i + at ≤ p → get_or after p 0 ≡ get_or before p 0
+    pub under : (p : ℕ) → p < row_start i → get_or after p 0 ≡ get_or before p 0
+    pub over : (p : ℕ) → row_start i + at ≤ p → get_or after p 0 ≡ get_or before p 0
 
   pub row_first : RowTo 0 before
   row_first = record { within = omega arith; size = refl; bits = λ j h. absurd (omega arith); under = λ p h. refl; over = λ p h. refl }
 
   pub row_more :
-      (at : ℕ) (mid : List ℕ) (start : ℕ) → RowTo at mid → at < 24 → i * 24 + 24 ≤ length before → start ≡ rowStart i
+      (at : ℕ) (mid : List ℕ) (start : ℕ) → RowTo at mid → at < 24 → i * 24 + 24 ≤ length before → start ≡ row_start i
       → RowTo (at + 1) (set mid (start + at) (get_or band at 0 / 2 ^ (i % 8 * 8) % 2 ^ 8))
-  unfolding rowStart marked
+  unfolding row_start marked
   row_more at mid start M h fits e =
       record {
         within = omega arith;
@@ -72,7 +72,7 @@ module _ (columns : List ℕ) (count : ℕ) (before : List ℕ) where
     pub within : n ≤ count
     pub size : length after ≡ length before
     pub bits : (i j : ℕ) → i < n → j < 192 → marked after i j ≡ shown columns count i j
-    pub rest : (p : ℕ) → rowStart n ≤ p → get_or after p 0 ≡ get_or before p 0
+    pub rest : (p : ℕ) → row_start n ≤ p → get_or after p 0 ≡ get_or before p 0
 
   pub rows-first : RowsTo 0 before
   rows-first = record { within = omega arith; size = refl; bits = λ i j h. absurd (omega arith); rest = λ p h. refl }
@@ -80,7 +80,7 @@ module _ (columns : List ℕ) (count : ℕ) (before : List ℕ) where
   pub rows_more :
       (n : ℕ) (band mid after : List ℕ) → RowsTo n mid → n < count → BandOf columns count (n / 8) band → RowWritten band n mid after
       → RowsTo (n + 1) after
-  unfolding rowStart marked
+  unfolding row_start marked
   rows_more n band mid after M h B W =
       record {
         within = omega arith;
@@ -105,7 +105,7 @@ module _ (columns : List ℕ) (count : ℕ) (before : List ℕ) where
       record {
         size = M.size;
         bits = λ i j l. M.bits i j (omega arith);
-        rest = λ p l. M.rest p (subst (λ (x : ℕ). rowStart x ≤ p) (whole M.within) l);
+        rest = λ p l. M.rest p (subst (λ (x : ℕ). row_start x ≤ p) (whole M.within) l);
       }
     where
       whole : n ≤ count → count ≡ n

@@ -10,7 +10,7 @@ use Rattle.subsumption.specs.Tables.{Tables, or, node, count_of}
 use Rattle.subsumption.specs.Atoms.{keep}
 use Rattle.subsumption.specs.Roles.{wider}
 use Rattle.subsumption.specs.Subsumption.{assigned, Subsumed}
-use Rattle.subsumption.specs.Rules.{every, same_name, onInner, follows}
+use Rattle.subsumption.specs.Rules.{every, same_name, on_inner, follows}
 use Rattle.subsumption.proofs.Bools.{or_cases, or-first, or-second, both-intro}
 use Rattle.subsumption.proofs.WellFormed.{WellFormed}
 use Rattle.subsumption.proofs.Inward.{below-inward}
@@ -18,13 +18,13 @@ use Rattle.subsumption.proofs.Keep.{keep-member, keep-intro}
 use Rattle.subsumption.proofs.Canonical.{Canonical, canonical-complete}
 use Rattle.subsumption.proofs.ModelRows.{interpretation, named_in, named-out, linked-in, linked-out, linked-widened}
 use Rattle.subsumption.proofs.RoleLaws.{wider-refl}
-use Rattle.subsumption.proofs.RuleTests.{every-elim, every-intro, sameName-elim, onInner-elim}
+use Rattle.subsumption.proofs.RuleTests.{every-elim, every-intro, same_name-elim, onInner-elim}
 use Rattle.subsumption.proofs.Rules.{Rules, follows-rules}
 use Rattle.subsumption.proofs.Soundness.{subsumed-trans}
 
 -- By rule 1 or 5 the row j is below the row f.
 unfoldable pub forces : List ℕ → List ℕ → (ℕ → ℕ → Bool) → ℕ → ℕ → Bool
-forces concepts roles marks j f = or (same_name (node concepts j) (node concepts f)) (onInner (wider roles) marks (node concepts j) (node concepts f))
+forces concepts roles marks j f = or (same_name (node concepts j) (node concepts f)) (on_inner (wider roles) marks (node concepts j) (node concepts f))
 
 -- The id x is marked below all that the row j forces.
 unfoldable pub forced : List ℕ → List ℕ → (ℕ → ℕ → Bool) → ℕ → ℕ → Bool
@@ -48,11 +48,11 @@ module _ (t : Tables) (assignment : List ℕ) (wf : WellFormed t) (marks : ℕ �
       reached : (f : ℕ) → f < count_of t.concepts → forces t.concepts t.roles marks c f ≡ true → marks x f ≡ true
       reached f u e =
           h f u
-          (⊎_elim (λ s. let (n, p, q) = sameName-elim _ _ s in rules.named c f n l u p q)
+          (⊎_elim (λ s. let (n, p, q) = same_name-elim _ _ s in rules.named c f n l u p q)
           (λ s. let (r, v, a, b, p, q, w, o) = onInner-elim (wider t.roles) marks _ _ s in rules.linked c f r v a b l u p q w o) (or_cases _ _ e))
 
   rules-canonical : Canonical t assignment (interpretation t.concepts t.roles (forced t.concepts t.roles marks)) (Absorbs t.concepts marks) (λ i j. marks i j ≡ true)
-  unfolding forces same_name onInner
+  unfolding forces same_name on_inner
   rules-canonical =
       record {
         size = refl;
@@ -75,7 +75,7 @@ module _ (t : Tables) (assignment : List ℕ) (wf : WellFormed t) (marks : ℕ �
             forced-elim x j c k s (or-first _ _ (ap₂ same_name f e ∙ eq-eqb n n refl));
         link-out = λ x c r d y l k _ e h m.
             let (j, q, _, f, w, s) = linked-out t.concepts t.roles (forced t.concepts t.roles marks) x r y h in
-            forced-elim x j c k s (or-second _ _ (ap₂ (onInner (wider t.roles) marks) f e ∙ both-intro _ _ w m));
+            forced-elim x j c k s (or-second _ _ (ap₂ (on_inner (wider t.roles) marks) f e ∙ both-intro _ _ w m));
         and-out = rules.meet;
         chosen-out = rules.all-chosen;
       }

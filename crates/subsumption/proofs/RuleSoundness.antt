@@ -3,7 +3,7 @@ use Prim.Native.Nat.{ℕ, ◌<◌}
 use mathlib.Core.Path.{◌≡◌}
 use mathlib.Core.List.{List}
 use mathlib.Core.Bool.{Bool, true}
-use Rattle.subsumption.specs.Tables.{Tables, count_of, rightOf}
+use Rattle.subsumption.specs.Tables.{Tables, count_of, right_of}
 use Rattle.subsumption.specs.Atoms.{chosen}
 use Rattle.subsumption.specs.Roles.{wider}
 use Rattle.subsumption.specs.Subsumption.{assigned, Subsumed}
@@ -33,7 +33,7 @@ module _ (t : Tables) (assignment : List ℕ) (wf : WellFormed t) where
         second = λ i j a b l k e s. trans i b j (steps.second i i a b l l e (same i)) s;
         meet = steps.meet;
         linked = λ i j r q a b l k e f w s. steps.linked i i j r q a b l l k e f w s (same i);
-        included = λ i j m l k u p q. trans i (rightOf t.inclusions m) j (steps.included i m l u p) q;
+        included = λ i j m l k u p q. trans i (right_of t.inclusions m) j (steps.included i m l u p) q;
         chooses = λ i j v p l k e m s. trans i p j (steps.chooses i i v p l l e m (same i)) s;
         all-chosen = steps.all-chosen;
       }

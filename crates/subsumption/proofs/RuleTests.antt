@@ -6,8 +6,8 @@ use mathlib.Core.List.{List, [], ◌∷◌, Memᴰ}
 use mathlib.Core.Bool.{Bool, true, false≢true}
 use mathlib.Core.Logic.{◌⊎◌, inl, inr, ⊎_elim}
 use borrow.Author.Tests.{eqb-true, eq-eqb}
-use Rattle.subsumption.specs.Tables.{Node, topAt, name_at, existsAt, andAt, varAt}
-use Rattle.subsumption.specs.Rules.{every, contains, same_name, is_top, onPicked, onBoth, onInner, onVariable}
+use Rattle.subsumption.specs.Tables.{Node, top_at, name_at, exists_at, and_at, var_at}
+use Rattle.subsumption.specs.Rules.{every, contains, same_name, is_top, on_picked, on_both, on_inner, on_variable}
 use Rattle.subsumption.proofs.Bools.{or_cases, or-first, or-second, both_true, both-intro}
 
 pub every-elim : (test : ℕ → Bool) (xs : List ℕ) → every test xs ≡ true → (p : ℕ) → Memᴰ p xs → test p ≡ true
@@ -33,67 +33,67 @@ contains-intro {a} (Memᴰ.head {x} e) = or-first _ _ (eq-eqb a x e)
 contains-intro (Memᴰ.tail m) = or-second _ _ (contains-intro m)
 
 -- What each test says of the rows that pass it.
-pub sameName-elim : (a b : Node) → same_name a b ≡ true → (n : ℕ) × (a ≡ name_at n) × (b ≡ name_at n)
+pub same_name-elim : (a b : Node) → same_name a b ≡ true → (n : ℕ) × (a ≡ name_at n) × (b ≡ name_at n)
 unfolding same_name
-sameName-elim (name_at n) (name_at m) h = (n, refl, ap name_at (sym (eqb-true n m h)))
-sameName-elim (name_at n) topAt h = absurd (false≢true h)
-sameName-elim (name_at n) (existsAt r j) h = absurd (false≢true h)
-sameName-elim (name_at n) (andAt i j) h = absurd (false≢true h)
-sameName-elim (name_at n) (varAt k) h = absurd (false≢true h)
-sameName-elim topAt b h = absurd (false≢true h)
-sameName-elim (existsAt r i) b h = absurd (false≢true h)
-sameName-elim (andAt i j) b h = absurd (false≢true h)
-sameName-elim (varAt k) b h = absurd (false≢true h)
+same_name-elim (name_at n) (name_at m) h = (n, refl, ap name_at (sym (eqb-true n m h)))
+same_name-elim (name_at n) top_at h = absurd (false≢true h)
+same_name-elim (name_at n) (exists_at r j) h = absurd (false≢true h)
+same_name-elim (name_at n) (and_at i j) h = absurd (false≢true h)
+same_name-elim (name_at n) (var_at k) h = absurd (false≢true h)
+same_name-elim top_at b h = absurd (false≢true h)
+same_name-elim (exists_at r i) b h = absurd (false≢true h)
+same_name-elim (and_at i j) b h = absurd (false≢true h)
+same_name-elim (var_at k) b h = absurd (false≢true h)
 
-pub isTop-elim : (a : Node) → is_top a ≡ true → a ≡ topAt
+pub is_top-elim : (a : Node) → is_top a ≡ true → a ≡ top_at
 unfolding is_top
-isTop-elim topAt h = refl
-isTop-elim (name_at n) h = absurd (false≢true h)
-isTop-elim (existsAt r j) h = absurd (false≢true h)
-isTop-elim (andAt i j) h = absurd (false≢true h)
-isTop-elim (varAt k) h = absurd (false≢true h)
+is_top-elim top_at h = refl
+is_top-elim (name_at n) h = absurd (false≢true h)
+is_top-elim (exists_at r j) h = absurd (false≢true h)
+is_top-elim (and_at i j) h = absurd (false≢true h)
+is_top-elim (var_at k) h = absurd (false≢true h)
 
 pub onPicked-elim :
-    (extra : ℕ) (test : ℕ → Bool) (a : Node) → onPicked extra test a ≡ true
-    → (i : ℕ) × (j : ℕ) × (a ≡ andAt i j) × ((test i ≡ true) ⊎ (test j ≡ true))
-unfolding onPicked
-onPicked-elim zero test (andAt i j) h = (i, j, refl, inl h)
-onPicked-elim (suc zero) test (andAt i j) h = (i, j, refl, inr h)
-onPicked-elim (suc (suc extra)) test (andAt i j) h = absurd (false≢true h)
-onPicked-elim extra test topAt h = absurd (false≢true h)
+    (extra : ℕ) (test : ℕ → Bool) (a : Node) → on_picked extra test a ≡ true
+    → (i : ℕ) × (j : ℕ) × (a ≡ and_at i j) × ((test i ≡ true) ⊎ (test j ≡ true))
+unfolding on_picked
+onPicked-elim zero test (and_at i j) h = (i, j, refl, inl h)
+onPicked-elim (suc zero) test (and_at i j) h = (i, j, refl, inr h)
+onPicked-elim (suc (suc extra)) test (and_at i j) h = absurd (false≢true h)
+onPicked-elim extra test top_at h = absurd (false≢true h)
 onPicked-elim extra test (name_at n) h = absurd (false≢true h)
-onPicked-elim extra test (existsAt r j) h = absurd (false≢true h)
-onPicked-elim extra test (varAt k) h = absurd (false≢true h)
+onPicked-elim extra test (exists_at r j) h = absurd (false≢true h)
+onPicked-elim extra test (var_at k) h = absurd (false≢true h)
 
 pub onBoth-elim :
-    (test : ℕ → Bool) (a : Node) → onBoth test a ≡ true → (i : ℕ) × (j : ℕ) × (a ≡ andAt i j) × (test i ≡ true) × (test j ≡ true)
-unfolding onBoth
-onBoth-elim test (andAt i j) h = let (p, q) = both_true _ _ h in (i, j, refl, p, q)
-onBoth-elim test topAt h = absurd (false≢true h)
+    (test : ℕ → Bool) (a : Node) → on_both test a ≡ true → (i : ℕ) × (j : ℕ) × (a ≡ and_at i j) × (test i ≡ true) × (test j ≡ true)
+unfolding on_both
+onBoth-elim test (and_at i j) h = let (p, q) = both_true _ _ h in (i, j, refl, p, q)
+onBoth-elim test top_at h = absurd (false≢true h)
 onBoth-elim test (name_at n) h = absurd (false≢true h)
-onBoth-elim test (existsAt r j) h = absurd (false≢true h)
-onBoth-elim test (varAt k) h = absurd (false≢true h)
+onBoth-elim test (exists_at r j) h = absurd (false≢true h)
+onBoth-elim test (var_at k) h = absurd (false≢true h)
 
 pub onInner-elim :
-    (wide test : ℕ → ℕ → Bool) (a b : Node) → onInner wide test a b ≡ true
-    → (r : ℕ) × (s : ℕ) × (i : ℕ) × (j : ℕ) × (a ≡ existsAt r i) × (b ≡ existsAt s j) × (wide r s ≡ true) × (test i j ≡ true)
-unfolding onInner
-onInner-elim wide test (existsAt r i) (existsAt s j) h =
+    (wide test : ℕ → ℕ → Bool) (a b : Node) → on_inner wide test a b ≡ true
+    → (r : ℕ) × (s : ℕ) × (i : ℕ) × (j : ℕ) × (a ≡ exists_at r i) × (b ≡ exists_at s j) × (wide r s ≡ true) × (test i j ≡ true)
+unfolding on_inner
+onInner-elim wide test (exists_at r i) (exists_at s j) h =
     let (e, k) = both_true _ _ h in
     (r, s, i, j, refl, refl, e, k)
-onInner-elim wide test (existsAt r i) topAt h = absurd (false≢true h)
-onInner-elim wide test (existsAt r i) (name_at n) h = absurd (false≢true h)
-onInner-elim wide test (existsAt r i) (andAt j k) h = absurd (false≢true h)
-onInner-elim wide test (existsAt r i) (varAt k) h = absurd (false≢true h)
-onInner-elim wide test topAt b h = absurd (false≢true h)
+onInner-elim wide test (exists_at r i) top_at h = absurd (false≢true h)
+onInner-elim wide test (exists_at r i) (name_at n) h = absurd (false≢true h)
+onInner-elim wide test (exists_at r i) (and_at j k) h = absurd (false≢true h)
+onInner-elim wide test (exists_at r i) (var_at k) h = absurd (false≢true h)
+onInner-elim wide test top_at b h = absurd (false≢true h)
 onInner-elim wide test (name_at n) b h = absurd (false≢true h)
-onInner-elim wide test (andAt i j) b h = absurd (false≢true h)
-onInner-elim wide test (varAt k) b h = absurd (false≢true h)
+onInner-elim wide test (and_at i j) b h = absurd (false≢true h)
+onInner-elim wide test (var_at k) b h = absurd (false≢true h)
 
-pub onVariable-elim : (test : ℕ → Bool) (a : Node) → onVariable test a ≡ true → (k : ℕ) × (a ≡ varAt k) × (test k ≡ true)
-unfolding onVariable
-onVariable-elim test (varAt k) h = (k, refl, h)
-onVariable-elim test topAt h = absurd (false≢true h)
-onVariable-elim test (name_at n) h = absurd (false≢true h)
-onVariable-elim test (existsAt r j) h = absurd (false≢true h)
-onVariable-elim test (andAt i j) h = absurd (false≢true h)
+pub on_variable-elim : (test : ℕ → Bool) (a : Node) → on_variable test a ≡ true → (k : ℕ) × (a ≡ var_at k) × (test k ≡ true)
+unfolding on_variable
+on_variable-elim test (var_at k) h = (k, refl, h)
+on_variable-elim test top_at h = absurd (false≢true h)
+on_variable-elim test (name_at n) h = absurd (false≢true h)
+on_variable-elim test (exists_at r j) h = absurd (false≢true h)
+on_variable-elim test (and_at i j) h = absurd (false≢true h)

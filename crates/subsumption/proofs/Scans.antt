@@ -6,7 +6,7 @@ use native.Mathlib.Omega.{arith}
 use native.Mathlib.Numerals.{add-one}
 use Rattle.subsumption.specs.declared.refusal.Refusal.{Refusal}
 use Rattle.subsumption.specs.declared.refusal.Outcome.TheVariants.{Done, Refused}
-use Rattle.subsumption.specs.Refusal.{or_else, refuseIf, first_at}
+use Rattle.subsumption.specs.Refusal.{or_else, refuse_if, first_at}
 
 module _ (refusal : ℕ → Refusal) (faulty : ℕ → Bool) (count : ℕ) where
   -- nothing was found below i
@@ -21,7 +21,7 @@ module _ (refusal : ℕ → Refusal) (faulty : ℕ → Bool) (count : ℕ) where
   split i h = omega arith
 
   pub scan-more : (i : ℕ) → Scan i → i < count → faulty i ≡ false → Scan (i + 1)
-  unfolding first_at or_else refuseIf
+  unfolding first_at or_else refuse_if
   scan-more i s h e =
       record {
         within = omega arith;
@@ -29,7 +29,7 @@ module _ (refusal : ℕ → Refusal) (faulty : ℕ → Bool) (count : ℕ) where
       }
 
   pub scan-found : (i : ℕ) → Scan i → i < count → faulty i ≡ true → Refused (refusal i) ≡ first_at refusal faulty 0 count
-  unfolding first_at or_else refuseIf
+  unfolding first_at or_else refuse_if
   scan-found i s h e = sym (s.left ∙ ap (first_at refusal faulty i) (split i h) ∙ rw e)
 
   pub scan-done : (i : ℕ) → Scan i → count ≤ i → Done ≡ first_at refusal faulty 0 count

@@ -10,7 +10,7 @@ use lib.Seq.{get_or-set_same, get_or-set_other}
 use lib.Bits.{bit_and, bit_or}
 use lib.Count.{count_trailing_zeros}
 use Rattle.subsumption.specs.Atoms.{bit}
-use Rattle.subsumption.specs.Inner.Columns.{has, inThree}
+use Rattle.subsumption.specs.Inner.Columns.{has, InThree}
 use Rattle.subsumption.specs.Inner.Links.{Inserted, Put, Picked, Joins, Union}
 use Rattle.subsumption.proofs.Bools.{both_true, both-intro, eq-or-ne}
 use Rattle.subsumption.proofs.Bits.{bit-and, bit-of-zero, bit-or-cases, bit_or_left, bit_or_right, bit-pow, bit-pow-other}
@@ -111,8 +111,8 @@ module _ (before : List ℕ) (to first second third : ℕ) (fits : to * 3 + 3 �
 -- ---- the union of the sets that a word picks
 or-three :
     (sets : List ℕ) (x first second third e : ℕ) → e < 192
-    → (inThree (bit_or first (get_or sets (x * 3) 0)) (bit_or second (get_or sets (x * 3 + 1) 0)) (bit_or third (get_or sets (x * 3 + 2) 0)) e → inThree first second third e ⊎ (has sets e x ≡ true))
-    × (inThree first second third e ⊎ (has sets e x ≡ true) → inThree (bit_or first (get_or sets (x * 3) 0)) (bit_or second (get_or sets (x * 3 + 1) 0)) (bit_or third (get_or sets (x * 3 + 2) 0)) e)
+    → (InThree (bit_or first (get_or sets (x * 3) 0)) (bit_or second (get_or sets (x * 3 + 1) 0)) (bit_or third (get_or sets (x * 3 + 2) 0)) e → InThree first second third e ⊎ (has sets e x ≡ true))
+    × (InThree first second third e ⊎ (has sets e x ≡ true) → InThree (bit_or first (get_or sets (x * 3) 0)) (bit_or second (get_or sets (x * 3 + 1) 0)) (bit_or third (get_or sets (x * 3 + 2) 0)) e)
 unfolding has
 or-three sets x first second third e l = go (e / 64) (omega arith)
   where
@@ -143,12 +143,12 @@ pub record PickedOut (sets : List ℕ) (from word rest e : ℕ) : Type 0 where
 pub record Joining (sets : List ℕ) (from word : ℕ) (before : ℕ → Type 0) (rest first second third : ℕ) : Type 0 where
   pub small : rest < 2 ^ 64
   pub inside : (b : ℕ) → bit rest b ≡ true → bit word b ≡ true
-  pub only : (e : ℕ) → e < 192 → inThree first second third e → before e ⊎ Picked sets from word e
-  pub every : (e : ℕ) → e < 192 → before e ⊎ PickedOut sets from word rest e → inThree first second third e
+  pub only : (e : ℕ) → e < 192 → InThree first second third e → before e ⊎ Picked sets from word e
+  pub every : (e : ℕ) → e < 192 → before e ⊎ PickedOut sets from word rest e → InThree first second third e
 
 module _ (sets : List ℕ) (from word first₀ second₀ third₀ : ℕ) where
   abbrev start : ℕ → Type 0
-  start = inThree first₀ second₀ third₀
+  start = InThree first₀ second₀ third₀
 
   pub joining-first : word < 2 ^ 64 → Joining sets from word start word first₀ second₀ third₀
   joining-first h =
@@ -185,14 +185,14 @@ module _ (sets : List ℕ) (from word first₀ second₀ third₀ : ℕ) where
         still : (c : ℕ) → bit (bit_and rest (rest - 1)) c ≡ true → bit rest c ≡ true
         still c u = ⊎_elim (λ (e : c ≡ count_trailing_zeros 64 rest). not-both _ u (ap (bit (bit_and rest (rest - 1))) e ∙ next.gone)) (λ n. sym (next.others c n) ∙ u) (eq-or-ne c (count_trailing_zeros 64 rest))
 
-        come : (e : ℕ) → e < 192 → start e ⊎ PickedOut sets from word (bit_and rest (rest - 1)) e → inThree first second third e ⊎ (has sets e (from + count_trailing_zeros 64 rest) ≡ true)
+        come : (e : ℕ) → e < 192 → start e ⊎ PickedOut sets from word (bit_and rest (rest - 1)) e → InThree first second third e ⊎ (has sets e (from + count_trailing_zeros 64 rest) ≡ true)
         come e l (inl u) = inl (J.every e l (inl u))
         come e l (inr v) =
             ⊎_elim (λ (q : v.picked.place ≡ count_trailing_zeros 64 rest). inr (subst (λ (z : ℕ). has sets e (from + z) ≡ true) q v.picked.in-set))
             (λ n. inl (J.every e l (inr (record { picked = v.picked; gone = sym (next.others _ n) ∙ v.gone }))))
             (eq-or-ne v.picked.place (count_trailing_zeros 64 rest))
 
-  pub joining-done : (rest first second third : ℕ) → Joining sets from word start rest first second third → rest ≡ 0 → Joins sets from word start (inThree first second third)
+  pub joining-done : (rest first second third : ℕ) → Joining sets from word start rest first second third → rest ≡ 0 → Joins sets from word start (InThree first second third)
   joining-done rest first second third J z =
       record {
         only = J.only;
@@ -200,7 +200,7 @@ module _ (sets : List ℕ) (from word first₀ second₀ third₀ : ℕ) where
       }
 
 -- ---- three words
-pub nothing-in : (e : ℕ) → e < 192 → inThree 0 0 0 e → ⊥
+pub nothing-in : (e : ℕ) → e < 192 → InThree 0 0 0 e → ⊥
 nothing-in e l u = go (e / 64) (omega arith) u
   where
     go : (w : ℕ) → w < 3 → bit (get_or (0 ∷ 0 ∷ 0 ∷ []) w 0) (e % 64) ≡ true → ⊥
@@ -210,15 +210,15 @@ nothing-in e l u = go (e / 64) (omega arith) u
     go (suc (suc (suc w))) h v = omega arith
 
 module _ (sets : List ℕ) (first second third : ℕ) (one two all : ℕ → Type 0)
-    (A : Joins sets 0 first (inThree 0 0 0) one) (B : Joins sets 64 second one two) (C : Joins sets 128 third two all) where
-  in_three : (w p x : ℕ) → w < 3 → p < 64 → x ≡ w * 64 + p → bit (get_or (first ∷ second ∷ third ∷ []) w 0) p ≡ true → inThree first second third x
+    (A : Joins sets 0 first (InThree 0 0 0) one) (B : Joins sets 64 second one two) (C : Joins sets 128 third two all) where
+  in_three : (w p x : ℕ) → w < 3 → p < 64 → x ≡ w * 64 + p → bit (get_or (first ∷ second ∷ third ∷ []) w 0) p ≡ true → InThree first second third x
   in_three w p x h l e u =
       let a : w ≡ x / 64 = omega arith in
       let b : p ≡ x % 64 = omega arith in
       subst (λ (z : ℕ). bit (get_or (first ∷ second ∷ third ∷ []) z 0) (x % 64) ≡ true) a
       (subst (λ (z : ℕ). bit (get_or (first ∷ second ∷ third ∷ []) w 0) z ≡ true) b u)
 
-  union-only : (e : ℕ) → e < 192 → all e → (x : ℕ) × (x < 192) × inThree first second third x × (has sets e x ≡ true)
+  union-only : (e : ℕ) → e < 192 → all e → (x : ℕ) × (x < 192) × InThree first second third x × (has sets e x ≡ true)
   union-only e l u =
       ⊎_elim
       (λ v.
@@ -229,7 +229,7 @@ module _ (sets : List ℕ) (first second third : ℕ) (one two all : ℕ → Typ
       (λ x. (64 + x.place, omega (arith, x.low), in_three 1 x.place (64 + x.place) (omega arith) x.low (omega arith) x.chosen, x.in-set)) (B.only e l v))
       (λ x. (128 + x.place, omega (arith, x.low), in_three 2 x.place (128 + x.place) (omega arith) x.low (omega arith) x.chosen, x.in-set)) (C.only e l u)
 
-  union-every : (e x : ℕ) → e < 192 → x < 192 → inThree first second third x → has sets e x ≡ true → all e
+  union-every : (e x : ℕ) → e < 192 → x < 192 → InThree first second third x → has sets e x ≡ true → all e
   union-every e x l k u v = go (x / 64) refl (omega arith)
     where
       word : (q : ℕ) → x / 64 ≡ q → bit (get_or (first ∷ second ∷ third ∷ []) q 0) (x % 64) ≡ true
@@ -250,22 +250,22 @@ module _ (sets : List ℕ) (first second third : ℕ) (one two all : ℕ → Typ
           (inr (record { place = x % 64; low = omega arith; chosen = word 2 a; in-set = subst (λ (z : ℕ). has sets e z ≡ true) b v }))
       go (suc (suc (suc q))) a h = absurd (omega arith)
 
-  pub unites : Union sets (inThree first second third) all
+  pub unites : Union sets (InThree first second third) all
   unites = record { only = union-only; every = union-every }
 
 -- the three words of a set
 module _ (sets : List ℕ) (x e : ℕ) (low : e < 192) where
-  pub in-line : inThree (get_or sets (x * 3) 0) (get_or sets (x * 3 + 1) 0) (get_or sets (x * 3 + 2) 0) e → has sets e x ≡ true
+  pub in-line : InThree (get_or sets (x * 3) 0) (get_or sets (x * 3 + 1) 0) (get_or sets (x * 3 + 2) 0) e → has sets e x ≡ true
   unfolding has
   in-line u = ap (λ (v : ℕ). bit v (e % 64)) (sym (three-has sets x (e / 64) (omega arith))) ∙ u
 
-  pub of-line : has sets e x ≡ true → inThree (get_or sets (x * 3) 0) (get_or sets (x * 3 + 1) 0) (get_or sets (x * 3 + 2) 0) e
+  pub of-line : has sets e x ≡ true → InThree (get_or sets (x * 3) 0) (get_or sets (x * 3 + 1) 0) (get_or sets (x * 3 + 2) 0) e
   unfolding has
   of-line u = ap (λ (v : ℕ). bit v (e % 64)) (three-has sets x (e / 64) (omega arith)) ∙ u
 
 -- the meet of two sets
 pub and-three :
-    (a b c d f g e : ℕ) → e < 192 → (inThree (bit_and a d) (bit_and b f) (bit_and c g) e → inThree a b c e × inThree d f g e) × (inThree a b c e × inThree d f g e → inThree (bit_and a d) (bit_and b f) (bit_and c g) e)
+    (a b c d f g e : ℕ) → e < 192 → (InThree (bit_and a d) (bit_and b f) (bit_and c g) e → InThree a b c e × InThree d f g e) × (InThree a b c e × InThree d f g e → InThree (bit_and a d) (bit_and b f) (bit_and c g) e)
 and-three a b c d f g e l = go (e / 64) (omega arith)
   where
     one :

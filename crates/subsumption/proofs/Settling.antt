@@ -5,12 +5,12 @@ use mathlib.Core.List.{List, Memᴰ}
 use mathlib.Core.Bool.{Bool, true, false, ◌||◌}
 use native.Mathlib.Omega.{arith}
 use lib.ListN.{length, get_or}
-use Rattle.subsumption.specs.Tables.{Node, topAt, name_at, existsAt, andAt, varAt, node, count_of}
+use Rattle.subsumption.specs.Tables.{Node, top_at, name_at, exists_at, and_at, var_at, node, count_of}
 use Rattle.subsumption.specs.Atoms.{pick}
 use Rattle.subsumption.specs.Inner.Tables.{Rising}
 use Rattle.subsumption.specs.Inner.Columns.{has, Into, Takes, Known}
 use Rattle.subsumption.specs.Inner.Names.{Firsts}
-use Rattle.subsumption.specs.Inner.Settling.{Settleable, Descended, DescendedBy, Ascended, AscendedBy, chooseFrom}
+use Rattle.subsumption.specs.Inner.Settling.{Settleable, Descended, DescendedBy, Ascended, AscendedBy, choose_from}
 use Rattle.subsumption.specs.Inner.Closure.{Ready, Flow, flow-same, flow-top, flow-named, flow-first, flow-second, flow-meet, flow-chooses, flow-all-chosen, Pass, SettlePass}
 use Rattle.subsumption.proofs.Nodes.{node-name, node-exists, node-and, node-var, and-node, var-node}
 use Rattle.subsumption.proofs.Picks.{ChosenBelow, at-picked}
@@ -44,21 +44,21 @@ module _ {concepts atoms assignment : List ℕ} (R : Settleable concepts atoms a
 
 module _ (concepts atoms assignment : List ℕ) (R : Settleable concepts atoms assignment) (j : ℕ) (inside : j < count_of concepts) where
   abbrev pub DescendedPass : List ℕ → List ℕ → Bool → Type 0
-  DescendedPass = SettlePass concepts (chooseFrom atoms assignment) (Descended concepts (chooseFrom atoms assignment) j)
+  DescendedPass = SettlePass concepts (choose_from atoms assignment) (Descended concepts (choose_from atoms assignment) j)
 
   descended :
       {m : Node} {columns : List ℕ} → node concepts j ≡ m → has columns j j ≡ true
-      → DescendedBy (count_of concepts) (chooseFrom atoms assignment) j columns m → Descended concepts (chooseFrom atoms assignment) j columns
+      → DescendedBy (count_of concepts) (choose_from atoms assignment) j columns m → Descended concepts (choose_from atoms assignment) j columns
   descended {m} {columns} e s b =
-      record { same = s; by = subst (λ (x : Node). DescendedBy (count_of concepts) (chooseFrom atoms assignment) j columns x) (sym e) b }
+      record { same = s; by = subst (λ (x : Node). DescendedBy (count_of concepts) (choose_from atoms assignment) j columns x) (sym e) b }
 
   marked :
       {inclusions : List ℕ} {wide : ℕ → ℕ → Bool} {before after : List ℕ} {changed : Bool} → Takes before after (λ x. x ≡ j) (λ i. i ≡ j) changed
-      → Pass concepts inclusions wide (chooseFrom atoms assignment) (λ l. has l j j ≡ true) before after changed
+      → Pass concepts inclusions wide (choose_from atoms assignment) (λ l. has l j j ≡ true) before after changed
   marked {inclusions} {wide} t =
       step-pass R.few t
-      (λ g s i k h l p q. subst (λ (x : ℕ). Flow concepts inclusions wide (chooseFrom atoms assignment) g x k) (sym q)
-      (subst (λ (x : ℕ). Flow concepts inclusions wide (chooseFrom atoms assignment) g j x) (sym p) (flow-same j inside)))
+      (λ g s i k h l p q. subst (λ (x : ℕ). Flow concepts inclusions wide (choose_from atoms assignment) g x k) (sym q)
+      (subst (λ (x : ℕ). Flow concepts inclusions wide (choose_from atoms assignment) g j x) (sym p) (flow-same j inside)))
       (λ f. f j j inside refl refl)
 
   pub descend-other :
@@ -66,12 +66,12 @@ module _ (concepts atoms assignment : List ℕ) (R : Settleable concepts atoms a
       → Takes before after (λ x. x ≡ j) (λ i. i ≡ j) own → DescendedPass before after own
   descend-other before after own p q t inclusions wide = pass-as (marked t) (λ s. descended refl s (none (node concepts j) refl))
     where
-      none : (m : Node) → node concepts j ≡ m → DescendedBy (count_of concepts) (chooseFrom atoms assignment) j before m
-      none topAt e = tt
+      none : (m : Node) → node concepts j ≡ m → DescendedBy (count_of concepts) (choose_from atoms assignment) j before m
+      none top_at e = tt
       none (name_at n) e = tt
-      none (existsAt r x) e = tt
-      none (andAt x y) e = absurd (p (and-node concepts j x y e).0)
-      none (varAt k) e = absurd (q (var-node concepts j k e).0)
+      none (exists_at r x) e = tt
+      none (and_at x y) e = absurd (p (and-node concepts j x y e).0)
+      none (var_at k) e = absurd (q (var-node concepts j k e).0)
 
   pub descend-and :
       (before one two after : List ℕ) (own a b : Bool) → get_or concepts (j * 3) 0 ≡ 3 → Takes before one (λ x. x ≡ j) (λ i. i ≡ j) own
@@ -86,13 +86,13 @@ module _ (concepts atoms assignment : List ℕ) (R : Settleable concepts atoms a
       y : ℕ
       y = get_or concepts (j * 3 + 2) 0
 
-      e : node concepts j ≡ andAt x y
+      e : node concepts j ≡ and_at x y
       e = node-and concepts j kind
 
-      left : Pass concepts inclusions wide (chooseFrom atoms assignment) (λ l. Into (count_of concepts) l j x) one two a
+      left : Pass concepts inclusions wide (choose_from atoms assignment) (λ l. Into (count_of concepts) l j x) one two a
       left = flow-pass j x R.few inside (λ g i h z. flow-first i j x y h inside e z) u
 
-      right : Pass concepts inclusions wide (chooseFrom atoms assignment) (λ l. Into (count_of concepts) l j y) two after b
+      right : Pass concepts inclusions wide (choose_from atoms assignment) (λ l. Into (count_of concepts) l j y) two after b
       right = flow-pass j y R.few inside (λ g i h z. flow-second i j x y h inside e z) v
 
   pub descend-var :
@@ -104,34 +104,34 @@ module _ (concepts atoms assignment : List ℕ) (R : Settleable concepts atoms a
       k : ℕ
       k = get_or concepts (j * 3 + 1) 0
 
-      e : node concepts j ≡ varAt k
+      e : node concepts j ≡ var_at k
       e = node-var concepts j kind
 
       down :
-          Pass concepts inclusions wide (chooseFrom atoms assignment)
-          (λ l. (p : ℕ) → Memᴰ p (chooseFrom atoms assignment k) → Into (count_of concepts) l j p) one after a
+          Pass concepts inclusions wide (choose_from atoms assignment)
+          (λ l. (p : ℕ) → Memᴰ p (choose_from atoms assignment k) → Into (count_of concepts) l j p) one after a
       down =
           step-pass R.few u (λ g s i p h l m q. flow-chooses i j k p h inside e m (s i j h inside q)) (λ f p m i h q. f i p h m q)
 
 module _ (concepts atoms assignment firsts : List ℕ) (R : Settleable concepts atoms assignment) (F : Firsts concepts firsts)
     (j : ℕ) (inside : j < count_of concepts) where
   abbrev pub AscendedPass : List ℕ → List ℕ → Bool → Type 0
-  AscendedPass = SettlePass concepts (chooseFrom atoms assignment) (Ascended concepts firsts (chooseFrom atoms assignment) j)
+  AscendedPass = SettlePass concepts (choose_from atoms assignment) (Ascended concepts firsts (choose_from atoms assignment) j)
 
   ascended :
       {m : Node} (columns : List ℕ) → node concepts j ≡ m
-      → AscendedBy (count_of concepts) (chooseFrom atoms assignment) (get_or firsts j 0) j columns m
-      → Ascended concepts firsts (chooseFrom atoms assignment) j columns
-  ascended {m} columns e b = subst (λ (x : Node). AscendedBy (count_of concepts) (chooseFrom atoms assignment) (get_or firsts j 0) j columns x) (sym e) b
+      → AscendedBy (count_of concepts) (choose_from atoms assignment) (get_or firsts j 0) j columns m
+      → Ascended concepts firsts (choose_from atoms assignment) j columns
+  ascended {m} columns e b = subst (λ (x : Node). AscendedBy (count_of concepts) (choose_from atoms assignment) (get_or firsts j 0) j columns x) (sym e) b
 
   pub ascend-exists : (columns : List ℕ) → get_or concepts (j * 3) 0 ≡ 2 → AscendedPass columns columns false
   ascend-exists columns e inclusions wide = pass-none (ascended columns (node-exists concepts j e) tt)
 
   pub ascend-top :
-      (before after : List ℕ) (a : Bool) → node concepts j ≡ topAt → Takes before after (λ x. x ≡ j) (λ i. Unit {0}) a → AscendedPass before after a
+      (before after : List ℕ) (a : Bool) → node concepts j ≡ top_at → Takes before after (λ x. x ≡ j) (λ i. Unit {0}) a → AscendedPass before after a
   ascend-top before after a e u inclusions wide =
       step-pass R.few u
-      (λ g s i k h l p _. subst (λ (x : ℕ). Flow concepts inclusions wide (chooseFrom atoms assignment) g i x) (sym p) (flow-top i j h inside e))
+      (λ g s i k h l p _. subst (λ (x : ℕ). Flow concepts inclusions wide (choose_from atoms assignment) g i x) (sym p) (flow-top i j h inside e))
       (λ f. ascended before e (λ i h. f i j h refl tt))
 
   pub ascend-name :
@@ -149,10 +149,10 @@ module _ (concepts atoms assignment firsts : List ℕ) (R : Settleable concepts 
       known : get_or firsts j 0 < count_of concepts
       known = omega (arith, (F.each j inside).low)
 
-      there : Pass concepts inclusions wide (chooseFrom atoms assignment) (λ l. Into (count_of concepts) l j (get_or firsts j 0)) before one a
+      there : Pass concepts inclusions wide (choose_from atoms assignment) (λ l. Into (count_of concepts) l j (get_or firsts j 0)) before one a
       there = flow-pass j (get_or firsts j 0) R.few inside (λ g i h w. flow-named i j (get_or firsts j 0) _ h inside known e f w) u
 
-      back : Pass concepts inclusions wide (chooseFrom atoms assignment) (λ l. Into (count_of concepts) l (get_or firsts j 0) j) one after b
+      back : Pass concepts inclusions wide (choose_from atoms assignment) (λ l. Into (count_of concepts) l (get_or firsts j 0) j) one after b
       back = flow-pass (get_or firsts j 0) j R.few known (λ g i h w. flow-named i (get_or firsts j 0) j _ h known inside f e w) v
 
   pub ascend-and :
@@ -163,7 +163,7 @@ module _ (concepts atoms assignment firsts : List ℕ) (R : Settleable concepts 
   ascend-and before after a kind w inclusions wide =
       step-pass R.few w
       (λ g s i k h l p q.
-      subst (λ (z : ℕ). Flow concepts inclusions wide (chooseFrom atoms assignment) g i z) (sym p)
+      subst (λ (z : ℕ). Flow concepts inclusions wide (choose_from atoms assignment) g i z) (sym p)
       (flow-meet i j x y h inside e (s i x h x-known q.0) (s i y h y-known q.1)))
       (λ f. ascended before e (λ i h p q. f i j h refl (p, q)))
     where
@@ -173,7 +173,7 @@ module _ (concepts atoms assignment firsts : List ℕ) (R : Settleable concepts 
       y : ℕ
       y = get_or concepts (j * 3 + 2) 0
 
-      e : node concepts j ≡ andAt x y
+      e : node concepts j ≡ and_at x y
       e = node-and concepts j kind
 
       x-known : x < count_of concepts
@@ -190,17 +190,17 @@ module _ (concepts atoms assignment firsts : List ℕ) (R : Settleable concepts 
   ascend-var before after a kind v inclusions wide =
       step-pass R.few v
       (λ g s i x h l p q.
-      subst (λ (z : ℕ). Flow concepts inclusions wide (chooseFrom atoms assignment) g i z) (sym p)
+      subst (λ (z : ℕ). Flow concepts inclusions wide (choose_from atoms assignment) g i z) (sym p)
       (flow-all-chosen i j k h inside e (λ z m. s i z h (chosen-known z m) (q z m))))
       (λ f. ascended before e (λ i h q. f i j h refl q))
     where
       k : ℕ
       k = get_or concepts (j * 3 + 1) 0
 
-      e : node concepts j ≡ varAt k
+      e : node concepts j ≡ var_at k
       e = node-var concepts j kind
 
-      chosen-known : (z : ℕ) → Memᴰ z (chooseFrom atoms assignment k) → z < count_of concepts
+      chosen-known : (z : ℕ) → Memᴰ z (choose_from atoms assignment k) → z < count_of concepts
       chosen-known z m =
           let c : ChosenBelow (length atoms) atoms (get_or assignment k 0) z = at-picked atoms (get_or assignment k 0) z m in
           subst (λ (y : ℕ). y < count_of concepts) c.found (R.atoms-known c.place c.before)

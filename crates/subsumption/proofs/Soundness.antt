@@ -6,7 +6,7 @@ use mathlib.Core.Bool.{Bool, true}
 use Rattle.subsumption.specs.Tables.{Tables, count_of}
 use Rattle.subsumption.specs.Atoms.{chosen}
 use Rattle.subsumption.specs.Roles.{wider}
-use Rattle.subsumption.specs.Subsumption.{Linked, Interpretation, Reading, noVariables, assigned, Obeys, SubsumedBy, Subsumed}
+use Rattle.subsumption.specs.Subsumption.{Linked, Interpretation, Reading, no_variables, assigned, Obeys, SubsumedBy, Subsumed}
 use Rattle.subsumption.specs.Inner.Columns.{has}
 use Rattle.subsumption.specs.Inner.Closure.{Steps, Flow, flow-given, flow-same, flow-top, flow-named, flow-first, flow-second, flow-meet, flow-included, flow-linked, flow-chooses, flow-all-chosen}
 use Rattle.subsumption.proofs.WellFormed.{WellFormed}
@@ -38,18 +38,18 @@ subsumed-steps t assignment wf =
       second = λ i j a b _ _ e s I o x l h. (rw (tree-and t.concepts wf.rising j a b e) at (s I o x l h)).1;
       meet = λ i j a b _ _ e p q I o x l h. rw (tree-and t.concepts wf.rising j a b e) (p I o x l h, q I o x l h);
       included = λ i m _ lm s I o x l h.
-          member-ground I noVariables (assigned t assignment I) _ (wf.right-ground m lm) x
-          (o.inclusions m lm x l (member-ground I (assigned t assignment I) noVariables _ (wf.left-ground m lm) x (s I o x l h)));
+          member-ground I no_variables (assigned t assignment I) _ (wf.right-ground m lm) x
+          (o.inclusions m lm x l (member-ground I (assigned t assignment I) no_variables _ (wf.left-ground m lm) x (s I o x l h)));
       linked = λ i e f r q a b _ _ _ p u w s v I o x l h.
           rw (tree-exists t.concepts wf.rising f q b u)
           (let (y, k, link, m) = rw (tree-exists t.concepts wf.rising e r a p) at (v I o x l h) in
           (y, k, wider-link t I o x y l k r q w link, s I o y k m));
       chooses = λ i v k p _ _ e c s I o x l h.
-          member-ground I noVariables (assigned t assignment I) _ (chosen-ground t assignment k p wf c) x
+          member-ground I no_variables (assigned t assignment I) _ (chosen-ground t assignment k p wf c) x
           ((rw (tree-var t.concepts wf.rising v k e) at (s I o x l h)) p c);
       all-chosen = λ i v k _ _ e s I o x l h.
           rw (tree-var t.concepts wf.rising v k e)
-          (λ p c. member-ground I (assigned t assignment I) noVariables _ (chosen-ground t assignment k p wf c) x (s p c I o x l h));
+          (λ p c. member-ground I (assigned t assignment I) no_variables _ (chosen-ground t assignment k p wf c) x (s p c I o x l h));
     }
 
 module _ (concepts inclusions : List ℕ) (wide : ℕ → ℕ → Bool) (choose : ℕ → List ℕ) (R : ℕ → ℕ → Type 0) (steps : Steps concepts inclusions wide choose R)

@@ -11,11 +11,11 @@ use lib.ListN.{length, get_or, set, length-set, replicate, length-replicate, get
 use lib.Seq.{get_or-set_same, get_or-set_other}
 use borrow.Author.Tests.{eq-eqb, ne_eqb, eqb-true}
 use Rattle.subsumption.specs.declared.tables.Row.{Row}
-use Rattle.subsumption.specs.Tables.{or, both, anyBelow, Node, topAt, name_at, existsAt, andAt, varAt, decode, node, count_of, name, exists, and, var, shape, tree}
+use Rattle.subsumption.specs.Tables.{or, both, any_below, Node, top_at, name_at, exists_at, and_at, var_at, decode, node, count_of, name, exists, and, var, shape, tree}
 use Rattle.subsumption.specs.Inner.Tables.{row_of, Rising}
-use Rattle.subsumption.specs.Inner.Atoms.{Layered, markAt}
+use Rattle.subsumption.specs.Inner.Atoms.{Layered, mark_at}
 use Rattle.subsumption.specs.Inner.Twins.{key_of, FirstSame, Slots, LowestTwin, LowestTwins, Lowered}
-use Rattle.subsumption.proofs.Bools.{or-first, or-skip, both_true, both_first, both-second, anyBelow-elim, last-cases, le-or-lt, eq-or-ne}
+use Rattle.subsumption.proofs.Bools.{or-first, or-skip, both_true, both_first, both-second, any_below-elim, last-cases, le-or-lt, eq-or-ne}
 use Rattle.subsumption.proofs.Trees.{tree-eq}
 use Rattle.subsumption.proofs.TwinLaws.{lowest-least, lowest-of}
 use Rattle.subsumption.proofs.Marks.{row-node}
@@ -49,11 +49,11 @@ key-rest f (suc (suc (suc (suc (suc k))))) a b h1 h2 h3 h4 = refl
 
 key-smaller : (f g : ℕ → ℕ) (i : ℕ) (m : Node) → Rising i m → ((j : ℕ) → j < i → f j ≡ g j) → key_of f m ≡ key_of g m
 unfolding key_of
-key-smaller f g i topAt up h = refl
+key-smaller f g i top_at up h = refl
 key-smaller f g i (name_at n) up h = refl
-key-smaller f g i (existsAt r j) up h = omega (arith, h j up)
-key-smaller f g i (andAt j k) up h = omega (arith, h j up.0, h k up.1)
-key-smaller f g i (varAt k) up h = refl
+key-smaller f g i (exists_at r j) up h = omega (arith, h j up)
+key-smaller f g i (and_at j k) up h = omega (arith, h j up.0, h k up.1)
+key-smaller f g i (var_at k) up h = refl
 
 same-high : (a b x y : ℕ) → a < 65536 → b < 65536 → a * 8 + x * 524288 ≡ b * 8 + y * 524288 → x ≡ y
 same-high a b x y l h e =
@@ -64,7 +64,7 @@ pub lowest : List ℕ → ℕ → ℕ
 lowest concepts j = (lowest-of concepts j).id
 
 abbrev pub Roles : List ℕ → Type 0
-Roles concepts = (i r j : ℕ) → node concepts i ≡ existsAt r j → r < 100
+Roles concepts = (i r j : ℕ) → node concepts i ≡ exists_at r j → r < 100
 
 module _ (concepts : List ℕ) (L : Layered concepts) (roles : Roles concepts) where
   lowest-low : (j : ℕ) → lowest concepts j ≤ j
@@ -87,77 +87,77 @@ module _ (concepts : List ℕ) (L : Layered concepts) (roles : Roles concepts) w
 
   -- equal keys are equal concepts, and equal concepts have equal keys
   abbrev Small : Node → Type 0
-  Small topAt = Unit {0}
+  Small top_at = Unit {0}
   Small (name_at n) = Unit {0}
-  Small (existsAt r j) = r < 100
-  Small (andAt j k) = lowest concepts j < 192
-  Small (varAt k) = Unit {0}
+  Small (exists_at r j) = r < 100
+  Small (and_at j k) = lowest concepts j < 192
+  Small (var_at k) = Unit {0}
 
   key-shape : (m n : Node) → Small m → Small n → key_of (lowest concepts) m ≡ key_of (lowest concepts) n → shape (tree concepts) m ≡ shape (tree concepts) n
   unfolding key_of shape
-  key-shape topAt topAt u w e = refl
-  key-shape topAt (name_at m) u w e = absurd (omega arith)
-  key-shape topAt (existsAt s l) u w e = absurd (omega arith)
-  key-shape topAt (andAt x y) u w e = absurd (omega arith)
-  key-shape topAt (varAt y) u w e = absurd (omega arith)
-  key-shape (name_at n) topAt u w e = absurd (omega arith)
+  key-shape top_at top_at u w e = refl
+  key-shape top_at (name_at m) u w e = absurd (omega arith)
+  key-shape top_at (exists_at s l) u w e = absurd (omega arith)
+  key-shape top_at (and_at x y) u w e = absurd (omega arith)
+  key-shape top_at (var_at y) u w e = absurd (omega arith)
+  key-shape (name_at n) top_at u w e = absurd (omega arith)
   key-shape (name_at n) (name_at m) u w e = ap name (omega arith)
-  key-shape (name_at n) (existsAt s l) u w e = absurd (omega arith)
-  key-shape (name_at n) (andAt x y) u w e = absurd (omega arith)
-  key-shape (name_at n) (varAt y) u w e = absurd (omega arith)
-  key-shape (existsAt r j) topAt u w e = absurd (omega arith)
-  key-shape (existsAt r j) (name_at m) u w e = absurd (omega arith)
-  key-shape (existsAt r j) (existsAt s l) u w e = let h = same-high r s (lowest concepts j) (lowest concepts l) (omega arith) (omega arith) (omega arith) in ap₂ exists (omega arith) (lowest-same j l h)
-  key-shape (existsAt r j) (andAt x y) u w e = absurd (omega arith)
-  key-shape (existsAt r j) (varAt y) u w e = absurd (omega arith)
-  key-shape (andAt j k) topAt u w e = absurd (omega arith)
-  key-shape (andAt j k) (name_at m) u w e = absurd (omega arith)
-  key-shape (andAt j k) (existsAt s l) u w e = absurd (omega arith)
-  key-shape (andAt j k) (andAt x y) u w e = let h = same-high (lowest concepts j) (lowest concepts x) (lowest concepts k) (lowest concepts y) (omega arith) (omega arith) (omega arith) in ap₂ and (lowest-same j x (omega arith)) (lowest-same k y h)
-  key-shape (andAt j k) (varAt y) u w e = absurd (omega arith)
-  key-shape (varAt j) topAt u w e = absurd (omega arith)
-  key-shape (varAt j) (name_at m) u w e = absurd (omega arith)
-  key-shape (varAt j) (existsAt s l) u w e = absurd (omega arith)
-  key-shape (varAt j) (andAt x y) u w e = absurd (omega arith)
-  key-shape (varAt j) (varAt y) u w e = ap var (omega arith)
+  key-shape (name_at n) (exists_at s l) u w e = absurd (omega arith)
+  key-shape (name_at n) (and_at x y) u w e = absurd (omega arith)
+  key-shape (name_at n) (var_at y) u w e = absurd (omega arith)
+  key-shape (exists_at r j) top_at u w e = absurd (omega arith)
+  key-shape (exists_at r j) (name_at m) u w e = absurd (omega arith)
+  key-shape (exists_at r j) (exists_at s l) u w e = let h = same-high r s (lowest concepts j) (lowest concepts l) (omega arith) (omega arith) (omega arith) in ap₂ exists (omega arith) (lowest-same j l h)
+  key-shape (exists_at r j) (and_at x y) u w e = absurd (omega arith)
+  key-shape (exists_at r j) (var_at y) u w e = absurd (omega arith)
+  key-shape (and_at j k) top_at u w e = absurd (omega arith)
+  key-shape (and_at j k) (name_at m) u w e = absurd (omega arith)
+  key-shape (and_at j k) (exists_at s l) u w e = absurd (omega arith)
+  key-shape (and_at j k) (and_at x y) u w e = let h = same-high (lowest concepts j) (lowest concepts x) (lowest concepts k) (lowest concepts y) (omega arith) (omega arith) (omega arith) in ap₂ and (lowest-same j x (omega arith)) (lowest-same k y h)
+  key-shape (and_at j k) (var_at y) u w e = absurd (omega arith)
+  key-shape (var_at j) top_at u w e = absurd (omega arith)
+  key-shape (var_at j) (name_at m) u w e = absurd (omega arith)
+  key-shape (var_at j) (exists_at s l) u w e = absurd (omega arith)
+  key-shape (var_at j) (and_at x y) u w e = absurd (omega arith)
+  key-shape (var_at j) (var_at y) u w e = ap var (omega arith)
 
   shape-key : (m n : Node) → shape (tree concepts) m ≡ shape (tree concepts) n → key_of (lowest concepts) m ≡ key_of (lowest concepts) n
   unfolding key_of shape
-  shape-key topAt topAt e = refl
-  shape-key topAt (name_at m) e = absurd (let z : ◌≡◌ {A = ℕ} 0 1 = cc e in omega arith)
-  shape-key topAt (existsAt s l) e = absurd (let z : ◌≡◌ {A = ℕ} 0 1 = cc e in omega arith)
-  shape-key topAt (andAt x y) e = absurd (let z : ◌≡◌ {A = ℕ} 0 1 = cc e in omega arith)
-  shape-key topAt (varAt y) e = absurd (let z : ◌≡◌ {A = ℕ} 0 1 = cc e in omega arith)
-  shape-key (name_at n) topAt e = absurd (let z : ◌≡◌ {A = ℕ} 0 1 = cc e in omega arith)
+  shape-key top_at top_at e = refl
+  shape-key top_at (name_at m) e = absurd (let z : ◌≡◌ {A = ℕ} 0 1 = cc e in omega arith)
+  shape-key top_at (exists_at s l) e = absurd (let z : ◌≡◌ {A = ℕ} 0 1 = cc e in omega arith)
+  shape-key top_at (and_at x y) e = absurd (let z : ◌≡◌ {A = ℕ} 0 1 = cc e in omega arith)
+  shape-key top_at (var_at y) e = absurd (let z : ◌≡◌ {A = ℕ} 0 1 = cc e in omega arith)
+  shape-key (name_at n) top_at e = absurd (let z : ◌≡◌ {A = ℕ} 0 1 = cc e in omega arith)
   shape-key (name_at n) (name_at m) e = ap (λ (z : ℕ). 1 + z * 8) (cc e)
-  shape-key (name_at n) (existsAt s l) e = absurd (let z : ◌≡◌ {A = ℕ} 0 1 = cc e in omega arith)
-  shape-key (name_at n) (andAt x y) e = absurd (let z : ◌≡◌ {A = ℕ} 0 1 = cc e in omega arith)
-  shape-key (name_at n) (varAt y) e = absurd (let z : ◌≡◌ {A = ℕ} 0 1 = cc e in omega arith)
-  shape-key (existsAt r j) topAt e = absurd (let z : ◌≡◌ {A = ℕ} 0 1 = cc e in omega arith)
-  shape-key (existsAt r j) (name_at m) e = absurd (let z : ◌≡◌ {A = ℕ} 0 1 = cc e in omega arith)
-  shape-key (existsAt r j) (existsAt s l) e = let a : r ≡ s = cc e in let b : tree concepts j ≡ tree concepts l = cc e in omega (arith, same-lowest j l b)
-  shape-key (existsAt r j) (andAt x y) e = absurd (let z : ◌≡◌ {A = ℕ} 0 1 = cc e in omega arith)
-  shape-key (existsAt r j) (varAt y) e = absurd (let z : ◌≡◌ {A = ℕ} 0 1 = cc e in omega arith)
-  shape-key (andAt j k) topAt e = absurd (let z : ◌≡◌ {A = ℕ} 0 1 = cc e in omega arith)
-  shape-key (andAt j k) (name_at m) e = absurd (let z : ◌≡◌ {A = ℕ} 0 1 = cc e in omega arith)
-  shape-key (andAt j k) (existsAt s l) e = absurd (let z : ◌≡◌ {A = ℕ} 0 1 = cc e in omega arith)
-  shape-key (andAt j k) (andAt x y) e = let a : tree concepts j ≡ tree concepts x = cc e in let b : tree concepts k ≡ tree concepts y = cc e in omega (arith, same-lowest j x a, same-lowest k y b)
-  shape-key (andAt j k) (varAt y) e = absurd (let z : ◌≡◌ {A = ℕ} 0 1 = cc e in omega arith)
-  shape-key (varAt j) topAt e = absurd (let z : ◌≡◌ {A = ℕ} 0 1 = cc e in omega arith)
-  shape-key (varAt j) (name_at m) e = absurd (let z : ◌≡◌ {A = ℕ} 0 1 = cc e in omega arith)
-  shape-key (varAt j) (existsAt s l) e = absurd (let z : ◌≡◌ {A = ℕ} 0 1 = cc e in omega arith)
-  shape-key (varAt j) (andAt x y) e = absurd (let z : ◌≡◌ {A = ℕ} 0 1 = cc e in omega arith)
-  shape-key (varAt j) (varAt y) e = ap (λ (z : ℕ). 4 + z * 8) (cc e)
+  shape-key (name_at n) (exists_at s l) e = absurd (let z : ◌≡◌ {A = ℕ} 0 1 = cc e in omega arith)
+  shape-key (name_at n) (and_at x y) e = absurd (let z : ◌≡◌ {A = ℕ} 0 1 = cc e in omega arith)
+  shape-key (name_at n) (var_at y) e = absurd (let z : ◌≡◌ {A = ℕ} 0 1 = cc e in omega arith)
+  shape-key (exists_at r j) top_at e = absurd (let z : ◌≡◌ {A = ℕ} 0 1 = cc e in omega arith)
+  shape-key (exists_at r j) (name_at m) e = absurd (let z : ◌≡◌ {A = ℕ} 0 1 = cc e in omega arith)
+  shape-key (exists_at r j) (exists_at s l) e = let a : r ≡ s = cc e in let b : tree concepts j ≡ tree concepts l = cc e in omega (arith, same-lowest j l b)
+  shape-key (exists_at r j) (and_at x y) e = absurd (let z : ◌≡◌ {A = ℕ} 0 1 = cc e in omega arith)
+  shape-key (exists_at r j) (var_at y) e = absurd (let z : ◌≡◌ {A = ℕ} 0 1 = cc e in omega arith)
+  shape-key (and_at j k) top_at e = absurd (let z : ◌≡◌ {A = ℕ} 0 1 = cc e in omega arith)
+  shape-key (and_at j k) (name_at m) e = absurd (let z : ◌≡◌ {A = ℕ} 0 1 = cc e in omega arith)
+  shape-key (and_at j k) (exists_at s l) e = absurd (let z : ◌≡◌ {A = ℕ} 0 1 = cc e in omega arith)
+  shape-key (and_at j k) (and_at x y) e = let a : tree concepts j ≡ tree concepts x = cc e in let b : tree concepts k ≡ tree concepts y = cc e in omega (arith, same-lowest j x a, same-lowest k y b)
+  shape-key (and_at j k) (var_at y) e = absurd (let z : ◌≡◌ {A = ℕ} 0 1 = cc e in omega arith)
+  shape-key (var_at j) top_at e = absurd (let z : ◌≡◌ {A = ℕ} 0 1 = cc e in omega arith)
+  shape-key (var_at j) (name_at m) e = absurd (let z : ◌≡◌ {A = ℕ} 0 1 = cc e in omega arith)
+  shape-key (var_at j) (exists_at s l) e = absurd (let z : ◌≡◌ {A = ℕ} 0 1 = cc e in omega arith)
+  shape-key (var_at j) (and_at x y) e = absurd (let z : ◌≡◌ {A = ℕ} 0 1 = cc e in omega arith)
+  shape-key (var_at j) (var_at y) e = ap (λ (z : ℕ). 4 + z * 8) (cc e)
 
   small : (i : ℕ) → i < 192 → Small (node concepts i)
   small i h = go (node concepts i) refl (L.rising i)
     where
       go : (m : Node) → node concepts i ≡ m → Rising i m → Small m
-      go topAt e up = tt
+      go top_at e up = tt
       go (name_at n) e up = tt
-      go (existsAt r j) e up = roles i r j e
-      go (andAt j k) e up = omega (arith, lowest-low j, up.0)
-      go (varAt k) e up = tt
+      go (exists_at r j) e up = roles i r j e
+      go (and_at j k) e up = omega (arith, lowest-low j, up.0)
+      go (var_at k) e up = tt
 
   key-tree : (q i : ℕ) → q < 192 → i < 192 → key q ≡ key i → tree concepts q ≡ tree concepts i
   key-tree q i h l e = tree-eq concepts L.rising q ∙ key-shape (node concepts q) (node concepts i) (small q h) (small i l) e ∙ sym (tree-eq concepts L.rising i)
@@ -305,8 +305,8 @@ twins-done concepts firsts keys slots i T over =
 pub record LoweredTo (firsts : List ℕ) (count : ℕ) (before marks : List Bool) (p : ℕ) : Type 0 where
   pub long : length marks ≡ 192
   pub within : p ≤ count
-  pub done : (q : ℕ) → q < p → markAt marks q ≡ anyBelow p (λ r. both (eqb (get_or firsts r 0) q) (markAt before r))
-  pub rest : (q : ℕ) → p ≤ q → markAt marks q ≡ markAt before q
+  pub done : (q : ℕ) → q < p → mark_at marks q ≡ any_below p (λ r. both (eqb (get_or firsts r 0) q) (mark_at before r))
+  pub rest : (q : ℕ) → p ≤ q → mark_at marks q ≡ mark_at before q
 
 pub lowered_none : (firsts : List ℕ) (count : ℕ) (marks : List Bool) → length marks ≡ 192 → LoweredTo firsts count marks marks 0
 lowered_none firsts count marks l = record { long = l; within = omega arith; done = λ q h. absurd (omega arith); rest = λ q h. refl }
@@ -314,23 +314,23 @@ lowered_none firsts count marks l = record { long = l; within = omega arith; don
 module _ (firsts : List ℕ) (count : ℕ) (before marks : List Bool) (p : ℕ) (few : count ≤ 192)
     (low : (i : ℕ) → i < count → get_or firsts i 0 ≤ i) (S : LoweredTo firsts count before marks p) (l : p < count) where
   abbrev moved : ℕ → ℕ → Bool
-  moved q r = both (eqb (get_or firsts r 0) q) (markAt before r)
+  moved q r = both (eqb (get_or firsts r 0) q) (mark_at before r)
 
-  none-there : anyBelow p (moved p) ≡ false
-  none-there = go (anyBelow p (moved p)) refl
+  none-there : any_below p (moved p) ≡ false
+  none-there = go (any_below p (moved p)) refl
     where
-      go : (b : Bool) → anyBelow p (moved p) ≡ b → anyBelow p (moved p) ≡ false
-      go true e = absurd (let (r, h, m) = anyBelow-elim p (moved p) e in omega (arith, low r (omega arith), eqb-true (get_or firsts r 0) p (both_true _ _ m).0))
+      go : (b : Bool) → any_below p (moved p) ≡ b → any_below p (moved p) ≡ false
+      go true e = absurd (let (r, h, m) = any_below-elim p (moved p) e in omega (arith, low r (omega arith), eqb-true (get_or firsts r 0) p (both_true _ _ m).0))
       go false e = e
 
   -- without the p-th mark
-  so_far : (q : ℕ) → q < p + 1 → (marks' : List Bool) → ((q : ℕ) → q < p → markAt marks' q ≡ markAt marks q) → markAt marks' p ≡ false → markAt marks' q ≡ anyBelow p (moved q)
+  so_far : (q : ℕ) → q < p + 1 → (marks' : List Bool) → ((q : ℕ) → q < p → mark_at marks' q ≡ mark_at marks q) → mark_at marks' p ≡ false → mark_at marks' q ≡ any_below p (moved q)
   so_far q h marks' same none =
-      ⊎_elim (λ (e : q ≡ p). subst (λ (z : ℕ). markAt marks' z ≡ anyBelow p (moved z)) (sym e) (none ∙ sym none-there)) (λ u. same q u ∙ S.done q u)
+      ⊎_elim (λ (e : q ≡ p). subst (λ (z : ℕ). mark_at marks' z ≡ any_below p (moved z)) (sym e) (none ∙ sym none-there)) (λ u. same q u ∙ S.done q u)
       (last-cases q p (omega arith))
 
-  pub lowered-skip : markAt marks p ≡ false → LoweredTo firsts count before marks (p + 1)
-  unfolding anyBelow
+  pub lowered-skip : mark_at marks p ≡ false → LoweredTo firsts count before marks (p + 1)
+  unfolding any_below
   lowered-skip e =
       record {
         long = S.long;
@@ -338,7 +338,7 @@ module _ (firsts : List ℕ) (count : ℕ) (before marks : List Bool) (p : ℕ) 
         done =
             λ q h.
             so_far q h marks (λ q u. refl) e
-            ∙ sym (ap (λ (n : ℕ). anyBelow n (moved q)) add-one' ∙ or-skip _ _ (both-second _ _ (sym (S.rest p (omega arith)) ∙ e)));
+            ∙ sym (ap (λ (n : ℕ). any_below n (moved q)) add-one' ∙ or-skip _ _ (both-second _ _ (sym (S.rest p (omega arith)) ∙ e)));
         rest = λ q h. S.rest q (omega arith);
       }
     where
@@ -348,8 +348,8 @@ module _ (firsts : List ℕ) (count : ℕ) (before marks : List Bool) (p : ℕ) 
   abbrev after : List Bool
   after = set (set marks p false) (get_or firsts p 0) true
 
-  pub lowered-more : markAt marks p ≡ true → LoweredTo firsts count before after (p + 1)
-  unfolding anyBelow
+  pub lowered-more : mark_at marks p ≡ true → LoweredTo firsts count before after (p + 1)
+  unfolding any_below
   lowered-more e =
       record {
         long = length-set (set marks p false) _ true ∙ length-set marks p false ∙ S.long;
@@ -361,23 +361,23 @@ module _ (firsts : List ℕ) (count : ℕ) (before marks : List Bool) (p : ℕ) 
             ∙ S.rest q (omega arith);
       }
     where
-      marked : markAt before p ≡ true
+      marked : mark_at before p ≡ true
       marked = sym (S.rest p (omega arith)) ∙ e
 
-      next : (q : ℕ) → anyBelow (p + 1) (moved q) ≡ or (eqb (get_or firsts p 0) q) (anyBelow p (moved q))
+      next : (q : ℕ) → any_below (p + 1) (moved q) ≡ or (eqb (get_or firsts p 0) q) (any_below p (moved q))
       next q =
           let s : p + 1 ≡ suc p = omega arith in
-          ap (λ (n : ℕ). anyBelow n (moved q)) s ∙ ap (λ (b : Bool). or b (anyBelow p (moved q))) (both_first _ _ marked)
+          ap (λ (n : ℕ). any_below n (moved q)) s ∙ ap (λ (b : Bool). or b (any_below p (moved q))) (both_first _ _ marked)
 
-      taken : (q : ℕ) → q < p + 1 → get_or firsts p 0 ≡ q → markAt after q ≡ anyBelow (p + 1) (moved q)
+      taken : (q : ℕ) → q < p + 1 → get_or firsts p 0 ≡ q → mark_at after q ≡ any_below (p + 1) (moved q)
       taken q h f =
-          subst (λ (z : ℕ). markAt after z ≡ true) f (get_or-set_same (set marks p false) (get_or firsts p 0) true false (omega (arith, low p l, length-set marks p false, S.long)))
+          subst (λ (z : ℕ). mark_at after z ≡ true) f (get_or-set_same (set marks p false) (get_or firsts p 0) true false (omega (arith, low p l, length-set marks p false, S.long)))
           ∙ sym (next q ∙ or-first _ _ (eq-eqb (get_or firsts p 0) q f))
 
-      cleared : (q : ℕ) → (get_or firsts p 0 ≡ q → ⊥) → markAt after q ≡ markAt (set marks p false) q
+      cleared : (q : ℕ) → (get_or firsts p 0 ≡ q → ⊥) → mark_at after q ≡ mark_at (set marks p false) q
       cleared q n = get_or-set_other (set marks p false) (get_or firsts p 0) q true false (λ z. n (sym z))
 
-      other : (q : ℕ) → q < p + 1 → (get_or firsts p 0 ≡ q → ⊥) → markAt after q ≡ anyBelow (p + 1) (moved q)
+      other : (q : ℕ) → q < p + 1 → (get_or firsts p 0 ≡ q → ⊥) → mark_at after q ≡ any_below (p + 1) (moved q)
       other q h n =
           cleared q n
           ∙ so_far q h (set marks p false) (λ q u. get_or-set_other marks p q false false (λ z. omega arith)) (get_or-set_same marks p false false (omega (arith, S.long)))
@@ -387,5 +387,5 @@ pub lowered-done : (firsts : List ℕ) (count : ℕ) (before marks : List Bool) 
 lowered-done firsts count before marks p S h =
     record {
       long = S.long;
-      marks = λ q l. let e : p ≡ count = omega (arith, S.within) in subst (λ (n : ℕ). markAt marks q ≡ anyBelow n (λ r. both (eqb (get_or firsts r 0) q) (markAt before r))) e (S.done q (omega arith));
+      marks = λ q l. let e : p ≡ count = omega (arith, S.within) in subst (λ (n : ℕ). mark_at marks q ≡ any_below n (λ r. both (eqb (get_or firsts r 0) q) (mark_at before r))) e (S.done q (omega arith));
     }

@@ -7,9 +7,9 @@ use lib.Bits.{bit_or, or_zero_l, or_add_and, and_le_r}
 use lib.Dec.{eqb}
 use lib.Pow.{pow_pos}
 use borrow.Author.Tests.{eq-eqb, ne_eqb, eqb-true, eqb-false}
-use Rattle.subsumption.specs.Tables.{or, Concept, top, name, exists, and, var, variablesOf, hasVariable}
+use Rattle.subsumption.specs.Tables.{or, Concept, top, name, exists, and, var, variables_of, has_variable}
 use Rattle.subsumption.specs.Atoms.{bit}
-use Rattle.subsumption.specs.Variables.{standsIn}
+use Rattle.subsumption.specs.Variables.{stands_in}
 use Rattle.subsumption.proofs.Bools.{or-first, or-false}
 use Rattle.subsumption.proofs.Bits.{bit-or, bit-pow, bit-pow-other, bit-of-zero}
 
@@ -21,12 +21,12 @@ or-empty (suc x) y =
     ap not (ne_eqb (bit_or (suc x) y) 0 (λ e. omega (arith, or_add_and (suc x) y, and_le_r (suc x) y, e)))
     ∙ sym (or-first _ _ (ap not (ne_eqb (suc x) 0 (λ e. omega arith))))
 
-pub variable-both : (c d : Concept) → hasVariable (and c d) ≡ or (hasVariable c) (hasVariable d)
-unfolding hasVariable variablesOf
-variable-both c d = or-empty (variablesOf c) (variablesOf d)
+pub variable-both : (c d : Concept) → has_variable (and c d) ≡ or (has_variable c) (has_variable d)
+unfolding has_variable variables_of
+variable-both c d = or-empty (variables_of c) (variables_of d)
 
-pub variable-one : (k : ℕ) → hasVariable (var k) ≡ true
-unfolding hasVariable variablesOf
+pub variable-one : (k : ℕ) → has_variable (var k) ≡ true
+unfolding has_variable variables_of
 variable-one k = ap not (ne_eqb (2 ^ k) 0 (λ e. omega (arith, pow_pos k)))
 
 -- ---- which bits it has
@@ -49,17 +49,17 @@ bit-of-one k j = go (eqb k j) refl
     go false e = on (bit (2 ^ j) k) refl (eqb-false k j e)
 
 -- The set's bits are exactly the variables that stand in the concept.
-pub set-exactly : (c : Concept) (k : ℕ) → bit (variablesOf c) k ≡ standsIn k c
-unfolding variablesOf standsIn
+pub set-exactly : (c : Concept) (k : ℕ) → bit (variables_of c) k ≡ stands_in k c
+unfolding variables_of stands_in
 set-exactly top k = sym (bit-zero k)
 set-exactly (name n) k = sym (bit-zero k)
 set-exactly (exists r c) k = set-exactly c k
-set-exactly (and c d) k = bit-or (variablesOf c) (variablesOf d) k ∙ ap₂ or (set-exactly c k) (set-exactly d k)
+set-exactly (and c d) k = bit-or (variables_of c) (variables_of d) k ∙ ap₂ or (set-exactly c k) (set-exactly d k)
 set-exactly (var j) k = bit-of-one k j
 
 -- A concept without variables has the empty set.
-pub set-empty : (c : Concept) → ((k : ℕ) → standsIn k c ≡ false) → variablesOf c ≡ 0
-unfolding variablesOf standsIn
+pub set-empty : (c : Concept) → ((k : ℕ) → stands_in k c ≡ false) → variables_of c ≡ 0
+unfolding variables_of stands_in
 set-empty top h = refl
 set-empty (name n) h = refl
 set-empty (exists r c) h = set-empty c h

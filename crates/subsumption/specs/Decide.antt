@@ -5,14 +5,14 @@ use Rattle.subsumption.specs.declared.decide.Decision.{Decision}
 use Rattle.subsumption.specs.declared.decide.Decision.TheVariants.{Yes, No, Rejected}
 use Rattle.subsumption.specs.Tables.{Tables}
 use Rattle.subsumption.specs.Subsumption.{Subsumed}
-use Rattle.subsumption.specs.Refusal.{Reply, replyDone, replyRefused, Replies, or_else}
-use Rattle.subsumption.specs.Check.{pairFault, assignmentFault}
+use Rattle.subsumption.specs.Refusal.{Reply, reply_done, reply_refused, Replies, or_else}
+use Rattle.subsumption.specs.Check.{pair_fault, assignment_fault}
 
 -- The value is 1 for yes and 0 for no.
-abbrev pub decisionReply : Decision → Reply
-decisionReply Yes = replyDone 1
-decisionReply No = replyDone 0
-decisionReply (Rejected r) = replyRefused r
+abbrev pub decision_reply : Decision → Reply
+decision_reply Yes = reply_done 1
+decision_reply No = reply_done 0
+decision_reply (Rejected r) = reply_refused r
 
 -- A value tells whether the pair is subsumed.
 abbrev pub Tells : Tables → List ℕ → ℕ → ℕ → ℕ → Type 0
@@ -21,8 +21,8 @@ Tells t assignment left right (suc zero) = Subsumed t assignment left right
 Tells t assignment left right (suc (suc value)) = ⊥
 
 -- The checks of an asked pair and an assignment: 1 to 7, then 9.
-unfoldable pub decidingFault : Tables → List ℕ → ℕ → ℕ → Outcome
-decidingFault t assignment left right = or_else (pairFault t left right) (assignmentFault t assignment)
+unfoldable pub deciding_fault : Tables → List ℕ → ℕ → ℕ → Outcome
+deciding_fault t assignment left right = or_else (pair_fault t left right) (assignment_fault t assignment)
 
 abbrev pub Decides : Tables → List ℕ → ℕ → ℕ → Reply → Type 0
-Decides t assignment left right reply = Replies (decidingFault t assignment left right) (Tells t assignment left right) reply
+Decides t assignment left right reply = Replies (deciding_fault t assignment left right) (Tells t assignment left right) reply

@@ -6,27 +6,27 @@ use Rattle.subsumption.specs.declared.listing.Listed.{Listed}
 use Rattle.subsumption.specs.declared.listing.Listed.TheVariants.{Atoms, Rejected}
 use Rattle.subsumption.specs.Tables.{Tables}
 use Rattle.subsumption.specs.Atoms.{atoms}
-use Rattle.subsumption.specs.Refusal.{Reply, replyDone, replyRefused, replyWith, or_else}
-use Rattle.subsumption.specs.Check.{tableFault, bufferFault}
+use Rattle.subsumption.specs.Refusal.{Reply, reply_done, reply_refused, reply_with, or_else}
+use Rattle.subsumption.specs.Check.{table_fault, buffer_fault}
 
 -- The buffer wants 64 numbers, however few are written.
-unfoldable pub listingFault : Tables → ℕ → Outcome
-listingFault t size = or_else (tableFault t) (bufferFault 64 size)
+unfoldable pub listing_fault : Tables → ℕ → Outcome
+listing_fault t size = or_else (table_fault t) (buffer_fault 64 size)
 
 -- The value is how many there are.
-abbrev pub listedReply : Listed → Reply
-listedReply (Atoms n) = replyDone n
-listedReply (Rejected r) = replyRefused r
+abbrev pub listed_reply : Listed → Reply
+listed_reply (Atoms n) = reply_done n
+listed_reply (Rejected r) = reply_refused r
 
 -- The atoms' ids stand in front; past them, and after a refusal, the buffer keeps its values.
-unfoldable pub listedIn : Outcome → Tables → List ℕ → List ℕ
-listedIn Done t before = atoms t ++ drop (length (atoms t)) before
-listedIn (Refused r) t before = before
+unfoldable pub listed_in : Outcome → Tables → List ℕ → List ℕ
+listed_in Done t before = atoms t ++ drop (length (atoms t)) before
+listed_in (Refused r) t before = before
 
 -- The reply and the buffer that these checks leave.
 pub record ListedBy (t : Tables) (before after : List ℕ) (fault : Outcome) (reply : Reply) : Type 0 where
-  pub replied : reply ≡ replyWith fault (length (atoms t))
-  pub written : after ≡ listedIn fault t before
+  pub replied : reply ≡ reply_with fault (length (atoms t))
+  pub written : after ≡ listed_in fault t before
 
 abbrev pub Lists : Tables → List ℕ → List ℕ → Reply → Type 0
-Lists t before after reply = ListedBy t before after (listingFault t (length before)) reply
+Lists t before after reply = ListedBy t before after (listing_fault t (length before)) reply

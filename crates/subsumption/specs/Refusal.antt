@@ -37,36 +37,36 @@ pub record Reply : Type 0 where
   pub place : ℕ
   pub value : ℕ
 
-abbrev pub replyDone : ℕ → Reply
-replyDone value = record { number = 0; place = 0; value = value }
+abbrev pub reply_done : ℕ → Reply
+reply_done value = record { number = 0; place = 0; value = value }
 
-abbrev pub replyRefused : Refusal → Reply
-replyRefused r = record { number = (code_of r).number; place = (code_of r).place; value = 0 }
+abbrev pub reply_refused : Refusal → Reply
+reply_refused r = record { number = (code_of r).number; place = (code_of r).place; value = 0 }
 
 -- The reply of an operation with these checks and this value.
-abbrev pub replyWith : Outcome → ℕ → Reply
-replyWith Done value = replyDone value
-replyWith (Refused r) value = replyRefused r
+abbrev pub reply_with : Outcome → ℕ → Reply
+reply_with Done value = reply_done value
+reply_with (Refused r) value = reply_refused r
 
 -- An outcome has no value.
-abbrev pub replyOf : Outcome → Reply
-replyOf outcome = replyWith outcome 0
+abbrev pub reply_of : Outcome → Reply
+reply_of outcome = reply_with outcome 0
 
 -- The reply of an operation with these checks, and a value that is right.
 abbrev pub Replies : Outcome → (ℕ → Type 0) → Reply → Type 0
-Replies Done Right reply = (reply ≡ replyDone reply.value) × Right reply.value
-Replies (Refused r) Right reply = reply ≡ replyRefused r
+Replies Done Right reply = (reply ≡ reply_done reply.value) × Right reply.value
+Replies (Refused r) Right reply = reply ≡ reply_refused r
 
 -- Checks run in order: the first that refuses decides.
 unfoldable pub or_else : Outcome → Outcome → Outcome
 or_else Done next = next
 or_else (Refused r) next = Refused r
 
-unfoldable pub refuseIf : Bool → Refusal → Outcome
-refuseIf true r = Refused r
-refuseIf false r = Done
+unfoldable pub refuse_if : Bool → Refusal → Outcome
+refuse_if true r = Refused r
+refuse_if false r = Done
 
 -- Within one check the lowest place wins: the places from `from` on, `count` of them.
 unfoldable pub first_at : (ℕ → Refusal) → (ℕ → Bool) → ℕ → ℕ → Outcome
 first_at refusal faulty from zero = Done
-first_at refusal faulty from (suc count) = or_else (refuseIf (faulty from) (refusal from)) (first_at refusal faulty (suc from) count)
+first_at refusal faulty from (suc count) = or_else (refuse_if (faulty from) (refusal from)) (first_at refusal faulty (suc from) count)

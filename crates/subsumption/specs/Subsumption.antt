@@ -1,7 +1,7 @@
 -- Below (01, "Below"): truth in all finite interpretations that obey the inclusions.
 use Rattle.std.specs.Prelude.{ℕ, ◌<◌}
 use mathlib.Core.List.{List, Memᴰ}
-use Rattle.subsumption.specs.Tables.{Tables, pairsOf, left_of, rightOf, Concept, top, name, exists, and, var, tree}
+use Rattle.subsumption.specs.Tables.{Tables, pairs_of, left_of, right_of, Concept, top, name, exists, and, var, tree}
 use Rattle.subsumption.specs.Atoms.{chosen}
 
 pub record Named : Type 0 where
@@ -36,22 +36,22 @@ abbrev pub Included : Interpretation → Reading → Concept → Concept → Typ
 Included I ρ c d = (x : ℕ) → x < I.size → Member I ρ c x → Member I ρ d x
 
 -- Atoms and inclusions hold no variable, so that any reading serves them.
-abbrev pub noVariables : Reading
-noVariables k x = Unit {0}
+abbrev pub no_variables : Reading
+no_variables k x = Unit {0}
 
 -- The interpretation obeys both tables: each inclusion, and each pair of roles, whose narrow links are links of the wide role too.
 pub record Obeys (t : Tables) (I : Interpretation) : Type 0 where
   pub inclusions :
-      (m : ℕ) → m < pairsOf t.inclusions
-      → Included I noVariables (tree t.concepts (left_of t.inclusions m)) (tree t.concepts (rightOf t.inclusions m))
+      (m : ℕ) → m < pairs_of t.inclusions
+      → Included I no_variables (tree t.concepts (left_of t.inclusions m)) (tree t.concepts (right_of t.inclusions m))
   pub roles :
-      (m : ℕ) → m < pairsOf t.roles → (x y : ℕ) → x < I.size → y < I.size
+      (m : ℕ) → m < pairs_of t.roles → (x y : ℕ) → x < I.size → y < I.size
       → Memᴰ (record { from = x; role = left_of t.roles m; to = y }) I.links
-      → Memᴰ (record { from = x; role = rightOf t.roles m; to = y }) I.links
+      → Memᴰ (record { from = x; role = right_of t.roles m; to = y }) I.links
 
 -- Variables read by an assignment: an element belongs to a variable when it belongs to every atom chosen for it.
 abbrev pub assigned : Tables → List ℕ → Interpretation → Reading
-assigned t assignment I k x = (p : ℕ) → Memᴰ p (chosen t assignment k) → Member I noVariables (tree t.concepts p) x
+assigned t assignment I k x = (p : ℕ) → Memᴰ p (chosen t assignment k) → Member I no_variables (tree t.concepts p) x
 
 -- One concept is subsumed by another (01: an entry is below another) under a reading of the variables.
 abbrev pub SubsumedBy : Tables → (Interpretation → Reading) → ℕ → ℕ → Type 0

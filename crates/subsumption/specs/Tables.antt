@@ -23,26 +23,26 @@ both true b = b
 both false b = false
 
 -- some number below n passes the test
-unfoldable pub anyBelow : ℕ → (ℕ → Bool) → Bool
-anyBelow zero test = false
-anyBelow (suc n) test = or (test n) (anyBelow n test)
+unfoldable pub any_below : ℕ → (ℕ → Bool) → Bool
+any_below zero test = false
+any_below (suc n) test = or (test n) (any_below n test)
 
 -- A row of the concept table (01: an entry): top, a name, "some" of a role and an inner id, "and" of two ids, a variable.
 pub data Node : Type 0 where
-  topAt : Node
+  top_at : Node
   name_at : ℕ → Node
-  existsAt : ℕ → ℕ → Node
-  andAt : ℕ → ℕ → Node
-  varAt : ℕ → Node
+  exists_at : ℕ → ℕ → Node
+  and_at : ℕ → ℕ → Node
+  var_at : ℕ → Node
 
 -- The kinds 0 to 4. Any other kind is refused (check 2) before anything reads it.
 unfoldable pub decode : ℕ → ℕ → ℕ → Node
-decode zero a b = topAt
+decode zero a b = top_at
 decode (suc zero) a b = name_at a
-decode (suc (suc zero)) a b = existsAt a b
-decode (suc (suc (suc zero))) a b = andAt a b
-decode (suc (suc (suc (suc zero)))) a b = varAt a
-decode (suc (suc (suc (suc (suc kind))))) a b = topAt
+decode (suc (suc zero)) a b = exists_at a b
+decode (suc (suc (suc zero))) a b = and_at a b
+decode (suc (suc (suc (suc zero)))) a b = var_at a
+decode (suc (suc (suc (suc (suc kind))))) a b = top_at
 
 -- The row of an id: three numbers from place 3 × id on.
 unfoldable pub node : List ℕ → ℕ → Node
@@ -51,15 +51,15 @@ node concepts i = decode (get_or concepts (i * 3) 0) (get_or concepts (i * 3 + 1
 abbrev pub count_of : List ℕ → ℕ
 count_of concepts = length concepts / 3
 
-abbrev pub pairsOf : List ℕ → ℕ
-pairsOf pairs = length pairs / 2
+abbrev pub pairs_of : List ℕ → ℕ
+pairs_of pairs = length pairs / 2
 
 -- An inclusion or a question is a pair of ids: its left is below its right. A pair of roles is (narrow, wide).
 abbrev pub left_of : List ℕ → ℕ → ℕ
 left_of pairs m = get_or pairs (m * 2) 0
 
-abbrev pub rightOf : List ℕ → ℕ → ℕ
-rightOf pairs m = get_or pairs (m * 2 + 1) 0
+abbrev pub right_of : List ℕ → ℕ → ℕ
+right_of pairs m = get_or pairs (m * 2 + 1) 0
 
 -- A concept. Names and roles are any numbers.
 pub data Concept : Type 0 where
@@ -71,28 +71,28 @@ pub data Concept : Type 0 where
   deriving Discrete as concept-discrete
 
 unfoldable pub shape : (ℕ → Concept) → Node → Concept
-shape inner topAt = top
+shape inner top_at = top
 shape inner (name_at n) = name n
-shape inner (existsAt r j) = exists r (inner j)
-shape inner (andAt i j) = and (inner i) (inner j)
-shape inner (varAt k) = var k
+shape inner (exists_at r j) = exists r (inner j)
+shape inner (and_at i j) = and (inner i) (inner j)
+shape inner (var_at k) = var k
 
-unfoldable pub treeTo : List ℕ → ℕ → ℕ → Concept
-treeTo concepts zero i = top
-treeTo concepts (suc depth) i = shape (treeTo concepts depth) (node concepts i)
+unfoldable pub tree_to : List ℕ → ℕ → ℕ → Concept
+tree_to concepts zero i = top
+tree_to concepts (suc depth) i = shape (tree_to concepts depth) (node concepts i)
 
 -- The concept of an id. Inner ids are smaller, so a depth of id + 1 is enough.
 unfoldable pub tree : List ℕ → ℕ → Concept
-tree concepts i = treeTo concepts (suc i) i
+tree concepts i = tree_to concepts (suc i) i
 
 -- The set of the variables that stand in a concept, at any depth: a number with bit k for variable k.
-unfoldable pub variablesOf : Concept → ℕ
-variablesOf top = 0
-variablesOf (name n) = 0
-variablesOf (exists r c) = variablesOf c
-variablesOf (and c d) = bit_or (variablesOf c) (variablesOf d)
-variablesOf (var k) = 2 ^ k
+unfoldable pub variables_of : Concept → ℕ
+variables_of top = 0
+variables_of (name n) = 0
+variables_of (exists r c) = variables_of c
+variables_of (and c d) = bit_or (variables_of c) (variables_of d)
+variables_of (var k) = 2 ^ k
 
 -- The concept holds a variable.
-unfoldable pub hasVariable : Concept → Bool
-hasVariable c = not (eqb (variablesOf c) 0)
+unfoldable pub has_variable : Concept → Bool
+has_variable c = not (eqb (variables_of c) 0)

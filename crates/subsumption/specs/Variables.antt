@@ -3,17 +3,17 @@ use Rattle.std.specs.Prelude.{ℕ, Bool, false, eqb}
 use Rattle.subsumption.specs.declared.variables.VariableSet.{VariableSet}
 use Rattle.subsumption.specs.declared.variables.VariableSet.TheVariants.{Set, Rejected}
 use Rattle.subsumption.specs.Tables.{or, Concept, top, name, exists, and, var}
-use Rattle.subsumption.specs.Refusal.{Reply, replyDone, replyRefused}
+use Rattle.subsumption.specs.Refusal.{Reply, reply_done, reply_refused}
 
 -- The value is the set.
-abbrev pub variablesReply : VariableSet → Reply
-variablesReply (Set s) = replyDone s
-variablesReply (Rejected r) = replyRefused r
+abbrev pub variables_reply : VariableSet → Reply
+variables_reply (Set s) = reply_done s
+variables_reply (Rejected r) = reply_refused r
 
 -- Variable k stands in the concept, at any depth.
-unfoldable pub standsIn : ℕ → Concept → Bool
-standsIn k top = false
-standsIn k (name n) = false
-standsIn k (exists r c) = standsIn k c
-standsIn k (and c d) = or (standsIn k c) (standsIn k d)
-standsIn k (var j) = eqb k j
+unfoldable pub stands_in : ℕ → Concept → Bool
+stands_in k top = false
+stands_in k (name n) = false
+stands_in k (exists r c) = stands_in k c
+stands_in k (and c d) = or (stands_in k c) (stands_in k d)
+stands_in k (var j) = eqb k j

@@ -1,11 +1,11 @@
 // Which ids are atoms: the lowest twins of those in inclusions and variable-free right sides and of all that stands in them, of
 // kinds 1 and 2.
 ghost use Rattle.std.specs.Prelude.{◌≡◌, false, ℕ, ◌<◌, ◌≤◌, eqb, length, replicate};
-ghost use Rattle.subsumption.specs.Lent.{before, after};
-ghost use Rattle.subsumption.specs.Tables.{decode, or, both, node, existsAt, count_of};
-ghost use Rattle.subsumption.specs.Atoms.{inside, isAtomic};
+
+ghost use Rattle.subsumption.specs.Tables.{decode, or, both, node, exists_at, count_of};
+ghost use Rattle.subsumption.specs.Atoms.{inside, is_atomic};
 ghost use Rattle.subsumption.specs.Inner.Tables.{Rising};
-ghost use Rattle.subsumption.specs.Inner.Atoms.{Layered, Known, markAt, heldBy, VariableMarks, VariableSets, MarkedBy, onSide, onGroundRight, Spread, Narrowed, StandingMarks, AtomMarks, markedIds, inFront};
+ghost use Rattle.subsumption.specs.Inner.Atoms.{Layered, Known, mark_at, held_by, VariableMarks, VariableSets, MarkedBy, on_side, on_ground_right, Spread, Narrowed, StandingMarks, AtomMarks, marked_ids, in_front};
 
 use crate::limits::CONCEPTS;
 use crate::tables::{pair_at, row_at};
@@ -13,7 +13,7 @@ use crate::twins::{keep_lowest, note_twins};
 
 fn holds_variable(marks: &[bool], kind: u16, a: u16, b: u16) -> bool
     requires { Rising (length marks.now) (decode kind a b) }
-    ensures { result ≡ heldBy (markAt (before marks)) (decode kind a b) }
+    ensures { result ≡ held_by (mark_at marks.now) (decode kind a b) }
 {
     if kind == 2 {
         return marks[b as usize];
@@ -31,7 +31,7 @@ fn holds_variable(marks: &[bool], kind: u16, a: u16, b: u16) -> bool
 pub fn mark_variables(concepts: &[u16], marks: &mut [bool])
     requires layered { Layered concepts.now }
     requires marks_len { length marks.old ≡ 192 }
-    ensures { VariableMarks (before concepts) (after marks) }
+    ensures { VariableMarks concepts.now marks.new }
 {
     let count = concepts.len() / 3;
     let mut i: usize = 0;
@@ -47,7 +47,7 @@ fn mark_sides(count: usize, pairs: &[u16], marks: &mut [bool])
     requires known { Known count pairs.now }
     requires count_bound { count ≤ 192 }
     requires marks_len { length marks.old ≡ 192 }
-    ensures { MarkedBy (onSide (before pairs)) (before marks) (after marks) }
+    ensures { MarkedBy (on_side pairs.now) marks.old marks.new }
 {
     let rows = pairs.len() / 2;
     let mut m: usize = 0;
@@ -66,7 +66,7 @@ fn mark_ground_rights(count: usize, questions: &[u16], sets: &[u8], marks: &mut 
     requires count_bound { count ≤ 192 }
     requires sets_len { length sets.now ≡ 192 }
     requires marks_len { length marks.old ≡ 192 }
-    ensures { MarkedBy (onGroundRight (before questions) (before sets)) (before marks) (after marks) }
+    ensures { MarkedBy (on_ground_right questions.now sets.now) marks.old marks.new }
 {
     let rows = questions.len() / 2;
     let mut m: usize = 0;
@@ -84,7 +84,7 @@ fn mark_ground_rights(count: usize, questions: &[u16], sets: &[u8], marks: &mut 
 fn mark_inner(marks: &mut [bool], kind: u16, a: u16, b: u16)
     requires rising { Rising 192 (decode kind a b) }
     requires marks_len { length marks.old ≡ 192 }
-    ensures { MarkedBy (λ q. inside (λ j. eqb q j) (decode kind a b)) (before marks) (after marks) }
+    ensures { MarkedBy (λ q. inside (λ j. eqb q j) (decode kind a b)) marks.old marks.new }
 {
     if kind == 2 {
         marks[b as usize] = true;
@@ -101,7 +101,7 @@ fn mark_inner(marks: &mut [bool], kind: u16, a: u16, b: u16)
 fn spread(concepts: &[u16], marks: &mut [bool])
     requires layered { Layered concepts.now }
     requires marks_len { length marks.old ≡ 192 }
-    ensures { Spread (before concepts) (before marks) (after marks) }
+    ensures { Spread concepts.now marks.old marks.new }
 {
     let mut i = concepts.len() / 3;
     while 0 < i {
@@ -114,7 +114,7 @@ fn spread(concepts: &[u16], marks: &mut [bool])
 }
 
 fn is_atomic(kind: u16, a: u16, b: u16) -> bool
-    ensures { result ≡ isAtomic (decode kind a b) }
+    ensures { result ≡ is_atomic (decode kind a b) }
 {
     if kind == 1 {
         return true;
@@ -143,7 +143,7 @@ pub fn either(x: bool, y: bool) -> bool
 fn keep_atomic(concepts: &[u16], marks: &mut [bool])
     requires concepts_bound { count_of concepts.now ≤ 192 }
     requires marks_len { length marks.old ≡ 192 }
-    ensures { Narrowed (before concepts) (before marks) (after marks) }
+    ensures { Narrowed concepts.now marks.old marks.new }
 {
     let count = concepts.len() / 3;
     let mut p: usize = 0;
@@ -169,7 +169,7 @@ fn mark_standing(
     requires known_2 { Known (count_of concepts.now) questions.now }
     requires variable_sets { VariableSets concepts.now sets.now }
     requires marks_value { marks.old ≡ replicate 192 false }
-    ensures { StandingMarks (before concepts) (before inclusions) (before questions) (after marks) }
+    ensures { StandingMarks concepts.now inclusions.now questions.now marks.new }
 {
     let count = concepts.len() / 3;
     mark_sides(count, inclusions, marks);
@@ -187,12 +187,12 @@ pub fn mark_atoms(
     marks: &mut [bool],
 )
     requires layered { Layered concepts.now }
-    requires by_index { (i r j : ℕ) → node concepts.now i ≡ existsAt r j → r < 100 }
+    requires by_index { (i r j : ℕ) → node concepts.now i ≡ exists_at r j → r < 100 }
     requires known { Known (count_of concepts.now) inclusions.now }
     requires known_2 { Known (count_of concepts.now) questions.now }
     requires variable_sets { VariableSets concepts.now sets.now }
     requires marks_value { marks.old ≡ replicate 192 false }
-    ensures { AtomMarks (before concepts) (before inclusions) (before questions) (after marks) }
+    ensures { AtomMarks concepts.now inclusions.now questions.now marks.new }
 {
     mark_standing(concepts, inclusions, questions, sets, marks);
     let mut firsts = [0u16; CONCEPTS];
@@ -202,7 +202,7 @@ pub fn mark_atoms(
 
 pub fn count_marks(marks: &[bool], count: usize) -> usize
     requires { count ≤ length marks.now }
-    ensures { result ≡ length (markedIds (before marks) count) }
+    ensures { result ≡ length (marked_ids marks.now count) }
 {
     let mut marked: usize = 0;
     let mut p: usize = 0;
@@ -220,9 +220,9 @@ pub fn count_marks(marks: &[bool], count: usize) -> usize
 pub fn list_marks(marks: &[bool], count: usize, out: &mut [u16]) -> usize
     requires count_bound { count ≤ 192 }
     requires count_in_bounds { count ≤ length marks.now }
-    requires count_in_bounds_2 { length (markedIds marks.now count) ≤ length out.old }
-    ensures value { result ≡ length (markedIds (before marks) count) }
-    ensures out_value { after out ≡ inFront (markedIds (before marks) count) (before out) }
+    requires count_in_bounds_2 { length (marked_ids marks.now count) ≤ length out.old }
+    ensures value { result ≡ length (marked_ids marks.now count) }
+    ensures out_value { out.new ≡ in_front (marked_ids marks.now count) out.old }
 {
     let mut listed: usize = 0;
     let mut p: usize = 0;

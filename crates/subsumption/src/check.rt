@@ -1,10 +1,10 @@
 // The checks 1 to 9, in 01's order. Each scan answers the lowest place at fault.
 ghost use Rattle.std.specs.Prelude.{◌≡◌, not, false, ◌<◌, ◌≤◌, ◌^◌, ltb, replicate};
-ghost use Rattle.subsumption.specs.Lent.{lent, before, after};
+ghost use Rattle.subsumption.specs.Lent.{lent};
 ghost use Rattle.subsumption.specs.Inner.Lent.{given};
 ghost use Rattle.subsumption.specs.Tables.{decode, count_of};
-ghost use Rattle.subsumption.specs.Refusal.{replyOf};
-ghost use Rattle.subsumption.specs.Check.{unfit, limitFault, malformedRow, malformedFault, forward, forwardFault, noConcept, pairsFault, aloneFault, bufferFault, conceptFault, idFault, inclusionFault, sidesFault, rolesFault, tableFault, assignmentFaultAt};
+ghost use Rattle.subsumption.specs.Refusal.{reply_of};
+ghost use Rattle.subsumption.specs.Check.{unfit, limit_fault, malformed_row, malformed_fault, forward, forward_fault, no_concept, pairs_fault, alone_fault, buffer_fault, concept_fault, id_fault, inclusion_fault, sides_fault, roles_fault, table_fault, assignment_fault_at};
 ghost use Rattle.subsumption.specs.Inner.Atoms.{VariableSets, Known};
 ghost use Rattle.subsumption.specs.Inner.Check.{Used};
 ghost use Rattle.subsumption.specs.declared.refusal.Outcome.TheVariants.{Done};
@@ -20,7 +20,7 @@ use crate::variables::write_sets;
 // A table's length is no multiple of its row's width, or has too many rows.
 fn is_unfit(numbers: &[u16], width: usize, limit: usize) -> bool
     requires { 0 < width }
-    ensures { result ≡ unfit width limit (before numbers) }
+    ensures { result ≡ unfit width limit numbers.now }
 {
     if numbers.len() % width != 0 {
         return true;
@@ -35,7 +35,7 @@ fn check_limits(
     roles: &[u16],
     variables: u16,
 ) -> Outcome
-    ensures { result ≡ limitFault (lent concepts inclusions questions roles variables) }
+    ensures { result ≡ limit_fault (lent concepts inclusions questions roles variables) }
 {
     if is_unfit(concepts, 3, CONCEPTS) {
         return Outcome::Refused(Refusal::Limit(0));
@@ -56,7 +56,7 @@ fn check_limits(
 }
 
 fn is_malformed(variables: u16, kind: u16, a: u16, b: u16) -> bool
-    ensures { result ≡ malformedRow variables kind a b }
+    ensures { result ≡ malformed_row variables kind a b }
 {
     if kind == 0 {
         if a != 0 {
@@ -86,7 +86,7 @@ fn is_malformed(variables: u16, kind: u16, a: u16, b: u16) -> bool
 }
 
 fn check_rows(concepts: &[u16], variables: u16) -> Outcome
-    ensures { result ≡ malformedFault (before concepts) variables }
+    ensures { result ≡ malformed_fault concepts.now variables }
 {
     let count = concepts.len() / 3;
     let mut i: usize = 0;
@@ -116,7 +116,7 @@ fn is_forward(i: usize, kind: u16, a: u16, b: u16) -> bool
 }
 
 fn check_inner(concepts: &[u16]) -> Outcome
-    ensures { result ≡ forwardFault (before concepts) }
+    ensures { result ≡ forward_fault concepts.now }
 {
     let count = concepts.len() / 3;
     let mut i: usize = 0;
@@ -131,7 +131,7 @@ fn check_inner(concepts: &[u16]) -> Outcome
 }
 
 fn is_no_concept(count: usize, left: u16, right: u16) -> bool
-    ensures { result ≡ noConcept count left right }
+    ensures { result ≡ no_concept count left right }
 {
     if count <= left as usize {
         return true;
@@ -142,7 +142,7 @@ fn is_no_concept(count: usize, left: u16, right: u16) -> bool
 // `passed` pairs are counted already.
 fn check_pairs(passed: usize, count: usize, pairs: &[u16]) -> Outcome
     requires { passed ≤ 96 }
-    ensures { result ≡ pairsFault passed count (before pairs) }
+    ensures { result ≡ pairs_fault passed count pairs.now }
 {
     let rows = pairs.len() / 2;
     let mut m: usize = 0;
@@ -158,7 +158,7 @@ fn check_pairs(passed: usize, count: usize, pairs: &[u16]) -> Outcome
 
 // Check 4 of a pair given alone.
 pub fn check_alone(concepts: &[u16], left: u16, right: u16) -> Outcome
-    ensures { result ≡ aloneFault (before concepts) left right }
+    ensures { result ≡ alone_fault concepts.now left right }
 {
     if is_no_concept(concepts.len() / 3, left, right) {
         return Outcome::Refused(Refusal::NoConcept(0));
@@ -168,7 +168,7 @@ pub fn check_alone(concepts: &[u16], left: u16, right: u16) -> Outcome
 
 // Check 8.
 pub fn check_buffer(wanted: usize, size: usize) -> Outcome
-    ensures { result ≡ bufferFault wanted size }
+    ensures { result ≡ buffer_fault wanted size }
 {
     if size < wanted {
         return Outcome::Refused(Refusal::BufferTooShort(wanted));
@@ -184,7 +184,7 @@ pub fn check_concepts(
     roles: &[u16],
     variables: u16,
 ) -> Outcome
-    ensures { result ≡ conceptFault (lent concepts inclusions questions roles variables) }
+    ensures { result ≡ concept_fault (lent concepts inclusions questions roles variables) }
 {
     let limits = check_limits(concepts, inclusions, questions, roles, variables);
     if let Outcome::Refused(r) = limits {
@@ -205,8 +205,8 @@ pub fn check_ids(
     roles: &[u16],
     variables: u16,
 ) -> Outcome
-    requires { conceptFault (given concepts inclusions questions roles variables) ≡ Done }
-    ensures { result ≡ idFault (lent concepts inclusions questions roles variables) }
+    requires { concept_fault (given concepts inclusions questions roles variables) ≡ Done }
+    ensures { result ≡ id_fault (lent concepts inclusions questions roles variables) }
 {
     let count = concepts.len() / 3;
     let first = check_pairs(0, count, inclusions);
@@ -221,7 +221,7 @@ fn check_inclusions(concepts: &[u16], inclusions: &[u16], sets: &[u8]) -> Outcom
     requires variable_sets { VariableSets concepts.now sets.now }
     requires concepts_bound { count_of concepts.now ≤ 192 }
     requires known { Known (count_of concepts.now) inclusions.now }
-    ensures { result ≡ inclusionFault (before concepts) (before inclusions) }
+    ensures { result ≡ inclusion_fault concepts.now inclusions.now }
 {
     let rows = inclusions.len() / 2;
     let mut m: usize = 0;
@@ -242,7 +242,7 @@ fn check_sides(concepts: &[u16], questions: &[u16], sets: &[u8]) -> Outcome
     requires variable_sets { VariableSets concepts.now sets.now }
     requires concepts_bound { count_of concepts.now ≤ 192 }
     requires known { Known (count_of concepts.now) questions.now }
-    ensures { result ≡ sidesFault (before concepts) (before questions) }
+    ensures { result ≡ sides_fault concepts.now questions.now }
 {
     let rows = questions.len() / 2;
     let mut m: usize = 0;
@@ -260,7 +260,7 @@ fn check_sides(concepts: &[u16], questions: &[u16], sets: &[u8]) -> Outcome
 
 // Check 16: a role over 99.
 fn check_roles(roles: &[u16]) -> Outcome
-    ensures { result ≡ rolesFault (before roles) }
+    ensures { result ≡ roles_fault roles.now }
 {
     let rows = roles.len() / 2;
     let mut m: usize = 0;
@@ -283,10 +283,10 @@ pub fn check_use(
     variables: u16,
     marks: &mut [bool],
 ) -> Outcome
-    requires variables_value { conceptFault (given concepts inclusions questions roles variables) ≡ Done }
-    requires variables_value_2 { idFault (given concepts inclusions questions roles variables) ≡ Done }
+    requires variables_value { concept_fault (given concepts inclusions questions roles variables) ≡ Done }
+    requires variables_value_2 { id_fault (given concepts inclusions questions roles variables) ≡ Done }
     requires marks_value { marks.old ≡ replicate 192 false }
-    ensures { Used (lent concepts inclusions questions roles variables) (after marks) result }
+    ensures { Used (lent concepts inclusions questions roles variables) marks.new result }
 {
     let mut sets = [0u8; CONCEPTS];
     write_sets(concepts, &mut sets);
@@ -317,7 +317,7 @@ pub fn check_tables(
     roles: &[u16],
     variables: u16,
 ) -> Outcome
-    ensures { replyOf result ≡ replyOf (tableFault (lent concepts inclusions questions roles variables)) }
+    ensures { reply_of result ≡ reply_of (table_fault (lent concepts inclusions questions roles variables)) }
 {
     let rows = check_concepts(concepts, inclusions, questions, roles, variables);
     if let Outcome::Refused(r) = rows {
@@ -347,7 +347,7 @@ pub fn is_past(choice: u64, atoms: usize) -> bool
 // Check 9, given the number of atoms.
 pub fn check_assignment(assignment: &[u64], variables: u16, atoms: usize) -> Outcome
     requires { atoms ≤ 64 }
-    ensures { result ≡ assignmentFaultAt atoms variables (before assignment) }
+    ensures { result ≡ assignment_fault_at atoms variables assignment.now }
 {
     let count = variables as usize;
     if assignment.len() != count {

@@ -6,14 +6,14 @@ pub mod sets;
 pub mod settling;
 
 ghost use Rattle.std.specs.Prelude.{◌≡◌, length};
-ghost use Rattle.subsumption.specs.Lent.{before, after};
+
 ghost use Rattle.subsumption.specs.Roles.{wider};
 ghost use Rattle.subsumption.specs.Inner.Roles.{LowRoles};
 ghost use Rattle.subsumption.specs.Inner.Names.{Firsts};
-ghost use Rattle.subsumption.specs.Inner.Settling.{Settleable, chooseFrom, AllDescended, AllAscended};
+ghost use Rattle.subsumption.specs.Inner.Settling.{Settleable, choose_from, AllDescended, AllAscended};
 ghost use Rattle.subsumption.specs.Inner.Links.{Inner, Laid, AllLinked};
 ghost use Rattle.subsumption.specs.Inner.Closure.{Ready, LowPairs, SettlePass, IncludePass, RisePass, RoundPass, Closed};
-ghost use Rattle.subsumption.specs.Inner.Sizes.{columnsSize};
+ghost use Rattle.subsumption.specs.Inner.Sizes.{columns_size};
 
 use crate::closure::columns::flow;
 use crate::closure::links::{link_to, note_existentials, note_kinds};
@@ -28,8 +28,8 @@ const KIND_WORDS: usize = 300;
 // The inclusions: what is below a left side is below the right side.
 fn include_all(inclusions: &[u16], columns: &mut [u64]) -> bool
     requires low_pairs { LowPairs inclusions.now }
-    requires columns_len { length columns.old ≡ columnsSize }
-    ensures { IncludePass (before inclusions) (before columns) (after columns) result }
+    requires columns_len { length columns.old ≡ columns_size }
+    ensures { IncludePass inclusions.now columns.old columns.new result }
 {
     let count = inclusions.len() / 2;
     let mut changed = false;
@@ -47,8 +47,8 @@ fn include_all(inclusions: &[u16], columns: &mut [u64]) -> bool
 // The inclusions until they are quiet: a pass over them costs little beside one over the rows.
 fn include_until_quiet(inclusions: &[u16], columns: &mut [u64]) -> bool
     requires low_pairs { LowPairs inclusions.now }
-    requires columns_len { length columns.old ≡ columnsSize }
-    ensures { IncludePass (before inclusions) (before columns) (after columns) result }
+    requires columns_len { length columns.old ≡ columns_size }
+    ensures { IncludePass inclusions.now columns.old columns.new result }
 {
     let mut changed = false;
     let mut busy = true;
@@ -62,10 +62,10 @@ fn include_until_quiet(inclusions: &[u16], columns: &mut [u64]) -> bool
 // The steps that lead from a row to smaller ids, in falling order: what is below nested conjunctions comes to all members in one pass.
 fn fall(concepts: &[u16], atoms: &[u16], assignment: &[u64], columns: &mut [u64]) -> bool
     requires settleable { Settleable concepts.now atoms.now assignment.now }
-    requires columns_len { length columns.old ≡ columnsSize }
-    ensures { SettlePass (before concepts) (chooseFrom (before atoms) (before assignment))
-        (AllDescended (before concepts) (chooseFrom (before atoms) (before assignment)))
-        (before columns) (after columns) result }
+    requires columns_len { length columns.old ≡ columns_size }
+    ensures { SettlePass concepts.now (choose_from atoms.now assignment.now)
+        (AllDescended concepts.now (choose_from atoms.now assignment.now))
+        columns.old columns.new result }
 {
     let mut changed = false;
     let mut j = concepts.len() / 3;
@@ -93,12 +93,12 @@ fn rise(
     requires firsts { Firsts concepts.now firsts.now }
     requires inner { Inner concepts.now }
     requires laid { Laid outer.now inners.now kinds.now }
-    requires columns_len { length columns.old ≡ columnsSize }
-    ensures { RisePass (before concepts) (before outer) (before inners) (before kinds)
-        (chooseFrom (before atoms) (before assignment))
-        (λ wide l. AllAscended (before concepts) (before firsts) (chooseFrom (before atoms) (before assignment)) l
-        × AllLinked (before concepts) wide l)
-        (before columns) (after columns) result }
+    requires columns_len { length columns.old ≡ columns_size }
+    ensures { RisePass concepts.now outer.now inners.now kinds.now
+        (choose_from atoms.now assignment.now)
+        (λ wide l. AllAscended concepts.now firsts.now (choose_from atoms.now assignment.now) l
+        × AllLinked concepts.now wide l)
+        columns.old columns.new result }
 {
     let count = concepts.len() / 3;
     let mut changed = false;
@@ -127,9 +127,9 @@ fn round(
     requires ready { Ready concepts.now inclusions.now atoms.now assignment.now }
     requires firsts { Firsts concepts.now firsts.now }
     requires laid { Laid outer.now inners.now kinds.now }
-    requires columns_len { length columns.old ≡ columnsSize }
-    ensures { RoundPass (before concepts) (before inclusions) (before outer) (before inners) (before kinds)
-        (chooseFrom (before atoms) (before assignment)) (before firsts) (before columns) (after columns) result }
+    requires columns_len { length columns.old ≡ columns_size }
+    ensures { RoundPass concepts.now inclusions.now outer.now inners.now kinds.now
+        (choose_from atoms.now assignment.now) firsts.now columns.old columns.new result }
 {
     let a = fall(concepts, atoms, assignment, columns);
     let b = rise(
@@ -150,9 +150,9 @@ pub fn close(
 )
     requires ready { Ready concepts.now inclusions.now atoms.now assignment.now }
     requires low_roles { LowRoles roles.now }
-    requires columns_len { length columns.old ≡ columnsSize }
-    ensures { Closed (before concepts) (before inclusions) (wider (before roles))
-        (chooseFrom (before atoms) (before assignment)) (before columns) (after columns) }
+    requires columns_len { length columns.old ≡ columns_size }
+    ensures { Closed concepts.now inclusions.now (wider roles.now)
+        (choose_from atoms.now assignment.now) columns.old columns.new }
 {
     let mut firsts = [0u16; CONCEPTS];
     note_firsts(concepts, &mut firsts);

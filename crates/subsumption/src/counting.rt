@@ -1,10 +1,10 @@
 // How many pairs the columns hold: of each column the ones among the ids.
 ghost use Rattle.std.specs.Prelude.{◌≡◌, ◌-◌, ◌<◌, ◌≤◌, length};
-ghost use Rattle.subsumption.specs.Lent.{before};
+
 ghost use Rattle.subsumption.specs.Atoms.{bit};
 ghost use Rattle.subsumption.specs.Table.{counted, total};
 ghost use Rattle.subsumption.specs.Inner.Columns.{has};
-ghost use Rattle.subsumption.specs.Inner.Sizes.{columnsSize};
+ghost use Rattle.subsumption.specs.Inner.Sizes.{columns_size};
 
 // The ones among the lowest n bits of a word.
 fn ones_below(word: u64, n: usize) -> usize
@@ -28,10 +28,10 @@ fn past(n: usize, by: usize) -> usize
 
 // The ids below count that are in column j.
 fn ones_in(columns: &[u64], j: usize, count: usize) -> usize
-    requires columns_len { length columns.now ≡ columnsSize }
+    requires columns_len { length columns.now ≡ columns_size }
     requires j_bound { j < 192 }
     requires count_bound { count ≤ 192 }
-    ensures value { result ≡ counted (λ i. has (before columns) i j) count }
+    ensures value { result ≡ counted (λ i. has columns.now i j) count }
     ensures upper_bound { result ≤ 192 }
 {
     let first = ones_below(columns[j * 3], count);
@@ -41,9 +41,9 @@ fn ones_in(columns: &[u64], j: usize, count: usize) -> usize
 }
 
 pub fn count_pairs(columns: &[u64], count: usize) -> usize
-    requires columns_len { length columns.now ≡ columnsSize }
+    requires columns_len { length columns.now ≡ columns_size }
     requires count_bound { count ≤ 192 }
-    ensures { result ≡ total (λ j. counted (λ i. has (before columns) i j) count) count }
+    ensures { result ≡ total (λ j. counted (λ i. has columns.now i j) count) count }
 {
     let mut pairs: usize = 0;
     let mut j: usize = 0;

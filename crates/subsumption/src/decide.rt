@@ -1,9 +1,9 @@
 // Deciding one pair.
 ghost use Rattle.std.specs.Prelude.{◌<◌};
-ghost use Rattle.subsumption.specs.Lent.{lent, before};
+ghost use Rattle.subsumption.specs.Lent.{lent};
 ghost use Rattle.subsumption.specs.Tables.{count_of};
 ghost use Rattle.subsumption.specs.Inner.Listing.{ForAccepted, Prepared};
-ghost use Rattle.subsumption.specs.Decide.{decisionReply, Decides};
+ghost use Rattle.subsumption.specs.Decide.{decision_reply, Decides};
 
 use crate::check::check_assignment;
 use crate::closure::close;
@@ -32,8 +32,8 @@ pub fn decide_known(
 ) -> Decision
     requires prepared { Prepared concepts.now inclusions.now roles.now variables atoms.now }
     requires left_bound { (left < count_of concepts.now) × (right < count_of concepts.now) }
-    ensures { ForAccepted (before concepts) (before inclusions) (before roles) variables (before atoms)
-        (λ t. Decides t (before assignment) left right (decisionReply result)) }
+    ensures { ForAccepted concepts.now inclusions.now roles.now variables atoms.now
+        (λ t. Decides t assignment.now left right (decision_reply result)) }
 {
     let choices = check_assignment(assignment, variables, atoms.len());
     if let Outcome::Refused(r) = choices {
@@ -58,7 +58,7 @@ pub fn decide_pair(
     left: u16,
     right: u16,
 ) -> Decision
-    ensures { Decides (lent concepts inclusions questions roles variables) (before assignment) left right (decisionReply result) }
+    ensures { Decides (lent concepts inclusions questions roles variables) assignment.now left right (decision_reply result) }
 {
     let mut ids = [0u16; ATOMS];
     let listed = list_asked(

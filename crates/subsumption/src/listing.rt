@@ -1,11 +1,11 @@
 // Listing the atoms. The list is what every other operation starts from, so that atoms are marked once an operation.
 ghost use Rattle.std.specs.Prelude.{◌≡◌, length};
-ghost use Rattle.subsumption.specs.Lent.{lent, before, after};
+ghost use Rattle.subsumption.specs.Lent.{lent};
 ghost use Rattle.subsumption.specs.Inner.Lent.{given};
 ghost use Rattle.subsumption.specs.declared.refusal.Outcome.TheVariants.{Done};
-ghost use Rattle.subsumption.specs.Check.{conceptFault, idFault};
-ghost use Rattle.subsumption.specs.Listing.{listedReply, ListedBy, Lists};
-ghost use Rattle.subsumption.specs.Inner.Listing.{usedFault, askedFault};
+ghost use Rattle.subsumption.specs.Check.{concept_fault, id_fault};
+ghost use Rattle.subsumption.specs.Listing.{listed_reply, ListedBy, Lists};
+ghost use Rattle.subsumption.specs.Inner.Listing.{used_fault, asked_fault};
 
 use crate::atoms::list_marks;
 use crate::check::{check_alone, check_concepts, check_ids, check_use};
@@ -27,10 +27,10 @@ fn list_used(
     variables: u16,
     out: &mut [u16],
 ) -> Listed
-    requires variables_value { conceptFault (given concepts inclusions questions roles variables) ≡ Done }
-    requires variables_value_2 { idFault (given concepts inclusions questions roles variables) ≡ Done }
-    ensures { ListedBy (lent concepts inclusions questions roles variables) (before out) (after out)
-        (usedFault (lent concepts inclusions questions roles variables) (length (before out))) (listedReply result) }
+    requires variables_value { concept_fault (given concepts inclusions questions roles variables) ≡ Done }
+    requires variables_value_2 { id_fault (given concepts inclusions questions roles variables) ≡ Done }
+    ensures { ListedBy (lent concepts inclusions questions roles variables) out.old out.new
+        (used_fault (lent concepts inclusions questions roles variables) (length out.old)) (listed_reply result) }
 {
     let mut marks = [false; CONCEPTS];
     let used = check_use(
@@ -54,7 +54,7 @@ pub fn list_atoms(
     variables: u16,
     out: &mut [u16],
 ) -> Listed
-    ensures { Lists (lent concepts inclusions questions roles variables) (before out) (after out) (listedReply result) }
+    ensures { Lists (lent concepts inclusions questions roles variables) out.old out.new (listed_reply result) }
 {
     let rows = check_concepts(concepts, inclusions, questions, roles, variables);
     if let Outcome::Refused(r) = rows {
@@ -78,8 +78,8 @@ pub fn list_asked(
     right: u16,
     out: &mut [u16],
 ) -> Listed
-    ensures { ListedBy (lent concepts inclusions questions roles variables) (before out) (after out)
-        (askedFault (lent concepts inclusions questions roles variables) left right (length (before out))) (listedReply result) }
+    ensures { ListedBy (lent concepts inclusions questions roles variables) out.old out.new
+        (asked_fault (lent concepts inclusions questions roles variables) left right (length out.old)) (listed_reply result) }
 {
     let rows = check_concepts(concepts, inclusions, questions, roles, variables);
     if let Outcome::Refused(r) = rows {

@@ -1,24 +1,24 @@
 // Which roles count as which: for each role the set of those that do, two words a role. One pair is added at a time, as in
-// `widerTo`, so that chains and circles need no rounds.
+// `wider_to`, so that chains and circles need no rounds.
 ghost use Rattle.std.specs.Prelude.{◌≡◌, ℕ, ◌<◌, length, replicate};
-ghost use Rattle.subsumption.specs.Lent.{before, after};
-ghost use Rattle.subsumption.specs.Tables.{pairsOf};
+
+ghost use Rattle.subsumption.specs.Tables.{pairs_of};
 ghost use Rattle.subsumption.specs.Inner.Roles.{in_set, LowRoles, Started, Joined, Widened, RoleSets};
-ghost use Rattle.subsumption.specs.Inner.Sizes.{rolesSize};
+ghost use Rattle.subsumption.specs.Inner.Sizes.{roles_size};
 
 // The role r counts as the role s.
 pub fn counts(into: &[u64], r: usize, s: usize) -> bool
-    requires into_len { length into.now ≡ rolesSize }
+    requires into_len { length into.now ≡ roles_size }
     requires r_bound { (r < 100) × (s < 100) }
-    ensures { result ≡ in_set (before into) r s }
+    ensures { result ≡ in_set into.now r s }
 {
     (into[s * 2 + r / 64] >> (r % 64)) % 2 == 1
 }
 
 // Each role counts as itself.
 fn start(into: &mut [u64])
-    requires { into.old ≡ replicate rolesSize 0 }
-    ensures { Started (after into) }
+    requires { into.old ≡ replicate roles_size 0 }
+    ensures { Started into.new }
 {
     let mut s: usize = 0;
     while s < 100 {
@@ -29,9 +29,9 @@ fn start(into: &mut [u64])
 
 // What counts as one role counts as the other.
 fn join(into: &mut [u64], from: usize, to: usize)
-    requires into_len { length into.old ≡ rolesSize }
+    requires into_len { length into.old ≡ roles_size }
     requires from_bound { (from < 100) × (to < 100) }
-    ensures { Joined (before into) (after into) from to }
+    ensures { Joined into.old into.new from to }
 {
     let low = into[from * 2];
     let high = into[from * 2 + 1];
@@ -41,9 +41,9 @@ fn join(into: &mut [u64], from: usize, to: usize)
 
 // One pair more: what counts as the narrow role counts as all that the wide one does. The narrow role's own set stays in its turn.
 fn widen(into: &mut [u64], narrow: usize, wide: usize)
-    requires into_len { length into.old ≡ rolesSize }
+    requires into_len { length into.old ≡ roles_size }
     requires narrow_bound { (narrow < 100) × (wide < 100) }
-    ensures { Widened (before into) (after into) narrow wide }
+    ensures { Widened into.old into.new narrow wide }
 {
     let mut s: usize = 0;
     while s < 100 {
@@ -57,8 +57,8 @@ fn widen(into: &mut [u64], narrow: usize, wide: usize)
 
 pub fn note_roles(roles: &[u16], into: &mut [u64])
     requires low_roles { LowRoles roles.now }
-    requires into_value { into.old ≡ replicate rolesSize 0 }
-    ensures { RoleSets (before roles) (after into) }
+    requires into_value { into.old ≡ replicate roles_size 0 }
+    ensures { RoleSets roles.now into.new }
 {
     start(into);
     let rows = roles.len() / 2;

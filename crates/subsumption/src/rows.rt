@@ -1,15 +1,15 @@
 // Writing the rows of the subsumption table out of the columns. Private to the crate.
 ghost use Rattle.std.specs.Prelude.{◌≡◌, ◌+◌, ◌*◌, ◌/◌, ◌<◌, ◌≤◌, length};
-ghost use Rattle.subsumption.specs.Lent.{before, after};
-ghost use Rattle.subsumption.specs.Table.{rowStart};
+
+ghost use Rattle.subsumption.specs.Table.{row_start};
 ghost use Rattle.subsumption.specs.Inner.Rows.{exchanged, Transposed, BlockOf, BandOf, Banded, RowWritten, Written};
-ghost use Rattle.subsumption.specs.Inner.Sizes.{columnsSize};
+ghost use Rattle.subsumption.specs.Inner.Sizes.{columns_size};
 
 use crate::limits::ROW_BYTES;
 
 fn row_start(i: usize) -> usize
     requires { i < 192 }
-    ensures { result ≡ rowStart i }
+    ensures { result ≡ row_start i }
 {
     i * ROW_BYTES
 }
@@ -50,9 +50,9 @@ fn transpose(x: u64) -> u64
 
 // Of the columns 8 a to 8 a + 7, the byte m of each.
 fn block(columns: &[u64], count: usize, m: usize, a: usize) -> u64
-    requires columns_len { length columns.now ≡ columnsSize }
+    requires columns_len { length columns.now ≡ columns_size }
     requires m_bound { (m < 24) × (a < 24) }
-    ensures { BlockOf (before columns) count m a result }
+    ensures { BlockOf columns.now count m a result }
 {
     let mut word: u64 = 0;
     let mut b = 0;
@@ -70,10 +70,10 @@ fn block(columns: &[u64], count: usize, m: usize, a: usize) -> u64
 }
 
 fn fill_band(columns: &[u64], count: usize, m: usize, band: &mut [u64])
-    requires columns_len { length columns.now ≡ columnsSize }
+    requires columns_len { length columns.now ≡ columns_size }
     requires m_bound { m < 24 }
     requires band_len { length band.old ≡ 24 }
-    ensures { BandOf (before columns) count m (after band) }
+    ensures { BandOf columns.now count m band.new }
 {
     let mut a = 0;
     while a < ROW_BYTES {
@@ -86,10 +86,10 @@ fn fill_band(columns: &[u64], count: usize, m: usize, band: &mut [u64])
 
 // The band of row i: every eighth row starts a new one.
 fn renew_band(columns: &[u64], count: usize, i: usize, band: &mut [u64])
-    requires columns_len { length columns.now ≡ columnsSize }
+    requires columns_len { length columns.now ≡ columns_size }
     requires i_bound { i < 192 }
     requires banded { Banded columns.now count i band.old }
-    ensures { BandOf (before columns) count (i / 8) (after band) }
+    ensures { BandOf columns.now count (i / 8) band.new }
 {
     if i % 8 != 0 {
         return;
@@ -100,7 +100,7 @@ fn renew_band(columns: &[u64], count: usize, i: usize, band: &mut [u64])
 fn write_row(band: &[u64], i: usize, out: &mut [u8])
     requires band_len { length band.now ≡ 24 }
     requires i_bound { (i < 192) × (i * 24 + 24 ≤ length out.old) }
-    ensures { RowWritten (before band) i (before out) (after out) }
+    ensures { RowWritten band.now i out.old out.new }
 {
     let start = row_start(i);
     let place = i % 8 * 8;
@@ -113,9 +113,9 @@ fn write_row(band: &[u64], i: usize, out: &mut [u8])
 }
 
 pub fn write_rows(columns: &[u64], count: usize, out: &mut [u8])
-    requires columns_len { length columns.now ≡ columnsSize }
+    requires columns_len { length columns.now ≡ columns_size }
     requires count_bound { (count ≤ 192) × (count * 24 ≤ length out.old) }
-    ensures { Written (before columns) count (before out) (after out) }
+    ensures { Written columns.now count out.old out.new }
 {
     let mut band = [0u64; ROW_BYTES];
     let mut i = 0;

@@ -1,7 +1,7 @@
 // Writing the subsumption table, and counting its marks.
-ghost use Rattle.subsumption.specs.Lent.{lent, before, after};
+ghost use Rattle.subsumption.specs.Lent.{lent};
 ghost use Rattle.subsumption.specs.Inner.Listing.{ForAccepted, Prepared};
-ghost use Rattle.subsumption.specs.Table.{tabledReply, Wrote};
+ghost use Rattle.subsumption.specs.Table.{tabled_reply, Wrote};
 
 use crate::check::{check_assignment, check_buffer};
 use crate::closure::close;
@@ -28,8 +28,8 @@ fn put_table(
     out: &mut [u8],
 ) -> Tabled
     requires { Prepared concepts.now inclusions.now roles.now variables atoms.now }
-    ensures { ForAccepted (before concepts) (before inclusions) (before roles) variables (before atoms)
-        (λ t. Wrote t (before assignment) (before out) (after out) (tabledReply result)) }
+    ensures { ForAccepted concepts.now inclusions.now roles.now variables atoms.now
+        (λ t. Wrote t assignment.now out.old out.new (tabled_reply result)) }
 {
     let choices = check_assignment(assignment, variables, atoms.len());
     if let Outcome::Refused(r) = choices {
@@ -56,8 +56,8 @@ pub fn write_table(
     assignment: &[u64],
     out: &mut [u8],
 ) -> Tabled
-    ensures { Wrote (lent concepts inclusions questions roles variables) (before assignment) (before out) (after out)
-        (tabledReply result) }
+    ensures { Wrote (lent concepts inclusions questions roles variables) assignment.now out.old out.new
+        (tabled_reply result) }
 {
     let mut ids = [0u16; ATOMS];
     let listed = list_atoms(concepts, inclusions, questions, roles, variables, &mut ids);

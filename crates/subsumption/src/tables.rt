@@ -1,7 +1,7 @@
 // Rows of the tables, read by place.
 ghost use Rattle.std.specs.Prelude.{◌≡◌, ◌<◌};
-ghost use Rattle.subsumption.specs.Lent.{before};
-ghost use Rattle.subsumption.specs.Tables.{count_of, pairsOf};
+
+ghost use Rattle.subsumption.specs.Tables.{count_of, pairs_of};
 ghost use Rattle.subsumption.specs.Inner.Tables.{row_of, pair_of};
 
 #[derive(Drop)]
@@ -19,7 +19,7 @@ pub struct Pair {
 
 pub fn row_at(concepts: &[u16], i: usize) -> Row
     requires { i < count_of concepts.now }
-    ensures { result ≡ row_of (before concepts) i }
+    ensures { result ≡ row_of concepts.now i }
 {
     let at = i * 3;
     let kind = concepts[at];
@@ -29,8 +29,8 @@ pub fn row_at(concepts: &[u16], i: usize) -> Row
 }
 
 pub fn pair_at(pairs: &[u16], m: usize) -> Pair
-    requires { m < pairsOf pairs.now }
-    ensures { result ≡ pair_of (before pairs) m }
+    requires { m < pairs_of pairs.now }
+    ensures { result ≡ pair_of pairs.now m }
 {
     let at = m * 2;
     let left = pairs[at];

@@ -1,8 +1,8 @@
 // Which ids are twins: of each id the lowest one of its concept. A row has a key, made of its kind, its number and the lowest
 // twins of its inner ids, so that equal keys are equal concepts. Slots by a key's remainder tell where its first row can be.
 ghost use Rattle.std.specs.Prelude.{◌≡◌, ℕ, ◌+◌, ◌*◌, ◌<◌, ◌≤◌, length, get_or};
-ghost use Rattle.subsumption.specs.Lent.{before, after};
-ghost use Rattle.subsumption.specs.Tables.{decode, node, existsAt, count_of};
+
+ghost use Rattle.subsumption.specs.Tables.{decode, node, exists_at, count_of};
 ghost use Rattle.subsumption.specs.Inner.Tables.{Rising};
 ghost use Rattle.subsumption.specs.Inner.Atoms.{Layered};
 ghost use Rattle.subsumption.specs.Inner.Twins.{key_of, FirstSame, Slots, LowestTwins, Lowered};
@@ -23,7 +23,7 @@ fn packed(kind: u16, x: u16, y: u16) -> u64
 
 fn key_of(firsts: &[u16], kind: u16, a: u16, b: u16) -> u64
     requires { Rising (length firsts.now) (decode kind a b) }
-    ensures { result ≡ key_of (λ j. get_or (before firsts) j 0) (decode kind a b) }
+    ensures { result ≡ key_of (λ j. get_or firsts.now j 0) (decode kind a b) }
 {
     if kind == 1 {
         return packed(1, a, 0);
@@ -47,7 +47,7 @@ fn first_same(keys: &[u64], from: usize, i: usize) -> usize
     requires from_le_i { from ≤ i }
     requires i_in_bounds { i < length keys.now }
     requires by_index { (q : ℕ) → q < from → get_or keys.now q 0 ≡ get_or keys.now i 0 → ⊥ }
-    ensures { FirstSame (before keys) i result }
+    ensures { FirstSame keys.now i result }
 {
     let key = keys[i];
     let mut q = from;
@@ -65,8 +65,8 @@ fn first_place(keys: &[u64], slots: &mut [u16], i: usize) -> usize
     requires i_in_bounds { i < length keys.now }
     requires i_bound { i < 192 }
     requires slots { Slots keys.now i slots.old }
-    ensures first_same { FirstSame (before keys) i result }
-    ensures slots_2 { Slots (before keys) (i + 1) (after slots) }
+    ensures first_same { FirstSame keys.now i result }
+    ensures slots_2 { Slots keys.now (i + 1) slots.new }
 {
     let slot = (keys[i] % 1021) as usize;
     let from = slots[slot] as usize;
@@ -80,9 +80,9 @@ fn first_place(keys: &[u64], slots: &mut [u16], i: usize) -> usize
 // Inner ids are smaller, so one walk up finds the lowest twin of every id.
 pub fn note_twins(concepts: &[u16], firsts: &mut [u16])
     requires layered { Layered concepts.now }
-    requires by_index { (i r j : ℕ) → node concepts.now i ≡ existsAt r j → r < 100 }
+    requires by_index { (i r j : ℕ) → node concepts.now i ≡ exists_at r j → r < 100 }
     requires firsts_len { length firsts.old ≡ 192 }
-    ensures { LowestTwins (before concepts) (after firsts) }
+    ensures { LowestTwins concepts.now firsts.new }
 {
     let count = concepts.len() / 3;
     let mut keys = [0u64; CONCEPTS];
@@ -104,7 +104,7 @@ pub fn keep_lowest(firsts: &[u16], count: usize, marks: &mut [bool])
     requires firsts_len { length firsts.now ≡ 192 }
     requires by_index { (i : ℕ) → i < count → get_or firsts.now i 0 ≤ i }
     requires marks_len { length marks.old ≡ 192 }
-    ensures { Lowered (before firsts) count (before marks) (after marks) }
+    ensures { Lowered firsts.now count marks.old marks.new }
 {
     let mut p: usize = 0;
     while p < count {

@@ -1,12 +1,12 @@
 // Which variables a concept holds: sets as 8-bit numbers with bit k for variable k, those of all concepts in one walk.
 ghost use Rattle.std.specs.Prelude.{◌≡◌, ℕ, ◌<◌, length, get_or};
-ghost use Rattle.subsumption.specs.Lent.{lent, before, after};
-ghost use Rattle.subsumption.specs.Tables.{decode, node, varAt, count_of, tree, variablesOf};
-ghost use Rattle.subsumption.specs.Refusal.{replyWith};
-ghost use Rattle.subsumption.specs.Check.{pairFault};
-ghost use Rattle.subsumption.specs.Variables.{variablesReply};
+ghost use Rattle.subsumption.specs.Lent.{lent};
+ghost use Rattle.subsumption.specs.Tables.{decode, node, var_at, count_of, tree, variables_of};
+ghost use Rattle.subsumption.specs.Refusal.{reply_with};
+ghost use Rattle.subsumption.specs.Check.{pair_fault};
+ghost use Rattle.subsumption.specs.Variables.{variables_reply};
 ghost use Rattle.subsumption.specs.Inner.Tables.{Rising};
-ghost use Rattle.subsumption.specs.Inner.Atoms.{Layered, setBy, Narrow, VariableSets};
+ghost use Rattle.subsumption.specs.Inner.Atoms.{Layered, set_by, Narrow, VariableSets};
 ghost use Rattle.subsumption.specs.Inner.Listing.{Prepared};
 
 use crate::limits::{ATOMS, CONCEPTS};
@@ -24,7 +24,7 @@ pub enum VariableSet {
 fn set_of(sets: &[u8], kind: u16, a: u16, b: u16) -> u8
     requires rising { Rising (length sets.now) (decode kind a b) }
     requires narrow { Narrow (decode kind a b) }
-    ensures { result ≡ setBy (λ j. get_or (before sets) j 0) (decode kind a b) }
+    ensures { result ≡ set_by (λ j. get_or sets.now j 0) (decode kind a b) }
 {
     if kind == 2 {
         return sets[b as usize];
@@ -42,9 +42,9 @@ fn set_of(sets: &[u8], kind: u16, a: u16, b: u16) -> u8
 // Inner ids are smaller, so one walk up writes the sets of all concepts.
 pub fn write_sets(concepts: &[u16], sets: &mut [u8])
     requires layered { Layered concepts.now }
-    requires by_index { (j k : ℕ) → node concepts.now j ≡ varAt k → k < 8 }
+    requires by_index { (j k : ℕ) → node concepts.now j ≡ var_at k → k < 8 }
     requires sets_len { length sets.old ≡ 192 }
-    ensures { VariableSets (before concepts) (after sets) }
+    ensures { VariableSets concepts.now sets.new }
 {
     let count = concepts.len() / 3;
     let mut i: usize = 0;
@@ -67,7 +67,7 @@ fn set_at(
 ) -> u8
     requires prepared { Prepared concepts.now inclusions.now roles.now variables atoms.now }
     requires id_bound { id < count_of concepts.now }
-    ensures { result ≡ variablesOf (tree (before concepts) id) }
+    ensures { result ≡ variables_of (tree concepts.now id) }
 {
     let mut sets = [0u8; CONCEPTS];
     write_sets(concepts, &mut sets);
@@ -83,8 +83,8 @@ pub fn variables_in(
     variables: u16,
     id: u16,
 ) -> VariableSet
-    ensures { variablesReply result ≡ replyWith (pairFault (lent concepts inclusions questions roles variables) id id)
-        (variablesOf (tree (before concepts) id)) }
+    ensures { variables_reply result ≡ reply_with (pair_fault (lent concepts inclusions questions roles variables) id id)
+        (variables_of (tree concepts.now id)) }
 {
     let mut ids = [0u16; ATOMS];
     let listed = list_asked(

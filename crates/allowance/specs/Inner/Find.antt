@@ -2,7 +2,7 @@
 use Rattle.std.specs.Prelude.{ℕ, suc, ◌≤◌, ◌≡◌, List, Bool, true, false, length, take}
 use Rattle.subsumption.specs.declared.refusal.Outcome.TheVariants.{Done}
 use Rattle.subsumption.specs.Tables.{Tables}
-use Rattle.subsumption.specs.Check.{assignmentFault}
+use Rattle.subsumption.specs.Check.{assignment_fault}
 use Rattle.settings.specs.Settings.{Settings, Heeds}
 use Rattle.matching.specs.Solving.{Solves}
 use Rattle.matching.specs.Within.{FirstWithin}
@@ -16,7 +16,7 @@ pub record FirstCounted (t : Tables) (settings : Settings) (allowance : ℕ) (ch
   pub enough : met ≤ allowance
 
 pub record NoneCounted (t : Tables) (settings : Settings) (allowance met : ℕ) : Type 0 where
-  pub none : (other : List ℕ) → assignmentFault t other ≡ Done → Heeds settings other → Solves t other → ⊥
+  pub none : (other : List ℕ) → assignment_fault t other ≡ Done → Heeds settings other → Solves t other → ⊥
   pub counted : CountOf t settings met
   pub enough : met ≤ allowance
 

@@ -26,10 +26,10 @@ pub record At (variables count : ℕ) (permitted low high : List ℕ) (s : List 
   pub high-known : (k q : ℕ) → takes high k q ≡ true → (k < variables) × (q < count)
 
 -- the last pair that is left out, if there is one, taken in its place
-unfoldable pub hasNext : List Bool → Bool
-hasNext [] = false
-hasNext (false ∷ s) = true
-hasNext (true ∷ s) = hasNext s
+unfoldable pub has_next : List Bool → Bool
+has_next [] = false
+has_next (false ∷ s) = true
+has_next (true ∷ s) = has_next s
 
 unfoldable pub next_of : List Bool → List Bool
 next_of [] = []
@@ -43,5 +43,5 @@ pub record NextAt (count : ℕ) (permitted low high : List ℕ) (settled₁ : �
 -- of whatever partial choice the words are
 abbrev pub NextFrom : ℕ → List ℕ → List ℕ → List ℕ → ℕ → Bool → List ℕ → List ℕ → ℕ → Type 0
 NextFrom count permitted low high many found low₁ high₁ many₁ =
-    (s : List Bool) → Words count permitted low high s → length s ≡ many → (found ≡ hasNext s)
+    (s : List Bool) → Words count permitted low high s → length s ≡ many → (found ≡ has_next s)
     × (found ≡ true → NextAt count permitted low₁ high₁ many₁ s)

@@ -3,11 +3,11 @@ use Rattle.std.specs.Prelude.{ℕ, suc, ◌*◌, ◌<◌, ◌≤◌, ◌≡◌, 
 use Rattle.subsumption.specs.declared.refusal.Outcome.TheVariants.{Done}
 use Rattle.subsumption.specs.Tables.{Tables}
 use Rattle.subsumption.specs.Atoms.{atoms}
-use Rattle.settings.specs.Settings.{Settings, settingsFault}
+use Rattle.settings.specs.Settings.{Settings, settings_fault}
 use Rattle.settings.specs.Inner.Check.{Loaded}
 use Rattle.matching.specs.Inner.Search.{Decided}
-use Rattle.matching.specs.Inner.Search.Problem.{Problem, mostAt}
-use Rattle.allowance.specs.Partial.{Open, allPartials}
+use Rattle.matching.specs.Inner.Search.Problem.{Problem, most_at}
+use Rattle.allowance.specs.Partial.{Open, all_partials}
 use Rattle.allowance.specs.Count.{Stretch, Answered, Exceeds}
 use Rattle.allowance.specs.Inner.Place.{At}
 use Rattle.allowance.specs.Inner.Kept.{Kept, AllAsked}
@@ -16,9 +16,9 @@ use Rattle.allowance.specs.Inner.Kept.{Kept, AllAsked}
 pub record Lent (t : Tables) (settings : Settings) (sets problem permitted : List ℕ) (count : ℕ) : Type 0 where
   pub problem-of : Problem t sets problem
   pub all_asked : AllAsked t problem
-  pub set : settingsFault t settings ≡ Done
+  pub set : settings_fault t settings ≡ Done
   pub loaded : Loaded settings.permitted permitted
-  pub counts : (k : ℕ) → k < t.variables → mostAt problem k ≡ get_or settings.largest k 0
+  pub counts : (k : ℕ) → k < t.variables → most_at problem k ≡ get_or settings.largest k 0
   pub many : length (atoms t) ≡ count
 
 -- Whether a partial choice is open, whatever it and the tables are.
@@ -41,7 +41,7 @@ pub record FoundAt (t : Tables) (settings : Settings) (permitted choice : List �
 abbrev pub WalkedTo : Tables → Settings → List ℕ → ℕ → ℕ → Bool → Bool → List ℕ → ℕ → Type 0
 WalkedTo t settings permitted count allowance true spent choice met = FoundAt t settings permitted choice count met × (met ≤ allowance)
 WalkedTo t settings permitted count allowance false true choice met = Exceeds t settings allowance × (met ≡ allowance)
-WalkedTo t settings permitted count allowance false false choice met = Stretch t settings (allPartials t) met × (met ≤ allowance)
+WalkedTo t settings permitted count allowance false false choice met = Stretch t settings (all_partials t) met × (met ≤ allowance)
 
 abbrev pub Walked : List ℕ → List ℕ → List ℕ → ℕ → ℕ → ℕ → Bool → Bool → List ℕ → ℕ → Type 0
 Walked sets problem permitted count pairs allowance found spent choice met =

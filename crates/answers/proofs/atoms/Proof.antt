@@ -1,5 +1,5 @@
 use native.Mathlib.Omega.{arith}
-use Rattle.subsumption.specs.Listing.{listedReply}
+use Rattle.subsumption.specs.Listing.{listed_reply}
 use Rattle.answers.proofs.AnswerLaws.{same_answer}
 use Rattle.answers.proofs.atoms.Statement.{statement}
 use Rattle.answers.proofs.atoms.Tie as tie
@@ -23,13 +23,13 @@ same_length : tie.Need-same-length
 same_length c = omega arith
 
 returns : tie.Need-returns
-returns c = record { replied = same_answer listedReply _ c.before.before.before.before.before.before.list-atoms.result _ c.answer-of.result c.before.before.before.before.before.before.list-atoms.ensures.replied c.before.before.answer.given.1 c.answer-of.ensures; written = c.before.before.before.before.before.before.list-atoms.ensures.written }
+returns c = record { replied = same_answer listed_reply _ c.before.before.before.before.before.before.list-atoms.result _ c.answer-of.result c.before.before.before.before.before.before.list-atoms.ensures.replied c.before.before.answer.given.1 c.answer-of.ensures; written = c.before.before.before.before.before.before.list-atoms.ensures.written }
 
 same-length-2 : tie.Need-same-length-2
 same-length-2 c = omega arith
 
 returns-2 : tie.Need-returns-2
-returns-2 c = record { replied = same_answer listedReply _ c.before.before.before.before.before.before.list-atoms.result _ c.answer-of2.result c.before.before.before.before.before.before.list-atoms.ensures.replied c.before.before.answer2.given.1 c.answer-of2.ensures; written = c.before.before.before.before.before.before.list-atoms.ensures.written }
+returns-2 c = record { replied = same_answer listed_reply _ c.before.before.before.before.before.before.list-atoms.result _ c.answer-of2.result c.before.before.before.before.before.before.list-atoms.ensures.replied c.before.before.answer2.given.1 c.answer-of2.ensures; written = c.before.before.before.before.before.before.list-atoms.ensures.written }
 
 pub atoms-spec : {M : Type 1} → statement M
 atoms-spec =

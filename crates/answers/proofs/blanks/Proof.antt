@@ -1,5 +1,5 @@
 use native.Mathlib.Omega.{arith}
-use Rattle.subsumption.specs.Variables.{variablesReply}
+use Rattle.subsumption.specs.Variables.{variables_reply}
 use Rattle.answers.proofs.AnswerLaws.{same_answer}
 use Rattle.answers.proofs.blanks.Statement.{statement}
 use Rattle.answers.proofs.blanks.Tie as tie
@@ -23,10 +23,10 @@ answer-of-requires-2 : tie.Need-answer-of-requires-2
 answer-of-requires-2 c κs = omega arith
 
 returns : tie.Need-returns
-returns c = same_answer variablesReply _ c.before.before.before.before.variables-in.result _ c.answer-of.result c.before.before.before.before.variables-in.ensures c.before.before.answer.given.1 c.answer-of.ensures
+returns c = same_answer variables_reply _ c.before.before.before.before.variables-in.result _ c.answer-of.result c.before.before.before.before.variables-in.ensures c.before.before.answer.given.1 c.answer-of.ensures
 
 returns-2 : tie.Need-returns-2
-returns-2 c = same_answer variablesReply _ c.before.before.before.before.variables-in.result _ c.answer-of2.result c.before.before.before.before.variables-in.ensures c.before.before.answer2.given.1 c.answer-of2.ensures
+returns-2 c = same_answer variables_reply _ c.before.before.before.before.variables-in.result _ c.answer-of2.result c.before.before.before.before.variables-in.ensures c.before.before.answer2.given.1 c.answer-of2.ensures
 
 pub blanks-spec : {M : Type 1} → statement M
 blanks-spec =

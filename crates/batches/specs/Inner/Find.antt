@@ -4,7 +4,7 @@ use Rattle.subsumption.specs.declared.refusal.Code.{Code}
 use Rattle.subsumption.specs.Tables.{Tables}
 use Rattle.subsumption.specs.Refusal.{Reply}
 use Rattle.matching.specs.declared.find.Match.{Match}
-use Rattle.allowance.specs.Find.{replyBy, FindsCounted}
+use Rattle.allowance.specs.Find.{reply_by, FindsCounted}
 use Rattle.batches.specs.Batch.{unrestricted, stretch}
 
 -- Nothing is written outside the stretch of table k.
@@ -19,4 +19,4 @@ pub record FindsAt (t : Tables) (allowance k : ℕ) (before after : List ℕ) (r
 
 -- The number and the place of an answer, whatever its count.
 abbrev pub Coded : Match → Code → Type 0
-Coded answer code = (count : ℕ) → replyBy answer count ≡ record { number = code.number; place = code.place; value = count }
+Coded answer code = (count : ℕ) → reply_by answer count ≡ record { number = code.number; place = code.place; value = count }

@@ -8,7 +8,7 @@ use native.Mathlib.Omega.{arith}
 use lib.ListN.{get_or}
 use Rattle.subsumption.proofs.Bools.{last-cases}
 use Rattle.countermodel.specs.Rows.{rows_of}
-use Rattle.countermodel.specs.Inner.Membership.{Right, stretchOf, Stretches, Bears}
+use Rattle.countermodel.specs.Inner.Membership.{Right, stretch_of, Stretches, Bears}
 use Rattle.countermodel.proofs.RowMembers.{NamedAt, LinkedAt, name_in, name_out}
 
 pub right-yes : {P : Type 0} → P → Right true P
@@ -36,13 +36,13 @@ module _ (P : ℕ → Type 0) (from past count : ℕ) where
 module _ (rows ends : List ℕ) (S : Stretches rows ends) where
   pub name-stretch : (x n p : ℕ) → NamedAt rows x n p → (get_or ends (x * 4) 0 ≤ p) × (p < get_or ends (x * 4 + 1) 0)
   name-stretch x n p w =
-      let e : stretchOf rows p ≡ x * 4 = omega (arith, w.kind, w.element) in
+      let e : stretch_of rows p ≡ x * 4 = omega (arith, w.kind, w.element) in
       (omega (arith, S.from p w.known, ap (λ (z : ℕ). get_or ends z 0) e), omega (arith, S.past p w.known, ap (λ (z : ℕ). get_or ends (z + 1) 0) e))
 
   pub link-stretch : (x r y p : ℕ) → LinkedAt rows x r y p → (get_or ends (x * 4 + 2) 0 ≤ p) × (p < get_or ends (x * 4 + 3) 0)
   link-stretch x r y p w =
-      let e : stretchOf rows p ≡ x * 4 + 2 = omega (arith, w.kind, w.from) in
-      let f : stretchOf rows p + 1 ≡ x * 4 + 3 = omega arith in
+      let e : stretch_of rows p ≡ x * 4 + 2 = omega (arith, w.kind, w.from) in
+      let f : stretch_of rows p + 1 ≡ x * 4 + 3 = omega arith in
       (omega (arith, S.from p w.known, ap (λ (z : ℕ). get_or ends z 0) e), omega (arith, S.past p w.known, ap (λ (z : ℕ). get_or ends z 0) f))
 
 -- ---- the names of an element

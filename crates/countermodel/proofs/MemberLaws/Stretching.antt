@@ -8,15 +8,15 @@ use lib.ListN.{length, get_or, set, replicate, length-set, length-replicate, get
 use lib.Seq.{get_or-set_same, get_or-set_other}
 use Rattle.subsumption.proofs.Bools.{last-cases, eq-or-ne, le-or-lt}
 use Rattle.countermodel.specs.Rows.{rows_of, at}
-use Rattle.countermodel.specs.Inner.Membership.{LowRows, stretchOf, Stretches}
+use Rattle.countermodel.specs.Inner.Membership.{LowRows, stretch_of, Stretches}
 
 -- the rows below p are in their ends
 pub record Stretching (rows ends : List ℕ) (p : ℕ) : Type 0 where
   pub within : p ≤ rows_of rows
   pub long : length ends ≡ 768
   pub low : (k : ℕ) → get_or ends k 0 ≤ p
-  pub from : (q : ℕ) → q < p → get_or ends (stretchOf rows q) 0 ≤ q
-  pub past : (q : ℕ) → q < p → q < get_or ends (stretchOf rows q + 1) 0
+  pub from : (q : ℕ) → q < p → get_or ends (stretch_of rows q) 0 ≤ q
+  pub past : (q : ℕ) → q < p → q < get_or ends (stretch_of rows q + 1) 0
 
 -- what a fresh array holds
 pub all-zeros : (n k : ℕ) → get_or {A = ℕ} (replicate n 0) k 0 ≡ 0
@@ -34,26 +34,26 @@ stretching-none rows ends e =
       past = λ q l. absurd (omega arith);
     }
 
-pub place-known : (rows : List ℕ) (p : ℕ) → LowRows rows → p < rows_of rows → stretchOf rows p + 1 < 768
+pub place-known : (rows : List ℕ) (p : ℕ) → LowRows rows → p < rows_of rows → stretch_of rows p + 1 < 768
 place-known rows p L l = omega (arith, L.left p l, L.kinds p l)
 
 -- the stretch reaches to the row p, or begins there
 abbrev pub widened : List ℕ → List ℕ → ℕ → List ℕ
-widened rows ends p = set ends (stretchOf rows p + 1) (p + 1)
+widened rows ends p = set ends (stretch_of rows p + 1) (p + 1)
 
 abbrev pub begun : List ℕ → List ℕ → ℕ → List ℕ
-begun rows ends p = set (widened rows ends p) (stretchOf rows p) (p + 1 - 1)
+begun rows ends p = set (widened rows ends p) (stretch_of rows p) (p + 1 - 1)
 
 module _ (rows ends : List ℕ) (p : ℕ) (L : LowRows rows) (S : Stretching rows ends p) (l : p < rows_of rows) where
-  set_there : get_or (widened rows ends p) (stretchOf rows p + 1) 0 ≡ p + 1
+  set_there : get_or (widened rows ends p) (stretch_of rows p + 1) 0 ≡ p + 1
   set_there = get_or-set_same ends _ _ 0 (omega (arith, place-known rows p L l, S.long))
 
-  kept : (k : ℕ) → (k ≡ stretchOf rows p + 1 → ⊥) → get_or (widened rows ends p) k 0 ≡ get_or ends k 0
+  kept : (k : ℕ) → (k ≡ stretch_of rows p + 1 → ⊥) → get_or (widened rows ends p) k 0 ≡ get_or ends k 0
   kept k n = get_or-set_other ends _ k (p + 1) 0 n
 
   -- firsts stand at even places
-  firsts-kept : (q : ℕ) → get_or (widened rows ends p) (stretchOf rows q) 0 ≡ get_or ends (stretchOf rows q) 0
-  firsts-kept q = kept (stretchOf rows q) (λ e. omega (arith, e))
+  firsts-kept : (q : ℕ) → get_or (widened rows ends p) (stretch_of rows q) 0 ≡ get_or ends (stretch_of rows q) 0
+  firsts-kept q = kept (stretch_of rows q) (λ e. omega (arith, e))
 
   pub stretching-more : Stretching rows (widened rows ends p) (p + 1)
   stretching-more =
@@ -62,32 +62,32 @@ module _ (rows ends : List ℕ) (p : ℕ) (L : LowRows rows) (S : Stretching row
         long = length-set ends _ _ ∙ S.long;
         low =
             λ k.
-            ⊎_elim (λ (e : k ≡ stretchOf rows p + 1). omega (arith, ap (λ (z : ℕ). get_or (widened rows ends p) z 0) e, set_there))
-            (λ n. omega (arith, kept k n, S.low k)) (eq-or-ne k (stretchOf rows p + 1));
+            ⊎_elim (λ (e : k ≡ stretch_of rows p + 1). omega (arith, ap (λ (z : ℕ). get_or (widened rows ends p) z 0) e, set_there))
+            (λ n. omega (arith, kept k n, S.low k)) (eq-or-ne k (stretch_of rows p + 1));
         from =
             λ q h.
-            ⊎_elim (λ (e : q ≡ p). omega (arith, firsts-kept q, S.low (stretchOf rows q)))
+            ⊎_elim (λ (e : q ≡ p). omega (arith, firsts-kept q, S.low (stretch_of rows q)))
             (λ b. omega (arith, firsts-kept q, S.from q b)) (last-cases q p (omega arith));
         past =
             λ q h.
             ⊎_elim
-            (λ (e : stretchOf rows q ≡ stretchOf rows p). omega (arith, ap (λ (z : ℕ). get_or (widened rows ends p) (z + 1) 0) e, set_there))
+            (λ (e : stretch_of rows q ≡ stretch_of rows p). omega (arith, ap (λ (z : ℕ). get_or (widened rows ends p) (z + 1) 0) e, set_there))
             (λ n.
-            ⊎_elim (λ (e : q ≡ p). absurd (n (ap (stretchOf rows) e)))
-            (λ b. omega (arith, kept (stretchOf rows q + 1) (λ e. n (omega (arith, e))), S.past q b)) (last-cases q p (omega arith)))
-            (eq-or-ne (stretchOf rows q) (stretchOf rows p));
+            ⊎_elim (λ (e : q ≡ p). absurd (n (ap (stretch_of rows) e)))
+            (λ b. omega (arith, kept (stretch_of rows q + 1) (λ e. n (omega (arith, e))), S.past q b)) (last-cases q p (omega arith)))
+            (eq-or-ne (stretch_of rows q) (stretch_of rows p));
       }
 
   -- it was empty
-  module _ (empty : get_or ends (stretchOf rows p + 1) 0 ≡ 0) where
-    set_first : get_or (begun rows ends p) (stretchOf rows p) 0 ≡ p
+  module _ (empty : get_or ends (stretch_of rows p + 1) 0 ≡ 0) where
+    set_first : get_or (begun rows ends p) (stretch_of rows p) 0 ≡ p
     set_first =
-        get_or-set_same (widened rows ends p) (stretchOf rows p) (p + 1 - 1) 0 (omega (arith, place-known rows p L l, stretching-more.long)) ∙ omega arith
+        get_or-set_same (widened rows ends p) (stretch_of rows p) (p + 1 - 1) 0 (omega (arith, place-known rows p L l, stretching-more.long)) ∙ omega arith
 
-    others : (k : ℕ) → (k ≡ stretchOf rows p → ⊥) → get_or (begun rows ends p) k 0 ≡ get_or (widened rows ends p) k 0
+    others : (k : ℕ) → (k ≡ stretch_of rows p → ⊥) → get_or (begun rows ends p) k 0 ≡ get_or (widened rows ends p) k 0
     others k n = get_or-set_other (widened rows ends p) _ k (p + 1 - 1) 0 n
 
-    first-row : (q : ℕ) → q < p + 1 → stretchOf rows q ≡ stretchOf rows p → q ≡ p
+    first-row : (q : ℕ) → q < p + 1 → stretch_of rows q ≡ stretch_of rows p → q ≡ p
     first-row q h e =
         ⊎_elim (λ (f : q ≡ p). f)
         (λ b. absurd (omega (arith, S.past q b, ap (λ (z : ℕ). get_or ends (z + 1) 0) e, empty))) (last-cases q p (omega arith))
@@ -99,13 +99,13 @@ module _ (rows ends : List ℕ) (p : ℕ) (L : LowRows rows) (S : Stretching row
           long = length-set (widened rows ends p) _ _ ∙ stretching-more.long;
           low =
               λ k.
-              ⊎_elim (λ (e : k ≡ stretchOf rows p). omega (arith, ap (λ (z : ℕ). get_or (begun rows ends p) z 0) e, set_first))
-              (λ n. omega (arith, others k n, stretching-more.low k)) (eq-or-ne k (stretchOf rows p));
+              ⊎_elim (λ (e : k ≡ stretch_of rows p). omega (arith, ap (λ (z : ℕ). get_or (begun rows ends p) z 0) e, set_first))
+              (λ n. omega (arith, others k n, stretching-more.low k)) (eq-or-ne k (stretch_of rows p));
           from =
               λ q h.
-              ⊎_elim (λ (e : stretchOf rows q ≡ stretchOf rows p). omega (arith, ap (λ (z : ℕ). get_or (begun rows ends p) z 0) e, set_first, first-row q h e))
-              (λ n. omega (arith, others (stretchOf rows q) n, stretching-more.from q h)) (eq-or-ne (stretchOf rows q) (stretchOf rows p));
-          past = λ q h. omega (arith, others (stretchOf rows q + 1) (λ e. omega (arith, e)), stretching-more.past q h);
+              ⊎_elim (λ (e : stretch_of rows q ≡ stretch_of rows p). omega (arith, ap (λ (z : ℕ). get_or (begun rows ends p) z 0) e, set_first, first-row q h e))
+              (λ n. omega (arith, others (stretch_of rows q) n, stretching-more.from q h)) (eq-or-ne (stretch_of rows q) (stretch_of rows p));
+          past = λ q h. omega (arith, others (stretch_of rows q + 1) (λ e. omega (arith, e)), stretching-more.past q h);
         }
 
 pub stretching-done : (rows ends : List ℕ) (p : ℕ) → Stretching rows ends p → rows_of rows ≤ p → Stretches rows ends

@@ -7,7 +7,7 @@ use mathlib.Core.Logic.{⊎_elim}
 use native.Mathlib.Omega.{arith}
 use lib.ListN.{length, get_or, set}
 use borrow.Author.Tests.{eq-eqb}
-use Rattle.subsumption.specs.Tables.{Concept, top, name, exists, and, var, tree, count_of, hasVariable}
+use Rattle.subsumption.specs.Tables.{Concept, top, name, exists, and, var, tree, count_of, has_variable}
 use Rattle.subsumption.specs.Atoms.{bit, pick}
 use Rattle.subsumption.proofs.Bools.{last-cases}
 use Rattle.subsumption.proofs.Bits.{zero_bit}
@@ -15,7 +15,7 @@ use Rattle.subsumption.proofs.Nodes.{node-name, node-exists, node-and, node-var,
 use Rattle.subsumption.proofs.Trees.{tree-top, tree-name, tree-exists, tree-and, tree-var}
 use Rattle.subsumption.proofs.Picks.{ChosenBelow, picked-at, at-picked}
 use Rattle.subsumption.proofs.Membership.{member-ground}
-use Rattle.countermodel.specs.Rows.{rows_of, at, interpretationOf}
+use Rattle.countermodel.specs.Rows.{rows_of, at, interpretation_of}
 use Rattle.countermodel.specs.Inner.Membership.{Right, LowRows, Stretches, Walkable, IsIn, IsInAll, Bears, noted, Remembers, Walked}
 use Rattle.countermodel.proofs.RowMembers.{LinkedAt, link-in, link-out}
 use Rattle.countermodel.proofs.MemberLaws.Scanning.{right-yes, right-no, Unmet, link-stretch}
@@ -72,10 +72,10 @@ module _ (concepts atoms assignment rows : List ℕ) (W : Walkable concepts atom
         k : ℕ
         k = get_or concepts (i * 3 + 1) 0
 
-        ground : (p : ℕ) → Memᴰ p (pick atoms (get_or assignment k 0)) → hasVariable (tree concepts p) ≡ false
+        ground : (p : ℕ) → Memᴰ p (pick atoms (get_or assignment k 0)) → has_variable (tree concepts p) ≡ false
         ground p m =
             let c : ChosenBelow (length atoms) atoms (get_or assignment k 0) p = at-picked atoms (get_or assignment k 0) p m in
-            subst (λ (z : ℕ). hasVariable (tree concepts z) ≡ false) c.found (W.atoms-ground c.place c.before)
+            subst (λ (z : ℕ). has_variable (tree concepts z) ≡ false) c.found (W.atoms-ground c.place c.before)
 
   -- ---- an answer that is noted
   pub noted-walked :
@@ -100,7 +100,7 @@ module _ (concepts atoms assignment rows : List ℕ) where
       pub member : IsIn concepts atoms assignment rows (tree concepts inner) (at rows q 3)
 
     pub leads-met : LowRows rows → (p : ℕ) → Leads p → Right true (IsIn concepts atoms assignment rows (exists r (tree concepts inner)) x)
-    unfolding interpretationOf
+    unfolding interpretation_of
     leads-met L p h = right-yes (at rows p 3, L.right p h.link.known, link-in 192 rows x r (at rows p 3) p h.link, h.member)
 
     pub leads-none :

@@ -5,7 +5,7 @@ use mathlib.Core.List.{List}
 use mathlib.Core.Bool.{Bool, true, false, false≢true}
 use native.Mathlib.Omega.{arith}
 use lib.ListN.{length, get_or}
-use Rattle.subsumption.specs.Tables.{count_of, tree, hasVariable}
+use Rattle.subsumption.specs.Tables.{count_of, tree, has_variable}
 use Rattle.subsumption.proofs.Bools.{or-first, or-second}
 use Rattle.subsumption.proofs.Nodes.{node-exists, node-and, node-var}
 use Rattle.subsumption.proofs.Trees.{inner-exists, inner-and, variable-exists, variable-and, variable-var}
@@ -16,7 +16,7 @@ weighed true i = i + 192
 weighed false i = i
 
 pub weight : List ℕ → ℕ → ℕ
-weight concepts i = weighed (hasVariable (tree concepts i)) i
+weight concepts i = weighed (has_variable (tree concepts i)) i
 
 lighter : (a b : Bool) (i j : ℕ) → j < i → (b ≡ true → a ≡ true) → weighed b j < weighed a i
 lighter true true i j l h = omega arith
@@ -36,30 +36,30 @@ module _ (concepts atoms assignment rows : List ℕ) (W : Walkable concepts atom
   pub atom-falls : (q : ℕ) → q < length atoms → 2 * weight concepts (get_or atoms q 0) + 1 < 384
   unfolding weight
   atom-falls q l =
-      omega (arith, light (hasVariable (tree concepts (get_or atoms q 0))) (get_or atoms q 0) (W.atoms-ground q l), W.atoms-known q l, W.few)
+      omega (arith, light (has_variable (tree concepts (get_or atoms q 0))) (get_or atoms q 0) (W.atoms-ground q l), W.atoms-known q l, W.few)
 
   module _ (i : ℕ) where
     pub link-falls : get_or concepts (i * 3) 0 ≡ 2 → 2 * weight concepts (get_or concepts (i * 3 + 2) 0) + 2 < 2 * weight concepts i + 1
     unfolding weight
     link-falls e =
         let n = node-exists concepts i e in
-        omega (arith, lighter (hasVariable (tree concepts i)) (hasVariable (tree concepts (get_or concepts (i * 3 + 2) 0))) i (get_or concepts (i * 3 + 2) 0) (inner-exists concepts W.rising i _ _ n) (λ h. variable-exists concepts W.rising i _ _ n ∙ h))
+        omega (arith, lighter (has_variable (tree concepts i)) (has_variable (tree concepts (get_or concepts (i * 3 + 2) 0))) i (get_or concepts (i * 3 + 2) 0) (inner-exists concepts W.rising i _ _ n) (λ h. variable-exists concepts W.rising i _ _ n ∙ h))
 
     pub first-falls : get_or concepts (i * 3) 0 ≡ 3 → 2 * weight concepts (get_or concepts (i * 3 + 1) 0) + 1 < 2 * weight concepts i + 1
     unfolding weight
     first-falls e =
         let n = node-and concepts i e in
-        omega (arith, lighter (hasVariable (tree concepts i)) (hasVariable (tree concepts (get_or concepts (i * 3 + 1) 0))) i (get_or concepts (i * 3 + 1) 0) (inner-and concepts W.rising i _ _ n).0 (λ h. variable-and concepts W.rising i _ _ n ∙ or-first _ _ h))
+        omega (arith, lighter (has_variable (tree concepts i)) (has_variable (tree concepts (get_or concepts (i * 3 + 1) 0))) i (get_or concepts (i * 3 + 1) 0) (inner-and concepts W.rising i _ _ n).0 (λ h. variable-and concepts W.rising i _ _ n ∙ or-first _ _ h))
 
     pub second-falls : get_or concepts (i * 3) 0 ≡ 3 → 2 * weight concepts (get_or concepts (i * 3 + 2) 0) + 1 < 2 * weight concepts i + 1
     unfolding weight
     second-falls e =
         let n = node-and concepts i e in
-        omega (arith, lighter (hasVariable (tree concepts i)) (hasVariable (tree concepts (get_or concepts (i * 3 + 2) 0))) i (get_or concepts (i * 3 + 2) 0) (inner-and concepts W.rising i _ _ n).1 (λ h. variable-and concepts W.rising i _ _ n ∙ or-second _ _ h))
+        omega (arith, lighter (has_variable (tree concepts i)) (has_variable (tree concepts (get_or concepts (i * 3 + 2) 0))) i (get_or concepts (i * 3 + 2) 0) (inner-and concepts W.rising i _ _ n).1 (λ h. variable-and concepts W.rising i _ _ n ∙ or-second _ _ h))
 
     pub variable-falls : get_or concepts (i * 3) 0 ≡ 4 → 384 < 2 * weight concepts i + 1
     unfolding weight
-    variable-falls e = omega (arith, heavy (hasVariable (tree concepts i)) i (variable-var concepts W.rising i _ (node-var concepts i e)))
+    variable-falls e = omega (arith, heavy (has_variable (tree concepts i)) i (variable-var concepts W.rising i _ (node-var concepts i e)))
 
     -- the inner ids are ids, and a variable has a choice
     pub link-known : get_or concepts (i * 3) 0 ≡ 2 → i < count_of concepts → get_or concepts (i * 3 + 2) 0 < count_of concepts

@@ -1,13 +1,13 @@
 -- What the walk over an interpretation's rows promises (src/membership.rt).
 use Rattle.std.specs.Prelude.{ℕ, ◌+◌, ◌*◌, ◌<◌, ◌≤◌, ◌≡◌, Bool, true, false, length, get_or}
 use mathlib.Core.List.{List, Memᴰ}
-use Rattle.subsumption.specs.Tables.{Tables, tables, varAt, node, count_of, Concept, name, tree, hasVariable}
+use Rattle.subsumption.specs.Tables.{Tables, tables, var_at, node, count_of, Concept, name, tree, has_variable}
 use Rattle.subsumption.specs.Atoms.{pick}
-use Rattle.subsumption.specs.Subsumption.{Interpretation, Reading, Member, noVariables}
+use Rattle.subsumption.specs.Subsumption.{Interpretation, Reading, Member, no_variables}
 use Rattle.subsumption.specs.Inner.Tables.{Rising}
-use Rattle.subsumption.specs.Inner.Settling.{chooseFrom}
+use Rattle.subsumption.specs.Inner.Settling.{choose_from}
 use Rattle.subsumption.specs.Inner.Listing.{Accepted}
-use Rattle.countermodel.specs.Rows.{rows_of, at, interpretationOf}
+use Rattle.countermodel.specs.Rows.{rows_of, at, interpretation_of}
 
 -- The tables with these concepts are accepted, and these are their atoms. What is left to do reads no other table.
 pub record Listing (concepts : List ℕ) (variables : ℕ) (atoms : List ℕ) : Type 0 where
@@ -38,38 +38,38 @@ pub record LowRows (rows : List ℕ) : Type 0 where
   pub right : (p : ℕ) → p < rows_of rows → at rows p 3 < 192
 
 -- Where the ends of a row's stretch stand: by its element and its kind.
-abbrev pub stretchOf : List ℕ → ℕ → ℕ
-stretchOf rows p = at rows p 1 * 4 + kind_at rows p * 2
+abbrev pub stretch_of : List ℕ → ℕ → ℕ
+stretch_of rows p = at rows p 1 * 4 + kind_at rows p * 2
 
 -- Each row is in its stretch.
 pub record Stretches (rows ends : List ℕ) : Type 0 where
   pub long : length ends ≡ 768
   pub low : (k : ℕ) → get_or ends k 0 ≤ rows_of rows
-  pub from : (p : ℕ) → p < rows_of rows → get_or ends (stretchOf rows p) 0 ≤ p
-  pub past : (p : ℕ) → p < rows_of rows → p < get_or ends (stretchOf rows p + 1) 0
+  pub from : (p : ℕ) → p < rows_of rows → get_or ends (stretch_of rows p) 0 ≤ p
+  pub past : (p : ℕ) → p < rows_of rows → p < get_or ends (stretch_of rows p + 1) 0
 
 -- What the walk asks: the checks have passed, and the atoms are at hand. Atoms hold no variable.
 pub record Walkable (concepts atoms assignment rows : List ℕ) : Type 0 where
   pub few : count_of concepts ≤ 192
   pub rising : (i : ℕ) → Rising i (node concepts i)
-  pub numbered : (i k : ℕ) → node concepts i ≡ varAt k → k < length assignment
+  pub numbered : (i k : ℕ) → node concepts i ≡ var_at k → k < length assignment
   pub few-atoms : length atoms ≤ 64
   pub atoms-known : (q : ℕ) → q < length atoms → get_or atoms q 0 < count_of concepts
-  pub atoms-ground : (q : ℕ) → q < length atoms → hasVariable (tree concepts (get_or atoms q 0)) ≡ false
+  pub atoms-ground : (q : ℕ) → q < length atoms → has_variable (tree concepts (get_or atoms q 0)) ≡ false
   pub low : LowRows rows
 
 -- Variables read by an assignment of these atoms.
 abbrev pub read_by : List ℕ → List ℕ → List ℕ → Interpretation → Reading
-read_by concepts atoms assignment I k x = (p : ℕ) → Memᴰ p (chooseFrom atoms assignment k) → Member I noVariables (tree concepts p) x
+read_by concepts atoms assignment I k x = (p : ℕ) → Memᴰ p (choose_from atoms assignment k) → Member I no_variables (tree concepts p) x
 
 -- The element is a member, among the 192 elements that rows can speak of.
 abbrev pub IsIn : List ℕ → List ℕ → List ℕ → List ℕ → Concept → ℕ → Type 0
 IsIn concepts atoms assignment rows c x =
-    Member (interpretationOf 192 rows) (read_by concepts atoms assignment (interpretationOf 192 rows)) c x
+    Member (interpretation_of 192 rows) (read_by concepts atoms assignment (interpretation_of 192 rows)) c x
 
 -- The element bears the name.
 abbrev pub Bears : List ℕ → ℕ → ℕ → Type 0
-Bears rows x n = Member (interpretationOf 192 rows) noVariables (name n) x
+Bears rows x n = Member (interpretation_of 192 rows) no_variables (name n) x
 
 -- The element is a member of every chosen atom.
 abbrev pub IsInAll : List ℕ → List ℕ → List ℕ → List ℕ → ℕ → ℕ → Type 0

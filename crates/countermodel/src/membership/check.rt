@@ -1,7 +1,6 @@
 // The checks of a given interpretation, and of what is asked of it (02, A.5), in their order.
 ghost use Rattle.std.specs.Prelude.{◌≡◌};
-ghost use Rattle.countermodel.specs.Membership.{sizeFault, badRow, rowsFault, elementFault};
-ghost use Rattle.subsumption.specs.Lent.{before};
+ghost use Rattle.countermodel.specs.Membership.{size_fault, bad_row, rows_fault, element_fault};
 
 use subsumption::refusal::{Outcome, Refusal};
 
@@ -9,7 +8,7 @@ const ELEMENTS: u16 = 192;
 
 // Check 1.
 pub fn check_size(size: u16, rows: &[u16]) -> Outcome
-    ensures { result ≡ sizeFault size (before rows) }
+    ensures { result ≡ size_fault size rows.now }
 {
     if size == 0 {
         return Outcome::Refused(Refusal::Limit(0));
@@ -24,7 +23,7 @@ pub fn check_size(size: u16, rows: &[u16]) -> Outcome
 }
 
 fn is_bad_row(size: u16, kind: u16, element: u16, last: u16) -> bool
-    ensures { result ≡ badRow size kind element last }
+    ensures { result ≡ bad_row size kind element last }
 {
     if kind == 0 {
         if size <= element {
@@ -43,7 +42,7 @@ fn is_bad_row(size: u16, kind: u16, element: u16, last: u16) -> bool
 
 // Check 2.
 pub fn check_rows(size: u16, rows: &[u16]) -> Outcome
-    ensures { result ≡ rowsFault size (before rows) }
+    ensures { result ≡ rows_fault size rows.now }
 {
     let count = rows.len() / 4;
     let mut p: usize = 0;
@@ -59,7 +58,7 @@ pub fn check_rows(size: u16, rows: &[u16]) -> Outcome
 
 // Check 4.
 pub fn check_element(count: usize, size: u16, concept: u16, element: u16) -> Outcome
-    ensures { result ≡ elementFault count size concept element }
+    ensures { result ≡ element_fault count size concept element }
 {
     if count <= concept as usize {
         return Outcome::Refused(Refusal::NoConcept(0));

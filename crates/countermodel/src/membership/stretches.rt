@@ -2,12 +2,11 @@
 // links: four numbers an element. Rows sorted by element make short stretches, and the walk looks nowhere else.
 ghost use Rattle.std.specs.Prelude.{◌≡◌, replicate};
 ghost use Rattle.countermodel.specs.Inner.Membership.{LowRows, Stretches};
-ghost use Rattle.subsumption.specs.Lent.{before, after};
 
 pub fn note_stretches(rows: &[u16], ends: &mut [usize])
     requires low_rows { LowRows rows.now }
     requires ends_value { ends.old ≡ replicate 768 0 }
-    ensures { Stretches (before rows) (after ends) }
+    ensures { Stretches rows.now ends.new }
 {
     let count = rows.len() / 4;
     let mut p: usize = 0;

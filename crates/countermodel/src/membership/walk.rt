@@ -1,7 +1,7 @@
 // Membership of an element in a concept, and the walk over its links, which call each other. What falls is the id, plus 192 where the
 // concept holds a variable. A memo of every element and id keeps the walk from being exponential.
 ghost use Rattle.std.specs.Prelude.{◌≡◌, ◌<◌, length, set};
-ghost use Rattle.subsumption.specs.Lent.{before, after};
+
 ghost use Rattle.subsumption.specs.Tables.{count_of, exists, tree};
 ghost use Rattle.countermodel.specs.Inner.Membership.{LowRows, Stretches, Walkable, Right, noted, Remembers, Walked, IsIn, IsInAll, Bears};
 
@@ -19,7 +19,7 @@ fn bears(rows: &[u16], ends: &[usize], element: u16, name: u16) -> bool
     requires low_rows { LowRows rows.now }
     requires stretches { Stretches rows.now ends.now }
     requires element_bound { element < 192 }
-    ensures { Right result (Bears (before rows) element name) }
+    ensures { Right result (Bears rows.now element name) }
 {
     let own = element as usize * 4;
     let past = ends[own + 1];
@@ -43,7 +43,7 @@ fn bears(rows: &[u16], ends: &[usize], element: u16, name: u16) -> bool
 // Keeps an answer: 1 is yes and 2 is no, 0 is none yet.
 fn note(memo: &mut [u8], cell: usize, answer: bool) -> bool
     requires { cell < length memo.old }
-    ensures { (result ≡ answer) × (after memo ≡ set (before memo) cell (noted answer)) }
+    ensures { (result ≡ answer) × (memo.new ≡ set memo.old cell (noted answer)) }
 {
     if answer {
         memo[cell] = 1;
@@ -69,8 +69,8 @@ fn member_at(
     requires stretches { Stretches rows.now ends.now }
     requires remembers { Remembers concepts.now ids.now assignment.now rows.now memo.old }
     requires element_bound { (element < 192) × (id < count_of concepts.now) }
-    ensures { Walked (before concepts) (before ids) (before assignment) (before rows)
-        (IsIn (before concepts) (before ids) (before assignment) (before rows) (tree (before concepts) id) element) (after memo) result }
+    ensures { Walked concepts.now ids.now assignment.now rows.now
+        (IsIn concepts.now ids.now assignment.now rows.now (tree concepts.now id) element) memo.new result }
 {
     let cell = element as usize * CONCEPTS + id as usize;
     let known = memo[cell];
@@ -125,9 +125,9 @@ fn some_link(
     requires stretches { Stretches rows.now ends.now }
     requires remembers { Remembers concepts.now ids.now assignment.now rows.now memo.old }
     requires element_bound { (element < 192) × (inner < count_of concepts.now) }
-    ensures { Walked (before concepts) (before ids) (before assignment) (before rows)
-        (IsIn (before concepts) (before ids) (before assignment) (before rows) (exists role (tree (before concepts) inner)) element)
-        (after memo) result }
+    ensures { Walked concepts.now ids.now assignment.now rows.now
+        (IsIn concepts.now ids.now assignment.now rows.now (exists role (tree concepts.now inner)) element)
+        memo.new result }
 {
     let own = element as usize * 4;
     let past = ends[own + 3];
@@ -168,8 +168,8 @@ fn in_all(
     requires stretches { Stretches rows.now ends.now }
     requires remembers { Remembers concepts.now ids.now assignment.now rows.now memo.old }
     requires element_bound { element < 192 }
-    ensures { Walked (before concepts) (before ids) (before assignment) (before rows)
-        (IsInAll (before concepts) (before ids) (before assignment) (before rows) choice element) (after memo) result }
+    ensures { Walked concepts.now ids.now assignment.now rows.now
+        (IsInAll concepts.now ids.now assignment.now rows.now choice element) memo.new result }
 {
     let mut q: usize = 0;
     while q < ids.len() {
@@ -197,7 +197,7 @@ pub fn is_member(
 ) -> bool
     requires walkable { Walkable concepts.now ids.now assignment.now rows.now }
     requires element_bound { (element < 192) × (id < count_of concepts.now) }
-    ensures { Right result (IsIn (before concepts) (before ids) (before assignment) (before rows) (tree (before concepts) id) element) }
+    ensures { Right result (IsIn concepts.now ids.now assignment.now rows.now (tree concepts.now id) element) }
 {
     let mut ends = [0usize; ENDS];
     note_stretches(rows, &mut ends);

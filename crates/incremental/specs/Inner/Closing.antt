@@ -1,6 +1,6 @@
 -- Rounds of all the rules until nothing changes (src/closing.rt).
 use Rattle.std.specs.Prelude.{ℕ, ◌<◌, ◌≤◌, ◌≡◌, List, Bool, true, length}
-use Rattle.subsumption.specs.Tables.{count_of, pairsOf}
+use Rattle.subsumption.specs.Tables.{count_of, pairs_of}
 use Rattle.square.specs.Inner.Square.{in_row, Square}
 use Rattle.incremental.specs.Inner.Lines.{MeetLines, LinkLines, Lines}
 use Rattle.incremental.specs.Inner.Rows.{RowLines}

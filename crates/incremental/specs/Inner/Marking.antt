@@ -2,11 +2,11 @@
 use Rattle.std.specs.Prelude.{ℕ, ◌+◌, ◌*◌, ◌/◌, ◌%◌, ◌<◌, ◌≤◌, ◌≡◌, List, [], ◌∷◌, Bool, true, false, ◌⊎◌}
 use Rattle.subsumption.specs.Atoms.{bit}
 use Rattle.subsumption.specs.Inner.Columns.{slack}
-use Rattle.square.specs.Inner.Square.{onLine, Square}
+use Rattle.square.specs.Inner.Square.{on_line, Square}
 
 -- y is on the line x of the half that starts at `base`
-abbrev pub inHalf : ℕ → List ℕ → ℕ → ℕ → Bool
-inHalf base square x y = onLine square (base + x * 3) y
+abbrev pub in_half : ℕ → List ℕ → ℕ → ℕ → Bool
+in_half base square x y = on_line square (base + x * 3) y
 
 -- where a half starts
 abbrev pub Base : ℕ → Type 0
@@ -22,13 +22,13 @@ pub record Adds (read : List ℕ → ℕ → ℕ → Bool) (before after : List 
   pub less : changed ≡ true → slack after < slack before
 
 -- y is in the word at `k` of the set
-abbrev pub in_word : ℕ → ℕ → ℕ → Type 0
-in_word k word y = (y / 64 ≡ k) × (bit word (y % 64) ≡ true)
+abbrev pub InWord : ℕ → ℕ → ℕ → Type 0
+InWord k word y = (y / 64 ≡ k) × (bit word (y % 64) ≡ true)
 
 -- y is in one of the three words
-abbrev pub inThree : ℕ → ℕ → ℕ → ℕ → Type 0
-inThree first second third y = onLine (first ∷ second ∷ third ∷ []) 0 y ≡ true
+abbrev pub InThree : ℕ → ℕ → ℕ → ℕ → Type 0
+InThree first second third y = on_line (first ∷ second ∷ third ∷ []) 0 y ≡ true
 
 -- a yes: the line that starts at that word has all of the three words' bits
 abbrev pub Holding : List ℕ → ℕ → ℕ → ℕ → ℕ → Bool → Type 0
-Holding square at first second third answer = answer ≡ true → (y : ℕ) → y < 192 → inThree first second third y → onLine square at y ≡ true
+Holding square at first second third answer = answer ≡ true → (y : ℕ) → y < 192 → InThree first second third y → on_line square at y ≡ true

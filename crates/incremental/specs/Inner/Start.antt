@@ -1,21 +1,21 @@
 -- Rules 1 and 2 (src/start.rt): the sets of the ids of a name, and the marks that ask for none.
 use Rattle.std.specs.Prelude.{ℕ, ◌+◌, ◌*◌, ◌<◌, ◌≡◌, List, Bool, true, length}
-use Rattle.subsumption.specs.Tables.{name_at, topAt, node, count_of}
-use Rattle.square.specs.Inner.Square.{onLine, in_row, Square}
+use Rattle.subsumption.specs.Tables.{name_at, top_at, node, count_of}
+use Rattle.square.specs.Inner.Square.{on_line, in_row, Square}
 use Rattle.incremental.specs.Inner.Lines.{StartLines}
 use Rattle.incremental.specs.Inner.Pass.{Within}
 
 -- for each name the ids below i that have it
 pub record NamesTo (concepts names : List ℕ) (i : ℕ) : Type 0 where
   pub long : length names ≡ 3000
-  pub only : (n j : ℕ) → n < 1000 → j < 192 → onLine names (n * 3) j ≡ true → (j < i) × (node concepts j ≡ name_at n)
-  pub every : (n j : ℕ) → n < 1000 → j < i → node concepts j ≡ name_at n → onLine names (n * 3) j ≡ true
+  pub only : (n j : ℕ) → n < 1000 → j < 192 → on_line names (n * 3) j ≡ true → (j < i) × (node concepts j ≡ name_at n)
+  pub every : (n j : ℕ) → n < 1000 → j < i → node concepts j ≡ name_at n → on_line names (n * 3) j ≡ true
 
 -- rules 1 and 2, at the id i
 pub record StartAt (concepts square : List ℕ) (i : ℕ) : Type 0 where
   pub same : in_row square i i ≡ true
   pub named : (j n : ℕ) → j < count_of concepts → node concepts i ≡ name_at n → node concepts j ≡ name_at n → in_row square i j ≡ true
-  pub top : (k : ℕ) → k < count_of concepts → node concepts i ≡ topAt → in_row square k i ≡ true
+  pub top : (k : ℕ) → k < count_of concepts → node concepts i ≡ top_at → in_row square k i ≡ true
 
 -- Marks come in, none goes, and all are in every relation with the law that holds those before.
 pub record Grown (count : ℕ) (Law : (ℕ → ℕ → Bool) → Type 0) (before after : List ℕ) : Type 0 where

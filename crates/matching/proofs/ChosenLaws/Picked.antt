@@ -13,7 +13,7 @@ use lib.Seq.{drop-cons, take-suc, length-take-le, take-length}
 use lib.Bits.{bit_and, and_step, and_self, and_le_r}
 use lib.Count.{ones, ones_step, ones-le, count_trailing_zeros}
 use Rattle.subsumption.specs.Atoms.{bit, pick}
-use Rattle.subsumption.specs.Inner.Atoms.{inFront}
+use Rattle.subsumption.specs.Inner.Atoms.{in_front}
 use Rattle.subsumption.proofs.Bools.{eq-or-ne}
 use Rattle.subsumption.proofs.Lists.{front-more}
 
@@ -96,7 +96,7 @@ pub record Writing (ids : List ℕ) (choice : ℕ) (before out : List ℕ) (rest
   pub low : rest < 2 ^ length ids
   pub left : pick ids rest ≡ drop listed (pick ids choice)
   pub within : listed ≤ length (pick ids choice)
-  pub buffer : out ≡ inFront (take listed (pick ids choice)) before
+  pub buffer : out ≡ in_front (take listed (pick ids choice)) before
 
 module _ (ids : List ℕ) (choice : ℕ) (before : List ℕ) where
   pub writing-none : choice < 2 ^ length ids → Writing ids choice before before choice 0
@@ -127,11 +127,11 @@ module _ (ids : List ℕ) (choice : ℕ) (before : List ℕ) where
             left = rw add-one (cc (e, f, w.left));
             within = omega arith;
             buffer = rw (w.buffer, add-one, take-suc (pick ids choice) listed 0 more, g)
-                (subst (λ (z : ℕ). set (inFront (take listed (pick ids choice)) before) z (get_or ids (count_trailing_zeros 64 rest) 0) ≡ inFront (take listed (pick ids choice) ++ (get_or ids (count_trailing_zeros 64 rest) 0 ∷ [])) before) l
+                (subst (λ (z : ℕ). set (in_front (take listed (pick ids choice)) before) z (get_or ids (count_trailing_zeros 64 rest) 0) ≡ in_front (take listed (pick ids choice) ++ (get_or ids (count_trailing_zeros 64 rest) 0 ∷ [])) before) l
                 (front-more (take listed (pick ids choice)) before (get_or ids (count_trailing_zeros 64 rest) 0) (omega arith)));
           }
 
-  pub writing-done : (out : List ℕ) (rest listed : ℕ) → Writing ids choice before out rest listed → length (pick ids choice) ≤ listed → out ≡ inFront (pick ids choice) before
+  pub writing-done : (out : List ℕ) (rest listed : ℕ) → Writing ids choice before out rest listed → length (pick ids choice) ≤ listed → out ≡ in_front (pick ids choice) before
   writing-done out rest listed w l =
       let e : listed ≡ length (pick ids choice) = omega (arith, w.within) in
       w.buffer ∙ rw (e, take-length) refl

@@ -8,14 +8,14 @@ use lib.Dec.{eqb, ltb}
 use lib.ListN.{length, get_or}
 use borrow.Author.Tests.{ne_eqb}
 use Rattle.subsumption.specs.declared.tables.Row.{Row}
-use Rattle.subsumption.specs.Tables.{or, both, Node, topAt, name_at, existsAt, andAt, varAt, node, count_of, pairsOf, left_of, rightOf}
+use Rattle.subsumption.specs.Tables.{or, both, Node, top_at, name_at, exists_at, and_at, var_at, node, count_of, pairs_of, left_of, right_of}
 use Rattle.subsumption.specs.Inner.Tables.{row_of, Rising}
 use Rattle.subsumption.specs.Atoms.{atoms, chosen, pick}
 use Rattle.subsumption.specs.Inner.Closure.{Ready}
 use Rattle.subsumption.specs.Inner.Atoms.{Known}
 use Rattle.subsumption.specs.Roles.{wider}
 use Rattle.subsumption.specs.Inner.Roles.{in_set}
-use Rattle.subsumption.specs.Rules.{every, contains, same_name, is_top, onPicked, onBoth, onInner, onVariable, byRule}
+use Rattle.subsumption.specs.Rules.{every, contains, same_name, is_top, on_picked, on_both, on_inner, on_variable, by_rule}
 use Rattle.matching.specs.Inner.Derivation.{LowRole, seen, node_of, KnownAtoms, Numbered, ByRule}
 
 row-node : (concepts : List ℕ) (i : ℕ) (row : Row) → row ≡ row_of concepts i → node_of row ≡ node concepts i
@@ -23,33 +23,33 @@ unfolding node
 row-node concepts i row e = ap node_of e
 
 rising-up : (count i : ℕ) (m : Node) → i < count → Rising i m → Rising count m
-rising-up count i topAt h r = tt
+rising-up count i top_at h r = tt
 rising-up count i (name_at n) h r = tt
-rising-up count i (existsAt s j) h r = omega arith
-rising-up count i (andAt j k) h r = (omega (arith, r.0), omega (arith, r.1))
-rising-up count i (varAt k) h r = tt
+rising-up count i (exists_at s j) h r = omega arith
+rising-up count i (and_at j k) h r = (omega (arith, r.0), omega (arith, r.1))
+rising-up count i (var_at k) h r = tt
 
-numbered_of : (assignment : List ℕ) (m : Node) → ((k : ℕ) → m ≡ varAt k → k < length assignment) → Numbered assignment m
-numbered_of assignment topAt h = tt
+numbered_of : (assignment : List ℕ) (m : Node) → ((k : ℕ) → m ≡ var_at k → k < length assignment) → Numbered assignment m
+numbered_of assignment top_at h = tt
 numbered_of assignment (name_at n) h = tt
-numbered_of assignment (existsAt s j) h = tt
-numbered_of assignment (andAt j k) h = tt
-numbered_of assignment (varAt k) h = h k refl
+numbered_of assignment (exists_at s j) h = tt
+numbered_of assignment (and_at j k) h = tt
+numbered_of assignment (var_at k) h = h k refl
 
 -- rule 5 by the sets of roles
 inner-agree :
     (wide wide' : ℕ → ℕ → Bool) → ((r s : ℕ) → r < 100 → s < 100 → wide r s ≡ wide' r s) → (test : ℕ → ℕ → Bool) (m n : Node) → LowRole m → LowRole n
-    → onInner wide test m n ≡ onInner wide' test m n
-unfolding onInner
-inner-agree wide wide' same test topAt m u w = refl
+    → on_inner wide test m n ≡ on_inner wide' test m n
+unfolding on_inner
+inner-agree wide wide' same test top_at m u w = refl
 inner-agree wide wide' same test (name_at n) m u w = refl
-inner-agree wide wide' same test (existsAt r i) topAt u w = refl
-inner-agree wide wide' same test (existsAt r i) (name_at m) u w = refl
-inner-agree wide wide' same test (existsAt r i) (existsAt s y) u w = ap (λ (z : Bool). both z (test i y)) (same r s u w)
-inner-agree wide wide' same test (existsAt r i) (andAt x y) u w = refl
-inner-agree wide wide' same test (existsAt r i) (varAt z) u w = refl
-inner-agree wide wide' same test (andAt i j) m u w = refl
-inner-agree wide wide' same test (varAt k) m u w = refl
+inner-agree wide wide' same test (exists_at r i) top_at u w = refl
+inner-agree wide wide' same test (exists_at r i) (name_at m) u w = refl
+inner-agree wide wide' same test (exists_at r i) (exists_at s y) u w = ap (λ (z : Bool). both z (test i y)) (same r s u w)
+inner-agree wide wide' same test (exists_at r i) (and_at x y) u w = refl
+inner-agree wide wide' same test (exists_at r i) (var_at z) u w = refl
+inner-agree wide wide' same test (and_at i j) m u w = refl
+inner-agree wide wide' same test (var_at k) m u w = refl
 
 module _ (concepts inclusions ids assignment : List ℕ) (ready : Ready concepts inclusions ids assignment) where
   pub row-rising : (i : ℕ) (row : Row) → i < count_of concepts → row ≡ row_of concepts i → Rising (count_of concepts) (node_of row)
@@ -59,11 +59,11 @@ module _ (concepts inclusions ids assignment : List ℕ) (ready : Ready concepts
   row_low i row e = subst LowRole (sym (row-node concepts i row e)) (go (node concepts i) refl)
     where
       go : (m : Node) → node concepts i ≡ m → LowRole m
-      go topAt e = tt
+      go top_at e = tt
       go (name_at n) e = tt
-      go (existsAt r j) e = ready.low-roles i r j e
-      go (andAt j k) e = tt
-      go (varAt k) e = tt
+      go (exists_at r j) e = ready.low-roles i r j e
+      go (and_at j k) e = tt
+      go (var_at k) e = tt
 
   pub row-numbered : (i : ℕ) (row : Row) → row ≡ row_of concepts i → Numbered assignment (node_of row)
   row-numbered i row e = subst (Numbered assignment) (sym (row-node concepts i row e)) (numbered_of assignment (node concepts i) (ready.numbered i))
@@ -79,63 +79,63 @@ module _ (concepts inclusions into ids assignment : List ℕ) (marks : List Bool
   proved = seen (count_of concepts) marks
 
   module _ (rule : ℕ) (l r : Row) (x : Bool) (p : l ≡ row_of concepts left) (q : r ≡ row_of concepts right) where
-    pub rule-member : rule ≡ 3 → x ≡ onPicked extra (λ i. seen (count_of concepts) marks i right) (node_of l) → ByRule concepts inclusions into ids assignment marks rule left right extra x
-    unfolding byRule
+    pub rule-member : rule ≡ 3 → x ≡ on_picked extra (λ i. seen (count_of concepts) marks i right) (node_of l) → ByRule concepts inclusions into ids assignment marks rule left right extra x
+    unfolding by_rule
     rule-member e h t of =
-        rw (e, of.concepts-are) (h ∙ ap (onPicked extra (λ i. seen (count_of concepts) marks i right)) (row-node concepts left l p))
+        rw (e, of.concepts-are) (h ∙ ap (on_picked extra (λ i. seen (count_of concepts) marks i right)) (row-node concepts left l p))
 
     pub rule-inclusion :
-        rule ≡ 6 → x ≡ both (ltb extra (pairsOf inclusions)) (both (seen (count_of concepts) marks left (left_of inclusions extra)) (seen (count_of concepts) marks (rightOf inclusions extra) right))
+        rule ≡ 6 → x ≡ both (ltb extra (pairs_of inclusions)) (both (seen (count_of concepts) marks left (left_of inclusions extra)) (seen (count_of concepts) marks (right_of inclusions extra) right))
         → ByRule concepts inclusions into ids assignment marks rule left right extra x
-    unfolding byRule
+    unfolding by_rule
     rule-inclusion e h t of = rw (e, of.inclusions-are) h
 
     pub rule-choice :
-        rule ≡ 7 → x ≡ onVariable (λ k. both (contains extra (pick ids (get_or assignment k 0))) (seen (count_of concepts) marks extra right)) (node_of l)
+        rule ≡ 7 → x ≡ on_variable (λ k. both (contains extra (pick ids (get_or assignment k 0))) (seen (count_of concepts) marks extra right)) (node_of l)
         → ByRule concepts inclusions into ids assignment marks rule left right extra x
-    unfolding byRule chosen
+    unfolding by_rule chosen
     rule-choice e h t of =
         rw e
-        (subst (λ (z : List ℕ). x ≡ onVariable (λ k. both (contains extra (pick (atoms t) (get_or assignment k 0))) (seen (count_of concepts) marks extra right)) (node z left)) (sym of.concepts-are)
-        (subst (λ (z : List ℕ). x ≡ onVariable (λ k. both (contains extra (pick z (get_or assignment k 0))) (seen (count_of concepts) marks extra right)) (node concepts left)) (sym of.atoms_are)
-        (h ∙ ap (onVariable (λ k. both (contains extra (pick ids (get_or assignment k 0))) (seen (count_of concepts) marks extra right))) (row-node concepts left l p))))
+        (subst (λ (z : List ℕ). x ≡ on_variable (λ k. both (contains extra (pick (atoms t) (get_or assignment k 0))) (seen (count_of concepts) marks extra right)) (node z left)) (sym of.concepts-are)
+        (subst (λ (z : List ℕ). x ≡ on_variable (λ k. both (contains extra (pick z (get_or assignment k 0))) (seen (count_of concepts) marks extra right)) (node concepts left)) (sym of.atoms_are)
+        (h ∙ ap (on_variable (λ k. both (contains extra (pick ids (get_or assignment k 0))) (seen (count_of concepts) marks extra right))) (row-node concepts left l p))))
 
     pub rule-name : rule ≡ 1 → extra ≡ 0 → x ≡ or (eqb left right) (same_name (node_of l) (node_of r)) → ByRule concepts inclusions into ids assignment marks rule left right extra x
-    unfolding byRule both
+    unfolding by_rule both
     rule-name e f h t of =
         rw (e, f, of.concepts-are) (h ∙ ap₂ (λ a b. or (eqb left right) (same_name a b)) (row-node concepts left l p) (row-node concepts right r q))
 
     pub rule-top : rule ≡ 2 → extra ≡ 0 → x ≡ is_top (node_of r) → ByRule concepts inclusions into ids assignment marks rule left right extra x
-    unfolding byRule both
+    unfolding by_rule both
     rule-top e f h t of = rw (e, f, of.concepts-are) (h ∙ ap is_top (row-node concepts right r q))
 
-    pub rule-both : rule ≡ 4 → extra ≡ 0 → x ≡ onBoth (λ j. seen (count_of concepts) marks left j) (node_of r) → ByRule concepts inclusions into ids assignment marks rule left right extra x
-    unfolding byRule both
-    rule-both e f h t of = rw (e, f, of.concepts-are) (h ∙ ap (onBoth (λ j. seen (count_of concepts) marks left j)) (row-node concepts right r q))
+    pub rule-both : rule ≡ 4 → extra ≡ 0 → x ≡ on_both (λ j. seen (count_of concepts) marks left j) (node_of r) → ByRule concepts inclusions into ids assignment marks rule left right extra x
+    unfolding by_rule both
+    rule-both e f h t of = rw (e, f, of.concepts-are) (h ∙ ap (on_both (λ j. seen (count_of concepts) marks left j)) (row-node concepts right r q))
 
     pub rule-inner :
-        LowRole (node_of l) → LowRole (node_of r) → rule ≡ 5 → extra ≡ 0 → x ≡ onInner (in_set into) (seen (count_of concepts) marks) (node_of l) (node_of r)
+        LowRole (node_of l) → LowRole (node_of r) → rule ≡ 5 → extra ≡ 0 → x ≡ on_inner (in_set into) (seen (count_of concepts) marks) (node_of l) (node_of r)
         → ByRule concepts inclusions into ids assignment marks rule left right extra x
-    unfolding byRule both
+    unfolding by_rule both
     rule-inner u w e f h t of =
         rw (e, f, of.concepts-are)
         (h ∙ inner-agree (in_set into) (wider t.roles) of.roles-are.each (seen (count_of concepts) marks) (node_of l) (node_of r) u w
-        ∙ ap₂ (onInner (wider t.roles) (seen (count_of concepts) marks)) (row-node concepts left l p) (row-node concepts right r q))
+        ∙ ap₂ (on_inner (wider t.roles) (seen (count_of concepts) marks)) (row-node concepts left l p) (row-node concepts right r q))
 
     pub rule-all :
-        rule ≡ 8 → extra ≡ 0 → x ≡ onVariable (λ k. every (λ p. seen (count_of concepts) marks left p) (pick ids (get_or assignment k 0))) (node_of r)
+        rule ≡ 8 → extra ≡ 0 → x ≡ on_variable (λ k. every (λ p. seen (count_of concepts) marks left p) (pick ids (get_or assignment k 0))) (node_of r)
         → ByRule concepts inclusions into ids assignment marks rule left right extra x
-    unfolding byRule both chosen
+    unfolding by_rule both chosen
     rule-all e f h t of =
         rw (e, f)
-        (subst (λ (z : List ℕ). x ≡ onVariable (λ k. every (λ p. seen (count_of concepts) marks left p) (pick (atoms t) (get_or assignment k 0))) (node z right)) (sym of.concepts-are)
-        (subst (λ (z : List ℕ). x ≡ onVariable (λ k. every (λ p. seen (count_of concepts) marks left p) (pick z (get_or assignment k 0))) (node concepts right)) (sym of.atoms_are)
-        (h ∙ ap (onVariable (λ k. every (λ p. seen (count_of concepts) marks left p) (pick ids (get_or assignment k 0)))) (row-node concepts right r q))))
+        (subst (λ (z : List ℕ). x ≡ on_variable (λ k. every (λ p. seen (count_of concepts) marks left p) (pick (atoms t) (get_or assignment k 0))) (node z right)) (sym of.concepts-are)
+        (subst (λ (z : List ℕ). x ≡ on_variable (λ k. every (λ p. seen (count_of concepts) marks left p) (pick z (get_or assignment k 0))) (node concepts right)) (sym of.atoms_are)
+        (h ∙ ap (on_variable (λ k. every (λ p. seen (count_of concepts) marks left p) (pick ids (get_or assignment k 0)))) (row-node concepts right r q))))
 
   -- the other rules ask that the extra is 0
   pub rule-extra :
       (rule : ℕ) → (rule ≡ 3 → ⊥) → (rule ≡ 6 → ⊥) → (rule ≡ 7 → ⊥) → (extra ≡ 0 → ⊥) → ByRule concepts inclusions into ids assignment marks rule left right extra false
-  unfolding byRule both
+  unfolding by_rule both
   rule-extra zero a b c ne t of = refl
   rule-extra (suc zero) a b c ne t of = rw (ne_eqb extra 0 ne)
   rule-extra (suc (suc zero)) a b c ne t of = rw (ne_eqb extra 0 ne)
@@ -150,7 +150,7 @@ module _ (concepts inclusions into ids assignment : List ℕ) (marks : List Bool
   pub rule-unknown :
       (rule : ℕ) → (rule ≡ 3 → ⊥) → (rule ≡ 6 → ⊥) → (rule ≡ 7 → ⊥) → (rule ≡ 1 → ⊥) → (rule ≡ 2 → ⊥) → (rule ≡ 4 → ⊥) → (rule ≡ 5 → ⊥) → (rule ≡ 8 → ⊥)
       → ByRule concepts inclusions into ids assignment marks rule left right extra false
-  unfolding byRule
+  unfolding by_rule
   rule-unknown zero a b c d e f g h t of = refl
   rule-unknown (suc zero) a b c d e f g h t of = absurd (d refl)
   rule-unknown (suc (suc zero)) a b c d e f g h t of = absurd (e refl)

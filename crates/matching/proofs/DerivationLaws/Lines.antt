@@ -14,24 +14,24 @@ use Rattle.subsumption.specs.declared.refusal.Refusal.{Refusal}
 use Rattle.subsumption.specs.declared.refusal.Refusal.TheVariants.{BadDerivation}
 use Rattle.subsumption.specs.declared.refusal.Outcome.{Outcome}
 use Rattle.subsumption.specs.declared.refusal.Outcome.TheVariants.{Done, Refused}
-use Rattle.subsumption.specs.Tables.{Tables, or, both, anyBelow, count_of}
+use Rattle.subsumption.specs.Tables.{Tables, or, both, any_below, count_of}
 use Rattle.subsumption.specs.Inner.Closure.{Ready}
-use Rattle.subsumption.specs.Refusal.{refuseIf}
+use Rattle.subsumption.specs.Refusal.{refuse_if}
 use Rattle.subsumption.specs.Inner.Roles.{RoleSets}
-use Rattle.subsumption.specs.Check.{pairFault}
+use Rattle.subsumption.specs.Check.{pair_fault}
 use Rattle.subsumption.specs.Inner.Listing.{Accepted}
-use Rattle.subsumption.specs.Rules.{byRule, follows}
-use Rattle.subsumption.specs.Decide.{decidingFault}
+use Rattle.subsumption.specs.Rules.{by_rule, follows}
+use Rattle.subsumption.specs.Decide.{deciding_fault}
 use Rattle.subsumption.proofs.Bools.{both-intro, both-none, both-skip, or-first, or-second, or-skip, or-false, eq-or-ne}
 use Rattle.subsumption.proofs.Refusals.{stops, goes_on, refused-if, done-if, passed-if}
 use Rattle.subsumption.proofs.Scans.{Scan, scan-none, scan-more, scan-found, scan-done}
-use Rattle.matching.specs.Derivation.{lines_of, ruleAt, left_at, rightAt, extraAt, pair_at, provedBy, lineFollows, noLines, ruleFault, lastFault, derivationFault, checkingFault}
+use Rattle.matching.specs.Derivation.{lines_of, rule_at, left_at, right_at, extra_at, pair_at, proved_by, line_follows, no_lines, rule_fault, last_fault, derivation_fault, checking_fault}
 use Rattle.matching.specs.Inner.Derivation.{Square, seen, Of, ByRule, MarksOf, LineTest, RulesTest}
 use Rattle.matching.proofs.DerivationLaws.Cells.{seen-set-same, seen-set-row, seen-set-column, square-set, cell_below, square-small}
 use Rattle.matching.proofs.DerivationLaws.Monotone.{of-reads, follows_same}
 
 -- ---- one line
-pair_same : (lines : List ℕ) (i j k : ℕ) → i ≡ left_at lines k → j ≡ rightAt lines k → pair_at lines i j k ≡ true
+pair_same : (lines : List ℕ) (i j k : ℕ) → i ≡ left_at lines k → j ≡ right_at lines k → pair_at lines i j k ≡ true
 unfolding pair_at
 pair_same lines i j k e f = both-intro _ _ (eq-eqb _ _ e) (eq-eqb _ _ f)
 
@@ -39,21 +39,21 @@ pair_left : (lines : List ℕ) (i j k : ℕ) → (i ≡ left_at lines k → ⊥)
 unfolding pair_at
 pair_left lines i j k ne = both-none _ _ (ne_eqb _ _ ne)
 
-pair-right : (lines : List ℕ) (i j k : ℕ) → i ≡ left_at lines k → (j ≡ rightAt lines k → ⊥) → pair_at lines i j k ≡ false
+pair-right : (lines : List ℕ) (i j k : ℕ) → i ≡ left_at lines k → (j ≡ right_at lines k → ⊥) → pair_at lines i j k ≡ false
 unfolding pair_at
 pair-right lines i j k e ne = both-skip _ _ (eq-eqb _ _ e) ∙ ne_eqb _ _ ne
 
-pub proved-more : (lines : List ℕ) (k i j : ℕ) → provedBy lines (k + 1) i j ≡ or (pair_at lines i j k) (provedBy lines k i j)
-unfolding provedBy anyBelow
+pub proved-more : (lines : List ℕ) (k i j : ℕ) → proved_by lines (k + 1) i j ≡ or (pair_at lines i j k) (proved_by lines k i j)
+unfolding proved_by any_below
 proved-more lines k i j = rw add-one refl
 
-pub proved-none : (lines : List ℕ) (i j : ℕ) → provedBy lines 0 i j ≡ false
-unfolding provedBy anyBelow
+pub proved-none : (lines : List ℕ) (i j : ℕ) → proved_by lines 0 i j ≡ false
+unfolding proved_by any_below
 proved-none lines i j = refl
 
 module _ (count : ℕ) (marks : List Bool) (lines : List ℕ) (k : ℕ) (m : MarksOf count marks lines k) where
   pub marks-more :
-      (left right : ℕ) (after : List Bool) → left ≡ left_at lines k → right ≡ rightAt lines k → left < count → right < count
+      (left right : ℕ) (after : List Bool) → left ≡ left_at lines k → right ≡ right_at lines k → left < count → right < count
       → after ≡ set marks (left * count + right) true → MarksOf count after lines (k + 1)
   unfolding or
   marks-more left right after e f h l a =
@@ -62,7 +62,7 @@ module _ (count : ℕ) (marks : List Bool) (lines : List ℕ) (k : ℕ) (m : Mar
         same = λ i j u v. ap (λ z. seen count z i j) a ∙ at i j u v ∙ sym (proved-more lines k i j);
       }
     where
-      at : (i j : ℕ) → i < count → j < count → seen count (set marks (left * count + right) true) i j ≡ or (pair_at lines i j k) (provedBy lines k i j)
+      at : (i j : ℕ) → i < count → j < count → seen count (set marks (left * count + right) true) i j ≡ or (pair_at lines i j k) (proved_by lines k i j)
       at i j u v =
           ⊎_elim
           (λ (p : i ≡ left). ⊎_elim
@@ -87,7 +87,7 @@ empty-seen count i j h u v =
 module _ (concepts inclusions into ids assignment : List ℕ) (marks : List Bool) (lines : List ℕ) (k : ℕ)
     (r : Ready concepts inclusions ids assignment) (m : MarksOf (count_of concepts) marks lines k) where
   pub line-left : (left : ℕ) → left ≡ left_at lines k → count_of concepts ≤ left → LineTest concepts inclusions into ids assignment lines k false
-  unfolding lineFollows follows
+  unfolding line_follows follows
   line-left left e h =
       record {
         left-known = λ z. absurd (false≢true z);
@@ -95,13 +95,13 @@ module _ (concepts inclusions into ids assignment : List ℕ) (marks : List Bool
         tells = λ t of. sym (both-none _ _ (le-ltb _ _ (subst (λ (z : List ℕ). count_of z ≤ left_at lines k) (sym of.concepts-are) (subst (λ (z : ℕ). count_of concepts ≤ z) e h))));
       }
 
-  pub line-right : (right : ℕ) → right ≡ rightAt lines k → count_of concepts ≤ right → LineTest concepts inclusions into ids assignment lines k false
-  unfolding lineFollows follows
+  pub line-right : (right : ℕ) → right ≡ right_at lines k → count_of concepts ≤ right → LineTest concepts inclusions into ids assignment lines k false
+  unfolding line_follows follows
   line-right right e h =
       record {
         left-known = λ z. absurd (false≢true z);
         right-known = λ z. absurd (false≢true z);
-        tells = λ t of. sym (last _ _ (both-none _ _ (le-ltb _ _ (subst (λ (z : List ℕ). count_of z ≤ rightAt lines k) (sym of.concepts-are) (subst (λ (z : ℕ). count_of concepts ≤ z) e h)))));
+        tells = λ t of. sym (last _ _ (both-none _ _ (le-ltb _ _ (subst (λ (z : List ℕ). count_of z ≤ right_at lines k) (sym of.concepts-are) (subst (λ (z : ℕ). count_of concepts ≤ z) e h)))));
       }
     where
       last : (u v : Bool) → v ≡ false → both u v ≡ false
@@ -109,10 +109,10 @@ module _ (concepts inclusions into ids assignment : List ℕ) (marks : List Bool
       last false v e = both-none false v refl
 
   pub line-rule :
-      (rule left right extra : ℕ) (answer : Bool) → rule ≡ ruleAt lines k → left ≡ left_at lines k → right ≡ rightAt lines k → extra ≡ extraAt lines k
+      (rule left right extra : ℕ) (answer : Bool) → rule ≡ rule_at lines k → left ≡ left_at lines k → right ≡ right_at lines k → extra ≡ extra_at lines k
       → left < count_of concepts → right < count_of concepts → ByRule concepts inclusions into ids assignment marks rule left right extra answer
       → LineTest concepts inclusions into ids assignment lines k answer
-  unfolding lineFollows follows
+  unfolding line_follows follows
   line-rule rule left right extra answer a b c d u v h =
       record {
         left-known = λ z. omega arith;
@@ -120,21 +120,21 @@ module _ (concepts inclusions into ids assignment : List ℕ) (marks : List Bool
         tells = λ t of.
             let lu : ltb (left_at lines k) (count_of t.concepts) ≡ true
             = lt-ltb _ _ (subst (λ (z : List ℕ). left_at lines k < count_of z) (sym of.concepts-are) (omega arith)) in
-            let lv : ltb (rightAt lines k) (count_of t.concepts) ≡ true
-            = lt-ltb _ _ (subst (λ (z : List ℕ). rightAt lines k < count_of z) (sym of.concepts-are) (omega arith)) in
-            let q : byRule t assignment (seen (count_of concepts) marks) rule left right extra ≡ byRule t assignment (seen (count_of concepts) marks) (ruleAt lines k) (left_at lines k) (rightAt lines k) (extraAt lines k)
+            let lv : ltb (right_at lines k) (count_of t.concepts) ≡ true
+            = lt-ltb _ _ (subst (λ (z : List ℕ). right_at lines k < count_of z) (sym of.concepts-are) (omega arith)) in
+            let q : by_rule t assignment (seen (count_of concepts) marks) rule left right extra ≡ by_rule t assignment (seen (count_of concepts) marks) (rule_at lines k) (left_at lines k) (right_at lines k) (extra_at lines k)
             = cc in
             h t of ∙ q ∙ sym (both-skip _ _ lu ∙ both-skip _ _ lv)
-            ∙ follows_same t assignment (of-reads t concepts inclusions into ids assignment of r) (seen (count_of concepts) marks) (provedBy lines k)
+            ∙ follows_same t assignment (of-reads t concepts inclusions into ids assignment of r) (seen (count_of concepts) marks) (proved_by lines k)
             (λ i j l n. m.same i j (subst (λ (z : List ℕ). i < count_of z) of.concepts-are l) (subst (λ (z : List ℕ). j < count_of z) of.concepts-are n))
-            (ruleAt lines k) (left_at lines k) (rightAt lines k) (extraAt lines k);
+            (rule_at lines k) (left_at lines k) (right_at lines k) (extra_at lines k);
       }
 
 -- ---- all lines
 module _ (concepts inclusions into ids assignment lines : List ℕ) where
   -- the lines below k follow
   pub record Passed (k : ℕ) : Type 0 where
-    pub scan : (t : Tables) → Of t concepts inclusions into ids → Scan BadDerivation (λ k. not (lineFollows t assignment lines k)) (lines_of lines) k
+    pub scan : (t : Tables) → Of t concepts inclusions into ids → Scan BadDerivation (λ k. not (line_follows t assignment lines k)) (lines_of lines) k
 
   pub passed_none : Passed 0
   passed_none = record { scan = λ t of. scan-none _ _ _ }
@@ -145,11 +145,11 @@ module _ (concepts inclusions into ids assignment lines : List ℕ) where
   pub rules-broken :
       (k : ℕ) (answer : Bool) → Passed k → k < lines_of lines → LineTest concepts inclusions into ids assignment lines k answer → answer ≡ false
       → RulesTest concepts inclusions into ids assignment lines (Refused (BadDerivation k))
-  unfolding ruleFault
+  unfolding rule_fault
   rules-broken k answer p h test e = record { tells = λ t of. scan-found _ _ _ k (p.scan t of) h (ap not (sym (test.tells t of) ∙ e)) }
 
   pub rules-kept : (k : ℕ) → Passed k → lines_of lines ≤ k → RulesTest concepts inclusions into ids assignment lines Done
-  unfolding ruleFault
+  unfolding rule_fault
   rules-kept k p h = record { tells = λ t of. scan-done _ _ _ k (p.scan t of) h }
 
 -- ---- the accepted tables behind them
@@ -157,60 +157,60 @@ pub accepted-of : (t : Tables) (into ids : List ℕ) → Accepted t ids → Role
 accepted-of t into ids a s = record { concepts-are = refl; inclusions-are = refl; roles-are = s; atoms_are = sym a.listed }
 
 -- ---- the list as a whole
-pub shape-empty : (lines : List ℕ) → length lines ≡ 0 → Refused (BadDerivation 0) ≡ refuseIf (noLines lines) (BadDerivation 0)
-unfolding noLines
+pub shape-empty : (lines : List ℕ) → length lines ≡ 0 → Refused (BadDerivation 0) ≡ refuse_if (no_lines lines) (BadDerivation 0)
+unfolding no_lines
 shape-empty lines e = refused-if _ _ (or-first _ _ (eq-eqb _ _ e))
 
-pub shape-ragged : (lines : List ℕ) → (length lines % 4 ≡ 0 → ⊥) → Refused (BadDerivation 0) ≡ refuseIf (noLines lines) (BadDerivation 0)
-unfolding noLines
+pub shape-ragged : (lines : List ℕ) → (length lines % 4 ≡ 0 → ⊥) → Refused (BadDerivation 0) ≡ refuse_if (no_lines lines) (BadDerivation 0)
+unfolding no_lines
 shape-ragged lines h = refused-if _ _ (or-second _ _ (ap not (ne_eqb _ _ h)))
 
-pub shape-whole : (lines : List ℕ) → (length lines ≡ 0 → ⊥) → length lines % 4 ≡ 0 → Done ≡ refuseIf (noLines lines) (BadDerivation 0)
-unfolding noLines
+pub shape-whole : (lines : List ℕ) → (length lines ≡ 0 → ⊥) → length lines % 4 ≡ 0 → Done ≡ refuse_if (no_lines lines) (BadDerivation 0)
+unfolding no_lines
 shape-whole lines h e = done-if _ _ (or-skip _ _ (ne_eqb _ _ h) ∙ ap not (eq-eqb _ _ e))
 
-pub some-lines : (lines : List ℕ) → refuseIf (noLines lines) (BadDerivation 0) ≡ Done → 4 ≤ length lines
-unfolding noLines
+pub some-lines : (lines : List ℕ) → refuse_if (no_lines lines) (BadDerivation 0) ≡ Done → 4 ≤ length lines
+unfolding no_lines
 some-lines lines h = go (or-false (eqb (length lines) 0) (not (eqb (length lines % 4) 0)) (passed-if _ _ h))
   where
     go : (eqb (length lines) 0 ≡ false) × (not (eqb (length lines % 4) 0) ≡ false) → 4 ≤ length lines
     go w = omega (arith, eqb-true (length lines % 4) 0 (not-false _ w.1), eqb-false (length lines) 0 w.0)
 
 module _ (left right : ℕ) (lines : List ℕ) where
-  pub last-left : (left_at lines (lines_of lines - 1) ≡ left → ⊥) → Refused (BadDerivation (lines_of lines)) ≡ lastFault left right lines
-  unfolding lastFault
+  pub last-left : (left_at lines (lines_of lines - 1) ≡ left → ⊥) → Refused (BadDerivation (lines_of lines)) ≡ last_fault left right lines
+  unfolding last_fault
   last-left h = refused-if _ _ (ap not (pair_left lines left right (lines_of lines - 1) (λ e. h (sym e))))
 
-  pub last-right : left_at lines (lines_of lines - 1) ≡ left → (rightAt lines (lines_of lines - 1) ≡ right → ⊥) → Refused (BadDerivation (lines_of lines)) ≡ lastFault left right lines
-  unfolding lastFault
+  pub last-right : left_at lines (lines_of lines - 1) ≡ left → (right_at lines (lines_of lines - 1) ≡ right → ⊥) → Refused (BadDerivation (lines_of lines)) ≡ last_fault left right lines
+  unfolding last_fault
   last-right e h = refused-if _ _ (ap not (pair-right lines left right (lines_of lines - 1) (sym e) (λ e. h (sym e))))
 
-  pub last-both : left_at lines (lines_of lines - 1) ≡ left → rightAt lines (lines_of lines - 1) ≡ right → Done ≡ lastFault left right lines
-  unfolding lastFault
+  pub last-both : left_at lines (lines_of lines - 1) ≡ left → right_at lines (lines_of lines - 1) ≡ right → Done ≡ last_fault left right lines
+  unfolding last_fault
   last-both e f = done-if _ _ (ap not (pair_same lines left right (lines_of lines - 1) (sym e) (sym f)))
 
 -- the whole check, in its order
 pub pair-stops :
-    (t : Tables) (assignment : List ℕ) (left right : ℕ) (lines : List ℕ) (r : Refusal) → Refused r ≡ pairFault t left right
-    → Refused r ≡ checkingFault t assignment left right lines
-unfolding checkingFault decidingFault
+    (t : Tables) (assignment : List ℕ) (left right : ℕ) (lines : List ℕ) (r : Refusal) → Refused r ≡ pair_fault t left right
+    → Refused r ≡ checking_fault t assignment left right lines
+unfolding checking_fault deciding_fault
 pair-stops t assignment left right lines r e = stops (Refused r) _ _ r (stops (Refused r) _ _ r e refl) refl
 
-module _ (t : Tables) (assignment : List ℕ) (left right : ℕ) (lines : List ℕ) (w x y z : Outcome) (a : w ≡ decidingFault t assignment left right) where
-  pub asked-stops : (r : Refusal) → w ≡ Refused r → Refused r ≡ checkingFault t assignment left right lines
-  unfolding checkingFault
+module _ (t : Tables) (assignment : List ℕ) (left right : ℕ) (lines : List ℕ) (w x y z : Outcome) (a : w ≡ deciding_fault t assignment left right) where
+  pub asked-stops : (r : Refusal) → w ≡ Refused r → Refused r ≡ checking_fault t assignment left right lines
+  unfolding checking_fault
   asked-stops r e = stops _ _ _ r a e
 
-  module _ (f : w ≡ Done) (b : x ≡ refuseIf (noLines lines) (BadDerivation 0)) where
-    pub shape-stops : (r : Refusal) → x ≡ Refused r → Refused r ≡ checkingFault t assignment left right lines
-    unfolding checkingFault derivationFault
+  module _ (f : w ≡ Done) (b : x ≡ refuse_if (no_lines lines) (BadDerivation 0)) where
+    pub shape-stops : (r : Refusal) → x ≡ Refused r → Refused r ≡ checking_fault t assignment left right lines
+    unfolding checking_fault derivation_fault
     shape-stops r e = goes_on _ _ _ _ a f (stops _ _ _ r b e)
 
-    module _ (g : x ≡ Done) (c : y ≡ ruleFault t assignment lines) where
-      pub rules-stops : (r : Refusal) → y ≡ Refused r → Refused r ≡ checkingFault t assignment left right lines
-      unfolding checkingFault derivationFault
+    module _ (g : x ≡ Done) (c : y ≡ rule_fault t assignment lines) where
+      pub rules-stops : (r : Refusal) → y ≡ Refused r → Refused r ≡ checking_fault t assignment left right lines
+      unfolding checking_fault derivation_fault
       rules-stops r e = goes_on _ _ _ _ a f (goes_on _ _ _ _ b g (stops _ _ _ r c e))
 
-      pub last-decides : y ≡ Done → z ≡ lastFault left right lines → z ≡ checkingFault t assignment left right lines
-      unfolding checkingFault derivationFault
+      pub last-decides : y ≡ Done → z ≡ last_fault left right lines → z ≡ checking_fault t assignment left right lines
+      unfolding checking_fault derivation_fault
       last-decides h d = goes_on _ _ _ _ a f (goes_on _ _ _ _ b g (goes_on _ _ _ _ c h d))

@@ -9,11 +9,11 @@ use lib.Dec.{eqb, ltb}
 use lib.ListN.{length, get_or}
 use borrow.Author.Tests.{eqb-true, eq-eqb, ne_eqb, lt-ltb, le-ltb}
 use Rattle.subsumption.specs.declared.tables.Pair.{Pair}
-use Rattle.subsumption.specs.Tables.{or, both, andAt, decode, pairsOf, left_of, rightOf}
+use Rattle.subsumption.specs.Tables.{or, both, and_at, decode, pairs_of, left_of, right_of}
 use Rattle.subsumption.specs.Inner.Tables.{pair_of, Rising}
 use Rattle.subsumption.specs.Atoms.{bit, pick}
 use Rattle.subsumption.specs.Inner.Atoms.{Known}
-use Rattle.subsumption.specs.Rules.{every, contains, same_name, is_top, onPicked, onBoth, onInner, onVariable}
+use Rattle.subsumption.specs.Rules.{every, contains, same_name, is_top, on_picked, on_both, on_inner, on_variable}
 use Rattle.subsumption.proofs.Bools.{both-none, both-skip, last-cases}
 use Rattle.subsumption.proofs.Chosen.{pick-member, pick_intro}
 use Rattle.subsumption.proofs.RuleTests.{every-elim, every-intro, contains-elim, contains-intro}
@@ -73,11 +73,11 @@ module _ (k a b : ℕ) where
   unfolding decode
   and-rising count e h = subst (λ (z : ℕ). Rising count (decode z a b)) e h
 
-  pub member-none : (extra : ℕ) (test : ℕ → Bool) → (k ≡ 3 → ⊥) → false ≡ onPicked extra test (decode k a b)
-  unfolding decode onPicked
+  pub member-none : (extra : ℕ) (test : ℕ → Bool) → (k ≡ 3 → ⊥) → false ≡ on_picked extra test (decode k a b)
+  unfolding decode on_picked
   member-none extra test h = go k h
     where
-      go : (k : ℕ) → (k ≡ 3 → ⊥) → false ≡ onPicked extra test (decode k a b)
+      go : (k : ℕ) → (k ≡ 3 → ⊥) → false ≡ on_picked extra test (decode k a b)
       go zero h = refl
       go (suc zero) h = refl
       go (suc (suc zero)) h = refl
@@ -85,28 +85,28 @@ module _ (k a b : ℕ) where
       go (suc (suc (suc (suc zero)))) h = refl
       go (suc (suc (suc (suc (suc k))))) h = refl
 
-  pub member-first : (extra : ℕ) (test : ℕ → Bool) (r : Bool) → k ≡ 3 → extra ≡ 0 → r ≡ test a → r ≡ onPicked extra test (decode k a b)
-  unfolding decode onPicked
+  pub member-first : (extra : ℕ) (test : ℕ → Bool) (r : Bool) → k ≡ 3 → extra ≡ 0 → r ≡ test a → r ≡ on_picked extra test (decode k a b)
+  unfolding decode on_picked
   member-first extra test r e f h = rw (e, f) h
 
-  pub member-second : (extra : ℕ) (test : ℕ → Bool) (r : Bool) → k ≡ 3 → extra ≡ 1 → r ≡ test b → r ≡ onPicked extra test (decode k a b)
-  unfolding decode onPicked
+  pub member-second : (extra : ℕ) (test : ℕ → Bool) (r : Bool) → k ≡ 3 → extra ≡ 1 → r ≡ test b → r ≡ on_picked extra test (decode k a b)
+  unfolding decode on_picked
   member-second extra test r e f h = rw (e, f) h
 
-  pub member-past : (extra : ℕ) (test : ℕ → Bool) → k ≡ 3 → (extra ≡ 0 → ⊥) → (extra ≡ 1 → ⊥) → false ≡ onPicked extra test (decode k a b)
-  unfolding decode onPicked
+  pub member-past : (extra : ℕ) (test : ℕ → Bool) → k ≡ 3 → (extra ≡ 0 → ⊥) → (extra ≡ 1 → ⊥) → false ≡ on_picked extra test (decode k a b)
+  unfolding decode on_picked
   member-past extra test e f g = rw e (go extra f g)
     where
-      go : (extra : ℕ) → (extra ≡ 0 → ⊥) → (extra ≡ 1 → ⊥) → false ≡ onPicked extra test (andAt a b)
+      go : (extra : ℕ) → (extra ≡ 0 → ⊥) → (extra ≡ 1 → ⊥) → false ≡ on_picked extra test (and_at a b)
       go zero f g = absurd (f refl)
       go (suc zero) f g = absurd (g refl)
       go (suc (suc extra)) f g = refl
 
-  pub both-kind : (test : ℕ → Bool) → (k ≡ 3 → ⊥) → false ≡ onBoth test (decode k a b)
-  unfolding decode onBoth
+  pub both-kind : (test : ℕ → Bool) → (k ≡ 3 → ⊥) → false ≡ on_both test (decode k a b)
+  unfolding decode on_both
   both-kind test h = go k h
     where
-      go : (k : ℕ) → (k ≡ 3 → ⊥) → false ≡ onBoth test (decode k a b)
+      go : (k : ℕ) → (k ≡ 3 → ⊥) → false ≡ on_both test (decode k a b)
       go zero h = refl
       go (suc zero) h = refl
       go (suc (suc zero)) h = refl
@@ -114,21 +114,21 @@ module _ (k a b : ℕ) where
       go (suc (suc (suc (suc zero)))) h = refl
       go (suc (suc (suc (suc (suc k))))) h = refl
 
-  pub both-second : (test : ℕ → Bool) (x y : Bool) → k ≡ 3 → x ≡ test a → x ≡ true → y ≡ test b → y ≡ onBoth test (decode k a b)
-  unfolding decode onBoth
+  pub both-second : (test : ℕ → Bool) (x y : Bool) → k ≡ 3 → x ≡ test a → x ≡ true → y ≡ test b → y ≡ on_both test (decode k a b)
+  unfolding decode on_both
   both-second test x y e f g h = rw e (rw (both-skip (test a) (test b) (sym f ∙ g)) h)
 
-  pub both_first : (test : ℕ → Bool) (x : Bool) → k ≡ 3 → x ≡ test a → x ≡ false → false ≡ onBoth test (decode k a b)
-  unfolding decode onBoth
+  pub both_first : (test : ℕ → Bool) (x : Bool) → k ≡ 3 → x ≡ test a → x ≡ false → false ≡ on_both test (decode k a b)
+  unfolding decode on_both
   both_first test x e f g = rw e (rw (both-none (test a) (test b) (sym f ∙ g)) refl)
 
 -- ---- rule 5
 module _ (wide test : ℕ → ℕ → Bool) (lk la lb rk ra rb : ℕ) where
-  pub inner-left : (lk ≡ 2 → ⊥) → false ≡ onInner wide test (decode lk la lb) (decode rk ra rb)
-  unfolding decode onInner
+  pub inner-left : (lk ≡ 2 → ⊥) → false ≡ on_inner wide test (decode lk la lb) (decode rk ra rb)
+  unfolding decode on_inner
   inner-left h = go lk h
     where
-      go : (k : ℕ) → (k ≡ 2 → ⊥) → false ≡ onInner wide test (decode k la lb) (decode rk ra rb)
+      go : (k : ℕ) → (k ≡ 2 → ⊥) → false ≡ on_inner wide test (decode k la lb) (decode rk ra rb)
       go zero h = refl
       go (suc zero) h = refl
       go (suc (suc zero)) h = absurd (h refl)
@@ -136,11 +136,11 @@ module _ (wide test : ℕ → ℕ → Bool) (lk la lb rk ra rb : ℕ) where
       go (suc (suc (suc (suc zero)))) h = refl
       go (suc (suc (suc (suc (suc k))))) h = refl
 
-  pub inner-right : lk ≡ 2 → (rk ≡ 2 → ⊥) → false ≡ onInner wide test (decode lk la lb) (decode rk ra rb)
-  unfolding decode onInner
+  pub inner-right : lk ≡ 2 → (rk ≡ 2 → ⊥) → false ≡ on_inner wide test (decode lk la lb) (decode rk ra rb)
+  unfolding decode on_inner
   inner-right e h = rw e (go rk h)
     where
-      go : (k : ℕ) → (k ≡ 2 → ⊥) → false ≡ onInner wide test (decode 2 la lb) (decode k ra rb)
+      go : (k : ℕ) → (k ≡ 2 → ⊥) → false ≡ on_inner wide test (decode 2 la lb) (decode k ra rb)
       go zero h = refl
       go (suc zero) h = refl
       go (suc (suc zero)) h = absurd (h refl)
@@ -148,12 +148,12 @@ module _ (wide test : ℕ → ℕ → Bool) (lk la lb rk ra rb : ℕ) where
       go (suc (suc (suc (suc zero)))) h = refl
       go (suc (suc (suc (suc (suc k))))) h = refl
 
-  pub inner-role : (c : Bool) → lk ≡ 2 → rk ≡ 2 → c ≡ wide la ra → c ≡ false → false ≡ onInner wide test (decode lk la lb) (decode rk ra rb)
-  unfolding decode onInner both
+  pub inner-role : (c : Bool) → lk ≡ 2 → rk ≡ 2 → c ≡ wide la ra → c ≡ false → false ≡ on_inner wide test (decode lk la lb) (decode rk ra rb)
+  unfolding decode on_inner both
   inner-role c e f g h = rw (e, f, ← g, h)
 
-  pub inner-mark : (r c : Bool) → lk ≡ 2 → rk ≡ 2 → c ≡ wide la ra → c ≡ true → r ≡ test lb rb → r ≡ onInner wide test (decode lk la lb) (decode rk ra rb)
-  unfolding decode onInner both
+  pub inner-mark : (r c : Bool) → lk ≡ 2 → rk ≡ 2 → c ≡ wide la ra → c ≡ true → r ≡ test lb rb → r ≡ on_inner wide test (decode lk la lb) (decode rk ra rb)
+  unfolding decode on_inner both
   inner-mark r c e f g h k = rw (e, f, ← g, h) k
 
 pub exists-low : (k a b : ℕ) → k ≡ 2 → LowRole (decode k a b) → a < 100
@@ -166,27 +166,27 @@ exists-rising count k a b e h = subst (λ (z : ℕ). Rising count (decode z a b)
 
 -- ---- rule 6
 module _ (test : ℕ → ℕ → Bool) (inclusions : List ℕ) (left right extra : ℕ) where
-  pub inclusion-past : pairsOf inclusions ≤ extra → false ≡ both (ltb extra (pairsOf inclusions)) (both (test left (left_of inclusions extra)) (test (rightOf inclusions extra) right))
+  pub inclusion-past : pairs_of inclusions ≤ extra → false ≡ both (ltb extra (pairs_of inclusions)) (both (test left (left_of inclusions extra)) (test (right_of inclusions extra) right))
   unfolding both
-  inclusion-past h = rw (le-ltb extra (pairsOf inclusions) h)
+  inclusion-past h = rw (le-ltb extra (pairs_of inclusions) h)
 
   pub inclusion-second :
-      (pair : Pair) (x y : Bool) → extra < pairsOf inclusions → pair ≡ pair_of inclusions extra → x ≡ test left pair.left → x ≡ true → y ≡ test pair.right right
-      → y ≡ both (ltb extra (pairsOf inclusions)) (both (test left (left_of inclusions extra)) (test (rightOf inclusions extra) right))
+      (pair : Pair) (x y : Bool) → extra < pairs_of inclusions → pair ≡ pair_of inclusions extra → x ≡ test left pair.left → x ≡ true → y ≡ test pair.right right
+      → y ≡ both (ltb extra (pairs_of inclusions)) (both (test left (left_of inclusions extra)) (test (right_of inclusions extra) right))
   unfolding both
   inclusion-second pair x y h e f g k =
       let p : test left (left_of inclusions extra) ≡ true = ap (λ (z : Pair). test left z.left) (sym e) ∙ sym f ∙ g in
-      rw (lt-ltb extra (pairsOf inclusions) h, p) (k ∙ ap (λ (z : Pair). test z.right right) e)
+      rw (lt-ltb extra (pairs_of inclusions) h, p) (k ∙ ap (λ (z : Pair). test z.right right) e)
 
   pub inclusion-first :
-      (pair : Pair) (x : Bool) → extra < pairsOf inclusions → pair ≡ pair_of inclusions extra → x ≡ test left pair.left → x ≡ false
-      → false ≡ both (ltb extra (pairsOf inclusions)) (both (test left (left_of inclusions extra)) (test (rightOf inclusions extra) right))
+      (pair : Pair) (x : Bool) → extra < pairs_of inclusions → pair ≡ pair_of inclusions extra → x ≡ test left pair.left → x ≡ false
+      → false ≡ both (ltb extra (pairs_of inclusions)) (both (test left (left_of inclusions extra)) (test (right_of inclusions extra) right))
   unfolding both
   inclusion-first pair x h e f g =
       let p : test left (left_of inclusions extra) ≡ false = ap (λ (z : Pair). test left z.left) (sym e) ∙ sym f ∙ g in
-      rw (lt-ltb extra (pairsOf inclusions) h, p)
+      rw (lt-ltb extra (pairs_of inclusions) h, p)
 
-module _ (count : ℕ) (inclusions : List ℕ) (extra : ℕ) (pair : Pair) (known : Known count inclusions) (h : extra < pairsOf inclusions) (e : pair ≡ pair_of inclusions extra) where
+module _ (count : ℕ) (inclusions : List ℕ) (extra : ℕ) (pair : Pair) (known : Known count inclusions) (h : extra < pairs_of inclusions) (e : pair ≡ pair_of inclusions extra) where
   pub pair_left : pair.left < count
   pair_left = subst (λ (z : Pair). z.left < count) (sym e) (known.left-known extra h)
 
@@ -195,11 +195,11 @@ module _ (count : ℕ) (inclusions : List ℕ) (extra : ℕ) (pair : Pair) (know
 
 -- ---- rules 7 and 8
 module _ (k a b : ℕ) where
-  pub variable-none : (test : ℕ → Bool) → (k ≡ 4 → ⊥) → false ≡ onVariable test (decode k a b)
-  unfolding decode onVariable
+  pub variable-none : (test : ℕ → Bool) → (k ≡ 4 → ⊥) → false ≡ on_variable test (decode k a b)
+  unfolding decode on_variable
   variable-none test h = go k h
     where
-      go : (k : ℕ) → (k ≡ 4 → ⊥) → false ≡ onVariable test (decode k a b)
+      go : (k : ℕ) → (k ≡ 4 → ⊥) → false ≡ on_variable test (decode k a b)
       go zero h = refl
       go (suc zero) h = refl
       go (suc (suc zero)) h = refl
@@ -207,8 +207,8 @@ module _ (k a b : ℕ) where
       go (suc (suc (suc (suc zero)))) h = absurd (h refl)
       go (suc (suc (suc (suc (suc k))))) h = refl
 
-  pub variable-test : (test : ℕ → Bool) (r : Bool) → k ≡ 4 → r ≡ test a → r ≡ onVariable test (decode k a b)
-  unfolding decode onVariable
+  pub variable-test : (test : ℕ → Bool) (r : Bool) → k ≡ 4 → r ≡ test a → r ≡ on_variable test (decode k a b)
+  unfolding decode on_variable
   variable-test test r e h = rw e h
 
   pub variable-numbered : (assignment : List ℕ) → k ≡ 4 → Numbered assignment (decode k a b) → a < length assignment
@@ -276,18 +276,18 @@ marked-not ids choice test q x r l ne e f g =
 
 -- rule 7, once the row is a variable
 module _ (ids assignment : List ℕ) (proved : ℕ → ℕ → Bool) (count k a b right extra : ℕ) where
-  pub choice-none : (k ≡ 4 → ⊥) → false ≡ onVariable (λ v. both (contains extra (pick ids (get_or assignment v 0))) (proved extra right)) (decode k a b)
+  pub choice-none : (k ≡ 4 → ⊥) → false ≡ on_variable (λ v. both (contains extra (pick ids (get_or assignment v 0))) (proved extra right)) (decode k a b)
   choice-none h = variable-none k a b (λ v. both (contains extra (pick ids (get_or assignment v 0))) (proved extra right)) h
 
   pub choice-past :
-      KnownAtoms count ids → k ≡ 4 → count ≤ extra → false ≡ onVariable (λ v. both (contains extra (pick ids (get_or assignment v 0))) (proved extra right)) (decode k a b)
+      KnownAtoms count ids → k ≡ 4 → count ≤ extra → false ≡ on_variable (λ v. both (contains extra (pick ids (get_or assignment v 0))) (proved extra right)) (decode k a b)
   choice-past known e h = variable-test k a b (λ v. both (contains extra (pick ids (get_or assignment v 0))) (proved extra right)) false e (sym (both-none _ _ (sym none)))
     where
       none : false ≡ contains extra (pick ids (get_or assignment a 0))
       none = refuted _ (λ u. let c = pick-member ids (get_or assignment a 0) extra (contains-elim extra _ u) in absurd (omega (arith, known.atoms-known c.place c.known, c.here)))
 
   pub choice-unmarked :
-      (x : Bool) → k ≡ 4 → x ≡ proved extra right → x ≡ false → false ≡ onVariable (λ v. both (contains extra (pick ids (get_or assignment v 0))) (proved extra right)) (decode k a b)
+      (x : Bool) → k ≡ 4 → x ≡ proved extra right → x ≡ false → false ≡ on_variable (λ v. both (contains extra (pick ids (get_or assignment v 0))) (proved extra right)) (decode k a b)
   choice-unmarked x e f g = variable-test k a b (λ v. both (contains extra (pick ids (get_or assignment v 0))) (proved extra right)) false e (sym (both-last _ _ (sym f ∙ g)))
     where
       both-last : (u v : Bool) → v ≡ false → both u v ≡ false
@@ -296,7 +296,7 @@ module _ (ids assignment : List ℕ) (proved : ℕ → ℕ → Bool) (count k a 
 
   pub choice-chosen :
       (x y : Bool) → k ≡ 4 → x ≡ proved extra right → x ≡ true → y ≡ contains extra (pick ids (get_or assignment a 0))
-      → y ≡ onVariable (λ v. both (contains extra (pick ids (get_or assignment v 0))) (proved extra right)) (decode k a b)
+      → y ≡ on_variable (λ v. both (contains extra (pick ids (get_or assignment v 0))) (proved extra right)) (decode k a b)
   choice-chosen x y e f g h = variable-test k a b (λ v. both (contains extra (pick ids (get_or assignment v 0))) (proved extra right)) y e (h ∙ sym (both_right _ _ (sym f ∙ g)))
     where
       both_right : (u v : Bool) → v ≡ true → both u v ≡ u

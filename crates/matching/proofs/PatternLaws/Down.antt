@@ -5,7 +5,7 @@ use mathlib.Core.List.{List, Memᴰ}
 use mathlib.Core.Bool.{true}
 use mathlib.Core.Logic.{◌↔◌}
 use native.Mathlib.Omega.{arith}
-use Rattle.subsumption.specs.Tables.{Tables, existsAt, andAt, varAt, node, count_of}
+use Rattle.subsumption.specs.Tables.{Tables, exists_at, and_at, var_at, node, count_of}
 use Rattle.subsumption.specs.Atoms.{chosen}
 use Rattle.subsumption.specs.Roles.{wider}
 use Rattle.subsumption.specs.Subsumption.{assigned, Subsumed}
@@ -24,7 +24,7 @@ pub record LinkBy (t : Tables) (assignment : List ℕ) (P : ℕ → Type 0) (c r
   pub narrow : ℕ
   pub to : ℕ
   pub free : FreeId t by
-  pub link : node t.concepts by ≡ existsAt narrow to
+  pub link : node t.concepts by ≡ exists_at narrow to
   pub widened : wider t.roles narrow role ≡ true
   pub above : Subsumed t assignment c by
   pub inward : P to
@@ -38,10 +38,10 @@ module _ (t : Tables) (assignment : List ℕ) where
   data Down : ℕ → ℕ → Type 0 where
     down-free : (c b : ℕ) → FreeId t b → Subsumed t assignment c b → Down c b
     down-var :
-        (c b k : ℕ) → node t.concepts b ≡ varAt k → ((p : ℕ) → Memᴰ p (chosen t assignment k) → Subsumed t assignment c p) → Down c b
-    down-and : (c b i j : ℕ) → node t.concepts b ≡ andAt i j → Down c i → Down c j → Down c b
+        (c b k : ℕ) → node t.concepts b ≡ var_at k → ((p : ℕ) → Memᴰ p (chosen t assignment k) → Subsumed t assignment c p) → Down c b
+    down-and : (c b i j : ℕ) → node t.concepts b ≡ and_at i j → Down c i → Down c j → Down c b
     down-exists :
-        (c b r x e s d : ℕ) → node t.concepts b ≡ existsAt r x → FreeId t e → node t.concepts e ≡ existsAt s d → wider t.roles s r ≡ true
+        (c b r x e s d : ℕ) → node t.concepts b ≡ exists_at r x → FreeId t e → node t.concepts e ≡ exists_at s d → wider t.roles s r ≡ true
         → Subsumed t assignment c e → Down d x → Down c b
 
 module _ (t : Tables) (assignment : List ℕ) (wf : WellFormed t) where
@@ -61,7 +61,7 @@ module _ (t : Tables) (assignment : List ℕ) (wf : WellFormed t) where
 
   -- ---- by the row on the right
   down-members :
-      {c b : ℕ} (i j : ℕ) → FreeId t c → node t.concepts b ≡ andAt i j → Down t assignment c b → Down t assignment c i × Down t assignment c j
+      {c b : ℕ} (i j : ℕ) → FreeId t c → node t.concepts b ≡ and_at i j → Down t assignment c b → Down t assignment c i × Down t assignment c j
   down-members i j f e (down-free c b g s) = (
     down-free c i ((free-inward t wf).first b i j e g) (steps.first c b i j f.known g.known e s),
     down-free c j ((free-inward t wf).second b i j e g) (steps.second c b i j f.known g.known e s),
@@ -74,7 +74,7 @@ module _ (t : Tables) (assignment : List ℕ) (wf : WellFormed t) where
   down-members i j f e (down-exists c b r x a s d u g v w h p) = let z : ◌≡◌ {A = ℕ} 0 1 = cc in absurd (omega arith)
 
   down-chosen :
-      {c b : ℕ} (k : ℕ) → node t.concepts b ≡ varAt k → Down t assignment c b → (p : ℕ) → Memᴰ p (chosen t assignment k) → Subsumed t assignment c p
+      {c b : ℕ} (k : ℕ) → node t.concepts b ≡ var_at k → Down t assignment c b → (p : ℕ) → Memᴰ p (chosen t assignment k) → Subsumed t assignment c p
   down-chosen k e (down-free c b g s) = absurd (free-var t wf b k e g)
   down-chosen k e (down-var c b v u h) = let x : v ≡ k = cc in subst (λ (z : ℕ). (p : ℕ) → Memᴰ p (chosen t assignment z) → Subsumed t assignment c p) x h
   down-chosen k e (down-and c b i j u p q) = let z : ◌≡◌ {A = ℕ} 0 1 = cc in absurd (omega arith)
@@ -84,7 +84,7 @@ module _ (t : Tables) (assignment : List ℕ) (wf : WellFormed t) where
   DownLink c role inner = LinkBy t assignment (λ d. Down t assignment d inner) c role
 
   -- an existential without variables is its own link
-  down-link : {c b : ℕ} (r x : ℕ) → node t.concepts b ≡ existsAt r x → Down t assignment c b → DownLink c r x
+  down-link : {c b : ℕ} (r x : ℕ) → node t.concepts b ≡ exists_at r x → Down t assignment c b → DownLink c r x
   down-link r x e (down-free c b g s) =
       record {
         by = b;
@@ -113,7 +113,7 @@ module _ (t : Tables) (assignment : List ℕ) (wf : WellFormed t) where
       }
 
   linked-down :
-      (c b r s x y : ℕ) → node t.concepts b ≡ existsAt s y → wider t.roles r s ≡ true
+      (c b r s x y : ℕ) → node t.concepts b ≡ exists_at s y → wider t.roles r s ≡ true
       → ((d : ℕ) → FreeId t d → Down t assignment d x → Down t assignment d y) → DownLink c r x → Down t assignment c b
   linked-down c b r s x y e w h k =
       down-exists c b s y k.by k.narrow k.to e k.free k.link (wider-trans t.roles k.narrow r s k.widened w) k.above
@@ -146,17 +146,17 @@ module _ (t : Tables) (assignment : List ℕ) (wf : WellFormed t) where
 
   -- ---- what is subsumed, by the row on the right
   pub right-var :
-      (c b k : ℕ) → c < count_of t.concepts → b < count_of t.concepts → node t.concepts b ≡ varAt k
+      (c b k : ℕ) → c < count_of t.concepts → b < count_of t.concepts → node t.concepts b ≡ var_at k
       → Subsumed t assignment c b ↔ ((p : ℕ) → Memᴰ p (chosen t assignment k) → Subsumed t assignment c p)
   right-var c b k f l e = (λ s p m. steps.chooses c b k p f l e m s, steps.all-chosen c b k f l e)
 
   pub right-and :
-      (c b i j : ℕ) → c < count_of t.concepts → b < count_of t.concepts → node t.concepts b ≡ andAt i j
+      (c b i j : ℕ) → c < count_of t.concepts → b < count_of t.concepts → node t.concepts b ≡ and_at i j
       → Subsumed t assignment c b ↔ (Subsumed t assignment c i × Subsumed t assignment c j)
   right-and c b i j f l e = (λ s. (steps.first c b i j f l e s, steps.second c b i j f l e s), λ (p, q). steps.meet c b i j f l e p q)
 
   pub right-exists :
-      (c b r x : ℕ) → FreeId t c → b < count_of t.concepts → node t.concepts b ≡ existsAt r x → Subsumed t assignment c b
+      (c b r x : ℕ) → FreeId t c → b < count_of t.concepts → node t.concepts b ≡ exists_at r x → Subsumed t assignment c b
       → NotNot (RightLink t assignment c r x)
   right-exists c b r x f l e s never = down-complete c b f l s (λ d. never (right (down-link r x e d)))
     where
@@ -174,6 +174,6 @@ module _ (t : Tables) (assignment : List ℕ) (wf : WellFormed t) where
           }
 
   pub right-linked :
-      (c b r x : ℕ) → c < count_of t.concepts → b < count_of t.concepts → node t.concepts b ≡ existsAt r x → RightLink t assignment c r x
+      (c b r x : ℕ) → c < count_of t.concepts → b < count_of t.concepts → node t.concepts b ≡ exists_at r x → RightLink t assignment c r x
       → Subsumed t assignment c b
   right-linked c b r x f l e k = steps.linked c k.by b k.narrow r k.to x f k.free.known l k.link e k.widened k.inward k.above

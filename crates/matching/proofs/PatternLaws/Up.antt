@@ -4,7 +4,7 @@ use mathlib.Core.Path.{◌≡◌, refl, subst}
 use mathlib.Core.List.{List, Memᴰ}
 use mathlib.Core.Bool.{true}
 use native.Mathlib.Omega.{arith}
-use Rattle.subsumption.specs.Tables.{Tables, topAt, existsAt, andAt, varAt, node, count_of, left_of, rightOf}
+use Rattle.subsumption.specs.Tables.{Tables, top_at, exists_at, and_at, var_at, node, count_of, left_of, right_of}
 use Rattle.subsumption.specs.Atoms.{chosen}
 use Rattle.subsumption.specs.Roles.{wider}
 use Rattle.subsumption.specs.Subsumption.{assigned, Subsumed}
@@ -22,13 +22,13 @@ module _ (t : Tables) (assignment : List ℕ) where
   -- b is shown to be below c, going up from what b is made of
   data Up : ℕ → ℕ → Type 0 where
     up-free : (b c : ℕ) → FreeId t b → Subsumed t assignment b c → Up b c
-    up_top : (b c : ℕ) → node t.concepts c ≡ topAt → Up b c
-    up-var : (b k p : ℕ) → node t.concepts b ≡ varAt k → Memᴰ p (chosen t assignment k) → Up b p
-    up_first : (b i j c : ℕ) → node t.concepts b ≡ andAt i j → Up i c → Up b c
-    up_second : (b i j c : ℕ) → node t.concepts b ≡ andAt i j → Up j c → Up b c
+    up_top : (b c : ℕ) → node t.concepts c ≡ top_at → Up b c
+    up-var : (b k p : ℕ) → node t.concepts b ≡ var_at k → Memᴰ p (chosen t assignment k) → Up b p
+    up_first : (b i j c : ℕ) → node t.concepts b ≡ and_at i j → Up i c → Up b c
+    up_second : (b i j c : ℕ) → node t.concepts b ≡ and_at i j → Up j c → Up b c
     up-exists :
-        (b r x c s d : ℕ) → node t.concepts b ≡ existsAt r x → node t.concepts c ≡ existsAt s d → wider t.roles r s ≡ true → Up x d → Up b c
-    up-meet : (b c i j : ℕ) → node t.concepts c ≡ andAt i j → Up b i → Up b j → Up b c
+        (b r x c s d : ℕ) → node t.concepts b ≡ exists_at r x → node t.concepts c ≡ exists_at s d → wider t.roles r s ≡ true → Up x d → Up b c
+    up-meet : (b c i j : ℕ) → node t.concepts c ≡ and_at i j → Up b i → Up b j → Up b c
     up-on : (b c d : ℕ) → FreeId t c → Up b c → Subsumed t assignment c d → Up b d
 
 module _ (t : Tables) (assignment : List ℕ) (wf : WellFormed t) where
@@ -60,20 +60,20 @@ module _ (t : Tables) (assignment : List ℕ) (wf : WellFormed t) where
 
   -- ---- and holds, by its row,
   pub above-var :
-      (b k p : ℕ) → b < count_of t.concepts → node t.concepts b ≡ varAt k → Memᴰ p (chosen t assignment k) → Subsumed t assignment b p
+      (b k p : ℕ) → b < count_of t.concepts → node t.concepts b ≡ var_at k → Memᴰ p (chosen t assignment k) → Subsumed t assignment b p
   above-var b k p l e m = steps.chooses b b k p l l e m (same b)
 
   pub above-first :
-      (b i j c : ℕ) → b < count_of t.concepts → node t.concepts b ≡ andAt i j → Subsumed t assignment i c → Subsumed t assignment b c
+      (b i j c : ℕ) → b < count_of t.concepts → node t.concepts b ≡ and_at i j → Subsumed t assignment i c → Subsumed t assignment b c
   above-first b i j c l e = subsumed-trans t (assigned t assignment) b i c (steps.first b b i j l l e (same b))
 
   pub above-second :
-      (b i j c : ℕ) → b < count_of t.concepts → node t.concepts b ≡ andAt i j → Subsumed t assignment j c → Subsumed t assignment b c
+      (b i j c : ℕ) → b < count_of t.concepts → node t.concepts b ≡ and_at i j → Subsumed t assignment j c → Subsumed t assignment b c
   above-second b i j c l e = subsumed-trans t (assigned t assignment) b j c (steps.second b b i j l l e (same b))
 
   pub above-exists :
-      (b r x c s d : ℕ) → b < count_of t.concepts → c < count_of t.concepts → node t.concepts b ≡ existsAt r x
-      → node t.concepts c ≡ existsAt s d → wider t.roles r s ≡ true → Subsumed t assignment x d → Subsumed t assignment b c
+      (b r x c s d : ℕ) → b < count_of t.concepts → c < count_of t.concepts → node t.concepts b ≡ exists_at r x
+      → node t.concepts c ≡ exists_at s d → wider t.roles r s ≡ true → Subsumed t assignment x d → Subsumed t assignment b c
   above-exists b r x c s d l k e u w h = steps.linked b b c r s x d l l k e u w h (same b)
 
   up-sound : {b c : ℕ} → b < count_of t.concepts → FreeId t c → Up t assignment b c → Subsumed t assignment b c
@@ -91,7 +91,7 @@ module _ (t : Tables) (assignment : List ℕ) (wf : WellFormed t) where
   -- ---- an upper set that holds what a row brings holds all that is shown above it
   module _ (X : ℕ → Type 0) (upper : Upper t assignment X) where
     up-of-var :
-        {b c : ℕ} (k : ℕ) → node t.concepts b ≡ varAt k → ((p : ℕ) → Memᴰ p (chosen t assignment k) → X p) → FreeId t c → Up t assignment b c → X c
+        {b c : ℕ} (k : ℕ) → node t.concepts b ≡ var_at k → ((p : ℕ) → Memᴰ p (chosen t assignment k) → X p) → FreeId t c → Up t assignment b c → X c
     up-of-var k e h f (up-free b c g s) = absurd (free-var t wf b k e g)
     up-of-var k e h f (up_top b c u) = upper.tops c f u
     up-of-var k e h f (up-var b v p u m) = let x : v ≡ k = cc in h p (subst (λ (z : ℕ). Memᴰ p (chosen t assignment z)) x m)
@@ -103,7 +103,7 @@ module _ (t : Tables) (assignment : List ℕ) (wf : WellFormed t) where
     up-of-var k e h f (up-on b c d g o s) = upper.upward c d g f s (up-of-var k e h g o)
 
     up-of-and :
-        {b c : ℕ} (i j : ℕ) → node t.concepts b ≡ andAt i j → ((d : ℕ) → FreeId t d → Up t assignment i d → X d)
+        {b c : ℕ} (i j : ℕ) → node t.concepts b ≡ and_at i j → ((d : ℕ) → FreeId t d → Up t assignment i d → X d)
         → ((d : ℕ) → FreeId t d → Up t assignment j d → X d) → FreeId t c → Up t assignment b c → X c
     up-of-and i j e h k f (up-free b c g s) =
         let m = (free-inward t wf).first b i j e g in
@@ -119,8 +119,8 @@ module _ (t : Tables) (assignment : List ℕ) (wf : WellFormed t) where
     up-of-and i j e h k f (up-on b c d g o s) = upper.upward c d g f s (up-of-and i j e h k g o)
 
     up-of-exists :
-        {b c : ℕ} (r x : ℕ) → node t.concepts b ≡ existsAt r x
-        → ((a s d : ℕ) → FreeId t a → node t.concepts a ≡ existsAt s d → wider t.roles r s ≡ true → Up t assignment x d → X a)
+        {b c : ℕ} (r x : ℕ) → node t.concepts b ≡ exists_at r x
+        → ((a s d : ℕ) → FreeId t a → node t.concepts a ≡ exists_at s d → wider t.roles r s ≡ true → Up t assignment x d → X a)
         → FreeId t c → Up t assignment b c → X c
     up-of-exists r x e h f (up-free b c g s) = upper.upward b c g f s (h b r x g e (wider-refl t.roles r) (up_same x ((free-inward t wf).inner b r x e g)))
     up-of-exists r x e h f (up_top b c u) = upper.tops c f u
@@ -157,7 +157,7 @@ module _ (t : Tables) (assignment : List ℕ) (wf : WellFormed t) where
         second = λ i j a b li lj e h c f d. h c f (up_second j a b c e d);
         meet = λ i j a b li lj e h k c f. up-of-and (Up t assignment i) (up-upper i) a b e h k f;
         included = λ i m li lm.
-            passes_on i (left_of t.inclusions m) (rightOf t.inclusions m) (free-left t wf m lm) (free-right t wf m lm)
+            passes_on i (left_of t.inclusions m) (right_of t.inclusions m) (free-left t wf m lm) (free-right t wf m lm)
             (steps.included _ m (wf.left-known m lm) lm (same _));
         linked = λ i e b r s x y li le lb u v w h k c f d.
             k c f
@@ -177,12 +177,12 @@ module _ (t : Tables) (assignment : List ℕ) (wf : WellFormed t) where
   -- ---- an upper set that holds what a row brings holds all that is above it
   module _ (X : ℕ → Type 0) (upper : Upper t assignment X) (stable : (c : ℕ) → NotNot (X c) → X c) where
     pub left-var :
-        (b k : ℕ) → b < count_of t.concepts → node t.concepts b ≡ varAt k → ((p : ℕ) → Memᴰ p (chosen t assignment k) → X p)
+        (b k : ℕ) → b < count_of t.concepts → node t.concepts b ≡ var_at k → ((p : ℕ) → Memᴰ p (chosen t assignment k) → X p)
         → (c : ℕ) → FreeId t c → Subsumed t assignment b c → X c
     left-var b k l e h c f s = stable c (λ never. up-complete b c l f s (λ d. never (up-of-var X upper k e h f d)))
 
     pub left_and :
-        (b i j : ℕ) → b < count_of t.concepts → node t.concepts b ≡ andAt i j → ((d : ℕ) → FreeId t d → Subsumed t assignment i d → X d)
+        (b i j : ℕ) → b < count_of t.concepts → node t.concepts b ≡ and_at i j → ((d : ℕ) → FreeId t d → Subsumed t assignment i d → X d)
         → ((d : ℕ) → FreeId t d → Subsumed t assignment j d → X d) → (c : ℕ) → FreeId t c → Subsumed t assignment b c → X c
     left_and b i j l e h k c f s =
         stable c
@@ -194,8 +194,8 @@ module _ (t : Tables) (assignment : List ℕ) (wf : WellFormed t) where
         (λ a g u. k a g (up-sound ((known-inward t wf).second b i j e l) g u)) f d)))
 
     pub left-exists :
-        (b r x : ℕ) → b < count_of t.concepts → node t.concepts b ≡ existsAt r x
-        → ((a s d : ℕ) → FreeId t a → node t.concepts a ≡ existsAt s d → wider t.roles r s ≡ true → Subsumed t assignment x d → X a)
+        (b r x : ℕ) → b < count_of t.concepts → node t.concepts b ≡ exists_at r x
+        → ((a s d : ℕ) → FreeId t a → node t.concepts a ≡ exists_at s d → wider t.roles r s ≡ true → Subsumed t assignment x d → X a)
         → (c : ℕ) → FreeId t c → Subsumed t assignment b c → X c
     left-exists b r x l e h c f s =
         stable c

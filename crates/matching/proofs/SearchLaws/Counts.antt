@@ -10,16 +10,16 @@ use lib.Seq.{get_or-take, get_or-drop, length-take-le}
 use Rattle.subsumption.specs.declared.refusal.Outcome.TheVariants.{Done}
 use Rattle.subsumption.specs.Tables.{Tables}
 use Rattle.subsumption.specs.Atoms.{bit}
-use Rattle.subsumption.specs.Check.{tableFault}
+use Rattle.subsumption.specs.Check.{table_fault}
 use Rattle.subsumption.proofs.Bools.{le-or-lt}
 use Rattle.subsumption.proofs.Bits.{bit-of-zero}
-use Rattle.subsumption.proofs.Accepted.{wellFormed}
+use Rattle.subsumption.proofs.Accepted.{well_formed}
 use Rattle.settings.specs.Settings.{size}
 use Rattle.settings.specs.Inner.Counts.{Over, Counted, Reached, Clamped, KeptAt, NamedAt, Unclamped}
 use Rattle.settings.proofs.SizeLaws.{size-le, size-zero, size_same}
 use Rattle.matching.specs.Solving.{takes}
 use Rattle.matching.specs.Inner.Search.{Within, Meets, NoSolution}
-use Rattle.matching.specs.Inner.Search.Problem.{mostAt}
+use Rattle.matching.specs.Inner.Search.Problem.{most_at}
 use Rattle.matching.specs.Inner.Search.Interval.{IntervalOf, undecided}
 use Rattle.matching.specs.Inner.Search.Solve.{Refuted}
 use Rattle.matching.proofs.SearchLaws.Fronts.{front-known, front-takes, front-within, accepted-long, accepted-bits, within-accepted}
@@ -35,12 +35,12 @@ low-variable : (a : List ℕ) (k q : ℕ) → length a ≡ 8 → takes a k q ≡
 low-variable a k q e h = ⊎_elim (λ (l : 8 ≤ k). absurd (bit-of-zero q (same_bit _ _ q (past-none a k q e l) h))) (λ l. l) (le-or-lt 8 k)
 
 -- the counts that are lent are the problem's
-pub counts_same : (problem most : List ℕ) → most ≡ take 8 (drop 931 problem) → (k : ℕ) → k < 8 → get_or most k 0 ≡ mostAt problem k
+pub counts_same : (problem most : List ℕ) → most ≡ take 8 (drop 931 problem) → (k : ℕ) → k < 8 → get_or most k 0 ≡ most_at problem k
 counts_same problem most e k l = ap (λ (z : List ℕ). get_or z k 0) e ∙ get_or-take 8 (drop 931 problem) k 0 l ∙ get_or-drop 931 problem k 0
 
 -- ---- counts that are kept, and one that is not
-module _ (problem most low : List ℕ) (same : (k : ℕ) → k < 8 → get_or most k 0 ≡ mostAt problem k) where
-  pub few-front : (v : ℕ) → v ≤ 8 → Counted most low true → (k : ℕ) → size (get_or (take v low) k 0) ≤ mostAt problem k
+module _ (problem most low : List ℕ) (same : (k : ℕ) → k < 8 → get_or most k 0 ≡ most_at problem k) where
+  pub few-front : (v : ℕ) → v ≤ 8 → Counted most low true → (k : ℕ) → size (get_or (take v low) k 0) ≤ most_at problem k
   few-front v h f k =
       ⊎_elim
       (λ (l : v ≤ k). omega (arith, ap size (get_or-eq_default (take v low) 0 {n = k} (omega (arith, length-take v low))), size-zero))
@@ -105,7 +105,7 @@ module _ (t : Tables) (most low high inner : List ℕ) (i : IntervalOf t low hig
       }
 
 -- ---- the nogood of a clamped interval as one of the whole
-module _ (t : Tables) (h : tableFault t ≡ Done) (problem most full low high inner below above : List ℕ) (same : (k : ℕ) → k < 8 → get_or most k 0 ≡ mostAt problem k)
+module _ (t : Tables) (h : table_fault t ≡ Done) (problem most full low high inner below above : List ℕ) (same : (k : ℕ) → k < 8 → get_or most k 0 ≡ most_at problem k)
     (i : IntervalOf t low high) (j : IntervalOf t high full) (c : Clamped most low high inner) (r : Refuted t problem low inner below above) (low₁ high₁ : List ℕ)
     (u : Unclamped full low high inner below above low₁ high₁) where
   -- where the nogood is about the low side's choice, a solution takes no more
@@ -144,15 +144,15 @@ module _ (t : Tables) (h : tableFault t ≡ Done) (problem most full low high in
               b.above k q
               (front-takes t.variables low₁ k q l
               (⊎_elim (λ (y : KeptAt high inner below above low₁ high₁ k). same_bit _ _ q (sym y.low_same) x)
-              (λ (y : NamedAt full low high inner low₁ high₁ k). same_bit _ _ q (sym y.low-named) (r.above k q x)) (u.each k (omega (arith, (wellFormed t h).few-variables)))))
+              (λ (y : NamedAt full low high inner low₁ high₁ k). same_bit _ _ q (sym y.low-named) (r.above k q x)) (u.each k (omega (arith, (well_formed t h).few-variables)))))
 
           under : Within other (take t.variables above)
           under k q e =
               let (l, x) = front-known t.variables high₁ k q (b.below k q e) in
-              let l' : q < 64 = omega (arith, (wellFormed t h).few-atoms, (accepted-bits t other a k q e).1) in
+              let l' : q < 64 = omega (arith, (well_formed t h).few-atoms, (accepted-bits t other a k q e).1) in
               front-takes t.variables above k q l
               (⊎_elim (λ (y : KeptAt high inner below above low₁ high₁ k). same_bit _ _ q y.high_same x)
               (λ (y : NamedAt full low high inner low₁ high₁ k).
-              no_more other k q (omega (arith, (wellFormed t h).few-variables)) l' y m
+              no_more other k q (omega (arith, (well_formed t h).few-variables)) l' y m
               (λ p z. b.above k p (front-takes t.variables low₁ k p l (same_bit _ _ p (sym y.low-named) z))) e)
-              (u.each k (omega (arith, (wellFormed t h).few-variables))))
+              (u.each k (omega (arith, (well_formed t h).few-variables))))

@@ -16,7 +16,7 @@ use Rattle.subsumption.specs.declared.refusal.Outcome.TheVariants.{Done}
 use Rattle.subsumption.specs.declared.refusal.Refusal.TheVariants.{BadAssignment}
 use Rattle.subsumption.specs.Tables.{Tables}
 use Rattle.subsumption.specs.Atoms.{atoms, bit}
-use Rattle.subsumption.specs.Check.{assignmentFaultAt, assignmentFault}
+use Rattle.subsumption.specs.Check.{assignment_fault_at, assignment_fault}
 use Rattle.subsumption.proofs.Bools.{le-or-lt}
 use Rattle.subsumption.proofs.Bits.{bit-of-zero, bit-shr}
 use Rattle.subsumption.proofs.Refusals.{passed_first, passed-second, passed-if, passed-at}
@@ -78,13 +78,13 @@ front-within v a b w k q e = let (l, x) = front-known v a k q e in front-takes v
 
 -- ---- accepted assignments
 module _ (t : Tables) (assignment : List ℕ) where
-  module _ (h : assignmentFault t assignment ≡ Done) where
+  module _ (h : assignment_fault t assignment ≡ Done) where
     pub accepted-long : length assignment ≡ t.variables
-    unfolding assignmentFault assignmentFaultAt
+    unfolding assignment_fault assignment_fault_at
     accepted-long = eqb-true _ _ (not-false _ (passed-if _ _ (passed_first _ _ h)))
 
     pub accepted-below : (k : ℕ) → k < t.variables → get_or assignment k 0 < 2 ^ length (atoms t)
-    unfolding assignmentFault assignmentFaultAt
+    unfolding assignment_fault assignment_fault_at
     accepted-below k l =
         ltb-true _ _ (not-false _ (passed-at _ (λ j. not (ltb (get_or assignment j 0) (2 ^ length (atoms t)))) 0 _ (passed-second _ _ h) k (omega arith) (omega arith)))
 
@@ -95,8 +95,8 @@ module _ (t : Tables) (assignment : List ℕ) where
         (λ l. (l, bit_below (get_or assignment k 0) _ q (accepted-below k l) e))
         (le-or-lt t.variables k)
 
-  pub accept : length assignment ≡ t.variables → ((k : ℕ) → k < t.variables → get_or assignment k 0 < 2 ^ length (atoms t)) → assignmentFault t assignment ≡ Done
-  unfolding assignmentFault
+  pub accept : length assignment ≡ t.variables → ((k : ℕ) → k < t.variables → get_or assignment k 0 < 2 ^ length (atoms t)) → assignment_fault t assignment ≡ Done
+  unfolding assignment_fault
   accept e f = sym (right-count (length (atoms t)) t.variables assignment Done e (scan-done _ _ _ t.variables (scan t.variables (omega arith)) (omega arith)))
     where
       at : (k : ℕ) → k < t.variables → not (ltb (get_or assignment k 0) (2 ^ length (atoms t))) ≡ false
@@ -107,10 +107,10 @@ module _ (t : Tables) (assignment : List ℕ) where
       scan (suc i) l = subst (Scan BadAssignment (λ k. not (ltb (get_or assignment k 0) (2 ^ length (atoms t)))) t.variables) (add-one i) (scan-more _ _ _ i (scan i (omega arith)) (omega arith) (at i (omega arith)))
 
 -- what takes no more than an accepted one is accepted
-pub within-accepted : (t : Tables) (a b : List ℕ) → assignmentFault t b ≡ Done → length a ≡ t.variables → Within a b → assignmentFault t a ≡ Done
+pub within-accepted : (t : Tables) (a b : List ℕ) → assignment_fault t b ≡ Done → length a ≡ t.variables → Within a b → assignment_fault t a ≡ Done
 within-accepted t a b h e w = accept t a e (λ k l. below-bits (get_or a k 0) _ (λ q x. (accepted-bits t b h k q (w k q x)).1))
 
 -- accepted ones that take the same are equal
-pub same_taken : (t : Tables) (a b : List ℕ) → assignmentFault t a ≡ Done → assignmentFault t b ≡ Done → ((k q : ℕ) → takes a k q ≡ takes b k q) → a ≡ b
+pub same_taken : (t : Tables) (a b : List ℕ) → assignment_fault t a ≡ Done → assignment_fault t b ≡ Done → ((k q : ℕ) → takes a k q ≡ takes b k q) → a ≡ b
 same_taken t a b h l e =
     ext_get_or 0 a b (accepted-long t a h ∙ sym (accepted-long t b l)) (λ k _. same_bits (get_or a k 0) (get_or b k 0) (e k))

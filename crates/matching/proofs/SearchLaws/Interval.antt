@@ -8,17 +8,17 @@ use native.Mathlib.Omega.{arith}
 use lib.ListN.{length, take}
 use lib.Seq.{length-take-le}
 use Rattle.subsumption.specs.declared.refusal.Outcome.TheVariants.{Done}
-use Rattle.subsumption.specs.Tables.{Tables, pairsOf, rightOf, tree, hasVariable}
+use Rattle.subsumption.specs.Tables.{Tables, pairs_of, right_of, tree, has_variable}
 use Rattle.subsumption.specs.Table.{counted}
-use Rattle.subsumption.specs.Check.{tableFault, assignmentFault}
+use Rattle.subsumption.specs.Check.{table_fault, assignment_fault}
 use Rattle.subsumption.proofs.Bools.{both_true, both-intro, eq-or-ne}
 use Rattle.subsumption.proofs.MarkLaws.{counted-less}
-use Rattle.subsumption.proofs.Accepted.{wellFormed}
+use Rattle.subsumption.proofs.Accepted.{well_formed}
 use Rattle.matching.specs.Solving.{takes}
 use Rattle.matching.specs.Inner.Search.{Decided, HoldsAt, Within, SolutionIn, NoSolution}
 use Rattle.matching.specs.Inner.Search.Problem.{AskedAt}
 use Rattle.matching.specs.Inner.Search.Pairs.{Changed}
-use Rattle.matching.specs.Inner.Search.Interval.{IntervalOf, undecided, openPairs, Picked}
+use Rattle.matching.specs.Inner.Search.Interval.{IntervalOf, undecided, open_pairs, Picked}
 use Rattle.matching.specs.Inner.Search.Solve.{Refuted}
 use Rattle.matching.specs.declared.search.interval.Pick.{Pick}
 use Rattle.matching.specs.declared.search.interval.Pick.TheVariants.{At, Nothing}
@@ -65,8 +65,8 @@ module _ (before after : List ℕ) (k q : ℕ) where
 
 -- ---- splitting, whatever the tables
 module _ (low high : List ℕ) (p : ℕ) (l : p < 512) (u : undecided low high p ≡ true) where
-  pub take_less : (low₂ high₂ : List ℕ) → high₂ ≡ high → Changed low low₂ (p / 64) (p % 64) true → openPairs low₂ high₂ < openPairs low high
-  unfolding openPairs
+  pub take_less : (low₂ high₂ : List ℕ) → high₂ ≡ high → Changed low low₂ (p / 64) (p % 64) true → open_pairs low₂ high₂ < open_pairs low high
+  unfolding open_pairs
   take_less low₂ high₂ e c =
       subst (λ (z : List ℕ). counted (undecided low₂ z) 512 < counted (undecided low high) 512) (sym e)
       (counted-less _ _ 512 p l decided u more)
@@ -85,8 +85,8 @@ module _ (low high : List ℕ) (p : ℕ) (l : p < 512) (u : undecided low high p
           go true y = absurd (true≢false (sym (grown low low₂ _ _ c _ _ y) ∙ open-low low₂ high q x))
           go false y = y
 
-  pub leave-less : (low₁ high₁ : List ℕ) → low₁ ≡ low → Changed high high₁ (p / 64) (p % 64) false → openPairs low₁ high₁ < openPairs low high
-  unfolding openPairs
+  pub leave-less : (low₁ high₁ : List ℕ) → low₁ ≡ low → Changed high high₁ (p / 64) (p % 64) false → open_pairs low₁ high₁ < open_pairs low high
+  unfolding open_pairs
   leave-less low₁ high₁ e c =
       subst (λ (z : List ℕ). counted (undecided z high₁) 512 < counted (undecided low high) 512) (sym e)
       (counted-less _ _ 512 p l decided u more)
@@ -102,24 +102,24 @@ module _ (low high : List ℕ) (p : ℕ) (l : p < 512) (u : undecided low high p
       more q m x = open-intro low high q (shrunk high high₁ _ _ c _ _ (open-high low high₁ q x)) (open-low low high₁ q x)
 
 -- ---- tests of an interval
-module _ (t : Tables) (h : tableFault t ≡ Done) where
-  module _ (problem low high : List ℕ) (m : ℕ) (l : m < pairsOf t.questions) (x : AskedAt problem m) where
+module _ (t : Tables) (h : table_fault t ≡ Done) where
+  module _ (problem low high : List ℕ) (m : ℕ) (l : m < pairs_of t.questions) (x : AskedAt problem m) where
     -- an asked question with a variable on the right that fails at the low side
     pub low-shuts :
-        hasVariable (tree t.concepts (rightOf t.questions m)) ≡ true → (HoldsAt t (take t.variables low) m → ⊥) → NoSolution t problem low high
-    low-shuts e n other a b s = n (antitone t (wellFormed t h) _ other b.above _ _ (left-free t h m l e) (s.solves m l x))
+        has_variable (tree t.concepts (right_of t.questions m)) ≡ true → (HoldsAt t (take t.variables low) m → ⊥) → NoSolution t problem low high
+    low-shuts e n other a b s = n (antitone t (well_formed t h) _ other b.above _ _ (left-free t h m l e) (s.solves m l x))
 
     -- another one that fails at the high side
     pub high-shuts :
-        hasVariable (tree t.concepts (rightOf t.questions m)) ≡ false → (HoldsAt t (take t.variables high) m → ⊥) → NoSolution t problem low high
-    high-shuts e n other a b s = n (monotone t (wellFormed t h) other _ b.below _ _ e (s.solves m l x))
+        has_variable (tree t.concepts (right_of t.questions m)) ≡ false → (HoldsAt t (take t.variables high) m → ⊥) → NoSolution t problem low high
+    high-shuts e n other a b s = n (monotone t (well_formed t h) other _ b.below _ _ e (s.solves m l x))
 
   module _ (low high : List ℕ) where
     module _ (i : IntervalOf t low high) where
       pub low_fits : t.variables ≤ length low
-      low_fits = omega (arith, i.low-long, (wellFormed t h).few-variables)
+      low_fits = omega (arith, i.low-long, (well_formed t h).few-variables)
 
-      pub low-accepted : assignmentFault t (take t.variables low) ≡ Done
+      pub low-accepted : assignment_fault t (take t.variables low) ≡ Done
       low-accepted = within-accepted t _ _ i.accepted (length-take-le _ low low_fits) (front-within t.variables low high i.ordered)
 
       -- nothing is undecided: what shuts the low side shuts the interval
@@ -137,7 +137,7 @@ module _ (t : Tables) (h : tableFault t ≡ Done) where
           back k q e =
               let (l, x) = front-known t.variables high k q (b.below k q e) in
               let (m, n) = accepted-bits t other a k q e in
-              front-takes t.variables high₁ k q l (r.below k q (go (takes low k q) refl x (omega (arith, (wellFormed t h).few-variables)) (omega (arith, (wellFormed t h).few-atoms))))
+              front-takes t.variables high₁ k q l (r.below k q (go (takes low k q) refl x (omega (arith, (well_formed t h).few-variables)) (omega (arith, (well_formed t h).few-atoms))))
             where
               go : (b : Bool) → takes low k q ≡ b → takes high k q ≡ true → k < 8 → q < 64 → takes low k q ≡ true
               go true f x a b = f
@@ -180,7 +180,7 @@ module _ (t : Tables) (h : tableFault t ≡ Done) where
                 low-long = i.low-long;
                 high-long = c.long;
                 accepted =
-                    within-accepted t _ _ i.accepted (length-take-le _ high₁ (omega (arith, c.long, (wellFormed t h).few-variables)))
+                    within-accepted t _ _ i.accepted (length-take-le _ high₁ (omega (arith, c.long, (well_formed t h).few-variables)))
                     (front-within t.variables high₁ high (shrunk high high₁ _ _ c));
                 ordered =
                     λ k q x.

@@ -5,12 +5,12 @@ use mathlib.Core.Path.{◌≡◌, refl, sym, ◌∙◌}
 use mathlib.Core.List.{List, Memᴰ}
 use mathlib.Core.Bool.{Bool, true, false, true≢false}
 use Rattle.subsumption.specs.declared.refusal.Outcome.TheVariants.{Done}
-use Rattle.subsumption.specs.Tables.{Tables, pairsOf, left_of, rightOf, tree, hasVariable}
+use Rattle.subsumption.specs.Tables.{Tables, pairs_of, left_of, right_of, tree, has_variable}
 use Rattle.subsumption.specs.Atoms.{atoms, chosen}
 use Rattle.subsumption.specs.Subsumption.{Interpretation, assigned, Subsumed}
-use Rattle.subsumption.specs.Check.{tableFault}
+use Rattle.subsumption.specs.Check.{table_fault}
 use Rattle.subsumption.proofs.Bools.{both-intro}
-use Rattle.subsumption.proofs.Accepted.{wellFormed}
+use Rattle.subsumption.proofs.Accepted.{well_formed}
 use Rattle.subsumption.proofs.WellFormed.{WellFormed}
 use Rattle.subsumption.proofs.Inward.{Ground}
 use Rattle.subsumption.proofs.Chosen.{pick-member, pick_intro}
@@ -44,10 +44,10 @@ module _ (t : Tables) (wf : WellFormed t) (α β : List ℕ) (larger : Larger α
 
 -- a question whose right side holds a variable has a ground left side
 pub left-free :
-    (t : Tables) → tableFault t ≡ Done → (m : ℕ) → m < pairsOf t.questions → hasVariable (tree t.concepts (rightOf t.questions m)) ≡ true
-    → hasVariable (tree t.concepts (left_of t.questions m)) ≡ false
-left-free t h m l e = go (hasVariable (tree t.concepts (left_of t.questions m))) refl
+    (t : Tables) → table_fault t ≡ Done → (m : ℕ) → m < pairs_of t.questions → has_variable (tree t.concepts (right_of t.questions m)) ≡ true
+    → has_variable (tree t.concepts (left_of t.questions m)) ≡ false
+left-free t h m l e = go (has_variable (tree t.concepts (left_of t.questions m))) refl
   where
-    go : (b : Bool) → hasVariable (tree t.concepts (left_of t.questions m)) ≡ b → hasVariable (tree t.concepts (left_of t.questions m)) ≡ false
-    go true x = absurd (true≢false (sym (both-intro _ _ x e) ∙ (wellFormed t h).one-sided m l))
+    go : (b : Bool) → has_variable (tree t.concepts (left_of t.questions m)) ≡ b → has_variable (tree t.concepts (left_of t.questions m)) ≡ false
+    go true x = absurd (true≢false (sym (both-intro _ _ x e) ∙ (well_formed t h).one-sided m l))
     go false x = x

@@ -8,15 +8,15 @@ use native.Mathlib.Omega.{arith}
 use lib.ListN.{length, get_or, take}
 use lib.Seq.{length-take-le}
 use Rattle.subsumption.specs.declared.refusal.Outcome.TheVariants.{Done}
-use Rattle.subsumption.specs.Tables.{Tables, pairsOf, rightOf, tree, hasVariable}
+use Rattle.subsumption.specs.Tables.{Tables, pairs_of, right_of, tree, has_variable}
 use Rattle.subsumption.specs.Atoms.{bit}
-use Rattle.subsumption.specs.Check.{tableFault, assignmentFault}
+use Rattle.subsumption.specs.Check.{table_fault, assignment_fault}
 use Rattle.subsumption.proofs.Bits.{bit-of-zero}
-use Rattle.subsumption.proofs.Accepted.{wellFormed}
+use Rattle.subsumption.proofs.Accepted.{well_formed}
 use Rattle.matching.specs.Solving.{takes}
 use Rattle.matching.specs.Among.{SolvesAmong}
 use Rattle.matching.specs.Inner.Search.{Decided, HoldsAt, Within}
-use Rattle.matching.specs.Inner.Search.Problem.{Problem, held_at, rightAt, questionCount, AskedAt}
+use Rattle.matching.specs.Inner.Search.Problem.{Problem, held_at, right_at, question_count, AskedAt}
 use Rattle.matching.specs.Inner.Search.Pairs.{Changed}
 use Rattle.matching.specs.Inner.Search.Patterns.{Tested}
 use Rattle.matching.specs.Inner.Search.Sets.{NextBit}
@@ -25,8 +25,8 @@ use Rattle.matching.proofs.SearchLaws.Fronts.{front-known, front-takes, front-wi
 use Rattle.matching.proofs.SearchLaws.Monotone.{left-free, antitone}
 use Rattle.matching.proofs.SearchLaws.Interval.{at_pair, grown-cases, shrunk, shrunk-cases}
 
-front_long : (t : Tables) → tableFault t ≡ Done → (a : List ℕ) → length a ≡ 8 → length (take t.variables a) ≡ t.variables
-front_long t h a e = length-take-le _ a (omega (arith, e, (wellFormed t h).few-variables))
+front_long : (t : Tables) → table_fault t ≡ Done → (a : List ℕ) → length a ≡ 8 → length (take t.variables a) ≡ t.variables
+front_long t h a e = length-take-le _ a (omega (arith, e, (well_formed t h).few-variables))
 
 -- ---- one step after another
 pub narrowed_none : (sets problem full : List ℕ) → Narrowed sets problem full full
@@ -43,27 +43,27 @@ narrowed-more sets problem a b c long x y t k h = record { fewer = λ l r e. p.f
     q = y t k (within-accepted t _ _ h (front_long t k.passed b long) (front-within t.variables b a p.fewer))
 
 -- ---- a pair that fails alone
-module _ (sets problem : List ℕ) (m k q : ℕ) (low : m < questionCount problem) (asked : AskedAt problem m) (right : held_at problem (rightAt problem m) ≡ true)
+module _ (sets problem : List ℕ) (m k q : ℕ) (low : m < question_count problem) (asked : AskedAt problem m) (right : held_at problem (right_at problem m) ≡ true)
     (none alone : List ℕ) (zeros : (l : ℕ) → get_or none l 0 ≡ 0) (one : Changed none alone k q true)
     (b : Bool) (d : Tested sets problem m alone b) (e : b ≡ false) where
   module _ (t : Tables) (c : Problem t sets problem) where
-    known : m < pairsOf t.questions
+    known : m < pairs_of t.questions
     known = omega (arith, low, c.questions)
 
-    right-held : hasVariable (tree t.concepts (rightOf t.questions m)) ≡ true
+    right-held : has_variable (tree t.concepts (right_of t.questions m)) ≡ true
     right-held =
-        sym (c.held _ ((wellFormed t c.passed).question-right m known)) ∙ ap (held_at problem) (sym (c.right m known)) ∙ right
+        sym (c.held _ ((well_formed t c.passed).question-right m known)) ∙ ap (held_at problem) (sym (c.right m known)) ∙ right
 
     alone-within : (other : List ℕ) → takes other k q ≡ true → Within (take t.variables alone) other
     alone-within other x l r w =
         ⊎_elim (λ y. at_pair other l r k q true y x) (λ y. absurd (bit-of-zero r (subst (λ (z : ℕ). bit z r ≡ true) (zeros l) y)))
         (grown-cases none alone k q one l r (front-known t.variables alone l r w).1)
 
-    pub not_taken : (other : List ℕ) → assignmentFault t other ≡ Done → SolvesAmong (AskedAt problem) t other → takes other k q ≡ true → ⊥
+    pub not_taken : (other : List ℕ) → assignment_fault t other ≡ Done → SolvesAmong (AskedAt problem) t other → takes other k q ≡ true → ⊥
     not_taken other a s x =
         subst (Decided (HoldsAt t (take t.variables alone) m)) e
         (d t c (within-accepted t _ other a (front_long t c.passed alone one.long) (alone-within other x)) known)
-        (antitone t (wellFormed t c.passed) _ other (alone-within other x) _ _ (left-free t c.passed m known right-held) (s m known asked))
+        (antitone t (well_formed t c.passed) _ other (alone-within other x) _ _ (left-free t c.passed m known right-held) (s m known asked))
 
   pub narrowed-pair : (high fewer : List ℕ) → Changed high fewer k q false → Narrowed sets problem high fewer
   narrowed-pair high fewer x t c h =

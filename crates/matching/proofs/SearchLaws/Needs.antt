@@ -9,11 +9,11 @@ use lib.Bits.{bit_and, bit_or, bit_xor}
 use lib.ListN.{length, get_or, set, take, replicate, length-set, get_or-replicate, get_or-eq_default}
 use lib.Seq.{get_or-set_same, get_or-set_other}
 use Rattle.subsumption.specs.declared.refusal.Outcome.TheVariants.{Done}
-use Rattle.subsumption.specs.Tables.{Tables, both, anyBelow}
+use Rattle.subsumption.specs.Tables.{Tables, both, any_below}
 use Rattle.subsumption.specs.Atoms.{bit}
 use Rattle.subsumption.specs.Table.{counted}
-use Rattle.subsumption.specs.Check.{assignmentFault}
-use Rattle.subsumption.proofs.Bools.{eq-or-ne, le-or-lt, or_cases, or-first, or-second, both_true, both-intro, both-second, anyBelow-intro, anyBelow-elim}
+use Rattle.subsumption.specs.Check.{assignment_fault}
+use Rattle.subsumption.proofs.Bools.{eq-or-ne, le-or-lt, or_cases, or-first, or-second, both_true, both-intro, both-second, any_below-intro, any_below-elim}
 use Rattle.subsumption.proofs.Bits.{bit-and, bit_or_left, bit_or_right, bit-of-zero}
 use Rattle.subsumption.proofs.MarkLaws.{counted-le, counted-less}
 use Rattle.square.proofs.BitLaws.{lacking}
@@ -21,10 +21,10 @@ use Rattle.settings.specs.Settings.{size}
 use Rattle.settings.proofs.SizeLaws.{size-most}
 use Rattle.matching.specs.Solving.{takes}
 use Rattle.matching.specs.Inner.Search.{Decided, Within, Between, Meets}
-use Rattle.matching.specs.Inner.Search.Problem.{mostAt}
+use Rattle.matching.specs.Inner.Search.Problem.{most_at}
 use Rattle.matching.specs.Inner.Search.Pairs.{Joined, Met}
 use Rattle.matching.specs.Inner.Search.Interval.{IntervalOf}
-use Rattle.matching.specs.Inner.Search.Nogoods.{used, lowAt, highAt, Nogoods}
+use Rattle.matching.specs.Inner.Search.Nogoods.{used, low_at, high_at, Nogoods}
 use Rattle.matching.specs.Inner.Search.Needs.{Need, NeedAt, Kept, WantedOver}
 use Rattle.matching.proofs.SearchLaws.Fronts.{bit_below, front-known, front-takes}
 use Rattle.matching.proofs.SearchLaws.Nogoods.{words-at}
@@ -36,16 +36,16 @@ module _ (store : List ℕ) (c : ℕ) (high low : List ℕ) (k met : ℕ) where
   outside = bit_xor (bit_or (get_or store (c * 16 + 9 + k) 0) (get_or high k 0)) (get_or store (c * 16 + 9 + k) 0)
 
   module _ (h : k < 8) (clear : bit_and outside met ≡ 0) where
-    found : Within (lowAt store c) low → Within (set high k 0) (highAt store c) → Need store c high low k met outside
+    found : Within (low_at store c) low → Within (set high k 0) (high_at store c) → Need store c high low k met outside
     found above others = record { above = above; wants = wants; fresh = fresh }
       where
-        wants : (l q : ℕ) → takes high l q ≡ true → (takes (highAt store c) l q ≡ true) ⊎ ((l ≡ k) × (bit outside q ≡ true))
+        wants : (l q : ℕ) → takes high l q ≡ true → (takes (high_at store c) l q ≡ true) ⊎ ((l ≡ k) × (bit outside q ≡ true))
         wants l q e =
             ⊎_elim (λ (x : l ≡ k). here x (bit (get_or store (c * 16 + 9 + k) 0) q) refl)
             (λ x. inl (others l q (ap (λ (z : ℕ). bit z q) (get_or-set_other high k l 0 0 x) ∙ e))) (eq-or-ne l k)
           where
-            here : l ≡ k → (b : Bool) → bit (get_or store (c * 16 + 9 + k) 0) q ≡ b → (takes (highAt store c) l q ≡ true) ⊎ ((l ≡ k) × (bit outside q ≡ true))
-            here x true f = inl (subst (λ (z : ℕ). takes (highAt store c) z q ≡ true) (sym x) (ap (λ (z : ℕ). bit z q) (words-at store (c * 16 + 9) k h) ∙ f))
+            here : l ≡ k → (b : Bool) → bit (get_or store (c * 16 + 9 + k) 0) q ≡ b → (takes (high_at store c) l q ≡ true) ⊎ ((l ≡ k) × (bit outside q ≡ true))
+            here x true f = inl (subst (λ (z : ℕ). takes (high_at store c) z q ≡ true) (sym x) (ap (λ (z : ℕ). bit z q) (words-at store (c * 16 + 9) k h) ∙ f))
             here x false f = inr (x, lacking _ _ q ∙ both-intro _ _ (subst (λ (z : ℕ). takes high z q ≡ true) x e) (ap not f))
 
         fresh : (q : ℕ) → bit outside q ≡ true → bit met q ≡ false
@@ -56,7 +56,7 @@ module _ (store : List ℕ) (c : ℕ) (high low : List ℕ) (k met : ℕ) where
             go false f = f
 
     pub need-found :
-        (below above : List ℕ) (a b : Bool) → below ≡ lowAt store c → above ≡ highAt store c → Decided (Within below low) a → Decided (Within (set high k 0) above) b
+        (below above : List ℕ) (a b : Bool) → below ≡ low_at store c → above ≡ high_at store c → Decided (Within below low) a → Decided (Within (set high k 0) above) b
         → (a && b) ≡ true → NeedAt store c high low k met outside
     need-found below above true true e f x y z =
         inr (found (subst (λ (w : List ℕ). Within w low) e x) (subst (Within (set high k 0)) f y))
@@ -75,7 +75,7 @@ pub record Wanting (problem store full low high : List ℕ) (k : ℕ) (about all
   pub around : Within high full → Within high allowed
   pub few : sum ≤ 64 + c
   pub least :
-      (t : Tables) → IntervalOf t low high → Nogoods t problem store → (other : List ℕ) → assignmentFault t other ≡ Done
+      (t : Tables) → IntervalOf t low high → Nogoods t problem store → (other : List ℕ) → assignment_fault t other ≡ Done
       → Between (take t.variables about) (take t.variables allowed) other → Meets t problem other
       → sum ≤ counted (λ q. both (takes other k q) (bit met q)) 64
 
@@ -122,7 +122,7 @@ module _ (problem store full low high : List ℕ) (k : ℕ) where
     wanting-skip =
         record { low-long = w.low-long; high-long = w.high-long; within = w.within; around = w.around; few = omega (arith, w.few); least = w.least }
 
-    pub wanting-over : mostAt problem k < sum → WantedOver problem store full low high true about allowed
+    pub wanting-over : most_at problem k < sum → WantedOver problem store full low high true about allowed
     unfolding size
     wanting-over h t i j n =
         record {
@@ -136,40 +136,40 @@ module _ (problem store full low high : List ℕ) (k : ℕ) where
         }
 
     module _ (wanted : ℕ) (below above more fewer : List ℕ) (l : c < used store) (small : wanted < 2 ^ 64) (some : wanted ≡ 0 → ⊥)
-        (need : NeedAt store c high low k met wanted) (e : below ≡ lowAt store c) (f : above ≡ highAt store c) (j : Joined about below more) (u : Kept allowed above high fewer) where
+        (need : NeedAt store c high low k met wanted) (e : below ≡ low_at store c) (f : above ≡ high_at store c) (j : Joined about below more) (u : Kept allowed above high fewer) where
       n : Need store c high low k met wanted
       n = ⊎_elim (λ x. absurd (some x)) (λ x. x) need
 
       -- a solution takes one of the pairs wanted
       taken :
-          (t : Tables) → Nogoods t problem store → (other : List ℕ) → assignmentFault t other ≡ Done → Between (take t.variables more) (take t.variables fewer) other
-          → Meets t problem other → anyBelow 64 (λ q. both (takes other k q) (bit wanted q)) ≡ true
-      taken t g other a b m = go (anyBelow 64 (λ q. both (takes other k q) (bit wanted q))) refl
+          (t : Tables) → Nogoods t problem store → (other : List ℕ) → assignment_fault t other ≡ Done → Between (take t.variables more) (take t.variables fewer) other
+          → Meets t problem other → any_below 64 (λ q. both (takes other k q) (bit wanted q)) ≡ true
+      taken t g other a b m = go (any_below 64 (λ q. both (takes other k q) (bit wanted q))) refl
         where
-          go : (v : Bool) → anyBelow 64 (λ q. both (takes other k q) (bit wanted q)) ≡ v → anyBelow 64 (λ q. both (takes other k q) (bit wanted q)) ≡ true
+          go : (v : Bool) → any_below 64 (λ q. both (takes other k q) (bit wanted q)) ≡ v → any_below 64 (λ q. both (takes other k q) (bit wanted q)) ≡ true
           go true x = x
           go false x = absurd (g.each c l other a (record { above = over; below = under }) m)
             where
-              over : Within (take t.variables (lowAt store c)) other
+              over : Within (take t.variables (low_at store c)) other
               over i q y =
-                  let (h, z) = front-known t.variables (lowAt store c) i q y in
+                  let (h, z) = front-known t.variables (low_at store c) i q y in
                   b.above i q (front-takes t.variables more i q h (j.bits i q ∙ or-second _ _ (subst (λ (s : List ℕ). takes s i q ≡ true) (sym e) z)))
 
               -- it is not wanted, so the nogood keeps it
-              kept : (i q : ℕ) → takes other i q ≡ true → takes high i q ≡ true → takes (highAt store c) i q ≡ true
+              kept : (i q : ℕ) → takes other i q ≡ true → takes high i q ≡ true → takes (high_at store c) i q ≡ true
               kept i q y z =
                   ⊎_elim (λ v. v)
                   (λ (v : (i ≡ k) × (bit wanted q ≡ true)).
                   absurd
                   (true≢false
-                  (sym (anyBelow-intro 64 (λ p. both (takes other k p) (bit wanted p)) q (bit_below wanted 64 q small v.1) (both-intro _ _ (subst (λ (s : ℕ). takes other s q ≡ true) v.0 y) v.1))
+                  (sym (any_below-intro 64 (λ p. both (takes other k p) (bit wanted p)) q (bit_below wanted 64 q small v.1) (both-intro _ _ (subst (λ (s : ℕ). takes other s q ≡ true) v.0 y) v.1))
                   ∙ x)))
                   (n.wants i q z)
 
-              under : Within other (take t.variables (highAt store c))
+              under : Within other (take t.variables (high_at store c))
               under i q y =
                   let (h, z) = front-known t.variables fewer i q (b.below i q y) in
-                  front-takes t.variables (highAt store c) i q h
+                  front-takes t.variables (high_at store c) i q h
                   (⊎_elim (λ v. subst (λ (s : List ℕ). takes s i q ≡ true) f v) (kept i q y) (or_cases _ _ (both_true _ _ (sym (u.bits i q) ∙ z)).1))
 
       pub wanting-more : Wanting problem store full low high k more fewer (bit_or met wanted) (sum + 1) (c + 1)
@@ -186,11 +186,11 @@ module _ (problem store full low high : List ℕ) (k : ℕ) where
           }
         where
           least :
-              (t : Tables) → IntervalOf t low high → Nogoods t problem store → (other : List ℕ) → assignmentFault t other ≡ Done
+              (t : Tables) → IntervalOf t low high → Nogoods t problem store → (other : List ℕ) → assignment_fault t other ≡ Done
               → Between (take t.variables more) (take t.variables fewer) other → Meets t problem other
               → sum + 1 ≤ counted (λ q. both (takes other k q) (bit (bit_or met wanted) q)) 64
           least t i g other a b m =
-              let (q, h, x) = anyBelow-elim 64 (λ p. both (takes other k p) (bit wanted p)) (taken t g other a b m) in
+              let (q, h, x) = any_below-elim 64 (λ p. both (takes other k p) (bit wanted p)) (taken t g other a b m) in
               let (y, z) = both_true _ _ x in
               omega (
                 arith,

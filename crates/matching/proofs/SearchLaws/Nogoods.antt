@@ -9,7 +9,7 @@ use lib.Seq.{get_or-set_same, get_or-set_other, get_or-take, get_or-drop, length
 use Rattle.subsumption.specs.Tables.{Tables}
 use Rattle.subsumption.proofs.Bools.{last-cases}
 use Rattle.matching.specs.Inner.Search.{NoSolution}
-use Rattle.matching.specs.Inner.Search.Nogoods.{words, used, lowAt, highAt, Room, Nogoods, Put, Kept, Added}
+use Rattle.matching.specs.Inner.Search.Nogoods.{words, used, low_at, high_at, Room, Nogoods, Put, Kept, Added}
 
 pub words-at : (store : List ℕ) (at k : ℕ) → k < 8 → get_or (words store at) k 0 ≡ get_or store (at + k) 0
 words-at store at k l = get_or-take 8 (drop at store) k 0 l ∙ get_or-drop at store k 0
@@ -101,13 +101,13 @@ module _ (low high before one two : List ℕ) (r : Room before) (few : used befo
   past : (i : ℕ) → 1 ≤ i → get_or after i 0 ≡ get_or two i 0
   past i h = get_or-set_other two 0 i _ 0 (λ e. omega arith)
 
-  is-low : lowAt after (used before) ≡ low
+  is-low : low_at after (used before) ≡ low
   is-low =
       sym
       (words_are after low (used before * 16 + 1) (omega (arith, long)) long-low
       (λ k l. sym (past (used before * 16 + 1 + k) (omega arith) ∙ q.there (used before * 16 + 1 + k) (inl (omega arith)) ∙ p.here k l)))
 
-  is-high : highAt after (used before) ≡ high
+  is-high : high_at after (used before) ≡ high
   is-high =
       sym
       (words_are after high (used before * 16 + 9) (omega (arith, long)) long-high
@@ -123,8 +123,8 @@ module _ (low high before one two : List ℕ) (r : Room before) (few : used befo
         each = λ c l. ⊎_elim (λ (e : c ≡ used before). inr (new c e)) (λ m. inl (old c m)) (last-cases c (used before) (omega (arith, counted)));
       }
     where
-      new : (c : ℕ) → c ≡ used before → (lowAt after c ≡ low) × (highAt after c ≡ high)
-      new c e = (ap (lowAt after) e ∙ is-low, ap (highAt after) e ∙ is-high)
+      new : (c : ℕ) → c ≡ used before → (low_at after c ≡ low) × (high_at after c ≡ high)
+      new c e = (ap (low_at after) e ∙ is-low, ap (high_at after) e ∙ is-high)
 
       old : (c : ℕ) → c < used before → Kept before after c
       old c m = (
@@ -141,8 +141,8 @@ nogoods-added t problem low high before after n s a =
       each =
           λ c l.
           ⊎_elim
-          (λ (x : Kept before after c). subst (λ (z : List ℕ). NoSolution t problem z (highAt after c)) (sym x.1) (subst (NoSolution t problem (lowAt before c)) (sym x.2) (n.each c x.0)))
-          (λ (x : (lowAt after c ≡ low) × (highAt after c ≡ high)). subst (λ (z : List ℕ). NoSolution t problem z (highAt after c)) (sym x.0) (subst (NoSolution t problem low) (sym x.1) s))
+          (λ (x : Kept before after c). subst (λ (z : List ℕ). NoSolution t problem z (high_at after c)) (sym x.1) (subst (NoSolution t problem (low_at before c)) (sym x.2) (n.each c x.0)))
+          (λ (x : (low_at after c ≡ low) × (high_at after c ≡ high)). subst (λ (z : List ℕ). NoSolution t problem z (high_at after c)) (sym x.0) (subst (NoSolution t problem low) (sym x.1) s))
           (a.each c l);
     }
 

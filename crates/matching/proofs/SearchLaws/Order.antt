@@ -9,9 +9,9 @@ use lib.ListN.{length, take}
 use lib.Seq.{length-take-le}
 use Rattle.subsumption.specs.declared.refusal.Outcome.TheVariants.{Done}
 use Rattle.subsumption.specs.Tables.{Tables}
-use Rattle.subsumption.specs.Check.{tableFault, assignmentFault}
+use Rattle.subsumption.specs.Check.{table_fault, assignment_fault}
 use Rattle.subsumption.proofs.Bools.{same_bool, last-cases}
-use Rattle.subsumption.proofs.Accepted.{wellFormed}
+use Rattle.subsumption.proofs.Accepted.{well_formed}
 use Rattle.matching.specs.Solving.{takes, Earlier}
 use Rattle.matching.specs.Inner.Search.{Within, Between, Meets, SolutionIn, NoSolution}
 use Rattle.matching.specs.Inner.Search.Pairs.{Changed}
@@ -47,10 +47,10 @@ pub record Walk (t : Tables) (problem low₀ high₀ low high witness : List ℕ
   pub within : p ≤ 512
   pub settled : (j : ℕ) → j < p → undecided low high j ≡ false
   pub rest :
-      (other : List ℕ) → assignmentFault t other ≡ Done → Between (take t.variables low₀) (take t.variables high₀) other → Meets t problem other
+      (other : List ℕ) → assignment_fault t other ≡ Done → Between (take t.variables low₀) (take t.variables high₀) other → Meets t problem other
       → Between (take t.variables low) (take t.variables high) other ⊎ Ahead (take t.variables high) other p
 
-module _ (t : Tables) (problem : List ℕ) (h : tableFault t ≡ Done) (low₀ high₀ : List ℕ) where
+module _ (t : Tables) (problem : List ℕ) (h : table_fault t ≡ Done) (low₀ high₀ : List ℕ) where
   pub walk_start : (witness : List ℕ) → IntervalOf t low₀ high₀ → SolutionIn t problem low₀ high₀ witness → Walk t problem low₀ high₀ low₀ high₀ witness 0
   walk_start witness i s =
       record {
@@ -181,7 +181,7 @@ module _ (t : Tables) (problem : List ℕ) (h : tableFault t ≡ Done) (low₀ h
           -- no solution leaves it out
           module _ (low₂ : List ℕ) (d : Changed low low₂ (p / 64) (p % 64) true) (x : at witness p ≡ true) (none : NoSolution t problem low high₁) where
             taken-rest :
-                (other : List ℕ) → assignmentFault t other ≡ Done → Meets t problem other → Between (take t.variables low) (take t.variables high) other
+                (other : List ℕ) → assignment_fault t other ≡ Done → Meets t problem other → Between (take t.variables low) (take t.variables high) other
                 → Between (take t.variables low₂) (take t.variables high) other
             taken-rest other a s b = ⊎_elim (λ y. absurd (none other a y s)) (λ y. with y) (left-rest other b)
               where
@@ -233,9 +233,9 @@ module _ (t : Tables) (problem : List ℕ) (h : tableFault t ≡ Done) (low₀ h
             (taken-walk high₁ c low₂ d x (subst (λ (z : List ℕ). NoSolution t problem z high₁) e n))
 
     module _ (l : 512 ≤ p) where
-      accepted : assignmentFault t (take t.variables witness) ≡ Done
+      accepted : assignment_fault t (take t.variables witness) ≡ Done
       accepted =
-          within-accepted t _ _ w.interval.accepted (length-take-le _ witness (omega (arith, w.solution.long, (wellFormed t h).few-variables)))
+          within-accepted t _ _ w.interval.accepted (length-take-le _ witness (omega (arith, w.solution.long, (well_formed t h).few-variables)))
           (front-within t.variables witness high w.solution.between.below)
 
       -- all is settled, so that the witness is the high side
@@ -249,7 +249,7 @@ module _ (t : Tables) (problem : List ℕ) (h : tableFault t ≡ Done) (low₀ h
           i (omega arith)
 
       -- pairs of accepted assignments, by place
-      module _ (other : List ℕ) (a : assignmentFault t other ≡ Done) where
+      module _ (other : List ℕ) (a : assignment_fault t other ≡ Done) where
         by_place : (n : ℕ) → n ≤ 512 → ((i : ℕ) → i < n → at (take t.variables witness) i ≡ at other i) → (k q : ℕ) → (q < 64 → k * 64 + q < n) → takes (take t.variables witness) k q ≡ takes other k q
         by_place n b f k q g = same_bool _ _ (λ e. one e) (λ e. two e)
           where
@@ -260,10 +260,10 @@ module _ (t : Tables) (problem : List ℕ) (h : tableFault t ≡ Done) (low₀ h
                 sym (at_pair (take t.variables witness) _ _ k q _ (u, v) refl) ∙ f (k * 64 + q) (g z) ∙ at_pair other _ _ k q _ (u, v) refl
 
             one : takes (take t.variables witness) k q ≡ true → takes other k q ≡ true
-            one e = sym (same (omega (arith, (accepted-bits t _ accepted k q e).1, (wellFormed t h).few-atoms))) ∙ e
+            one e = sym (same (omega (arith, (accepted-bits t _ accepted k q e).1, (well_formed t h).few-atoms))) ∙ e
 
             two : takes other k q ≡ true → takes (take t.variables witness) k q ≡ true
-            two e = same (omega (arith, (accepted-bits t other a k q e).1, (wellFormed t h).few-atoms)) ∙ e
+            two e = same (omega (arith, (accepted-bits t other a k q e).1, (well_formed t h).few-atoms)) ∙ e
 
         earlier : Ahead (take t.variables high) other p → Earlier (take t.variables witness) other
         earlier y =
@@ -290,8 +290,8 @@ module _ (t : Tables) (problem : List ℕ) (h : tableFault t ≡ Done) (low₀ h
             go : (k q : ℕ) → takes other k q ≡ takes (take t.variables witness) k q
             go k q =
                 same_bool _ _
-                (λ e. pair k q (omega (arith, (accepted-bits t other a k q e).0, (wellFormed t h).few-variables)) ∙ e)
-                (λ e. sym (pair k q (omega (arith, (accepted-bits t _ accepted k q e).0, (wellFormed t h).few-variables))) ∙ e)
+                (λ e. pair k q (omega (arith, (accepted-bits t other a k q e).0, (well_formed t h).few-variables)) ∙ e)
+                (λ e. sym (pair k q (omega (arith, (accepted-bits t _ accepted k q e).0, (well_formed t h).few-variables))) ∙ e)
               where
                 pair : (k q : ℕ) → k < 8 → takes (take t.variables witness) k q ≡ takes other k q
                 pair k q m = by_place 512 (omega arith) (λ i z. sym (is-high i z) ∙ agree other b i (omega arith)) k q (λ z. omega arith)

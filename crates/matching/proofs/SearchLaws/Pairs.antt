@@ -103,16 +103,16 @@ within-not a b n o w =
     (λ q. same_bool _ _ (λ e. ⊎_elim (λ x. w n q x) (λ x. x) (bit-or-cases (get_or a n 0) (get_or b n 0) q e)) (λ e. bit_or_right (get_or a n 0) (get_or b n 0) q e)))
 
 -- ---- mixing
-abbrev pub mixWord : ℕ → ℕ → ℕ → ℕ → ℕ
-mixWord a b m n = bit_and (bit_or a (bit_and b m)) (bit_or b n)
+abbrev pub mix_word : ℕ → ℕ → ℕ → ℕ → ℕ
+mix_word a b m n = bit_and (bit_or a (bit_and b m)) (bit_or b n)
 
 module _ (a b m n q : ℕ) where
-  mix-upper : bit (mixWord a b m n) q ≡ true → (bit a q ≡ true) ⊎ (bit b q ≡ true)
+  mix-upper : bit (mix_word a b m n) q ≡ true → (bit a q ≡ true) ⊎ (bit b q ≡ true)
   mix-upper e =
       let (x, y) = both_true _ _ (sym (bit-and (bit_or a (bit_and b m)) (bit_or b n) q) ∙ e) in
       ⊎_elim (λ u. inl u) (λ u. inr (both_true _ _ (sym (bit-and b m q) ∙ u)).0) (bit-or-cases a (bit_and b m) q x)
 
-  mix-lower : bit a q ≡ true → bit b q ≡ true → bit (mixWord a b m n) q ≡ true
+  mix-lower : bit a q ≡ true → bit b q ≡ true → bit (mix_word a b m n) q ≡ true
   mix-lower x y =
       bit-and (bit_or a (bit_and b m)) (bit_or b n) q
       ∙ both-intro _ _ (bit_or_left a (bit_and b m) q x) (bit_or_left b n q y)
@@ -128,7 +128,7 @@ mixed-none a b e = record { long = e; upper = λ k q l. absurd (omega arith); lo
 
 pub mixed-more :
     (a b r : List ℕ) (i x y : ℕ) → i < 8 → MixedTo a b r i
-    → MixedTo a b (set r i (mixWord (get_or a i 0) (get_or b i 0) x y)) (i + 1)
+    → MixedTo a b (set r i (mix_word (get_or a i 0) (get_or b i 0) x y)) (i + 1)
 mixed-more a b r i x y h c =
     record {
       long = length-set r i v ∙ c.long;
@@ -152,7 +152,7 @@ mixed-more a b r i x y h c =
     }
   where
     v : ℕ
-    v = mixWord (get_or a i 0) (get_or b i 0) x y
+    v = mix_word (get_or a i 0) (get_or b i 0) x y
 
 pub mixed-all : (a b r : List ℕ) (n : ℕ) → length a ≡ 8 → 8 ≤ n → MixedTo a b r n → Mixed a b r
 mixed-all a b r n ea h c =

@@ -8,19 +8,19 @@ use native.Mathlib.Omega.{arith}
 use lib.ListN.{length, get_or, take}
 use borrow.Author.Tests.{eq-eqb, ne_eqb}
 use Rattle.subsumption.specs.declared.refusal.Outcome.TheVariants.{Done}
-use Rattle.subsumption.specs.Tables.{Tables, both, existsAt, andAt, node, count_of, pairsOf, left_of, rightOf, tree, hasVariable}
+use Rattle.subsumption.specs.Tables.{Tables, both, exists_at, and_at, node, count_of, pairs_of, left_of, right_of, tree, has_variable}
 use Rattle.subsumption.specs.Atoms.{bit}
-use Rattle.subsumption.specs.Check.{assignmentFault}
+use Rattle.subsumption.specs.Check.{assignment_fault}
 use Rattle.subsumption.proofs.Bools.{both_first, eq-or-ne}
 use Rattle.subsumption.proofs.WellFormed.{WellFormed}
-use Rattle.subsumption.proofs.Accepted.{wellFormed}
+use Rattle.subsumption.proofs.Accepted.{well_formed}
 use Rattle.subsumption.proofs.Nodes.{node-name, node-exists, node-and, node-var, node-other}
 use Rattle.subsumption.proofs.Trees.{variable-top, variable-name, variable-exists, inner-exists, inner-and}
-use Rattle.square.specs.Inner.Square.{onLine}
+use Rattle.square.specs.Inner.Square.{on_line}
 use Rattle.matching.specs.declared.search.sets.Words.{Words}
 use Rattle.matching.specs.Inner.Search.{Decided}
 use Rattle.matching.specs.Inner.Search.Sets.{in_words, NextIn, Same, Joined, PutAt}
-use Rattle.matching.specs.Inner.Search.Problem.{coneAt, closersAt, held_at, left_at, rightAt, inner_at, FreeId, Problem}
+use Rattle.matching.specs.Inner.Search.Problem.{cone_at, closers_at, held_at, left_at, right_at, inner_at, FreeId, Problem}
 use Rattle.matching.specs.Inner.Search.Patterns.{ValueRead, BelowAll, AboveSome, Linked, ClosedUp, Exact, Generates, ValueOf, InnerValued, Valued, ValuedIn, AllValued, Tested}
 use Rattle.matching.proofs.PatternLaws.Free.{known-inward}
 use Rattle.matching.proofs.SearchLaws.Walks.{passed-cases, passed_none}
@@ -47,8 +47,8 @@ module _ (sets problem values choice : List ℕ) (j : ℕ) (w : Words) where
         → ValueRead sets problem values right first a → ValueRead sets problem values right second b
         → ValueOf right t (take t.variables choice) first (in_words a) × ValueOf right t (take t.variables choice) second (in_words b)
     members right t C l I A B =
-        let n : node t.concepts j ≡ andAt first second = sym (C.rows j l) ∙ node-and problem j kind in
-        let wf = wellFormed t C.passed in (
+        let n : node t.concepts j ≡ and_at first second = sym (C.rows j l) ∙ node-and problem j kind in
+        let wf = well_formed t C.passed in (
           read-value t sets problem C (take t.variables choice) right values first a ((known-inward t wf).first j first second n l) (I.first first second n) A,
           read-value t sets problem C (take t.variables choice) right values second b ((known-inward t wf).second j first second n l) (I.second first second n) B,
         )
@@ -69,8 +69,8 @@ module _ (sets problem values choice : List ℕ) (j : ℕ) (w : Words) where
   module _ (other : get_or problem (j * 3) 0 ≡ 4 → ⊥) (another : get_or problem (j * 3) 0 ≡ 3 → ⊥) where
     -- what holds a variable and is neither is an existential
     existential :
-        (t : Tables) → Problem t sets problem → j < count_of t.concepts → hasVariable (tree t.concepts j) ≡ true
-        → node t.concepts j ≡ existsAt (get_or problem (j * 3 + 1) 0) (inner_at problem j)
+        (t : Tables) → Problem t sets problem → j < count_of t.concepts → has_variable (tree t.concepts j) ≡ true
+        → node t.concepts j ≡ exists_at (get_or problem (j * 3 + 1) 0) (inner_at problem j)
     existential t C l has =
         ⊎_elim (λ (k : get_or problem (j * 3) 0 ≡ 2). back ∙ node-exists problem j k)
         (λ (p : get_or problem (j * 3) 0 ≡ 2 → ⊥).
@@ -83,32 +83,32 @@ module _ (sets problem values choice : List ℕ) (j : ℕ) (w : Words) where
         (eq-or-ne (get_or problem (j * 3) 0) 2)
       where
         wf : WellFormed t
-        wf = wellFormed t C.passed
+        wf = well_formed t C.passed
 
         back : node t.concepts j ≡ node problem j
         back = sym (C.rows j l)
 
     inner-has :
-        (t : Tables) (C : Problem t sets problem) → j < count_of t.concepts → hasVariable (tree t.concepts j) ≡ true
-        → hasVariable (tree t.concepts (inner_at problem j)) ≡ true
+        (t : Tables) (C : Problem t sets problem) → j < count_of t.concepts → has_variable (tree t.concepts j) ≡ true
+        → has_variable (tree t.concepts (inner_at problem j)) ≡ true
     inner-has t C l has =
-        sym (variable-exists t.concepts (wellFormed t C.passed).rising j _ (inner_at problem j) (existential t C l has)) ∙ has
+        sym (variable-exists t.concepts (well_formed t C.passed).rising j _ (inner_at problem j) (existential t C l has)) ∙ has
 
     pub right-by-exists : (own : Words) → Same own values (inner_at problem j * 3) → Linked sets problem own true j w → Valued sets problem values choice true j w
     right-by-exists own S K t C ok l has I =
         let n = existential t C l has in
         exists-exact t sets problem C (take t.variables choice) j _ (inner_at problem j) l has n own w
-        (exact_same t sets problem C (take t.variables choice) (inner_at problem j) (onLine values (inner_at problem j * 3)) (in_words own) (λ c m. sym (S c m))
+        (exact_same t sets problem C (take t.variables choice) (inner_at problem j) (on_line values (inner_at problem j * 3)) (in_words own) (λ c m. sym (S c m))
         (I.inner _ (inner_at problem j) n (inner-has t C l has))) K
 
     pub left-by-exists :
-        (m : ℕ) (x own : Words) → j < 192 → Same x values (inner_at problem j * 3) → ClosedUp sets problem (closersAt m) x own → Linked sets problem own false j w
+        (m : ℕ) (x own : Words) → j < 192 → Same x values (inner_at problem j * 3) → ClosedUp sets problem (closers_at m) x own → Linked sets problem own false j w
         → ValuedIn sets problem values choice m false j w
     left-by-exists m x own low S U K t C ok asked here I =
         let (l, has) = (C.cones m asked).known j low here in
         let n = existential t C l has in
-        let k = (known-inward t (wellFormed t C.passed)).inner j _ (inner_at problem j) n l in
-        let G = generates-same t sets problem C (take t.variables choice) (inner_at problem j) (onLine values (inner_at problem j * 3)) (in_words x) (λ c m. sym (S c m))
+        let k = (known-inward t (well_formed t C.passed)).inner j _ (inner_at problem j) n l in
+        let G = generates-same t sets problem C (take t.variables choice) (inner_at problem j) (on_line values (inner_at problem j * 3)) (in_words x) (λ c m. sym (S c m))
         (I.inner _ (inner_at problem j) n (inner-has t C l has)) in
         exists-generates t sets problem C (take t.variables choice) j _ (inner_at problem j) l has n own w
         (closed-sound t sets problem C (take t.variables choice) m (inner_at problem j) x own asked k G U)
@@ -124,36 +124,36 @@ module _ (sets problem values choice : List ℕ) (j : ℕ) (w : Words) where
 pub record ValuedTo (sets problem values choice : List ℕ) (m : ℕ) (right : Bool) (j : ℕ) : Type 0 where
   pub within : j ≤ 192
   pub long : 576 ≤ length values
-  pub here : j < 192 → onLine sets (coneAt m) j ≡ true
+  pub here : j < 192 → on_line sets (cone_at m) j ≡ true
   pub valued :
-      (t : Tables) → Problem t sets problem → assignmentFault t (take t.variables choice) ≡ Done → m < pairsOf t.questions
-      → (i : ℕ) → i < j → onLine sets (coneAt m) i ≡ true → ValueOf right t (take t.variables choice) i (onLine values (i * 3))
+      (t : Tables) → Problem t sets problem → assignment_fault t (take t.variables choice) ≡ Done → m < pairs_of t.questions
+      → (i : ℕ) → i < j → on_line sets (cone_at m) i ≡ true → ValueOf right t (take t.variables choice) i (on_line values (i * 3))
 
 module _ (sets problem choice : List ℕ) (m : ℕ) (right : Bool) where
-  pub valued-first : (values : List ℕ) (j : ℕ) → 576 ≤ length values → NextIn sets (coneAt m) 0 j → ValuedTo sets problem values choice m right j
+  pub valued-first : (values : List ℕ) (j : ℕ) → 576 ≤ length values → NextIn sets (cone_at m) 0 j → ValuedTo sets problem values choice m right j
   valued-first values j h N =
       record {
         within = N.within;
         long = h;
         here = N.here;
-        valued = λ t C ok l i k o. absurd (passed_none (onLine sets (coneAt m)) j i N.between k o);
+        valued = λ t C ok l i k o. absurd (passed_none (on_line sets (cone_at m)) j i N.between k o);
       }
 
   module _ (values after : List ℕ) (i next : ℕ) (w : Words) (h : i < 192) (T : ValuedTo sets problem values choice m right i)
-      (value : ValuedIn sets problem values choice m right i w) (put : PutAt values after (i * 3) w) (N : NextIn sets (coneAt m) (i + 1) next) where
+      (value : ValuedIn sets problem values choice m right i w) (put : PutAt values after (i * 3) w) (N : NextIn sets (cone_at m) (i + 1) next) where
     -- the smaller ones stay
-    stay : (p c : ℕ) → p < i → c < 192 → onLine values (p * 3) c ≡ onLine after (p * 3) c
-    unfolding onLine
+    stay : (p c : ℕ) → p < i → c < 192 → on_line values (p * 3) c ≡ on_line after (p * 3) c
+    unfolding on_line
     stay p c l k = ap (λ (z : ℕ). bit z (c % 64)) (sym (put.there (p * 3 + c / 64) (inl (omega arith))))
 
-    module _ (t : Tables) (C : Problem t sets problem) (ok : assignmentFault t (take t.variables choice) ≡ Done) (l : m < pairsOf t.questions) where
+    module _ (t : Tables) (C : Problem t sets problem) (ok : assignment_fault t (take t.variables choice) ≡ Done) (l : m < pairs_of t.questions) where
       smaller :
-          (p : ℕ) → p < i → onLine sets (coneAt m) p ≡ true → ValueOf right t (take t.variables choice) p (onLine values (p * 3))
+          (p : ℕ) → p < i → on_line sets (cone_at m) p ≡ true → ValueOf right t (take t.variables choice) p (on_line values (p * 3))
       smaller = T.valued t C ok l
 
       inward : InnerValued right t (take t.variables choice) values i
       inward =
-          let rising = (wellFormed t C.passed).rising in
+          let rising = (well_formed t C.passed).rising in
           let cone = C.cones m l in
           record {
             inner = λ r x n v. smaller x (inner-exists t.concepts rising i r x n) (cone.inner i r x h (T.here h) n v);
@@ -161,9 +161,9 @@ module _ (sets problem choice : List ℕ) (m : ℕ) (right : Bool) where
             second = λ x y n v. smaller y (inner-and t.concepts rising i x y n).1 (cone.second i x y h (T.here h) n v);
           }
 
-      own : ValueOf right t (take t.variables choice) i (onLine after (i * 3))
+      own : ValueOf right t (take t.variables choice) i (on_line after (i * 3))
       own =
-          value_same t sets problem C (take t.variables choice) right i (in_words w) (onLine after (i * 3)) put.here
+          value_same t sets problem C (take t.variables choice) right i (in_words w) (on_line after (i * 3)) put.here
           (value t C ok l (T.here h) inward)
 
     pub valued-more : ValuedTo sets problem after choice m right next
@@ -176,10 +176,10 @@ module _ (sets problem choice : List ℕ) (m : ℕ) (right : Bool) where
               λ t C ok l p k o.
               ⊎_elim
               (λ (u : p ≡ i).
-              subst (λ (z : ℕ). ValueOf right t (take t.variables choice) z (onLine after (z * 3))) (sym u) (own t C ok l))
+              subst (λ (z : ℕ). ValueOf right t (take t.variables choice) z (on_line after (z * 3))) (sym u) (own t C ok l))
               (λ u.
-              value_same t sets problem C (take t.variables choice) right p (onLine values (p * 3)) (onLine after (p * 3))
-              (λ c lc. stay p c u lc) (smaller t C ok l p u o)) (passed-cases (onLine sets (coneAt m)) i next p N.between k o);
+              value_same t sets problem C (take t.variables choice) right p (on_line values (p * 3)) (on_line after (p * 3))
+              (λ c lc. stay p c u lc) (smaller t C ok l p u o)) (passed-cases (on_line sets (cone_at m)) i next p N.between k o);
         }
 
   pub valued-done : (values : List ℕ) (j : ℕ) → 192 ≤ j → ValuedTo sets problem values choice m right j → AllValued sets problem values choice m right
@@ -196,70 +196,70 @@ decide : (P : Type 0) (b s : Bool) → b ≡ s → (s ≡ true) ↔ P → Decide
 decide P true s e (to, from) = to (sym e)
 decide P false s e (to, from) = λ p. true≢false (sym (from p) ∙ sym e)
 
-module _ (sets problem choice : List ℕ) (m : ℕ) (t : Tables) (C : Problem t sets problem) (l : m < pairsOf t.questions) where
+module _ (sets problem choice : List ℕ) (m : ℕ) (t : Tables) (C : Problem t sets problem) (l : m < pairs_of t.questions) where
   abbrev left : ℕ
   left = left_of t.questions m
 
   abbrev right : ℕ
-  right = rightOf t.questions m
+  right = right_of t.questions m
 
   wf : WellFormed t
-  wf = wellFormed t C.passed
+  wf = well_formed t C.passed
 
-  has_of : (i k : ℕ) (b : Bool) → i ≡ k → k < count_of t.concepts → held_at problem i ≡ b → hasVariable (tree t.concepts k) ≡ b
+  has_of : (i k : ℕ) (b : Bool) → i ≡ k → k < count_of t.concepts → held_at problem i ≡ b → has_variable (tree t.concepts k) ≡ b
   has_of i k b e h u = sym (C.held k h) ∙ ap (held_at problem) (sym e) ∙ u
 
-  right-has : (b : Bool) → held_at problem (rightAt problem m) ≡ b → hasVariable (tree t.concepts right) ≡ b
-  right-has b = has_of (rightAt problem m) right b (C.right m l) (wf.question-right m l)
+  right-has : (b : Bool) → held_at problem (right_at problem m) ≡ b → has_variable (tree t.concepts right) ≡ b
+  right-has b = has_of (right_at problem m) right b (C.right m l) (wf.question-right m l)
 
-  left-has : (b : Bool) → held_at problem (left_at problem m) ≡ b → hasVariable (tree t.concepts left) ≡ b
+  left-has : (b : Bool) → held_at problem (left_at problem m) ≡ b → has_variable (tree t.concepts left) ≡ b
   left-has b = has_of (left_at problem m) left b (C.left m l) (wf.question-left m l)
 
-  right-free : hasVariable (tree t.concepts right) ≡ false → FreeId t right
+  right-free : has_variable (tree t.concepts right) ≡ false → FreeId t right
   right-free u = record { ground = u; known = wf.question-right m l }
 
-  left-free : hasVariable (tree t.concepts left) ≡ false → FreeId t left
+  left-free : has_variable (tree t.concepts left) ≡ false → FreeId t left
   left-free u = record { ground = u; known = wf.question-left m l }
 
 module _ (sets problem choice : List ℕ) (m : ℕ) (answer : Bool) where
   pub tested-right :
-      (values : List ℕ) → get_or problem (576 + rightAt problem m) 0 ≡ 1 → AllValued sets problem values choice m true
-      → answer ≡ onLine values (rightAt problem m * 3) (left_at problem m) → Tested sets problem m choice answer
+      (values : List ℕ) → get_or problem (576 + right_at problem m) 0 ≡ 1 → AllValued sets problem values choice m true
+      → answer ≡ on_line values (right_at problem m * 3) (left_at problem m) → Tested sets problem m choice answer
   tested-right values e A b t C ok l =
-      let wf = wellFormed t C.passed in
+      let wf = well_formed t C.passed in
       let has = right-has sets problem choice m t C l true (eq-eqb _ 1 e) in
       let none = sym (both_first _ _ has) ∙ wf.one-sided m l in
-      let E : Exact t (take t.variables choice) (rightOf t.questions m) (onLine values (rightOf t.questions m * 3)) =
-      A t C ok l (rightOf t.questions m) (omega (arith, wf.question-right m l, wf.few)) ((C.cones m l).right has) in
+      let E : Exact t (take t.variables choice) (right_of t.questions m) (on_line values (right_of t.questions m * 3)) =
+      A t C ok l (right_of t.questions m) (omega (arith, wf.question-right m l, wf.few)) ((C.cones m l).right has) in
       decide _ answer _
-      (b ∙ ap (λ (z : ℕ). onLine values (z * 3) (left_at problem m)) (C.right m l) ∙ ap (onLine values (rightOf t.questions m * 3)) (C.left m l))
+      (b ∙ ap (λ (z : ℕ). on_line values (z * 3) (left_at problem m)) (C.right m l) ∙ ap (on_line values (right_of t.questions m * 3)) (C.left m l))
       (E (left_of t.questions m) (left-free sets problem choice m t C l none))
 
   pub tested-left :
-      (values : List ℕ) (x w : Words) → (get_or problem (576 + rightAt problem m) 0 ≡ 1 → ⊥) → get_or problem (576 + left_at problem m) 0 ≡ 1
-      → AllValued sets problem values choice m false → Same x values (left_at problem m * 3) → ClosedUp sets problem (closersAt m) x w → answer ≡ in_words w (rightAt problem m)
+      (values : List ℕ) (x w : Words) → (get_or problem (576 + right_at problem m) 0 ≡ 1 → ⊥) → get_or problem (576 + left_at problem m) 0 ≡ 1
+      → AllValued sets problem values choice m false → Same x values (left_at problem m * 3) → ClosedUp sets problem (closers_at m) x w → answer ≡ in_words w (right_at problem m)
       → Tested sets problem m choice answer
   tested-left values x w n e A S U b t C ok l =
-      let wf = wellFormed t C.passed in
+      let wf = well_formed t C.passed in
       let has = left-has sets problem choice m t C l true (eq-eqb _ 1 e) in
       let free = right-free sets problem choice m t C l (right-has sets problem choice m t C l false (ne_eqb _ 1 n)) in
-      let G : Generates t (take t.variables choice) (left_of t.questions m) (onLine values (left_of t.questions m * 3)) =
+      let G : Generates t (take t.variables choice) (left_of t.questions m) (on_line values (left_of t.questions m * 3)) =
       A t C ok l (left_of t.questions m) (omega (arith, wf.question-left m l, wf.few)) ((C.cones m l).left has) in
       let R : Same x values (left_of t.questions m * 3) = subst (λ (z : ℕ). Same x values (z * 3)) (C.left m l) S in
-      let H = generates-same t sets problem C (take t.variables choice) (left_of t.questions m) (onLine values (left_of t.questions m * 3)) (in_words x)
+      let H = generates-same t sets problem C (take t.variables choice) (left_of t.questions m) (on_line values (left_of t.questions m * 3)) (in_words x)
       (λ c k. sym (R c k)) G in
       decide _ answer _ (b ∙ ap (in_words w) (C.right m l)) (
-        closed-sound t sets problem C (take t.variables choice) m (left_of t.questions m) x w l (wf.question-left m l) H U (rightOf t.questions m) free,
-        closed-wanted t sets problem C (take t.variables choice) m (left_of t.questions m) x w l (wf.question-left m l) H U (rightOf t.questions m) free
+        closed-sound t sets problem C (take t.variables choice) m (left_of t.questions m) x w l (wf.question-left m l) H U (right_of t.questions m) free,
+        closed-wanted t sets problem C (take t.variables choice) m (left_of t.questions m) x w l (wf.question-left m l) H U (right_of t.questions m) free
             (subst (λ (z : ℕ). (C.closers m l).wanted z ≡ true) (C.right m l) (C.closers m l).right),
       )
 
   pub tested-free :
-      (get_or problem (576 + rightAt problem m) 0 ≡ 1 → ⊥) → (get_or problem (576 + left_at problem m) 0 ≡ 1 → ⊥) → answer ≡ onLine sets (left_at problem m * 3) (rightAt problem m)
+      (get_or problem (576 + right_at problem m) 0 ≡ 1 → ⊥) → (get_or problem (576 + left_at problem m) 0 ≡ 1 → ⊥) → answer ≡ on_line sets (left_at problem m * 3) (right_at problem m)
       → Tested sets problem m choice answer
   tested-free n k b t C ok l =
       let f = left-free sets problem choice m t C l (left-has sets problem choice m t C l false (ne_eqb _ 1 k)) in
       let g = right-free sets problem choice m t C l (right-has sets problem choice m t C l false (ne_eqb _ 1 n)) in
       decide _ answer _
-      (b ∙ ap (λ (z : ℕ). onLine sets (z * 3) (rightAt problem m)) (C.left m l) ∙ ap (onLine sets (left_of t.questions m * 3)) (C.right m l))
+      (b ∙ ap (λ (z : ℕ). on_line sets (z * 3) (right_at problem m)) (C.left m l) ∙ ap (on_line sets (left_of t.questions m * 3)) (C.right m l))
       (row-above t sets problem C (take t.variables choice) _ _ f g, above-row t sets problem C (take t.variables choice) _ _ f g)

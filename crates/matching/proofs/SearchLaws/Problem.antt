@@ -7,8 +7,8 @@ use lib.Dec.{eqb}
 use lib.ListN.{length, get_or}
 use Rattle.subsumption.specs.Tables.{Tables, Node, node}
 use Rattle.subsumption.proofs.WellFormed.{WellFormed}
-use Rattle.subsumption.proofs.Accepted.{wellFormed}
-use Rattle.matching.specs.Inner.Search.Problem.{held_at, closes, inMembers, Numbers, Shaped, Closers, Problem}
+use Rattle.subsumption.proofs.Accepted.{well_formed}
+use Rattle.matching.specs.Inner.Search.Problem.{held_at, closes, in_members, Numbers, Shaped, Closers, Problem}
 
 module _ (before after : List ℕ) (front : (p : ℕ) → p < 931 → get_or after p 0 ≡ get_or before p 0) where
   node_kept : (i : ℕ) → i < 192 → node after i ≡ node before i
@@ -45,13 +45,13 @@ module _ (before after : List ℕ) (front : (p : ℕ) → p < 931 → get_or aft
         members = λ e i j a x n. C.members e i j a x (sym (node_kept e a) ∙ n);
         quiet =
             λ e a h x o d b y w.
-            ap (λ (z : Node). inMembers sets z d) (node_kept e (omega arith))
+            ap (λ (z : Node). in_members sets z d) (node_kept e (omega arith))
             ∙ C.quiet e a (sym (held_kept e (omega arith)) ∙ h) (ap closes (sym (node_kept e (omega arith))) ∙ x) o d b y w;
       }
 
   pub problem-kept : (t : Tables) (sets : List ℕ) → Problem t sets before → Problem t sets after
   problem-kept t sets c =
-      let formed : WellFormed t = wellFormed t c.passed in
+      let formed : WellFormed t = well_formed t c.passed in
       record {
         passed = c.passed;
         rows = λ i l. node_kept i (omega (arith, formed.few)) ∙ c.rows i l;

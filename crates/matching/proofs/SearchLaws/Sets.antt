@@ -16,12 +16,12 @@ use Rattle.subsumption.specs.Tables.{or, both}
 use Rattle.subsumption.specs.Atoms.{bit}
 use Rattle.subsumption.proofs.Bools.{le-or-lt}
 use Rattle.subsumption.proofs.Bits.{bit-or, bit-and, bit-ones, bit_past, bit-shr}
-use Rattle.square.specs.Inner.Square.{onLine}
+use Rattle.square.specs.Inner.Square.{on_line}
 use Rattle.square.proofs.BitLaws.{Lowest, lowest, no_bits}
 use Rattle.square.proofs.SetLaws.{line-three}
 use Rattle.matching.specs.declared.search.sets.Words.{Words}
 use Rattle.matching.specs.Inner.Search.Sets.{NextBit, NextIn, Compared, PutAt}
-use Rattle.matching.specs.Inner.Search.Problem.{line_at, fitAt}
+use Rattle.matching.specs.Inner.Search.Problem.{line_at, fit_at}
 
 -- ---- where lines and fits stand
 pub line-right : (b : Bool) (i : ℕ) → b ≡ true → 576 + i * 3 ≡ line_at b i
@@ -32,11 +32,11 @@ pub line-left : (b : Bool) (i : ℕ) → b ≡ false → i * 3 ≡ line_at b i
 line-left true i e = absurd (true≢false e)
 line-left false i e = refl
 
-pub fit-right : (b : Bool) (i : ℕ) → b ≡ true → 1152 + i * 3 ≡ fitAt b i
+pub fit-right : (b : Bool) (i : ℕ) → b ≡ true → 1152 + i * 3 ≡ fit_at b i
 fit-right true i e = refl
 fit-right false i e = absurd (true≢false (sym e))
 
-pub fit-left : (b : Bool) (i : ℕ) → b ≡ false → 1728 + i * 3 ≡ fitAt b i
+pub fit-left : (b : Bool) (i : ℕ) → b ≡ false → 1728 + i * 3 ≡ fit_at b i
 fit-left true i e = absurd (true≢false e)
 fit-left false i e = refl
 
@@ -44,7 +44,7 @@ pub line_low : (b : Bool) (i : ℕ) → i < 192 → line_at b i + 3 ≤ 1152
 line_low true i l = omega arith
 line_low false i l = omega arith
 
-pub fit_low : (b : Bool) (i : ℕ) → i < 192 → fitAt b i + 3 ≤ 2304
+pub fit_low : (b : Bool) (i : ℕ) → i < 192 → fit_at b i + 3 ≤ 2304
 fit_low true i l = omega arith
 fit_low false i l = omega arith
 
@@ -92,8 +92,8 @@ module _ (word from : ℕ) where
         }
 
 -- ---- the lowest id of a set from an id on
-pub line-bit : (sets : List ℕ) (at w k : ℕ) → k < 64 → onLine sets at (w * 64 + k) ≡ bit (get_or sets (at + w) 0) k
-unfolding onLine
+pub line-bit : (sets : List ℕ) (at w k : ℕ) → k < 64 → on_line sets at (w * 64 + k) ≡ bit (get_or sets (at + w) 0) k
+unfolding on_line
 line-bit sets at w k l =
     let e : (w * 64 + k) / 64 ≡ w = omega arith in
     let f : (w * 64 + k) % 64 ≡ k = omega arith in
@@ -103,19 +103,19 @@ pub record WalkedTo (sets : List ℕ) (at from w start : ℕ) : Type 0 where
   pub within : w * 64 + start ≤ 192
   pub low : start < 64
   pub after : from ≤ w * 64 + start
-  pub between : (k : ℕ) → from ≤ k → k < w * 64 + start → onLine sets at k ≡ false
+  pub between : (k : ℕ) → from ≤ k → k < w * 64 + start → on_line sets at k ≡ false
 
 module _ (sets : List ℕ) (at from : ℕ) where
   pub walked-first : from ≤ 192 → WalkedTo sets at from (from / 64) (from % 64)
   walked-first h = record { within = omega arith; low = omega arith; after = omega arith; between = λ k l m. absurd (omega arith) }
 
   module _ (w start place : ℕ) (h : w < 3) (W : WalkedTo sets at from w start) (N : NextBit (get_or sets (at + w) 0) start place) where
-    passed : (k : ℕ) → from ≤ k → k < w * 64 + place → onLine sets at k ≡ false
+    passed : (k : ℕ) → from ≤ k → k < w * 64 + place → on_line sets at k ≡ false
     passed k l m =
         ⊎_elim
         (λ (u : w * 64 + start ≤ k).
         let e : w * 64 + (k - w * 64) ≡ k = omega arith in
-        sym (ap (onLine sets at) e) ∙ line-bit sets at w (k - w * 64) (omega (arith, N.within)) ∙ N.between (k - w * 64) (omega arith) (omega arith))
+        sym (ap (on_line sets at) e) ∙ line-bit sets at w (k - w * 64) (omega (arith, N.within)) ∙ N.between (k - w * 64) (omega arith) (omega arith))
         (λ u. W.between k l u) (le-or-lt (w * 64 + start) k)
 
     pub walked-found : place < 64 → NextIn sets at from (w * 64 + place)
@@ -147,12 +147,12 @@ module _ (sets : List ℕ) (at from : ℕ) where
 
 -- ---- three words
 pub same_at : (sets : List ℕ) (at a b c : ℕ) → a ≡ get_or sets at 0 → b ≡ get_or sets (at + 1) 0 → c ≡ get_or sets (at + 2) 0
-    → (y : ℕ) → y < 192 → onLine (a ∷ b ∷ c ∷ []) 0 y ≡ onLine sets at y
+    → (y : ℕ) → y < 192 → on_line (a ∷ b ∷ c ∷ []) 0 y ≡ on_line sets at y
 same_at sets at a b c p q r y l = rw (p, q, r) (line-three sets at y l)
 
 module _ (a b c x y z i : ℕ) (l : i < 192) where
-  pub or-three : onLine (bit_or a x ∷ bit_or b y ∷ bit_or c z ∷ []) 0 i ≡ or (onLine (a ∷ b ∷ c ∷ []) 0 i) (onLine (x ∷ y ∷ z ∷ []) 0 i)
-  unfolding onLine
+  pub or-three : on_line (bit_or a x ∷ bit_or b y ∷ bit_or c z ∷ []) 0 i ≡ or (on_line (a ∷ b ∷ c ∷ []) 0 i) (on_line (x ∷ y ∷ z ∷ []) 0 i)
+  unfolding on_line
   or-three = ap (λ (w : ℕ). bit w (i % 64)) (go (i / 64) (omega arith)) ∙ bit-or _ _ (i % 64)
     where
       go :
@@ -163,8 +163,8 @@ module _ (a b c x y z i : ℕ) (l : i < 192) where
       go (suc (suc zero)) h = refl
       go (suc (suc (suc w))) h = absurd (omega arith)
 
-  pub and-three : onLine (bit_and a x ∷ bit_and b y ∷ bit_and c z ∷ []) 0 i ≡ both (onLine (a ∷ b ∷ c ∷ []) 0 i) (onLine (x ∷ y ∷ z ∷ []) 0 i)
-  unfolding onLine
+  pub and-three : on_line (bit_and a x ∷ bit_and b y ∷ bit_and c z ∷ []) 0 i ≡ both (on_line (a ∷ b ∷ c ∷ []) 0 i) (on_line (x ∷ y ∷ z ∷ []) 0 i)
+  unfolding on_line
   and-three = ap (λ (w : ℕ). bit w (i % 64)) (go (i / 64) (omega arith)) ∙ bit-and _ _ (i % 64)
     where
       go :
@@ -176,8 +176,8 @@ module _ (a b c x y z i : ℕ) (l : i < 192) where
       go (suc (suc (suc w))) h = absurd (omega arith)
 
 -- the same word three times
-thrice : (a i : ℕ) → i < 192 → onLine (a ∷ a ∷ a ∷ []) 0 i ≡ bit a (i % 64)
-unfolding onLine
+thrice : (a i : ℕ) → i < 192 → on_line (a ∷ a ∷ a ∷ []) 0 i ≡ bit a (i % 64)
+unfolding on_line
 thrice a i l = ap (λ (w : ℕ). bit w (i % 64)) (go (i / 64) (omega arith))
   where
     go : (w : ℕ) → w < 3 → get_or (a ∷ a ∷ a ∷ []) (0 + w) 0 ≡ a
@@ -186,30 +186,30 @@ thrice a i l = ap (λ (w : ℕ). bit w (i % 64)) (go (i / 64) (omega arith))
     go (suc (suc zero)) h = refl
     go (suc (suc (suc w))) h = absurd (omega arith)
 
-pub all_in : (i : ℕ) → i < 192 → onLine (18446744073709551615 ∷ 18446744073709551615 ∷ 18446744073709551615 ∷ []) 0 i ≡ true
+pub all_in : (i : ℕ) → i < 192 → on_line (18446744073709551615 ∷ 18446744073709551615 ∷ 18446744073709551615 ∷ []) 0 i ≡ true
 all_in i l = thrice 18446744073709551615 i l ∙ bit-ones (i % 64) (omega arith)
 
-pub none_in : (i : ℕ) → i < 192 → onLine (0 ∷ 0 ∷ 0 ∷ []) 0 i ≡ true → ⊥
+pub none_in : (i : ℕ) → i < 192 → on_line (0 ∷ 0 ∷ 0 ∷ []) 0 i ≡ true → ⊥
 none_in i l h = true≢false (sym h ∙ thrice 0 i l ∙ no_bits (i % 64))
 
 -- reading one
 module _ (a b c i : ℕ) where
-  pub in-first : i < 64 → eqb (a / 2 ^ i % 2) 1 ≡ onLine (a ∷ b ∷ c ∷ []) 0 i
-  unfolding onLine bit
+  pub in-first : i < 64 → eqb (a / 2 ^ i % 2) 1 ≡ on_line (a ∷ b ∷ c ∷ []) 0 i
+  unfolding on_line bit
   in-first l =
       let e : i / 64 ≡ 0 = omega arith in
       let f : i % 64 ≡ i = omega arith in
       sym (ap₂ (λ (u v : ℕ). bit (get_or (a ∷ b ∷ c ∷ []) (0 + u) 0) v) e f)
 
-  pub in-second : 64 ≤ i → i < 128 → eqb (b / 2 ^ (i - 64) % 2) 1 ≡ onLine (a ∷ b ∷ c ∷ []) 0 i
-  unfolding onLine bit
+  pub in-second : 64 ≤ i → i < 128 → eqb (b / 2 ^ (i - 64) % 2) 1 ≡ on_line (a ∷ b ∷ c ∷ []) 0 i
+  unfolding on_line bit
   in-second l h =
       let e : i / 64 ≡ 1 = omega arith in
       let f : i % 64 ≡ i - 64 = omega arith in
       sym (ap₂ (λ (u v : ℕ). bit (get_or (a ∷ b ∷ c ∷ []) (0 + u) 0) v) e f)
 
-  pub in-third : 128 ≤ i → i < 192 → eqb (c / 2 ^ (i - 128) % 2) 1 ≡ onLine (a ∷ b ∷ c ∷ []) 0 i
-  unfolding onLine bit
+  pub in-third : 128 ≤ i → i < 192 → eqb (c / 2 ^ (i - 128) % 2) 1 ≡ on_line (a ∷ b ∷ c ∷ []) 0 i
+  unfolding on_line bit
   in-third l h =
       let e : i / 64 ≡ 2 = omega arith in
       let f : i % 64 ≡ i - 128 = omega arith in

@@ -8,22 +8,22 @@ use native.Mathlib.Omega.{arith}
 use borrow.Author.Tests.{eqb-true, eq-eqb, not-true, not-false}
 use lib.ListN.{length, take, get_or}
 use Rattle.subsumption.specs.declared.refusal.Outcome.TheVariants.{Done}
-use Rattle.subsumption.specs.Tables.{Tables, pairsOf, rightOf, tree, hasVariable}
+use Rattle.subsumption.specs.Tables.{Tables, pairs_of, right_of, tree, has_variable}
 use Rattle.subsumption.specs.Atoms.{bit}
-use Rattle.subsumption.specs.Check.{tableFault, assignmentFault}
+use Rattle.subsumption.specs.Check.{table_fault, assignment_fault}
 use Rattle.subsumption.proofs.Bools.{last-cases, or_cases, or-first, or-second, both_true, both-intro}
 use Rattle.subsumption.proofs.Bits.{bit-of-zero}
-use Rattle.subsumption.proofs.Accepted.{wellFormed}
+use Rattle.subsumption.proofs.Accepted.{well_formed}
 use Rattle.subsumption.proofs.Columns.{any_false}
 use Rattle.settings.specs.Inner.Counts.{Counted, Clamped, Unclamped}
 use Rattle.matching.specs.Solving.{takes}
 use Rattle.matching.specs.Inner.Search.{Decided, HoldsAt, Within, SolutionIn, NoSolution}
-use Rattle.matching.specs.Inner.Search.Problem.{Problem, held_at, rightAt, questionCount, AskedAt}
+use Rattle.matching.specs.Inner.Search.Problem.{Problem, held_at, right_at, question_count, AskedAt}
 use Rattle.matching.specs.Inner.Search.Pairs.{Changed}
 use Rattle.matching.specs.Inner.Search.Interval.{IntervalOf, undecided, Picked}
 use Rattle.matching.specs.declared.search.interval.Pick.{Pick}
 use Rattle.matching.specs.declared.search.interval.Pick.TheVariants.{Nothing}
-use Rattle.matching.specs.Inner.Search.Nogoods.{words, used, lowAt, highAt, Room, Nogoods, Added}
+use Rattle.matching.specs.Inner.Search.Nogoods.{words, used, low_at, high_at, Room, Nogoods, Added}
 use Rattle.matching.specs.Inner.Search.Patterns.{Tested}
 use Rattle.matching.specs.Inner.Search.Widen.{Mixed, StillFails}
 use Rattle.matching.specs.Inner.Search.Needs.{WantedOver}
@@ -35,12 +35,12 @@ use Rattle.matching.proofs.SearchLaws.Counts.{counts_same, few-front, over-refut
 
 -- ---- questions of the problem
 module _ (t : Tables) (sets problem : List ℕ) (c : Problem t sets problem) where
-  pub is-question : (m : ℕ) → m < questionCount problem → m < pairsOf t.questions
+  pub is-question : (m : ℕ) → m < question_count problem → m < pairs_of t.questions
   is-question m l = subst (λ (z : ℕ). m < z) c.questions l
 
   -- the mark of its right side
-  pub right-held : (m : ℕ) → m < pairsOf t.questions → held_at problem (rightAt problem m) ≡ hasVariable (tree t.concepts (rightOf t.questions m))
-  right-held m l = ap (held_at problem) (c.right m l) ∙ c.held _ ((wellFormed t c.passed).question-right m l)
+  pub right-held : (m : ℕ) → m < pairs_of t.questions → held_at problem (right_at problem m) ≡ has_variable (tree t.concepts (right_of t.questions m))
+  right-held m l = ap (held_at problem) (c.right m l) ∙ c.held _ ((well_formed t c.passed).question-right m l)
 
 -- ---- largest counts as they are lent
 abbrev pub counts : List ℕ → List ℕ
@@ -52,7 +52,7 @@ counts-long problem e = words_long problem 931 (omega (arith, e))
 -- ---- looking for one that fails
 abbrev pub HoldTo : List ℕ → List ℕ → List ℕ → Bool → ℕ → Type 0
 HoldTo sets problem choice right m =
-    (t : Tables) → Problem t sets problem → assignmentFault t (take t.variables choice) ≡ Done → (n : ℕ) → n < m → n < pairsOf t.questions
+    (t : Tables) → Problem t sets problem → assignment_fault t (take t.variables choice) ≡ Done → (n : ℕ) → n < m → n < pairs_of t.questions
     → AskedOf t problem right n → HoldsAt t (take t.variables choice) n
 
 unlike : (a b : Bool) → not (beq a b) ≡ true → a ≡ b → ⊥
@@ -73,13 +73,13 @@ module _ (sets problem choice : List ℕ) (right : Bool) where
 
   one_more :
       (m : ℕ) → HoldTo sets problem choice right m
-      → ((t : Tables) → Problem t sets problem → assignmentFault t (take t.variables choice) ≡ Done → m < pairsOf t.questions
+      → ((t : Tables) → Problem t sets problem → assignment_fault t (take t.variables choice) ≡ Done → m < pairs_of t.questions
       → AskedOf t problem right m → HoldsAt t (take t.variables choice) m)
       → HoldTo sets problem choice right (m + 1)
   one_more m h g t c a n l =
       ⊎_elim
       (λ (e : n ≡ m).
-      subst (λ (z : ℕ). z < pairsOf t.questions → AskedOf t problem right z → HoldsAt t (take t.variables choice) z) (sym e)
+      subst (λ (z : ℕ). z < pairs_of t.questions → AskedOf t problem right z → HoldsAt t (take t.variables choice) z) (sym e)
       (g t c a))
       (λ x. h t c a n x) (last-cases n m (omega arith))
 
@@ -87,7 +87,7 @@ module _ (sets problem choice : List ℕ) (right : Bool) where
   hold-unasked m o h = one_more m h (λ t c a l x. absurd (o (eqb-true _ 1 x.0)))
 
   -- of the other kind
-  pub hold-skip : (m : ℕ) → not (beq (held_at problem (rightAt problem m)) right) ≡ true → HoldTo sets problem choice right m → HoldTo sets problem choice right (m + 1)
+  pub hold-skip : (m : ℕ) → not (beq (held_at problem (right_at problem m)) right) ≡ true → HoldTo sets problem choice right m → HoldTo sets problem choice right (m + 1)
   hold-skip m o h = one_more m h (λ t c a l x. absurd (unlike _ _ o (right-held t sets problem c m l ∙ x.1)))
 
   module _ (m : ℕ) (b : Bool) (d : Tested sets problem m choice b) where
@@ -95,7 +95,7 @@ module _ (sets problem choice : List ℕ) (right : Bool) where
     hold-more e h = one_more m h (λ t c a l x. decided-true _ b (d t c a l) e)
 
     pub failing-here :
-        b ≡ false → m < questionCount problem → get_or problem (939 + m) 0 ≡ 1 → not (beq (held_at problem (rightAt problem m)) right) ≡ false
+        b ≡ false → m < question_count problem → get_or problem (939 + m) 0 ≡ 1 → not (beq (held_at problem (right_at problem m)) right) ≡ false
         → HoldTo sets problem choice right m → FailingOf sets problem choice right m
     failing-here e l w o h t c a =
         let here = is-question t sets problem c m l in
@@ -106,7 +106,7 @@ module _ (sets problem choice : List ℕ) (right : Bool) where
           before = λ n y. h t c a n y (omega arith);
         }
 
-  pub failing-none : (m : ℕ) → HoldTo sets problem choice right m → questionCount problem ≤ m → FailingOf sets problem choice right (questionCount problem)
+  pub failing-none : (m : ℕ) → HoldTo sets problem choice right m → question_count problem ≤ m → FailingOf sets problem choice right (question_count problem)
   failing-none m h l t c a =
       record {
         low = omega (arith, c.questions);
@@ -116,7 +116,7 @@ module _ (sets problem choice : List ℕ) (right : Bool) where
       }
 
 module _ (sets problem choice : List ℕ) (m : ℕ) where
-  pub failing-first : FailingOf sets problem choice true m → m < questionCount problem → Failing sets problem choice m
+  pub failing-first : FailingOf sets problem choice true m → m < question_count problem → Failing sets problem choice m
   failing-first f l t c a =
       record {
         low = (f t c a).low;
@@ -126,18 +126,18 @@ module _ (sets problem choice : List ℕ) (m : ℕ) where
       }
 
   -- none with a variable on the right, then the others
-  pub failing-second : (n : ℕ) → FailingOf sets problem choice true n → questionCount problem ≤ n → FailingOf sets problem choice false m → Failing sets problem choice m
+  pub failing-second : (n : ℕ) → FailingOf sets problem choice true n → question_count problem ≤ n → FailingOf sets problem choice false m → Failing sets problem choice m
   failing-second n f l g t c a =
       record {
         low = (g t c a).low;
         asked = λ x. ((g t c a).of-kind x).0;
         fails = (g t c a).fails;
-        hold = λ x o y z. go x o y z (hasVariable (tree t.concepts (rightOf t.questions o))) refl;
+        hold = λ x o y z. go x o y z (has_variable (tree t.concepts (right_of t.questions o))) refl;
       }
     where
       go :
-          pairsOf t.questions ≤ m → (o : ℕ) → o < pairsOf t.questions → AskedAt problem o → (b : Bool)
-          → hasVariable (tree t.concepts (rightOf t.questions o)) ≡ b → HoldsAt t (take t.variables choice) o
+          pairs_of t.questions ≤ m → (o : ℕ) → o < pairs_of t.questions → AskedAt problem o → (b : Bool)
+          → has_variable (tree t.concepts (right_of t.questions o)) ≡ b → HoldsAt t (take t.variables choice) o
       go x o y z true e = (f t c a).before o (omega (arith, c.questions)) (z, e)
       go x o y z false e = (g t c a).before o (omega arith) (z, e)
 
@@ -177,14 +177,14 @@ module _ (t : Tables) (low full : List ℕ) (i : IntervalOf t low full) where
 -- a question fails at the low side: carried on, it shuts an interval around
 module _ (sets problem full low empty : List ℕ) (m : ℕ) (zeros : (k : ℕ) → get_or empty k 0 ≡ 0) (long : length empty ≡ 8) where
   pub refuted-right :
-      (core : List ℕ) → held_at problem (rightAt problem m) ≡ true → Mixed low empty core → StillFails sets problem m low empty core
+      (core : List ℕ) → held_at problem (right_at problem m) ≡ true → Mixed low empty core → StillFails sets problem m low empty core
       → RefutedBy sets problem full low m core full
   refuted-right core e w f t c l x i n =
       low-refuted t low full i empty zeros long problem core w
       (low-shuts t c.passed problem core full m l x (sym (right-held t sets problem c m l) ∙ e) (f t c l full i (empty-interval t low full i empty zeros long) n))
 
   pub refuted-left :
-      (rest : List ℕ) → held_at problem (rightAt problem m) ≡ false → Mixed low full rest → StillFails sets problem m low full rest
+      (rest : List ℕ) → held_at problem (right_at problem m) ≡ false → Mixed low full rest → StillFails sets problem m low full rest
       → RefutedBy sets problem full low m empty rest
   refuted-left rest e w f t c l x i n =
       high-refuted t low full i empty zeros long problem rest w
@@ -192,7 +192,7 @@ module _ (sets problem full low empty : List ℕ) (m : ℕ) (zeros : (k : ℕ) �
 
 module _ (sets problem full low before : List ℕ) (m : ℕ) (f : Failing sets problem low m) where
   pub tried-refuted :
-      (low₁ high₁ after : List ℕ) → m < questionCount problem → RefutedBy sets problem full low m low₁ high₁ → Added low₁ high₁ before after
+      (low₁ high₁ after : List ℕ) → m < question_count problem → RefutedBy sets problem full low m low₁ high₁ → Added low₁ high₁ before after
       → Searched sets problem full low low before after (λ t. Answers t problem low low false low₁ high₁)
   tried-refuted low₁ high₁ after l r a t c i j n =
       let x = is-question t sets problem c m l in
@@ -200,7 +200,7 @@ module _ (sets problem full low before : List ℕ) (m : ℕ) (f : Failing sets p
       (y, nogoods-added t problem low₁ high₁ before after n y.none a)
 
   pub tried-solves :
-      (b : Bool) → Counted (counts problem) low b → not b ≡ false → questionCount problem ≤ m
+      (b : Bool) → Counted (counts problem) low b → not b ≡ false → question_count problem ≤ m
       → Searched sets problem full low low before before (λ t. Answers t problem low low true low low)
   tried-solves b o e l t c i j n = (
     record {
@@ -209,7 +209,7 @@ module _ (sets problem full low before : List ℕ) (m : ℕ) (f : Failing sets p
       meets =
           record {
             solves = (f t c i.accepted).hold (omega (arith, c.questions));
-            few = few-front problem (counts problem) low (counts_same problem _ refl) t.variables (wellFormed t c.passed).few-variables (subst (Counted (counts problem) low) (not-false b e) o);
+            few = few-front problem (counts problem) low (counts_same problem _ refl) t.variables (well_formed t c.passed).few-variables (subst (Counted (counts problem) low) (not-false b e) o);
           };
     },
     n,
@@ -240,7 +240,7 @@ refuted-none t problem low high low₁ high₁ r other a b s =
     })
     s
 
-module _ (t : Tables) (problem : List ℕ) (h : tableFault t ≡ Done) (low high : List ℕ) (i : IntervalOf t low high) (low₁ high₁ : List ℕ) where
+module _ (t : Tables) (problem : List ℕ) (h : table_fault t ≡ Done) (low high : List ℕ) (i : IntervalOf t low high) (low₁ high₁ : List ℕ) where
   pub tried-done :
       (b w : Bool) → Answers t problem low low b low₁ high₁ → Decided (Within high high₁) w → (b || w) ≡ true → Answers t problem low high b low₁ high₁
   tried-done true w s c e =
@@ -263,7 +263,7 @@ module _ (t : Tables) (problem : List ℕ) (h : tableFault t ≡ Done) (low high
       }
 
 pub recalled-known :
-    (store low high : List ℕ) (place : ℕ) (low₁ high₁ : List ℕ) (a b : Bool) → place < used store → low₁ ≡ lowAt store place → high₁ ≡ highAt store place
+    (store low high : List ℕ) (place : ℕ) (low₁ high₁ : List ℕ) (a b : Bool) → place < used store → low₁ ≡ low_at store place → high₁ ≡ high_at store place
     → Decided (Within low₁ low) a → Decided (Within high high₁) b → Recalled store low high (a && b) low₁ high₁
 recalled-known store low high place low₁ high₁ true true l e f x y =
     record { place = place; kept = l; low-here = e; high-here = f; above = x; below = y }
@@ -271,7 +271,7 @@ recalled-known store low high place low₁ high₁ true false l e f x y = tt
 recalled-known store low high place low₁ high₁ false b l e f x y = tt
 
 pub kept-long :
-    (store : List ℕ) (place : ℕ) (low high : List ℕ) → Room store → place < used store → low ≡ lowAt store place → high ≡ highAt store place
+    (store : List ℕ) (place : ℕ) (low high : List ℕ) → Room store → place < used store → low ≡ low_at store place → high ≡ high_at store place
     → (length low ≡ 8) × (length high ≡ 8)
 kept-long store place low high r l e f = (
   ap length e ∙ words_long store (place * 16 + 1) (omega (arith, r.long, r.few)),
@@ -287,7 +287,7 @@ known-refuted t problem store low high b low₁ high₁ n x e =
       high-long = (kept-long store k.place low₁ high₁ n.room k.kept k.low-here k.high-here).1;
       above = k.above;
       below = k.below;
-      none = subst (λ (z : List ℕ). NoSolution t problem z high₁) (sym k.low-here) (subst (NoSolution t problem (lowAt store k.place)) (sym k.high-here) (n.each k.place k.kept));
+      none = subst (λ (z : List ℕ). NoSolution t problem z high₁) (sym k.low-here) (subst (NoSolution t problem (low_at store k.place)) (sym k.high-here) (n.each k.place k.kept));
     }
 
 pub can-split : (low high : List ℕ) (p : ℕ) (b : Bool) → CanSplit low high p b → b ≡ true → (p < 512) × (undecided low high p ≡ true)
@@ -311,7 +311,7 @@ less-high t high high₂ full k q c i =
     record { low-long = c.long; high-long = i.high-long; accepted = i.accepted; ordered = λ l r x. i.ordered l r (shrunk high high₂ k q c l r x); idle = i.idle }
 
 -- ---- splitting at a pair
-module _ (t : Tables) (problem : List ℕ) (h : tableFault t ≡ Done) (low high : List ℕ) (i : IntervalOf t low high) (p : ℕ) (u : undecided low high p ≡ true) where
+module _ (t : Tables) (problem : List ℕ) (h : table_fault t ≡ Done) (low high : List ℕ) (i : IntervalOf t low high) (p : ℕ) (u : undecided low high p ≡ true) where
   module _ (low₂ high₂ : List ℕ) (e : high₂ ≡ high) (c : Changed low low₂ (p / 64) (p % 64) true) where
     -- a nogood of the one half that does not need the pair
     pub with-answers :

@@ -9,22 +9,22 @@ use lib.ListN.{length, get_or, take}
 use lib.Seq.{get_or-take}
 use borrow.Author.Tests.{not-true}
 use Rattle.subsumption.specs.declared.refusal.Outcome.TheVariants.{Done}
-use Rattle.subsumption.specs.Tables.{Tables, both, or, Node, topAt, existsAt, andAt, varAt, node, count_of, pairsOf, tree, hasVariable}
+use Rattle.subsumption.specs.Tables.{Tables, both, or, Node, top_at, exists_at, and_at, var_at, node, count_of, pairs_of, tree, has_variable}
 use Rattle.subsumption.specs.Atoms.{atoms, bit, chosen}
 use Rattle.subsumption.specs.Roles.{wider}
 use Rattle.subsumption.specs.Subsumption.{assigned, Subsumed}
-use Rattle.subsumption.specs.Check.{assignmentFault}
+use Rattle.subsumption.specs.Check.{assignment_fault}
 use Rattle.subsumption.proofs.Bools.{or_cases, or-first, or-second, both_true, both-intro, last-cases}
 use Rattle.subsumption.proofs.WellFormed.{WellFormed}
-use Rattle.subsumption.proofs.Accepted.{wellFormed}
+use Rattle.subsumption.proofs.Accepted.{well_formed}
 use Rattle.subsumption.proofs.Chosen.{pick-member, pick_intro}
 use Rattle.subsumption.proofs.Membership.{subsumed-ground}
 use Rattle.subsumption.proofs.Nodes.{exists-node}
 use Rattle.subsumption.proofs.Soundness.{subsumed-same, subsumed-trans}
-use Rattle.square.specs.Inner.Square.{onLine}
+use Rattle.square.specs.Inner.Square.{on_line}
 use Rattle.matching.specs.declared.search.sets.Words.{Words}
 use Rattle.matching.specs.Inner.Search.Sets.{in_words, Joined}
-use Rattle.matching.specs.Inner.Search.Problem.{line_at, fitAt, closersAt, held_at, atomAt, inner_at, FreeId, nothing, Fitting, closes, inMembers, Closers, Problem}
+use Rattle.matching.specs.Inner.Search.Problem.{line_at, fit_at, closers_at, held_at, atom_at, inner_at, FreeId, nothing, Fitting, closes, in_members, Closers, Problem}
 use Rattle.matching.specs.Inner.Search.Patterns.{ReadBy, ValueRead, BelowAll, ChosenAbove, AboveSome, LinkOf, Linked, MembersOf, Follows, by-set, by-top, by_and, ClosedUp, Upper, Exact, Generates, ValueOf}
 use Rattle.matching.proofs.PatternLaws.Free.{free-inward, free-chosen}
 use Rattle.matching.proofs.PatternLaws.Least.{true-stable}
@@ -32,10 +32,10 @@ use Rattle.matching.proofs.PatternLaws.Down.{right-var, right-and, right-exists,
 use Rattle.matching.proofs.PatternLaws.Up.{above-upper, above-var, above-first, above-second, above-exists, left-var, left_and, left-exists}
 use Rattle.matching.proofs.SearchLaws.Fronts.{accepted-bits}
 
-exists-role : {r s x y : ℕ} → existsAt r x ≡ existsAt s y → r ≡ s
+exists-role : {r s x y : ℕ} → exists_at r x ≡ exists_at s y → r ≡ s
 exists-role e = cc
 
-exists-inner : {r s x y : ℕ} → existsAt r x ≡ existsAt s y → x ≡ y
+exists-inner : {r s x y : ℕ} → exists_at r x ≡ exists_at s y → x ≡ y
 exists-inner e = cc
 
 -- ---- a test of each number below another
@@ -67,7 +67,7 @@ implies-at false b e h = absurd (false≢true h)
 
 module _ (t : Tables) (sets problem : List ℕ) (C : Problem t sets problem) (assignment : List ℕ) where
   wf : WellFormed t
-  wf = wellFormed t C.passed
+  wf = well_formed t C.passed
 
   abbrev Below : ℕ → ℕ → Type 0
   Below i j = Subsumed t assignment i j
@@ -82,19 +82,19 @@ module _ (t : Tables) (sets problem : List ℕ) (C : Problem t sets problem) (as
   trans = subsumed-trans t (assigned t assignment)
 
   -- ---- lines of variable-free ids
-  pub row-above : (i j : ℕ) → FreeId t i → FreeId t j → onLine sets (line_at false i) j ≡ true → Below i j
+  pub row-above : (i j : ℕ) → FreeId t i → FreeId t j → on_line sets (line_at false i) j ≡ true → Below i j
   row-above i j f g e = subsumed-ground t (nothing t) assignment i j f.ground g.ground ((C.above i j f g).0 e)
 
-  pub above-row : (i j : ℕ) → FreeId t i → FreeId t j → Below i j → onLine sets (line_at false i) j ≡ true
+  pub above-row : (i j : ℕ) → FreeId t i → FreeId t j → Below i j → on_line sets (line_at false i) j ≡ true
   above-row i j f g s = (C.above i j f g).1 (subsumed-ground t assignment (nothing t) i j f.ground g.ground s)
 
-  column-below : (i j : ℕ) → FreeId t i → FreeId t j → onLine sets (line_at true j) i ≡ true → Below i j
+  column-below : (i j : ℕ) → FreeId t i → FreeId t j → on_line sets (line_at true j) i ≡ true → Below i j
   column-below i j f g e = subsumed-ground t (nothing t) assignment i j f.ground g.ground ((C.below i j f g).0 e)
 
-  below-column : (i j : ℕ) → FreeId t i → FreeId t j → Below i j → onLine sets (line_at true j) i ≡ true
+  below-column : (i j : ℕ) → FreeId t i → FreeId t j → Below i j → on_line sets (line_at true j) i ≡ true
   below-column i j f g s = (C.below i j f g).1 (subsumed-ground t assignment (nothing t) i j f.ground g.ground s)
 
-  inner_of : (e r x : ℕ) → FreeId t e → node t.concepts e ≡ existsAt r x → inner_at problem e ≡ x
+  inner_of : (e r x : ℕ) → FreeId t e → node t.concepts e ≡ exists_at r x → inner_at problem e ≡ x
   inner_of e r x f n = (exists-node problem e r x (C.rows e f.known ∙ n)).2
 
   -- ---- values by their bits
@@ -116,10 +116,10 @@ module _ (t : Tables) (sets problem : List ℕ) (C : Problem t sets problem) (as
   value_same false j f g h G = generates-same j f g h G
 
   -- ---- the value of a member, made or a line
-  line-exact : (i : ℕ) → FreeId t i → Exact t assignment i (onLine sets (line_at true i))
+  line-exact : (i : ℕ) → FreeId t i → Exact t assignment i (on_line sets (line_at true i))
   line-exact i f c g = (column-below c i g f, below-column c i g f)
 
-  line-generates : (i : ℕ) → FreeId t i → Generates t assignment i (onLine sets (line_at false i))
+  line-generates : (i : ℕ) → FreeId t i → Generates t assignment i (on_line sets (line_at false i))
   line-generates i f =
       record {
         sound = λ c g u. row-above i c f g u;
@@ -127,24 +127,24 @@ module _ (t : Tables) (sets problem : List ℕ) (C : Problem t sets problem) (as
         enough = λ X upper k c g s. upper.upward i c f g s (k i f (above-row i i f f (same i)));
       }
 
-  line-value : (right : Bool) (i : ℕ) → FreeId t i → ValueOf right t assignment i (onLine sets (line_at right i))
+  line-value : (right : Bool) (i : ℕ) → FreeId t i → ValueOf right t assignment i (on_line sets (line_at right i))
   line-value true i f = line-exact i f
   line-value false i f = line-generates i f
 
   pub read-value :
       (right : Bool) (values : List ℕ) (i : ℕ) (w : Words) → i < count_of t.concepts
-      → (hasVariable (tree t.concepts i) ≡ true → ValueOf right t assignment i (onLine values (i * 3))) → ValueRead sets problem values right i w
+      → (has_variable (tree t.concepts i) ≡ true → ValueOf right t assignment i (on_line values (i * 3))) → ValueRead sets problem values right i w
       → ValueOf right t assignment i (in_words w)
   read-value right values i w l made R = go (held_at problem i) refl R
     where
       go : (b : Bool) → held_at problem i ≡ b → ReadBy b sets values right i w → ValueOf right t assignment i (in_words w)
-      go true e S = value_same right i (onLine values (i * 3)) (in_words w) (λ c m. sym (S c m)) (made (sym (C.held i l) ∙ e))
+      go true e S = value_same right i (on_line values (i * 3)) (in_words w) (λ c m. sym (S c m)) (made (sym (C.held i l) ∙ e))
       go false e S =
-          value_same right i (onLine sets (line_at right i)) (in_words w) (λ c m. sym (S c m))
+          value_same right i (on_line sets (line_at right i)) (in_words w) (λ c m. sym (S c m))
           (line-value right i (record { ground = sym (C.held i l) ∙ e; known = l }))
 
   -- ---- "and"
-  module _ (j i k : ℕ) (l : j < count_of t.concepts) (n : node t.concepts j ≡ andAt i k) (a b w : Words) where
+  module _ (j i k : ℕ) (l : j < count_of t.concepts) (n : node t.concepts j ≡ and_at i k) (a b w : Words) where
     pub and-exact :
         Exact t assignment i (in_words a) → Exact t assignment k (in_words b) → ((c : ℕ) → c < 192 → in_words w c ≡ both (in_words a c) (in_words b c))
         → Exact t assignment j (in_words w)
@@ -181,15 +181,15 @@ module _ (t : Tables) (sets problem : List ℕ) (C : Problem t sets problem) (as
         in-second c f y = J.bits c (free-low c f) ∙ or-second _ _ y
 
   -- ---- "some"
-  module _ (j r x : ℕ) (l : j < count_of t.concepts) (has : hasVariable (tree t.concepts j) ≡ true)
-      (n : node t.concepts j ≡ existsAt r x) (own w : Words) where
+  module _ (j r x : ℕ) (l : j < count_of t.concepts) (has : has_variable (tree t.concepts j) ≡ true)
+      (n : node t.concepts j ≡ exists_at r x) (own w : Words) where
     held : held_at problem j ≡ true
     held = C.held j l ∙ has
 
-    fitting : (right : Bool) (e : ℕ) → e < 192 → onLine sets (fitAt right j) e ≡ true → Fitting t right j e
+    fitting : (right : Bool) (e : ℕ) → e < 192 → on_line sets (fit_at right j) e ≡ true → Fitting t right j e
     fitting right e h u = (C.fits right j e l h held).0 u
 
-    fitted : (right : Bool) (e : ℕ) → Fitting t right j e → onLine sets (fitAt right j) e ≡ true
+    fitted : (right : Bool) (e : ℕ) → Fitting t right j e → on_line sets (fit_at right j) e ≡ true
     fitted right e F = (C.fits right j e l (free-low e F.free) held).1 F
 
     pub exists-exact : Exact t assignment x (in_words own) → Linked sets problem own true j w → Exact t assignment j (in_words w)
@@ -245,7 +245,7 @@ module _ (t : Tables) (sets problem : List ℕ) (C : Problem t sets problem) (as
     -- the inner set holds what is above the inner id and asked for
     pub exists-generates :
         ((c : ℕ) → FreeId t c → in_words own c ≡ true → Below x c)
-        → ((e : ℕ) → e < 192 → onLine sets (fitAt false j) e ≡ true → FreeId t (inner_at problem e) → Below x (inner_at problem e) → in_words own (inner_at problem e) ≡ true)
+        → ((e : ℕ) → e < 192 → on_line sets (fit_at false j) e ≡ true → FreeId t (inner_at problem e) → Below x (inner_at problem e) → in_words own (inner_at problem e) ≡ true)
         → Linked sets problem own false j w → Generates t assignment j (in_words w)
     exists-generates E K L =
         record {
@@ -280,7 +280,7 @@ module _ (t : Tables) (sets problem : List ℕ) (C : Problem t sets problem) (as
             }
 
         link :
-            (a s d : ℕ) → FreeId t a → node t.concepts a ≡ existsAt s d → wider t.roles r s ≡ true → Below x d → LinkOf sets problem own false j a
+            (a s d : ℕ) → FreeId t a → node t.concepts a ≡ exists_at s d → wider t.roles r s ≡ true → Below x d → LinkOf sets problem own false j a
         link a s d f m v b =
             let u = inner_of a s d f m in
             let o = fitted false a (record { free = f; own-role = r; own-inner = x; role = s; inner = d; own = n; row = m; counts = v }) in
@@ -293,15 +293,15 @@ module _ (t : Tables) (sets problem : List ℕ) (C : Problem t sets problem) (as
             }
 
   -- ---- closing up
-  module _ (m i : ℕ) (x w : Words) (asked : m < pairsOf t.questions) (l : i < count_of t.concepts)
-      (G : Generates t assignment i (in_words x)) (U : ClosedUp sets problem (closersAt m) x w) where
+  module _ (m i : ℕ) (x w : Words) (asked : m < pairs_of t.questions) (l : i < count_of t.concepts)
+      (G : Generates t assignment i (in_words x)) (U : ClosedUp sets problem (closers_at m) x w) where
     abbrev K : Closers sets problem (count_of t.concepts) m
     K = C.closers m asked
 
-    closer : (e : ℕ) → e < 192 → onLine sets (closersAt m) e ≡ true → FreeId t e
+    closer : (e : ℕ) → e < 192 → on_line sets (closers_at m) e ≡ true → FreeId t e
     closer e h u = let (known, free) = K.only e h u in record { ground = sym (C.held e known) ∙ free; known = known }
 
-    follows-above : {c : ℕ} → FreeId t c → Follows sets problem (closersAt m) x c → Below i c
+    follows-above : {c : ℕ} → FreeId t c → Follows sets problem (closers_at m) x c → Below i c
     follows-above f (by-set c h e) = G.sound c f e
     follows-above f (by-top e c h o n k r) =
         let g = closer e h o in
@@ -316,27 +316,27 @@ module _ (t : Tables) (sets problem : List ℕ) (C : Problem t sets problem) (as
     pub closed-sound : (c : ℕ) → FreeId t c → in_words w c ≡ true → Below i c
     closed-sound c f u = follows-above f (U.followed.least c (free-low c f) u)
 
-    members-top : (e : ℕ) → node problem e ≡ topAt → MembersOf (λ c. in_words w c ≡ true) (node problem e)
+    members-top : (e : ℕ) → node problem e ≡ top_at → MembersOf (λ c. in_words w c ≡ true) (node problem e)
     members-top e n = subst (MembersOf (λ c. in_words w c ≡ true)) (sym n) tt
 
     members-and :
-        (e a b : ℕ) → node problem e ≡ andAt a b → in_words w a ≡ true → in_words w b ≡ true → MembersOf (λ c. in_words w c ≡ true) (node problem e)
+        (e a b : ℕ) → node problem e ≡ and_at a b → in_words w a ≡ true → in_words w b ≡ true → MembersOf (λ c. in_words w c ≡ true) (node problem e)
     members-and e a b n p q = subst (MembersOf (λ c. in_words w c ≡ true)) (sym n) (p, q)
 
     -- each wanted id above c is in the closed set
     abbrev Reaches : ℕ → Type 0
     Reaches c = (d : ℕ) → FreeId t d → K.wanted d ≡ true → Below c d → in_words w d ≡ true
 
-    reachesAt : ℕ → ℕ → Bool
-    reachesAt c d = or (not (both (not (hasVariable (tree t.concepts d))) (both (K.wanted d) (onLine sets (line_at false c) d)))) (in_words w d)
+    reaches_at : ℕ → ℕ → Bool
+    reaches_at c d = or (not (both (not (has_variable (tree t.concepts d))) (both (K.wanted d) (on_line sets (line_at false c) d)))) (in_words w d)
 
     reaches : ℕ → Bool
-    reaches c = all_below (reachesAt c) (count_of t.concepts)
+    reaches c = all_below (reaches_at c) (count_of t.concepts)
 
     reaches-in : (c : ℕ) → FreeId t c → Reaches c → reaches c ≡ true
-    unfolding reaches reachesAt
+    unfolding reaches reaches_at
     reaches-in c f h =
-        all-intro (reachesAt c) (count_of t.concepts)
+        all-intro (reaches_at c) (count_of t.concepts)
         (λ d k.
         implies-intro _ (in_words w d)
         (λ u.
@@ -345,33 +345,33 @@ module _ (t : Tables) (sets problem : List ℕ) (C : Problem t sets problem) (as
         let g : FreeId t d = record { ground = not-true _ free; known = k } in h d g want (row-above c d f g row)))
 
     reaches-out : (c : ℕ) → FreeId t c → reaches c ≡ true → Reaches c
-    unfolding reaches reachesAt
+    unfolding reaches reaches_at
     reaches-out c f u d g want s =
-        implies-at _ (in_words w d) (all-at (reachesAt c) (count_of t.concepts) u d g.known)
+        implies-at _ (in_words w d) (all-at (reaches_at c) (count_of t.concepts) u d g.known)
         (both-intro _ _ (ap not g.ground) (both-intro _ _ want (above-row c d f g s)))
 
     -- what is not kept brings nothing wanted
     brings :
-        (c d : ℕ) → FreeId t c → FreeId t d → closes (node t.concepts c) ≡ true → onLine sets (closersAt m) c ≡ false → K.wanted d ≡ true → Below c d
-        → inMembers sets (node t.concepts c) d ≡ true
+        (c d : ℕ) → FreeId t c → FreeId t d → closes (node t.concepts c) ≡ true → on_line sets (closers_at m) c ≡ false → K.wanted d ≡ true → Below c d
+        → in_members sets (node t.concepts c) d ≡ true
     brings c d f g k o want s =
-        subst (λ (n : Node). inMembers sets n d ≡ true) (C.rows c f.known)
+        subst (λ (n : Node). in_members sets n d ≡ true) (C.rows c f.known)
         (K.quiet c f.known (C.held c f.known ∙ f.ground) (ap closes (C.rows c f.known) ∙ k) o d (free-low d g) (above-row c d f g s) want)
 
-    reaches-top : (c : ℕ) → FreeId t c → node t.concepts c ≡ topAt → Reaches c
-    unfolding closes inMembers
-    reaches-top c f n d g want s = go (onLine sets (closersAt m) c) refl
+    reaches-top : (c : ℕ) → FreeId t c → node t.concepts c ≡ top_at → Reaches c
+    unfolding closes in_members
+    reaches-top c f n d g want s = go (on_line sets (closers_at m) c) refl
       where
-        go : (b : Bool) → onLine sets (closersAt m) c ≡ b → in_words w d ≡ true
+        go : (b : Bool) → on_line sets (closers_at m) c ≡ b → in_words w d ≡ true
         go true o =
             U.closed c (free-low c f) o (members-top c (C.rows c f.known ∙ n)) d (free-low d g) (above-row c d f g s)
         go false o =
             absurd
-            (false≢true (subst (λ (n : Node). inMembers sets n d ≡ true) n (brings c d f g (ap closes n) o want s)))
+            (false≢true (subst (λ (n : Node). in_members sets n d ≡ true) n (brings c d f g (ap closes n) o want s)))
 
-    reaches-and : (c a b : ℕ) → FreeId t c → node t.concepts c ≡ andAt a b → Reaches a → Reaches b → Reaches c
-    unfolding closes inMembers
-    reaches-and c a b f n p q d g want s = go (onLine sets (closersAt m) c) refl
+    reaches-and : (c a b : ℕ) → FreeId t c → node t.concepts c ≡ and_at a b → Reaches a → Reaches b → Reaches c
+    unfolding closes in_members
+    reaches-and c a b f n p q d g want s = go (on_line sets (closers_at m) c) refl
       where
         fa : FreeId t a
         fa = (free-inward t wf).first c a b n f
@@ -379,14 +379,14 @@ module _ (t : Tables) (sets problem : List ℕ) (C : Problem t sets problem) (as
         fb : FreeId t b
         fb = (free-inward t wf).second c a b n f
 
-        go : (v : Bool) → onLine sets (closersAt m) c ≡ v → in_words w d ≡ true
+        go : (v : Bool) → on_line sets (closers_at m) c ≡ v → in_words w d ≡ true
         go true o =
             let row = C.rows c f.known ∙ n in
             let (wa, wb) = K.members c a b (free-low c f) o row in
             U.closed c (free-low c f) o (members-and c a b row (p a fa wa (same a)) (q b fb wb (same b))) d (free-low d g) (above-row c d f g s)
         go false o =
             ⊎_elim (λ u. p d g want (row-above a d fa g u)) (λ u. q d g want (row-above b d fb g u))
-            (or_cases _ _ (subst (λ (n : Node). inMembers sets n d ≡ true) n (brings c d f g (ap closes n) o want s)))
+            (or_cases _ _ (subst (λ (n : Node). in_members sets n d ≡ true) n (brings c d f g (ap closes n) o want s)))
 
     reaches-upper : Upper t assignment (λ c. reaches c ≡ true)
     reaches-upper =
@@ -407,7 +407,7 @@ module _ (t : Tables) (sets problem : List ℕ) (C : Problem t sets problem) (as
 
 -- ---- a variable
 module _ (t : Tables) (sets problem : List ℕ) (C : Problem t sets problem) (choice : List ℕ)
-    (accepted : assignmentFault t (take t.variables choice) ≡ Done) where
+    (accepted : assignment_fault t (take t.variables choice) ≡ Done) where
   abbrev α : List ℕ
   α = take t.variables choice
 
@@ -415,7 +415,7 @@ module _ (t : Tables) (sets problem : List ℕ) (C : Problem t sets problem) (ch
     place : ℕ
     low : place < 64
     taken : bit (get_or choice k 0) place ≡ true
-    here : atomAt problem place ≡ p
+    here : atom_at problem place ≡ p
 
   place-of : (k p : ℕ) → k < t.variables → Memᴰ p (chosen t α k) → Place k p
   unfolding chosen
@@ -423,40 +423,40 @@ module _ (t : Tables) (sets problem : List ℕ) (C : Problem t sets problem) (ch
       let P = pick-member (atoms t) (get_or α k 0) p m in
       record {
         place = P.place;
-        low = omega (arith, P.known, (wellFormed t C.passed).few-atoms);
+        low = omega (arith, P.known, (well_formed t C.passed).few-atoms);
         taken = sym (ap (λ (z : ℕ). bit z P.place) (get_or-take t.variables choice k 0 l)) ∙ P.chosen;
         here = C.atom P.place P.known ∙ P.here;
       }
 
-  chosen_at : (k q : ℕ) → k < t.variables → bit (get_or choice k 0) q ≡ true → Memᴰ (atomAt problem q) (chosen t α k)
+  chosen_at : (k q : ℕ) → k < t.variables → bit (get_or choice k 0) q ≡ true → Memᴰ (atom_at problem q) (chosen t α k)
   unfolding chosen
   chosen_at k q l e =
       let taken : bit (get_or α k 0) q ≡ true = ap (λ (z : ℕ). bit z q) (get_or-take t.variables choice k 0 l) ∙ e in
       let known : q < length (atoms t) = (accepted-bits t α accepted k q taken).1 in
-      pick_intro (atoms t) (get_or α k 0) (atomAt problem q) (record { place = q; known = known; chosen = taken; here = sym (C.atom q known) })
+      pick_intro (atoms t) (get_or α k 0) (atom_at problem q) (record { place = q; known = known; chosen = taken; here = sym (C.atom q known) })
 
-  module _ (j k : ℕ) (l : j < count_of t.concepts) (n : node t.concepts j ≡ varAt k) (w : Words) where
+  module _ (j k : ℕ) (l : j < count_of t.concepts) (n : node t.concepts j ≡ var_at k) (w : Words) where
     number : k < t.variables
-    number = (wellFormed t C.passed).numbered j k n
+    number = (well_formed t C.passed).numbered j k n
 
     pub var-exact : BelowAll sets problem (get_or choice k 0) w → Exact t α j (in_words w)
     var-exact B c f = (λ u. rule.1 (to u), from)
       where
         rule : Subsumed t α c j ↔ ((p : ℕ) → Memᴰ p (chosen t α k) → Subsumed t α c p)
-        rule = right-var t α (wellFormed t C.passed) c j k f.known l n
+        rule = right-var t α (well_formed t C.passed) c j k f.known l n
 
         to : in_words w c ≡ true → (p : ℕ) → Memᴰ p (chosen t α k) → Subsumed t α c p
         to u p m =
             let P = place-of k p number m in
-            column-below t sets problem C α c p f (free-chosen t (wellFormed t C.passed) α k p m)
-            (subst (λ (z : ℕ). onLine sets (line_at true z) c ≡ true) P.here ((B c (free-low t sets problem C α c f)).0 u P.place P.low P.taken))
+            column-below t sets problem C α c p f (free-chosen t (well_formed t C.passed) α k p m)
+            (subst (λ (z : ℕ). on_line sets (line_at true z) c ≡ true) P.here ((B c (free-low t sets problem C α c f)).0 u P.place P.low P.taken))
 
         from : Subsumed t α c j → in_words w c ≡ true
         from s =
             (B c (free-low t sets problem C α c f)).1
             (λ q h b.
             let m = chosen_at k q number b in
-            below-column t sets problem C α c (atomAt problem q) f (free-chosen t (wellFormed t C.passed) α k _ m) (rule.0 s (atomAt problem q) m))
+            below-column t sets problem C α c (atom_at problem q) f (free-chosen t (well_formed t C.passed) α k _ m) (rule.0 s (atom_at problem q) m))
 
     pub var-generates : AboveSome sets problem (get_or choice k 0) w → Generates t α j (in_words w)
     var-generates A =
@@ -465,21 +465,21 @@ module _ (t : Tables) (sets problem : List ℕ) (C : Problem t sets problem) (ch
           upward = λ c d f g s u. (A d (low d g)).1 (on c d f g s ((A c (low c f)).0 u));
           enough =
               λ X upper h.
-              left-var t α (wellFormed t C.passed) (λ c. X c ≡ true) upper (λ c. true-stable (X c)) j k l n
-              (λ p m. let f = free-chosen t (wellFormed t C.passed) α k p m in h p f ((A p (low p f)).1 (own p f m)));
+              left-var t α (well_formed t C.passed) (λ c. X c ≡ true) upper (λ c. true-stable (X c)) j k l n
+              (λ p m. let f = free-chosen t (well_formed t C.passed) α k p m in h p f ((A p (low p f)).1 (own p f m)));
         }
       where
         low : (c : ℕ) → FreeId t c → c < 192
         low = free-low t sets problem C α
 
-        free : (q : ℕ) → bit (get_or choice k 0) q ≡ true → FreeId t (atomAt problem q)
-        free q b = free-chosen t (wellFormed t C.passed) α k _ (chosen_at k q number b)
+        free : (q : ℕ) → bit (get_or choice k 0) q ≡ true → FreeId t (atom_at problem q)
+        free q b = free-chosen t (well_formed t C.passed) α k _ (chosen_at k q number b)
 
         sound : (c : ℕ) → FreeId t c → ChosenAbove sets problem (get_or choice k 0) c → Subsumed t α j c
         sound c f a =
-            subsumed-trans t (assigned t α) j (atomAt problem a.place) c
-            (above-var t α (wellFormed t C.passed) j k (atomAt problem a.place) l n (chosen_at k a.place number a.chosen))
-            (row-above t sets problem C α (atomAt problem a.place) c (free a.place a.chosen) f a.here)
+            subsumed-trans t (assigned t α) j (atom_at problem a.place) c
+            (above-var t α (well_formed t C.passed) j k (atom_at problem a.place) l n (chosen_at k a.place number a.chosen))
+            (row-above t sets problem C α (atom_at problem a.place) c (free a.place a.chosen) f a.here)
 
         on :
             (c d : ℕ) → FreeId t c → FreeId t d → Subsumed t α c d → ChosenAbove sets problem (get_or choice k 0) c
@@ -491,9 +491,9 @@ module _ (t : Tables) (sets problem : List ℕ) (C : Problem t sets problem) (ch
               low = a.low;
               chosen = a.chosen;
               here =
-                  above-row t sets problem C α (atomAt problem a.place) d e g
-                  (subsumed-trans t (assigned t α) (atomAt problem a.place) c d
-                  (row-above t sets problem C α (atomAt problem a.place) c e f a.here) s);
+                  above-row t sets problem C α (atom_at problem a.place) d e g
+                  (subsumed-trans t (assigned t α) (atom_at problem a.place) c d
+                  (row-above t sets problem C α (atom_at problem a.place) c e f a.here) s);
             }
 
         own : (p : ℕ) → FreeId t p → Memᴰ p (chosen t α k) → ChosenAbove sets problem (get_or choice k 0) p
@@ -504,6 +504,6 @@ module _ (t : Tables) (sets problem : List ℕ) (C : Problem t sets problem) (ch
               low = P.low;
               chosen = P.taken;
               here =
-                  subst (λ (z : ℕ). onLine sets (line_at false z) p ≡ true) (sym P.here)
+                  subst (λ (z : ℕ). on_line sets (line_at false z) p ≡ true) (sym P.here)
                   (above-row t sets problem C α p p f f (subsumed-same t (assigned t α) p));
             }

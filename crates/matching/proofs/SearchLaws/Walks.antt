@@ -7,15 +7,15 @@ use mathlib.Core.Logic.{◌⊎◌, ◌↔◌, ⊎_elim}
 use native.Mathlib.Omega.{arith}
 use lib.ListN.{get_or}
 use borrow.Author.Tests.{eq-eqb, ne_eqb}
-use Rattle.subsumption.specs.Tables.{both, Node, topAt, name_at, existsAt, andAt, varAt, node}
+use Rattle.subsumption.specs.Tables.{both, Node, top_at, name_at, exists_at, and_at, var_at, node}
 use Rattle.subsumption.specs.Atoms.{bit}
 use Rattle.subsumption.proofs.Bools.{or_cases, or-first, or-second, both_true, both-intro, last-cases, le-or-lt, eq-or-ne}
 use Rattle.subsumption.proofs.Nodes.{node-name, node-exists, node-and, node-var, node-other, and-node}
-use Rattle.square.specs.Inner.Square.{onLine}
+use Rattle.square.specs.Inner.Square.{on_line}
 use Rattle.matching.specs.declared.search.sets.Words.{Words}
 use Rattle.matching.specs.Inner.Search.{Decided}
 use Rattle.matching.specs.Inner.Search.Sets.{in_words, NextBit, NextIn, Same, Grown, Joined, Compared}
-use Rattle.matching.specs.Inner.Search.Problem.{Numbers, line_at, fitAt, atomAt, inner_at}
+use Rattle.matching.specs.Inner.Search.Problem.{Numbers, line_at, fit_at, atom_at, inner_at}
 use Rattle.matching.specs.Inner.Search.Patterns.{ReadBy, ValueRead, BelowAll, ChosenAbove, AboveSome, LinkOf, Linked, MembersOf, Follows, by-set, by-top, by_and, Followed, ClosedOnce, ClosedUp}
 use Rattle.matching.proofs.SearchLaws.Sets.{all_in, none_in}
 
@@ -34,7 +34,7 @@ pub record BelowTo (sets problem : List ℕ) (choice q : ℕ) (common : Words) :
   pub here : q < 64 → bit choice q ≡ true
   pub bits :
       (c : ℕ) → c < 192
-      → (in_words common c ≡ true) ↔ ((p : ℕ) → p < q → bit choice p ≡ true → onLine sets (line_at true (atomAt problem p)) c ≡ true)
+      → (in_words common c ≡ true) ↔ ((p : ℕ) → p < q → bit choice p ≡ true → on_line sets (line_at true (atom_at problem p)) c ≡ true)
 
 module _ (sets problem : List ℕ) (choice : ℕ) where
   pub below-first :
@@ -48,23 +48,23 @@ module _ (sets problem : List ℕ) (choice : ℕ) where
       }
 
   pub below_more :
-      (q next : ℕ) (common line sum : Words) → q < 64 → BelowTo sets problem choice q common → Same line sets (576 + atomAt problem q * 3)
+      (q next : ℕ) (common line sum : Words) → q < 64 → BelowTo sets problem choice q common → Same line sets (576 + atom_at problem q * 3)
       → ((c : ℕ) → c < 192 → in_words sum c ≡ both (in_words common c) (in_words line c)) → NextBit choice (q + 1) next
       → BelowTo sets problem choice next sum
   below_more q next common line sum h B S M N = record { within = N.within; here = N.here; bits = λ c l. (to c l, from c l) }
     where
       to :
           (c : ℕ) → c < 192 → in_words sum c ≡ true → (p : ℕ) → p < next → bit choice p ≡ true
-          → onLine sets (line_at true (atomAt problem p)) c ≡ true
+          → on_line sets (line_at true (atom_at problem p)) c ≡ true
       to c l e p m b =
           let (x, y) = both_true _ _ (sym (M c l) ∙ e) in
           ⊎_elim
-          (λ (u : p ≡ q). subst (λ (z : ℕ). onLine sets (line_at true (atomAt problem z)) c ≡ true) (sym u) (sym (S c l) ∙ y))
+          (λ (u : p ≡ q). subst (λ (z : ℕ). on_line sets (line_at true (atom_at problem z)) c ≡ true) (sym u) (sym (S c l) ∙ y))
           (λ u. (B.bits c l).0 x p u b) (passed-cases (bit choice) q next p N.between m b)
 
       from :
           (c : ℕ) → c < 192
-          → ((p : ℕ) → p < next → bit choice p ≡ true → onLine sets (line_at true (atomAt problem p)) c ≡ true) → in_words sum c ≡ true
+          → ((p : ℕ) → p < next → bit choice p ≡ true → on_line sets (line_at true (atom_at problem p)) c ≡ true) → in_words sum c ≡ true
       from c l f =
           M c l
           ∙ both-intro _ _ ((B.bits c l).1 (λ p m b. f p (omega (arith, N.after)) b)) (S c l ∙ f q (omega (arith, N.after)) (B.here h))
@@ -88,7 +88,7 @@ module _ (sets problem : List ℕ) (choice : ℕ) where
       }
 
   pub above_more :
-      (q next : ℕ) (before line sum : Words) → q < 64 → AboveTo sets problem choice q before → Same line sets (atomAt problem q * 3) → Joined before line sum
+      (q next : ℕ) (before line sum : Words) → q < 64 → AboveTo sets problem choice q before → Same line sets (atom_at problem q * 3) → Joined before line sum
       → NextBit choice (q + 1) next → AboveTo sets problem choice next sum
   above_more q next before line sum h A S J N = record { within = N.within; here = N.here; bits = λ c l. (to c l, from c l) }
     where
@@ -102,7 +102,7 @@ module _ (sets problem : List ℕ) (choice : ℕ) where
       from c l (k, m) =
           J.bits c l
           ∙ ⊎_elim
-          (λ (u : k.place ≡ q). or-second _ _ (S c l ∙ subst (λ (z : ℕ). onLine sets (line_at false (atomAt problem z)) c ≡ true) u k.here))
+          (λ (u : k.place ≡ q). or-second _ _ (S c l ∙ subst (λ (z : ℕ). on_line sets (line_at false (atom_at problem z)) c ≡ true) u k.here))
           (λ u. or-first _ _ ((A.bits c l).1 (k, u))) (passed-cases (bit choice) q next k.place N.between m k.chosen)
 
   pub above-done : (q : ℕ) (w : Words) → 64 ≤ q → AboveTo sets problem choice q w → AboveSome sets problem choice w
@@ -111,28 +111,28 @@ module _ (sets problem : List ℕ) (choice : ℕ) where
 -- ---- by existentials that fit
 pub record LinkedTo (sets problem : List ℕ) (inner : Words) (right : Bool) (j e : ℕ) (sum : Words) : Type 0 where
   pub within : e ≤ 192
-  pub here : e < 192 → onLine sets (fitAt right j) e ≡ true
+  pub here : e < 192 → on_line sets (fit_at right j) e ≡ true
   pub bits : (c : ℕ) → c < 192 → (in_words sum c ≡ true) ↔ ((k : LinkOf sets problem inner right j c) × (k.by < e))
 
-module _ (sets problem : List ℕ) (inner : Words) (right : Bool) (j at : ℕ) (place : at ≡ fitAt right j) where
+module _ (sets problem : List ℕ) (inner : Words) (right : Bool) (j at : ℕ) (place : at ≡ fit_at right j) where
   pub linked-first : (e : ℕ) → NextIn sets at 0 e → LinkedTo sets problem inner right j e (record { first = 0; second = 0; third = 0 })
   linked-first e M =
-      let N : NextIn sets (fitAt right j) 0 e = subst (λ (z : ℕ). NextIn sets z 0 e) place M in
+      let N : NextIn sets (fit_at right j) 0 e = subst (λ (z : ℕ). NextIn sets z 0 e) place M in
       record {
         within = N.within;
         here = N.here;
         bits =
             λ c l.
-            (λ u. absurd (none_in c l u), λ (k, m). absurd (passed_none (onLine sets (fitAt right j)) e k.by N.between m k.fits));
+            (λ u. absurd (none_in c l u), λ (k, m). absurd (passed_none (on_line sets (fit_at right j)) e k.by N.between m k.fits));
       }
 
   module _ (f next : ℕ) (before : Words) (h : f < 192) (L : LinkedTo sets problem inner right j f before) (M : NextIn sets at (f + 1) next) where
-    step : NextIn sets (fitAt right j) (f + 1) next
+    step : NextIn sets (fit_at right j) (f + 1) next
     step = subst (λ (z : ℕ). NextIn sets z (f + 1) next) place M
 
     earlier :
         (c : ℕ) (k : LinkOf sets problem inner right j c) → k.by < next → (k.by ≡ f) ⊎ (k.by < f)
-    earlier c k m = passed-cases (onLine sets (fitAt right j)) f next k.by step.between m k.fits
+    earlier c k m = passed-cases (on_line sets (fit_at right j)) f next k.by step.between m k.fits
 
     pub linked-join :
         (line : ℕ) (row sum : Words) → in_words inner (inner_at problem f) ≡ true → line ≡ line_at right f → Same row sets line → Joined before row sum
@@ -152,7 +152,7 @@ module _ (sets problem : List ℕ) (inner : Words) (right : Bool) (j at : ℕ) (
         from c l (k, m) =
             J.bits c l
             ∙ ⊎_elim
-            (λ (u : k.by ≡ f). or-second _ _ (S c l ∙ subst (λ (z : ℕ). onLine sets (line_at right z) c ≡ true) u k.here))
+            (λ (u : k.by ≡ f). or-second _ _ (S c l ∙ subst (λ (z : ℕ). on_line sets (line_at right z) c ≡ true) u k.here))
             (λ u. or-first _ _ ((L.bits c l).1 (k, u))) (earlier c k m)
 
     pub linked-skip : in_words inner (inner_at problem f) ≡ false → LinkedTo sets problem inner right j next before
@@ -183,7 +183,7 @@ members-are-not {b = true} d e = absurd (true≢false e)
 members-are-not {b = false} d e = d
 
 module _ (problem : List ℕ) (numbers : Numbers problem) (e : ℕ) (low : e < 192) where
-  pub members-low : (i j : ℕ) → node problem e ≡ andAt i j → (i < 192) × (j < 192)
+  pub members-low : (i j : ℕ) → node problem e ≡ and_at i j → (i < 192) × (j < 192)
   members-low i j n =
       let (k, p, q) = and-node problem e i j n in
       (omega (arith, numbers.first-low e low k, p), omega (arith, numbers.inner-low e low, q))
@@ -229,11 +229,11 @@ module _ (problem : List ℕ) (numbers : Numbers problem) (e : ℕ) (low : e < 1
   members-more P Q h m = go (node problem e) refl m
     where
       go : (n : Node) → node problem e ≡ n → MembersOf P n → MembersOf Q n
-      go topAt u m = tt
+      go top_at u m = tt
       go (name_at n) u m = m
-      go (existsAt r j) u m = m
-      go (andAt i j) u (p, q) = let (a, b) = members-low i j u in (h i a p, h j b q)
-      go (varAt k) u m = m
+      go (exists_at r j) u m = m
+      go (and_at i j) u (p, q) = let (a, b) = members-low i j u in (h i a p, h j b q)
+      go (var_at k) u m = m
 
 -- ---- what follows
 module _ (sets problem : List ℕ) (at : ℕ) where
@@ -258,12 +258,12 @@ module _ (sets problem : List ℕ) (at : ℕ) where
 
   pub record ClosingTo (x : Words) (e : ℕ) (sum : Words) : Type 0 where
     pub within : e ≤ 192
-    pub here : e < 192 → onLine sets at e ≡ true
+    pub here : e < 192 → on_line sets at e ≡ true
     pub followed : Followed sets problem at x sum
     pub grown : Grown x sum
     pub quiet :
-        Inside sum x → (f : ℕ) → f < e → onLine sets at f ≡ true → MembersOf (λ c. in_words x c ≡ true) (node problem f)
-        → (c : ℕ) → c < 192 → onLine sets (line_at false f) c ≡ true → in_words x c ≡ true
+        Inside sum x → (f : ℕ) → f < e → on_line sets at f ≡ true → MembersOf (λ c. in_words x c ≡ true) (node problem f)
+        → (c : ℕ) → c < 192 → on_line sets (line_at false f) c ≡ true → in_words x c ≡ true
 
   pub closing-first : (x : Words) (e : ℕ) → NextIn sets at 0 e → ClosingTo x e x
   closing-first x e N =
@@ -272,22 +272,22 @@ module _ (sets problem : List ℕ) (at : ℕ) where
         here = N.here;
         followed = followed-first x;
         grown = record { first = omega arith; second = omega arith; third = omega arith };
-        quiet = λ _ f l o. absurd (passed_none (onLine sets at) e f N.between l o);
+        quiet = λ _ f l o. absurd (passed_none (on_line sets at) e f N.between l o);
       }
 
   module _ (numbers : Numbers problem) (x : Words) (f next : ℕ) (before : Words) (h : f < 192) (C : ClosingTo x f before) (N : NextIn sets at (f + 1) next) where
     row-follows :
-        (c : ℕ) → MembersOf (λ d. in_words before d ≡ true) (node problem f) → c < 192 → onLine sets (line_at false f) c ≡ true → Follows sets problem at x c
+        (c : ℕ) → MembersOf (λ d. in_words before d ≡ true) (node problem f) → c < 192 → on_line sets (line_at false f) c ≡ true → Follows sets problem at x c
     row-follows c m l r = go (node problem f) refl m
       where
         go : (n : Node) → node problem f ≡ n → MembersOf (λ d. in_words before d ≡ true) n → Follows sets problem at x c
-        go topAt u m = by-top f c h (C.here h) u l r
+        go top_at u m = by-top f c h (C.here h) u l r
         go (name_at n) u m = absurd m
-        go (existsAt s j) u m = absurd m
-        go (andAt i j) u (p, q) =
+        go (exists_at s j) u m = absurd m
+        go (and_at i j) u (p, q) =
             let (a, b) = members-low problem numbers f h i j u in
             by_and f i j c h (C.here h) u (C.followed.least i a p) (C.followed.least j b q) l r
-        go (varAt k) u m = absurd m
+        go (var_at k) u m = absurd m
 
     pub closing-join :
         (row sum : Words) → MembersOf (λ c. in_words before c ≡ true) (node problem f) → Same row sets (f * 3) → Joined before row sum → ClosingTo x next sum
@@ -312,8 +312,8 @@ module _ (sets problem : List ℕ) (at : ℕ) where
           quiet =
               λ i e l o k c lc r.
               ⊎_elim
-              (λ (u : e ≡ f). i c lc (J.bits c lc ∙ or-second _ _ (S c lc ∙ subst (λ (z : ℕ). onLine sets (z * 3) c ≡ true) u r)))
-              (λ u. C.quiet (λ d ld g. i d ld (kept d ld g)) e u o k c lc r) (passed-cases (onLine sets at) f next e N.between l o);
+              (λ (u : e ≡ f). i c lc (J.bits c lc ∙ or-second _ _ (S c lc ∙ subst (λ (z : ℕ). on_line sets (z * 3) c ≡ true) u r)))
+              (λ u. C.quiet (λ d ld g. i d ld (kept d ld g)) e u o k c lc r) (passed-cases (on_line sets at) f next e N.between l o);
         }
       where
         kept : (c : ℕ) → c < 192 → in_words before c ≡ true → in_words sum c ≡ true
@@ -334,7 +334,7 @@ module _ (sets problem : List ℕ) (at : ℕ) where
               (n
               (members-more problem numbers f h (λ d. in_words x d ≡ true) (λ d. in_words before d ≡ true) C.followed.kept
               (subst (λ (z : ℕ). MembersOf (λ d. in_words x d ≡ true) (node problem z)) u k))))
-              (λ u. C.quiet i e u o k c lc r) (passed-cases (onLine sets at) f next e N.between l o);
+              (λ u. C.quiet i e u o k c lc r) (passed-cases (on_line sets at) f next e N.between l o);
         }
 
   pub closing-done : (x : Words) (e : ℕ) (w : Words) → 192 ≤ e → ClosingTo x e w → ClosedOnce sets problem at x w

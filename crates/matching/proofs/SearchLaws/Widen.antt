@@ -10,9 +10,9 @@ use lib.Seq.{get_or-set_same, get_or-set_other, length-take-le}
 use Rattle.subsumption.specs.declared.refusal.Outcome.TheVariants.{Done}
 use Rattle.subsumption.specs.Tables.{Tables}
 use Rattle.subsumption.specs.Atoms.{bit}
-use Rattle.subsumption.specs.Check.{tableFault, assignmentFault}
+use Rattle.subsumption.specs.Check.{table_fault, assignment_fault}
 use Rattle.subsumption.proofs.Bools.{last-cases}
-use Rattle.subsumption.proofs.Accepted.{wellFormed}
+use Rattle.subsumption.proofs.Accepted.{well_formed}
 use Rattle.matching.specs.Inner.Search.{Decided, HoldsAt, Within}
 use Rattle.matching.specs.Inner.Search.Interval.{IntervalOf}
 use Rattle.matching.specs.Inner.Search.Patterns.{Tested}
@@ -55,7 +55,7 @@ module _ (a b r : List ℕ) (i : ℕ) (h : i < 8) (c : MixedTo a b r i) where
       there k q l = ap (λ (w : ℕ). bit w q) (get_or-set_other r i k v 0 (λ w. omega arith))
 
 -- ---- mixes of two assignments inside a third
-module _ (t : Tables) (h : tableFault t ≡ Done) (full choice target mix : List ℕ)
+module _ (t : Tables) (h : table_fault t ≡ Done) (full choice target mix : List ℕ)
     (i : IntervalOf t choice full) (j : IntervalOf t target full) (m : Mixed choice target mix) where
   mix-ordered : Within mix full
   mix-ordered = mixed-within choice target mix full m i.ordered j.ordered
@@ -63,9 +63,9 @@ module _ (t : Tables) (h : tableFault t ≡ Done) (full choice target mix : List
   pub mix-interval : IntervalOf t mix full
   mix-interval = record { low-long = m.long; high-long = i.high-long; accepted = i.accepted; ordered = mix-ordered; idle = i.idle }
 
-  pub mix-accepted : assignmentFault t (take t.variables mix) ≡ Done
+  pub mix-accepted : assignment_fault t (take t.variables mix) ≡ Done
   mix-accepted =
-      within-accepted t _ _ i.accepted (length-take-le _ mix (omega (arith, m.long, (wellFormed t h).few-variables)))
+      within-accepted t _ _ i.accepted (length-take-le _ mix (omega (arith, m.long, (well_formed t h).few-variables)))
       (front-within t.variables mix full mix-ordered)
 
 -- ---- the question still fails

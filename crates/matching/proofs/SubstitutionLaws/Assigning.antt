@@ -10,24 +10,24 @@ use lib.ListN.{length, get_or}
 use borrow.Author.Tests.{eq-eqb, eqb-true, lt-ltb, not-false}
 use Rattle.subsumption.specs.declared.refusal.Refusal.{Refusal}
 use Rattle.subsumption.specs.declared.refusal.Outcome.TheVariants.{Done}
-use Rattle.subsumption.specs.Refusal.{or_else, refuseIf, first_at}
+use Rattle.subsumption.specs.Refusal.{or_else, refuse_if, first_at}
 use Rattle.subsumption.specs.Tables.{Tables}
 use Rattle.subsumption.specs.Atoms.{atoms, bit}
-use Rattle.subsumption.specs.Check.{assignmentFault, assignmentFaultAt}
+use Rattle.subsumption.specs.Check.{assignment_fault, assignment_fault_at}
 use Rattle.subsumption.proofs.Refusals.{passed_first, passed-if}
 use Rattle.subsumption.proofs.Chosen.{bit-half}
 
 -- a number with these bits below n, and no others
-unfoldable pub oneIf : Bool → ℕ
-oneIf true = 1
-oneIf false = 0
+unfoldable pub one_if : Bool → ℕ
+one_if true = 1
+one_if false = 0
 
 unfoldable pub coded : (ℕ → Bool) → ℕ → ℕ
 coded f zero = 0
-coded f (suc n) = oneIf (f 0) + coded (λ q. f (suc q)) n * 2
+coded f (suc n) = one_if (f 0) + coded (λ q. f (suc q)) n * 2
 
-one-small : (b : Bool) → oneIf b ≤ 1
-unfolding oneIf
+one-small : (b : Bool) → one_if b ≤ 1
+unfolding one_if
 one-small true = omega arith
 one-small false = omega arith
 
@@ -36,8 +36,8 @@ unfolding coded
 coded-less f zero = omega arith
 coded-less f (suc n) = omega (arith, pow-suc 2 n, one-small (f 0), coded-less (λ q. f (suc q)) n)
 
-one_bit : (b : Bool) (y : ℕ) → eqb ((oneIf b + y * 2) % 2) 1 ≡ b
-unfolding oneIf
+one_bit : (b : Bool) (y : ℕ) → eqb ((one_if b + y * 2) % 2) 1 ≡ b
+unfolding one_if
 one_bit true y = let e : (1 + y * 2) % 2 ≡ 1 = omega arith in ap (λ (z : ℕ). eqb z 1) e
 one_bit false y = let e : (0 + y * 2) % 2 ≡ 0 = omega arith in ap (λ (z : ℕ). eqb z 1) e
 
@@ -73,52 +73,52 @@ listed_at g (suc n) (suc k) l = listed_at (λ k. g (suc k)) n k (omega arith)
 clear :
     (refusal : ℕ → Refusal) (faulty : ℕ → Bool) (from count : ℕ) → ((i : ℕ) → from ≤ i → i < from + count → faulty i ≡ false)
     → first_at refusal faulty from count ≡ Done
-unfolding first_at or_else refuseIf
+unfolding first_at or_else refuse_if
 clear refusal faulty from zero h = refl
-clear refusal faulty from (suc count) h = rw (h from (omega arith) (omega arith), refuseIf, or_else) (clear refusal faulty (suc from) count (λ i l k. h i (omega arith) (omega arith)))
+clear refusal faulty from (suc count) h = rw (h from (omega arith) (omega arith), refuse_if, or_else) (clear refusal faulty (suc from) count (λ i l k. h i (omega arith) (omega arith)))
 
 -- What check 9 asks, over any number of atoms.
 module _ (count variables : ℕ) (α : List ℕ) where
-  pub accepted : length α ≡ variables → ((k : ℕ) → k < variables → get_or α k 0 < 2 ^ count) → assignmentFaultAt count variables α ≡ Done
-  unfolding assignmentFaultAt or_else refuseIf
+  pub accepted : length α ≡ variables → ((k : ℕ) → k < variables → get_or α k 0 < 2 ^ count) → assignment_fault_at count variables α ≡ Done
+  unfolding assignment_fault_at or_else refuse_if
   accepted e h =
       rw (eq-eqb (length α) variables e)
       (clear _ (λ k. not (ltb (get_or α k 0) (2 ^ count))) 0 variables (λ k l u. ap not (lt-ltb _ _ (h k (omega arith)))))
 
-  pub accepted-length : assignmentFaultAt count variables α ≡ Done → length α ≡ variables
-  unfolding assignmentFaultAt
+  pub accepted-length : assignment_fault_at count variables α ≡ Done → length α ≡ variables
+  unfolding assignment_fault_at
   accepted-length h = eqb-true _ _ (not-false _ (passed-if _ _ (passed_first _ _ h)))
 
 -- The assignment that takes the atoms at these positions.
-unfoldable pub assignmentTo : ℕ → ℕ → (ℕ → ℕ → Bool) → List ℕ
-assignmentTo count variables f = listed (λ k. coded (f k) count) variables
+unfoldable pub assignment_to : ℕ → ℕ → (ℕ → ℕ → Bool) → List ℕ
+assignment_to count variables f = listed (λ k. coded (f k) count) variables
 
 module _ (count variables : ℕ) (f : ℕ → ℕ → Bool) where
-  pub assignmentTo-length : length (assignmentTo count variables f) ≡ variables
-  unfolding assignmentTo
-  assignmentTo-length = listed-length _ variables
+  pub assignment_to-length : length (assignment_to count variables f) ≡ variables
+  unfolding assignment_to
+  assignment_to-length = listed-length _ variables
 
-  at : (k : ℕ) → k < variables → get_or (assignmentTo count variables f) k 0 ≡ coded (f k) count
-  unfolding assignmentTo
+  at : (k : ℕ) → k < variables → get_or (assignment_to count variables f) k 0 ≡ coded (f k) count
+  unfolding assignment_to
   at k l = listed_at _ variables k l
 
-  pub assignmentTo-accepted : assignmentFaultAt count variables (assignmentTo count variables f) ≡ Done
-  assignmentTo-accepted = accepted count variables (assignmentTo count variables f) assignmentTo-length (λ k l. omega (arith, at k l, coded-less (f k) count))
+  pub assignment_to-accepted : assignment_fault_at count variables (assignment_to count variables f) ≡ Done
+  assignment_to-accepted = accepted count variables (assignment_to count variables f) assignment_to-length (λ k l. omega (arith, at k l, coded-less (f k) count))
 
-  pub assignmentTo-bit : (k q : ℕ) → k < variables → q < count → bit (get_or (assignmentTo count variables f) k 0) q ≡ f k q
-  assignmentTo-bit k q l u = ap (λ (z : ℕ). bit z q) (at k l) ∙ coded-bit (f k) count q u
+  pub assignment_to-bit : (k q : ℕ) → k < variables → q < count → bit (get_or (assignment_to count variables f) k 0) q ≡ f k q
+  assignment_to-bit k q l u = ap (λ (z : ℕ). bit z q) (at k l) ∙ coded-bit (f k) count q u
 
 -- The same over a problem's own atoms.
-abbrev pub assignmentOf : Tables → (ℕ → ℕ → Bool) → List ℕ
-assignmentOf t f = assignmentTo (length (atoms t)) t.variables f
+abbrev pub assignment_of : Tables → (ℕ → ℕ → Bool) → List ℕ
+assignment_of t f = assignment_to (length (atoms t)) t.variables f
 
 module _ (t : Tables) (f : ℕ → ℕ → Bool) where
-  pub assignmentOf-length : length (assignmentOf t f) ≡ t.variables
-  assignmentOf-length = assignmentTo-length (length (atoms t)) t.variables f
+  pub assignment_of-length : length (assignment_of t f) ≡ t.variables
+  assignment_of-length = assignment_to-length (length (atoms t)) t.variables f
 
-  pub assignmentOf-accepted : assignmentFault t (assignmentOf t f) ≡ Done
-  unfolding assignmentFault
-  assignmentOf-accepted = assignmentTo-accepted (length (atoms t)) t.variables f
+  pub assignment_of-accepted : assignment_fault t (assignment_of t f) ≡ Done
+  unfolding assignment_fault
+  assignment_of-accepted = assignment_to-accepted (length (atoms t)) t.variables f
 
-  pub assignmentOf-bit : (k q : ℕ) → k < t.variables → q < length (atoms t) → bit (get_or (assignmentOf t f) k 0) q ≡ f k q
-  assignmentOf-bit k q l u = assignmentTo-bit (length (atoms t)) t.variables f k q l u
+  pub assignment_of-bit : (k q : ℕ) → k < t.variables → q < length (atoms t) → bit (get_or (assignment_of t f) k 0) q ≡ f k q
+  assignment_of-bit k q l u = assignment_to-bit (length (atoms t)) t.variables f k q l u

@@ -73,5 +73,5 @@ pub place : {A : Type 0} (default : A) (list : List A) (a : A) → Memᴰ a list
 place default list a (Memᴰ.head e) = (0, omega arith, sym e)
 place default list a (Memᴰ.tail {x} {xs} m) = let (j, l, e) = place default xs a m in (suc j, omega arith, e)
 
-abbrev pub conceptAt : List Concept → ℕ → Concept
-conceptAt E j = get_or E j top
+abbrev pub concept_at : List Concept → ℕ → Concept
+concept_at E j = get_or E j top

@@ -8,17 +8,17 @@ use mathlib.Core.Logic.{◌⊎◌, inl, inr, ⊎_elim}
 use native.Mathlib.Omega.{arith}
 use lib.ListN.{length}
 use Rattle.subsumption.specs.Tables.{Tables, Concept, top, name, exists, and, var}
-use Rattle.subsumption.specs.Subsumption.{Interpretation, Reading, Member, Included, noVariables, Obeys}
+use Rattle.subsumption.specs.Subsumption.{Interpretation, Reading, Member, Included, no_variables, Obeys}
 use Rattle.subsumption.specs.Roles.{wider}
 use Rattle.subsumption.proofs.Bools.{le-or-lt}
 use Rattle.subsumption.proofs.Soundness.{wider-link}
 use Rattle.matching.proofs.SubstitutionLaws.Decided.{Decides}
-use Rattle.matching.proofs.SubstitutionLaws.Parts.{Closed, conceptAt, place}
+use Rattle.matching.proofs.SubstitutionLaws.Parts.{Closed, concept_at, place}
 use Rattle.matching.proofs.SubstitutionLaws.Extended.{extended, name-old, name_new, link-old, link-new, name-cases, NewLink, link-cases}
 
 -- One concept is below another in all that obeys the inclusions.
 abbrev pub Below : Tables → Concept → Concept → Type 0
-Below t c d = (I : Interpretation) → Obeys t I → Included I noVariables c d
+Below t c d = (I : Interpretation) → Obeys t I → Included I no_variables c d
 
 unfoldable pub inner_of : Concept → Concept
 inner_of top = top
@@ -63,39 +63,39 @@ module _ (roles : List ℕ) (I : Interpretation) (E : List Concept) (inner reach
 module _ (t : Tables) (I : Interpretation) (E : List Concept) (closed : Closed E) (inner reach : ℕ → ℕ → Bool) where
   -- x is forced to be in a concept: all the concepts that it is below are reached
   abbrev Reaches : ℕ → Concept → Type 0
-  Reaches z c = (j : ℕ) → j < length E → Below t c (conceptAt E j) → reach z j ≡ true
+  Reaches z c = (j : ℕ) → j < length E → Below t c (concept_at E j) → reach z j ≡ true
 
-  module _ (decides : (j : ℕ) → j < length E → (y : ℕ) → y < length E → Decides (Below t (inner_of (conceptAt E j)) (conceptAt E y)) (inner j y))
-      (new : (y : ℕ) → y < length E → (j : ℕ) → j < length E → Decides (Below t (conceptAt E y) (conceptAt E j)) (reach (I.size + y) j)) where
-    inward : (r z w : ℕ) (l : NewLink t.roles I E inner reach z r w) → Below t l.concept (conceptAt E l.into)
+  module _ (decides : (j : ℕ) → j < length E → (y : ℕ) → y < length E → Decides (Below t (inner_of (concept_at E j)) (concept_at E y)) (inner j y))
+      (new : (y : ℕ) → y < length E → (j : ℕ) → j < length E → Decides (Below t (concept_at E y) (concept_at E j)) (reach (I.size + y) j)) where
+    inward : (r z w : ℕ) (l : NewLink t.roles I E inner reach z r w) → Below t l.concept (concept_at E l.into)
     unfolding inner_of
     inward r z w l =
-        subst (λ (c : Concept). Below t (inner_of c) (conceptAt E l.into)) l.linked
+        subst (λ (c : Concept). Below t (inner_of c) (concept_at E l.into)) l.linked
         ((decides l.by l.known l.into l.into-known).0 l.inward)
 
-    new-out : (c : Concept) (y : ℕ) → y < length E → Member (extended t.roles I E inner reach) noVariables c (I.size + y) → Below t (conceptAt E y) c
+    new-out : (c : Concept) (y : ℕ) → y < length E → Member (extended t.roles I E inner reach) no_variables c (I.size + y) → Below t (concept_at E y) c
     new-out top y l h = λ K o x k m. tt
     new-out (name n) y l h =
         ⊎_elim (λ (s, _). absurd (omega arith))
-        (λ o. subst (Below t (conceptAt E y)) o.named ((new y l o.by o.known).0 o.reached))
+        (λ o. subst (Below t (concept_at E y)) o.named ((new y l o.by o.known).0 o.reached))
         (name-cases t.roles I E inner reach (I.size + y) n h)
     new-out (exists r d) y l (w, u, link, m) =
-        go (λ v k e. new-out d v k (subst (Member (extended t.roles I E inner reach) noVariables d) e m)) (link-cases t.roles I E inner reach (I.size + y) r w link)
+        go (λ v k e. new-out d v k (subst (Member (extended t.roles I E inner reach) no_variables d) e m)) (link-cases t.roles I E inner reach (I.size + y) r w link)
       where
         go :
-            ((v : ℕ) → v < length E → w ≡ I.size + v → Below t (conceptAt E v) d)
+            ((v : ℕ) → v < length E → w ≡ I.size + v → Below t (concept_at E v) d)
             → ((I.size + y < I.size) × (w < I.size) × Memᴰ (record { from = I.size + y; role = r; to = w }) I.links)
             ⊎ NewLink t.roles I E inner reach (I.size + y) r w
-            → Below t (conceptAt E y) (exists r d)
+            → Below t (concept_at E y) (exists r d)
         go below (inl (s, _, _)) = absurd (omega arith)
         go below (inr o) =
-            below-inner t (conceptAt E y) o.concept d o.narrow r o.widened
-            (subst (Below t (conceptAt E y)) o.linked ((new y l o.by o.known).0 o.reached))
+            below-inner t (concept_at E y) o.concept d o.narrow r o.widened
+            (subst (Below t (concept_at E y)) o.linked ((new y l o.by o.known).0 o.reached))
             (λ K b x k m. below o.into o.into-known o.there K b x k (inward r (I.size + y) w o K b x k m))
     new-out (and c d) y l (h, k) = λ K o x u m. (new-out c y l h K o x u m, new-out d y l k K o x u m)
     new-out (var k) y l h = λ K o x u m. tt
 
-    pub reached-in : (c : Concept) → Memᴰ c E → (z : ℕ) → z < I.size + length E → Reaches z c → Member (extended t.roles I E inner reach) noVariables c z
+    pub reached-in : (c : Concept) → Memᴰ c E → (z : ℕ) → z < I.size + length E → Reaches z c → Member (extended t.roles I E inner reach) no_variables c z
     unfolding inner_of
     reached-in top m z l h = tt
     reached-in (name n) m z l h =
@@ -104,16 +104,16 @@ module _ (t : Tables) (I : Interpretation) (E : List Concept) (closed : Closed E
     reached-in (exists r d) m z l h = go (closed (exists r d) m) (place top E (exists r d) m) (reached-in d (closed (exists r d) m))
       where
         go :
-            Memᴰ d E → (j : ℕ) × (j < length E) × (conceptAt E j ≡ exists r d)
-            → ((w : ℕ) → w < I.size + length E → Reaches w d → Member (extended t.roles I E inner reach) noVariables d w)
-            → Member (extended t.roles I E inner reach) noVariables (exists r d) z
+            Memᴰ d E → (j : ℕ) × (j < length E) × (concept_at E j ≡ exists r d)
+            → ((w : ℕ) → w < I.size + length E → Reaches w d → Member (extended t.roles I E inner reach) no_variables d w)
+            → Member (extended t.roles I E inner reach) no_variables (exists r d) z
         go n (j, k, e) rest =
             let (y, u, f) = place top E d n in (
               I.size + y,
               omega arith,
               link-new t.roles I E inner reach z j r y d l k u e (h j k (subst (Below t (exists r d)) (sym e) (λ K o x u v. v)))
-                  ((decides j k y u).1 (subst (λ (c : Concept). Below t (inner_of c) (conceptAt E y)) (sym e) (subst (Below t d) (sym f) (λ K o x u v. v)))),
-              rest (I.size + y) (omega arith) (λ i q b. (new y u i q).1 (subst (λ (c : Concept). Below t c (conceptAt E i)) (sym f) b)),
+                  ((decides j k y u).1 (subst (λ (c : Concept). Below t (inner_of c) (concept_at E y)) (sym e) (subst (Below t d) (sym f) (λ K o x u v. v)))),
+              rest (I.size + y) (omega arith) (λ i q b. (new y u i q).1 (subst (λ (c : Concept). Below t c (concept_at E i)) (sym f) b)),
             )
     reached-in (and c d) m z l h = (
       reached-in c (closed (and c d) m).0 z l (λ j k b. h j k (λ K o x u v. b K o x u v.0)),
@@ -121,29 +121,29 @@ module _ (t : Tables) (I : Interpretation) (E : List Concept) (closed : Closed E
     )
     reached-in (var k) m z l h = tt
 
-    new_in : (c : Concept) → Memᴰ c E → (y : ℕ) → y < length E → Below t (conceptAt E y) c → Member (extended t.roles I E inner reach) noVariables c (I.size + y)
+    new_in : (c : Concept) → Memᴰ c E → (y : ℕ) → y < length E → Below t (concept_at E y) c → Member (extended t.roles I E inner reach) no_variables c (I.size + y)
     new_in c m y l b = reached-in c m (I.size + y) (omega arith) (λ j k d. (new y l j k).1 (λ K o x u v. d K o x u (b K o x u v)))
 
     -- what an old element reaches, it is a member of
     module _ (v : ℕ) (σ : ℕ → Concept) (of : ℕ → ℕ → Bool)
-        (old : (x j : ℕ) → x < I.size → j < length E → reach x j ≡ true → (k : ℕ) × (k < v) × (of k x ≡ true) × Below t (σ k) (conceptAt E j)) where
+        (old : (x j : ℕ) → x < I.size → j < length E → reach x j ≡ true → (k : ℕ) × (k < v) × (of k x ≡ true) × Below t (σ k) (concept_at E j)) where
       abbrev pub Holds : Concept → Type 0
-      Holds c = (k x : ℕ) → k < v → x < I.size → of k x ≡ true → Below t (σ k) c → Member I noVariables c x
+      Holds c = (k x : ℕ) → k < v → x < I.size → of k x ≡ true → Below t (σ k) c → Member I no_variables c x
 
-      pub old-out : (c : Concept) → Each Holds c → (x : ℕ) → x < I.size → Member (extended t.roles I E inner reach) noVariables c x → Member I noVariables c x
+      pub old-out : (c : Concept) → Each Holds c → (x : ℕ) → x < I.size → Member (extended t.roles I E inner reach) no_variables c x → Member I no_variables c x
       old-out top g x l h = h
       old-out (name n) g x l h =
           ⊎_elim (λ (_, m). m)
           (λ o. let (k, lk, p, b) = old x o.by l o.known o.reached in g k x lk l p (subst (Below t (σ k)) o.named b))
           (name-cases t.roles I E inner reach x n h)
       old-out (exists r d) (g, f) x l (w, u, link, m) =
-          go (λ k. old-out d f w k m) (λ y k e. new-out d y k (subst (Member (extended t.roles I E inner reach) noVariables d) e m))
+          go (λ k. old-out d f w k m) (λ y k e. new-out d y k (subst (Member (extended t.roles I E inner reach) no_variables d) e m))
           (link-cases t.roles I E inner reach x r w link)
         where
           go :
-              (w < I.size → Member I noVariables d w) → ((y : ℕ) → y < length E → w ≡ I.size + y → Below t (conceptAt E y) d)
+              (w < I.size → Member I no_variables d w) → ((y : ℕ) → y < length E → w ≡ I.size + y → Below t (concept_at E y) d)
               → ((x < I.size) × (w < I.size) × Memᴰ (record { from = x; role = r; to = w }) I.links) ⊎ NewLink t.roles I E inner reach x r w
-              → Member I noVariables (exists r d) x
+              → Member I no_variables (exists r d) x
           go inside outside (inl (_, s, e)) = (w, s, e, inside s)
           go inside outside (inr o) =
               let (k, lk, p, b) = old x o.by l o.known o.reached in
@@ -155,12 +155,12 @@ module _ (t : Tables) (I : Interpretation) (E : List Concept) (closed : Closed E
 
       -- an inclusion that the interpretation obeys is obeyed still
       pub included-still :
-          (c d : Concept) → Each Holds c → Numbered v d → Memᴰ d E → Included I noVariables c d → Below t c d
-          → Included (extended t.roles I E inner reach) noVariables c d
+          (c d : Concept) → Each Holds c → Numbered v d → Memᴰ d E → Included I no_variables c d → Below t c d
+          → Included (extended t.roles I E inner reach) no_variables c d
       included-still c d g f m holds below z k h =
           ⊎_elim
           (λ (y, l, e).
-          subst (Member (extended t.roles I E inner reach) noVariables d) (sym e)
-          (new_in d m y l (λ K o x u a. below K o x u (new-out c y l (subst (Member (extended t.roles I E inner reach) noVariables c) e h) K o x u a))))
-          (λ l. old-in t.roles I E inner reach noVariables noVariables v (λ _ _ _ _ _. tt) d f z l (holds z l (old-out c g z l h)))
+          subst (Member (extended t.roles I E inner reach) no_variables d) (sym e)
+          (new_in d m y l (λ K o x u a. below K o x u (new-out c y l (subst (Member (extended t.roles I E inner reach) no_variables c) e h) K o x u a))))
+          (λ l. old-in t.roles I E inner reach no_variables no_variables v (λ _ _ _ _ _. tt) d f z l (holds z l (old-out c g z l h)))
           (split I.size (length E) z k)

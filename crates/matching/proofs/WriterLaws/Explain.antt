@@ -8,12 +8,12 @@ use native.Mathlib.Omega.{arith}
 use native.Mathlib.Nat.{mod-lt, div-lt_iff_lt-mul, zero-mul}
 use borrow.Author.Tests.{ne_eqb, le-ltb}
 use Rattle.subsumption.specs.declared.tables.Row.{Row}
-use Rattle.subsumption.specs.Tables.{Tables, Node, topAt, name_at, existsAt, andAt, varAt, node, count_of, pairsOf}
+use Rattle.subsumption.specs.Tables.{Tables, Node, top_at, name_at, exists_at, and_at, var_at, node, count_of, pairs_of}
 use Rattle.subsumption.specs.Inner.Tables.{row_of}
-use Rattle.subsumption.specs.Rules.{onPicked, byRule}
+use Rattle.subsumption.specs.Rules.{on_picked, by_rule}
 use Rattle.subsumption.proofs.Bools.{both_true, both-none, last-cases, le-or-lt}
 use Rattle.subsumption.proofs.Chosen.{chosen-known}
-use Rattle.subsumption.proofs.RuleTests.{onVariable-elim, contains-elim}
+use Rattle.subsumption.proofs.RuleTests.{on_variable-elim, contains-elim}
 use Rattle.subsumption.proofs.Nodes.{var-node}
 use Rattle.matching.specs.Inner.Derivation.{seen, Of, ByRule}
 use Rattle.matching.specs.declared.writer.explain.Extra.{Extra}
@@ -27,15 +27,15 @@ refuted : (x : Bool) → (x ≡ true → ⊥) → x ≡ false
 refuted true h = absurd (h refl)
 refuted false h = refl
 
-past-node : (extra : ℕ) (m : Node) (test : ℕ → Bool) → onPicked (suc (suc extra)) test m ≡ false
-unfolding onPicked
-past-node extra topAt test = refl
+past-node : (extra : ℕ) (m : Node) (test : ℕ → Bool) → on_picked (suc (suc extra)) test m ≡ false
+unfolding on_picked
+past-node extra top_at test = refl
 past-node extra (name_at n) test = refl
-past-node extra (existsAt r j) test = refl
-past-node extra (andAt i j) test = refl
-past-node extra (varAt k) test = refl
+past-node extra (exists_at r j) test = refl
+past-node extra (and_at i j) test = refl
+past-node extra (var_at k) test = refl
 
-picked-past : (extra : ℕ) (m : Node) (test : ℕ → Bool) → 2 ≤ extra → onPicked extra test m ≡ false
+picked-past : (extra : ℕ) (m : Node) (test : ℕ → Bool) → 2 ≤ extra → on_picked extra test m ≡ false
 picked-past zero m test h = absurd (omega arith)
 picked-past (suc zero) m test h = absurd (omega arith)
 picked-past (suc (suc extra)) m test h = past-node extra m test
@@ -43,8 +43,8 @@ picked-past (suc (suc extra)) m test h = past-node extra m test
 -- the other rules take the extra 0 only
 extra-past :
     (t : Tables) (assignment : List ℕ) (proved : ℕ → ℕ → Bool) (left right extra : ℕ) → 1 ≤ extra → (rule : ℕ) → (rule ≡ 3 → ⊥) → (rule ≡ 6 → ⊥) → (rule ≡ 7 → ⊥)
-    → byRule t assignment proved rule left right extra ≡ false
-unfolding byRule
+    → by_rule t assignment proved rule left right extra ≡ false
+unfolding by_rule
 extra-past t assignment proved left right extra h zero a b c = refl
 extra-past t assignment proved left right extra h (suc zero) a b c = both-none _ _ (ne_eqb extra 0 (λ e. omega arith))
 extra-past t assignment proved left right extra h (suc (suc zero)) a b c = both-none _ _ (ne_eqb extra 0 (λ e. omega arith))
@@ -56,56 +56,56 @@ extra-past t assignment proved left right extra h (suc (suc (suc (suc (suc (suc 
 extra-past t assignment proved left right extra h (suc (suc (suc (suc (suc (suc (suc (suc zero)))))))) a b c = both-none _ _ (ne_eqb extra 0 (λ e. omega arith))
 extra-past t assignment proved left right extra h (suc (suc (suc (suc (suc (suc (suc (suc (suc rule))))))))) a b c = refl
 
-unknown-rule : (t : Tables) (assignment : List ℕ) (proved : ℕ → ℕ → Bool) (left right extra r : ℕ) → byRule t assignment proved (suc (suc (suc (suc (suc (suc (suc (suc (suc r))))))))) left right extra ≡ false
-unfolding byRule
+unknown-rule : (t : Tables) (assignment : List ℕ) (proved : ℕ → ℕ → Bool) (left right extra r : ℕ) → by_rule t assignment proved (suc (suc (suc (suc (suc (suc (suc (suc (suc r))))))))) left right extra ≡ false
+unfolding by_rule
 unknown-rule t assignment proved left right extra r = refl
 
-rule-past : (t : Tables) (assignment : List ℕ) (proved : ℕ → ℕ → Bool) (left right extra rule : ℕ) → 9 ≤ rule → byRule t assignment proved rule left right extra ≡ false
+rule-past : (t : Tables) (assignment : List ℕ) (proved : ℕ → ℕ → Bool) (left right extra rule : ℕ) → 9 ≤ rule → by_rule t assignment proved rule left right extra ≡ false
 rule-past t assignment proved left right extra rule h = unknown (rule - 9) (sym (sub9 rule h))
   where
     sub9 : (rule : ℕ) → 9 ≤ rule → rule ≡ suc (suc (suc (suc (suc (suc (suc (suc (suc (rule - 9)))))))))
     sub9 rule h = omega arith
 
-    unknown : (r : ℕ) → suc (suc (suc (suc (suc (suc (suc (suc (suc r)))))))) ≡ rule → byRule t assignment proved rule left right extra ≡ false
-    unknown r e = subst (λ (z : ℕ). byRule t assignment proved z left right extra ≡ false) e (unknown-rule t assignment proved left right extra r)
+    unknown : (r : ℕ) → suc (suc (suc (suc (suc (suc (suc (suc (suc r)))))))) ≡ rule → by_rule t assignment proved rule left right extra ≡ false
+    unknown r e = subst (λ (z : ℕ). by_rule t assignment proved z left right extra ≡ false) e (unknown-rule t assignment proved left right extra r)
 
 -- ---- the extras
 module _ (concepts inclusions : List ℕ) (rule left : ℕ) where
   pub member-bound : rule ≡ 3 → ExtraBound concepts inclusions rule left 2
-  unfolding byRule
+  unfolding by_rule
   member-bound e = record { low = omega arith; past = λ t c i a p right extra h. rw e (picked-past extra (node t.concepts left) (λ z. p z right) h) }
 
-  pub inclusion-bound : rule ≡ 6 → pairsOf inclusions ≤ 192 → ExtraBound concepts inclusions rule left (pairsOf inclusions)
-  unfolding byRule
+  pub inclusion-bound : rule ≡ 6 → pairs_of inclusions ≤ 192 → ExtraBound concepts inclusions rule left (pairs_of inclusions)
+  unfolding by_rule
   inclusion-bound e l =
       record {
         low = l;
-        past = λ t c i a p right extra h. rw e (both-none _ _ (le-ltb _ _ (subst (λ (z : List ℕ). pairsOf z ≤ extra) (sym i) h)));
+        past = λ t c i a p right extra h. rw e (both-none _ _ (le-ltb _ _ (subst (λ (z : List ℕ). pairs_of z ≤ extra) (sym i) h)));
       }
 
   pub choice-bound : rule ≡ 7 → count_of concepts ≤ 192 → ExtraBound concepts inclusions rule left (count_of concepts)
-  unfolding byRule
+  unfolding by_rule
   choice-bound e l =
       record {
         low = l;
         past = λ t c i a p right extra h.
             rw e
             (refuted _
-            (λ u. let (v, _, s) = onVariable-elim _ _ u in
+            (λ u. let (v, _, s) = on_variable-elim _ _ u in
             let k = chosen-known t a v extra (contains-elim extra _ (both_true _ _ s).0) in
             absurd (omega (arith, subst (λ (z : List ℕ). extra < count_of z) c k))));
       }
 
   pub variable-bound : (row : Row) → rule ≡ 7 → row ≡ row_of concepts left → (row.kind ≡ 4 → ⊥) → ExtraBound concepts inclusions rule left 0
-  unfolding byRule
+  unfolding by_rule
   variable-bound row e f ne =
       record {
         low = omega arith;
         past = λ t c i a p right extra h.
             rw e
             (refuted _
-            (λ u. let (v, q, _) = onVariable-elim _ _ u in
-            ne (ap (λ (z : Row). z.kind) f ∙ (var-node concepts left v (subst (λ (z : List ℕ). node z left ≡ varAt v) c q)).0)));
+            (λ u. let (v, q, _) = on_variable-elim _ _ u in
+            ne (ap (λ (z : Row). z.kind) f ∙ (var-node concepts left v (subst (λ (z : List ℕ). node z left ≡ var_at v) c q)).0)));
       }
 
   pub zero-bound : (rule ≡ 3 → ⊥) → (rule ≡ 6 → ⊥) → (rule ≡ 7 → ⊥) → ExtraBound concepts inclusions rule left 1
@@ -124,7 +124,7 @@ module _ (concepts inclusions into ids assignment : List ℕ) (marks : List Bool
         record {
           none = λ t of m l.
               ⊎_elim
-              (λ (u : m ≡ extra). subst (λ (z : ℕ). byRule t assignment (seen (count_of concepts) marks) rule left right z ≡ false) (sym u) (sym (h t of) ∙ e))
+              (λ (u : m ≡ extra). subst (λ (z : ℕ). by_rule t assignment (seen (count_of concepts) marks) rule left right z ≡ false) (sym u) (sym (h t of) ∙ e))
               (λ u. n.none t of m u) (last-cases m extra (omega arith));
         }
 
@@ -135,30 +135,30 @@ module _ (concepts inclusions into ids assignment : List ℕ) (marks : List Bool
 
     pub extra-done :
         (extra bound : ℕ) → NoExtra concepts inclusions into ids assignment marks rule left right extra → bound ≤ extra → ExtraBound concepts inclusions rule left bound
-        → (t : Tables) → Of t concepts inclusions into ids → (e : ℕ) → byRule t assignment (seen (count_of concepts) marks) rule left right e ≡ false
+        → (t : Tables) → Of t concepts inclusions into ids → (e : ℕ) → by_rule t assignment (seen (count_of concepts) marks) rule left right e ≡ false
     extra-done extra bound n h b t of e =
         ⊎_elim (λ u. b.past t of.concepts-are of.inclusions-are assignment _ right e (omega arith)) (λ u. n.none t of e u) (le-or-lt extra e)
 
   -- ---- one pair
   module _ (left right : ℕ) where
     pub rule-none : NoRule concepts inclusions into ids assignment marks left right 1
-    unfolding byRule
+    unfolding by_rule
     rule-none = record { none = λ t of rule extra h. let e : rule ≡ 0 = omega arith in rw e refl }
 
     pub rule-more :
         (rule : ℕ) → NoRule concepts inclusions into ids assignment marks left right rule
-        → ((t : Tables) → Of t concepts inclusions into ids → (e : ℕ) → byRule t assignment (seen (count_of concepts) marks) rule left right e ≡ false)
+        → ((t : Tables) → Of t concepts inclusions into ids → (e : ℕ) → by_rule t assignment (seen (count_of concepts) marks) rule left right e ≡ false)
         → NoRule concepts inclusions into ids assignment marks left right (rule + 1)
     rule-more rule n h =
         record {
           none = λ t of r extra l.
-              ⊎_elim (λ (u : r ≡ rule). subst (λ (z : ℕ). byRule t assignment (seen (count_of concepts) marks) z left right extra ≡ false) (sym u) (h t of extra))
+              ⊎_elim (λ (u : r ≡ rule). subst (λ (z : ℕ). by_rule t assignment (seen (count_of concepts) marks) z left right extra ≡ false) (sym u) (h t of extra))
               (λ u. n.none t of r extra u) (last-cases r rule (omega arith));
         }
 
     pub rule-done :
         (rule : ℕ) → NoRule concepts inclusions into ids assignment marks left right rule → 9 ≤ rule
-        → (t : Tables) → Of t concepts inclusions into ids → (r extra : ℕ) → byRule t assignment (seen (count_of concepts) marks) r left right extra ≡ false
+        → (t : Tables) → Of t concepts inclusions into ids → (r extra : ℕ) → by_rule t assignment (seen (count_of concepts) marks) r left right extra ≡ false
     rule-done rule n h t of r extra =
         ⊎_elim (λ u. rule-past t assignment _ left right extra r u) (λ u. n.none t of r extra (omega arith)) (le-or-lt 9 r)
 
@@ -166,7 +166,7 @@ module _ (concepts inclusions into ids assignment : List ℕ) (marks : List Bool
     pub tried-at : (extra : ℕ) → x ≡ At extra → Gives concepts inclusions into ids assignment marks rule left right extra
     tried-at extra e = subst (Tried concepts inclusions into ids assignment marks rule left right) e h
 
-    pub tried-none : x ≡ None → (t : Tables) → Of t concepts inclusions into ids → (e : ℕ) → byRule t assignment (seen (count_of concepts) marks) rule left right e ≡ false
+    pub tried-none : x ≡ None → (t : Tables) → Of t concepts inclusions into ids → (e : ℕ) → by_rule t assignment (seen (count_of concepts) marks) rule left right e ≡ false
     tried-none e = subst (Tried concepts inclusions into ids assignment marks rule left right) e h
 
   module _ (left right : ℕ) (x : Why) (h : Explained concepts inclusions into ids assignment marks left right x) where
@@ -176,7 +176,7 @@ module _ (concepts inclusions into ids assignment : List ℕ) (marks : List Bool
     explained-new rule extra y l k f g e =
         record { left-known = l; right-known = k; fresh = sym f ∙ g; gives = subst (Explained concepts inclusions into ids assignment marks left right) e h }
 
-    pub explained-not : x ≡ Unknown → (t : Tables) → Of t concepts inclusions into ids → (r extra : ℕ) → byRule t assignment (seen (count_of concepts) marks) r left right extra ≡ false
+    pub explained-not : x ≡ Unknown → (t : Tables) → Of t concepts inclusions into ids → (r extra : ℕ) → by_rule t assignment (seen (count_of concepts) marks) r left right extra ≡ false
     explained-not e = subst (Explained concepts inclusions into ids assignment marks left right) e h
 
   -- ---- a proposed line
@@ -212,7 +212,7 @@ module _ (concepts inclusions into ids assignment : List ℕ) (marks : List Bool
     quiet-marked x e f = quiet-more (record { none = λ z. absurd (true≢false (sym f ∙ e ∙ z)) })
 
     pub quiet-unknown :
-        ((t : Tables) → Of t concepts inclusions into ids → (r extra : ℕ) → byRule t assignment (seen (count_of concepts) marks) r (p / count_of concepts) (p % count_of concepts) extra ≡ false)
+        ((t : Tables) → Of t concepts inclusions into ids → (r extra : ℕ) → by_rule t assignment (seen (count_of concepts) marks) r (p / count_of concepts) (p % count_of concepts) extra ≡ false)
         → QuietFrom concepts inclusions into ids assignment marks from (p + 1)
     quiet-unknown h = quiet-more (record { none = λ z t of r extra. h t of r extra })
 

@@ -9,15 +9,15 @@ use lib.ListN.{length, get_or, set, take, drop, length-append, length-drop, get_
 use borrow.Rule.Slice.PartMut.{put_mid, post_of, Post-is}
 use lib.Seq.{take_all, drop-drop, drop-length, length-take-le, get_or-append-add, get_or-take, get_or-drop}
 use borrow.Author.Tests.{ne_eqb, eq-eqb}
-use Rattle.subsumption.specs.Tables.{Tables, or, both, anyBelow}
+use Rattle.subsumption.specs.Tables.{Tables, or, both, any_below}
 use Rattle.subsumption.specs.Rules.{follows}
 use Rattle.subsumption.proofs.Bools.{both-none, both-skip}
-use Rattle.matching.specs.Derivation.{ruleAt, left_at, rightAt, extraAt, pair_at, provedBy, lineFollows}
-use Rattle.matching.specs.Inner.Writer.{inFront, LineWritten}
+use Rattle.matching.specs.Derivation.{rule_at, left_at, right_at, extra_at, pair_at, proved_by, line_follows}
+use Rattle.matching.specs.Inner.Writer.{in_front, LineWritten}
 use Rattle.matching.proofs.DerivationLaws.Monotone.{Reads, follows_same}
 
 pub put_front :
-    (rest : List ℕ) (rule left right extra : ℕ) → 4 ≤ length rest → set (set (set (set rest 0 rule) 1 left) 2 right) 3 extra ≡ inFront rule left right extra rest
+    (rest : List ℕ) (rule left right extra : ℕ) → 4 ≤ length rest → set (set (set (set rest 0 rule) 1 left) 2 right) 3 extra ≡ in_front rule left right extra rest
 put_front [] rule left right extra h = absurd (omega arith)
 put_front (a ∷ []) rule left right extra h = absurd (omega arith)
 put_front (a ∷ b ∷ []) rule left right extra h = absurd (omega arith)
@@ -60,7 +60,7 @@ module _ (before : List ℕ) (n rule left right extra : ℕ) (h : (n + 1) * 4 �
       back p l = omega arith
 
   pub write-front :
-      (part : List ℕ) → part ≡ inFront rule left right extra (take (length before - n * 4) (drop (n * 4) before))
+      (part : List ℕ) → part ≡ in_front rule left right extra (take (length before - n * 4) (drop (n * 4) before))
       → LineWritten before (put_mid (n * 4) (length before - n * 4) before part) n rule left right extra
   write-front part e = line-written _ (ap (λ z. take (n * 4) before ++ z) (after-part ∙ ap (λ z. rule ∷ left ∷ right ∷ extra ∷ z) rest))
     where
@@ -76,7 +76,7 @@ module _ (before : List ℕ) (n rule left right extra : ℕ) (h : (n + 1) * 4 �
       none : post_of (n * 4) (length before - n * 4) before ≡ []
       none = Post-is (n * 4) (length before) before (omega arith) ∙ drop-length before
 
-      after-part : part ++ post_of (n * 4) (length before - n * 4) before ≡ inFront rule left right extra (take (length before - n * 4) (drop (n * 4) before))
+      after-part : part ++ post_of (n * 4) (length before - n * 4) before ≡ in_front rule left right extra (take (length before - n * 4) (drop (n * 4) before))
       after-part = ap (λ z. part ++ z) none ∙ append-nil part ∙ e
 
 -- ---- lists that agree on their first n lines
@@ -89,20 +89,20 @@ module _ (a b : List ℕ) (n : ℕ) (g : Agree a b n) where
   pair-agree i j k h =
       ap₂ (λ (x : ℕ) (y : ℕ). both (eqb i x) (eqb j y)) (g.each (k * 4 + 1) (omega arith)) (g.each (k * 4 + 2) (omega arith))
 
-  pub proved-agree : (i j k : ℕ) → k ≤ n → provedBy a k i j ≡ provedBy b k i j
-  unfolding provedBy anyBelow
+  pub proved-agree : (i j k : ℕ) → k ≤ n → proved_by a k i j ≡ proved_by b k i j
+  unfolding proved_by any_below
   proved-agree i j zero h = refl
   proved-agree i j (suc k) h = ap₂ or (pair-agree i j k (omega arith)) (proved-agree i j k (omega arith))
 
-  pub line-agree : (t : Tables) (assignment : List ℕ) → Reads t → (k : ℕ) → k < n → lineFollows t assignment a k ≡ lineFollows t assignment b k
-  unfolding lineFollows
+  pub line-agree : (t : Tables) (assignment : List ℕ) → Reads t → (k : ℕ) → k < n → line_follows t assignment a k ≡ line_follows t assignment b k
+  unfolding line_follows
   line-agree t assignment reads k h =
-      let r : ruleAt a k ≡ ruleAt b k = g.each (k * 4) (omega arith) in
+      let r : rule_at a k ≡ rule_at b k = g.each (k * 4) (omega arith) in
       let l : left_at a k ≡ left_at b k = g.each (k * 4 + 1) (omega arith) in
-      let s : rightAt a k ≡ rightAt b k = g.each (k * 4 + 2) (omega arith) in
-      let e : extraAt a k ≡ extraAt b k = g.each (k * 4 + 3) (omega arith) in
-      follows_same t assignment reads (provedBy a k) (provedBy b k) (λ i j _ _. proved-agree i j k (omega arith)) (ruleAt a k) (left_at a k) (rightAt a k) (extraAt a k)
-      ∙ numbers t assignment (provedBy b k) _ _ _ _ _ _ _ _ r l s e
+      let s : right_at a k ≡ right_at b k = g.each (k * 4 + 2) (omega arith) in
+      let e : extra_at a k ≡ extra_at b k = g.each (k * 4 + 3) (omega arith) in
+      follows_same t assignment reads (proved_by a k) (proved_by b k) (λ i j _ _. proved-agree i j k (omega arith)) (rule_at a k) (left_at a k) (right_at a k) (extra_at a k)
+      ∙ numbers t assignment (proved_by b k) _ _ _ _ _ _ _ _ r l s e
     where
       numbers :
           (t : Tables) (assignment : List ℕ) (p : ℕ → ℕ → Bool) (r r' l l' s s' e e' : ℕ) → r ≡ r' → l ≡ l' → s ≡ s' → e ≡ e'

@@ -12,11 +12,11 @@ use Rattle.subsumption.specs.Tables.{both, count_of}
 use Rattle.subsumption.specs.Inner.Closure.{Ready}
 use Rattle.subsumption.specs.Rules.{follows}
 use Rattle.subsumption.proofs.Bools.{both_true, last-cases, or-skip}
-use Rattle.subsumption.proofs.Accepted.{wellFormed}
+use Rattle.subsumption.proofs.Accepted.{well_formed}
 use Rattle.subsumption.proofs.RuleCompleteness.{follows-complete}
 use Rattle.matching.specs.declared.writer.explain.Next.{Next}
 use Rattle.matching.specs.declared.writer.explain.Next.TheVariants.{Line, Nothing}
-use Rattle.matching.specs.Derivation.{left_at, rightAt, pair_at, provedBy, lineFollows}
+use Rattle.matching.specs.Derivation.{left_at, right_at, pair_at, proved_by, line_follows}
 use Rattle.matching.specs.Inner.Derivation.{seen, MarksOf, LineTest}
 use Rattle.matching.specs.Inner.Writer.Explain.{QuietFrom, New, Tested, Found}
 use Rattle.matching.specs.Inner.Writer.{LineWritten, RestKept, unset, Blank, Asked, Written, WrittenTo, Begun}
@@ -107,10 +107,10 @@ module _ (concepts inclusions into ids assignment : List ℕ) where
       marked-same =
           record { square = d.marked.square; same = λ i j h l. d.marked.same i j h l ∙ sym (proved-agree out' out n agree i j n (omega arith)) }
 
-      new-fresh : provedBy out' n (left_at out' n) (rightAt out' n) ≡ false
+      new-fresh : proved_by out' n (left_at out' n) (right_at out' n) ≡ false
       new-fresh =
-          subst (λ (z : ℕ). provedBy out' n z (rightAt out' n) ≡ false) (sym s.left_is)
-          (subst (λ (z : ℕ). provedBy out' n left z ≡ false) (sym s.right_is)
+          subst (λ (z : ℕ). proved_by out' n z (right_at out' n) ≡ false) (sym s.left_is)
+          (subst (λ (z : ℕ). proved_by out' n left z ≡ false) (sym s.right_is)
           (sym (marked-same.same left right w.left-known w.right-known) ∙ w.fresh))
 
       new_line : LineTest concepts inclusions into ids assignment out' n true
@@ -121,13 +121,13 @@ module _ (concepts inclusions into ids assignment : List ℕ) where
       old-left : (k : ℕ) → k < n → left_at out' k ≡ left_at out k
       old-left k h = s.under (k * 4 + 1) (omega arith)
 
-      old-right : (k : ℕ) → k < n → rightAt out' k ≡ rightAt out k
+      old-right : (k : ℕ) → k < n → right_at out' k ≡ right_at out k
       old-right k h = s.under (k * 4 + 2) (omega arith)
 
-      old-fresh : (k : ℕ) → k < n → provedBy out' k (left_at out' k) (rightAt out' k) ≡ false
+      old-fresh : (k : ℕ) → k < n → proved_by out' k (left_at out' k) (right_at out' k) ≡ false
       old-fresh k h =
-          subst (λ (z : ℕ). provedBy out' k z (rightAt out' k) ≡ false) (sym (old-left k h))
-          (subst (λ (z : ℕ). provedBy out' k (left_at out k) z ≡ false) (sym (old-right k h))
+          subst (λ (z : ℕ). proved_by out' k z (right_at out' k) ≡ false) (sym (old-left k h))
+          (subst (λ (z : ℕ). proved_by out' k (left_at out k) z ≡ false) (sym (old-right k h))
           (proved-agree out' out n agree _ _ k (omega arith) ∙ d.fresh k h))
 
       pub written-more : Written concepts inclusions into ids assignment marks' out' (n + 1)
@@ -137,11 +137,11 @@ module _ (concepts inclusions into ids assignment : List ℕ) where
             room = omega (arith, d.room, unset-less, ap unset e);
             left-known = λ k h. ⊎_elim (λ (u : k ≡ n). subst (λ (z : ℕ). left_at out' z < count_of concepts) (sym u) (new_line.left-known refl))
                 (λ u. subst (λ (z : ℕ). z < count_of concepts) (sym (old-left k u)) (d.left-known k u)) (last-cases k n (omega arith));
-            right-known = λ k h. ⊎_elim (λ (u : k ≡ n). subst (λ (z : ℕ). rightAt out' z < count_of concepts) (sym u) (new_line.right-known refl))
+            right-known = λ k h. ⊎_elim (λ (u : k ≡ n). subst (λ (z : ℕ). right_at out' z < count_of concepts) (sym u) (new_line.right-known refl))
                 (λ u. subst (λ (z : ℕ). z < count_of concepts) (sym (old-right k u)) (d.right-known k u)) (last-cases k n (omega arith));
-            fresh = λ k h. ⊎_elim (λ (u : k ≡ n). subst (λ (z : ℕ). provedBy out' z (left_at out' z) (rightAt out' z) ≡ false) (sym u) new-fresh)
+            fresh = λ k h. ⊎_elim (λ (u : k ≡ n). subst (λ (z : ℕ). proved_by out' z (left_at out' z) (right_at out' z) ≡ false) (sym u) new-fresh)
                 (λ u. old-fresh k u) (last-cases k n (omega arith));
-            follow = λ k h t of. ⊎_elim (λ (u : k ≡ n). subst (λ (z : ℕ). lineFollows t assignment out' z ≡ true) (sym u) (sym (new_line.tells t of)))
+            follow = λ k h t of. ⊎_elim (λ (u : k ≡ n). subst (λ (z : ℕ). line_follows t assignment out' z ≡ true) (sym u) (sym (new_line.tells t of)))
                 (λ u. line-agree out' out n agree t assignment (of-reads t concepts inclusions into ids assignment of r) k u ∙ d.follow k u t of) (last-cases k n (omega arith));
           }
 
@@ -184,7 +184,7 @@ module _ (concepts inclusions into ids assignment : List ℕ) where
       → seen (count_of concepts) marks left right ≡ true
   unfolding follows
   scan-closed left right marks asked q =
-      follows-complete asked.t assignment (wellFormed asked.t asked.accepted) (seen (count_of concepts) marks) closed left right
+      follows-complete asked.t assignment (well_formed asked.t asked.accepted) (seen (count_of concepts) marks) closed left right
       (subst (λ (z : List ℕ). left < count_of z) (sym asked.of.concepts-are) asked.left-known)
       (subst (λ (z : List ℕ). right < count_of z) (sym asked.of.concepts-are) asked.right-known) asked.subsumed
     where

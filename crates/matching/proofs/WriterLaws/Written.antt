@@ -12,9 +12,9 @@ use Rattle.subsumption.specs.declared.refusal.Outcome.TheVariants.{Done}
 use Rattle.subsumption.specs.Tables.{Tables}
 use Rattle.subsumption.specs.Inner.Closure.{Ready}
 use Rattle.subsumption.specs.Refusal.{first_at}
-use Rattle.subsumption.proofs.Bools.{both_true, both-intro, anyBelow-intro}
+use Rattle.subsumption.proofs.Bools.{both_true, both-intro, any_below-intro}
 use Rattle.subsumption.proofs.Refusals.{both-done, done-if}
-use Rattle.matching.specs.Derivation.{lines_of, left_at, rightAt, pair_at, provedBy, lineFollows, ruleFault, derivationFault}
+use Rattle.matching.specs.Derivation.{lines_of, left_at, right_at, pair_at, proved_by, line_follows, rule_fault, derivation_fault}
 use Rattle.matching.specs.Inner.Derivation.{Of}
 use Rattle.matching.specs.Writer.{DerivationOf}
 use Rattle.matching.specs.Inner.Writer.{RestKept, WrittenTo}
@@ -22,9 +22,9 @@ use Rattle.matching.proofs.DerivationLaws.Lines.{shape-whole, last-both}
 use Rattle.matching.proofs.DerivationLaws.Monotone.{of-reads}
 use Rattle.matching.proofs.WriterLaws.Lines.{Agree, line-agree}
 
-pair-known : (lines : List ℕ) (i j k : ℕ) → pair_at lines i j k ≡ true → (i ≡ left_at lines k) × (j ≡ rightAt lines k)
+pair-known : (lines : List ℕ) (i j k : ℕ) → pair_at lines i j k ≡ true → (i ≡ left_at lines k) × (j ≡ right_at lines k)
 unfolding pair_at
-pair-known lines i j k h = let (u, v) = both_true _ _ h in (eqb-true i (left_at lines k) u, eqb-true j (rightAt lines k) v)
+pair-known lines i j k h = let (u, v) = both_true _ _ h in (eqb-true i (left_at lines k) u, eqb-true j (right_at lines k) v)
 
 first-none : (refusal : ℕ → Refusal) (faulty : ℕ → Bool) (from count : ℕ) → ((i : ℕ) → from ≤ i → i < from + count → faulty i ≡ false) → Done ≡ first_at refusal faulty from count
 unfolding first_at
@@ -36,10 +36,10 @@ first-none refusal faulty from (suc count) h =
 module _ (t : Tables) (concepts inclusions into ids assignment : List ℕ) (left right : ℕ) (marks : List Bool) (before after : List ℕ) (n : ℕ)
     (of : Of t concepts inclusions into ids) (r : Ready concepts inclusions ids assignment) (d : WrittenTo concepts inclusions into ids assignment left right marks after n)
     (w : RestKept before after 0 n) (room : n * 4 ≤ length before) where
-  once : (k m : ℕ) → k < m → m < n → left_at after k ≡ left_at after m → rightAt after k ≡ rightAt after m → ⊥
-  unfolding provedBy pair_at
+  once : (k m : ℕ) → k < m → m < n → left_at after k ≡ left_at after m → right_at after k ≡ right_at after m → ⊥
+  unfolding proved_by pair_at
   once k m h l e f =
-      true≢false (sym (anyBelow-intro m (pair_at after (left_at after m) (rightAt after m)) k h (both-intro _ _ (eq-eqb _ _ (sym e)) (eq-eqb _ _ (sym f)))) ∙ d.written.fresh m l)
+      true≢false (sym (any_below-intro m (pair_at after (left_at after m) (right_at after m)) k h (both-intro _ _ (eq-eqb _ _ (sym e)) (eq-eqb _ _ (sym f)))) ∙ d.written.fresh m l)
 
   abbrev lines : List ℕ
   lines = take (n * 4) after
@@ -53,7 +53,7 @@ module _ (t : Tables) (concepts inclusions into ids assignment : List ℕ) (left
   count-lines : lines_of lines ≡ n
   count-lines = omega (arith, long)
 
-  lines-follow : (k : ℕ) → k < lines_of lines → lineFollows t assignment lines k ≡ true
+  lines-follow : (k : ℕ) → k < lines_of lines → line_follows t assignment lines k ≡ true
   lines-follow k h =
       line-agree lines after n agree t assignment (of-reads t concepts inclusions into ids assignment of r) k (omega (arith, count-lines))
       ∙ d.written.follow k (omega (arith, count-lines)) t of
@@ -63,13 +63,13 @@ module _ (t : Tables) (concepts inclusions into ids assignment : List ℕ) (left
       ap (λ (z : ℕ). left_at lines (z - 1)) count-lines ∙ agree.each ((n - 1) * 4 + 1) (omega (arith, d.some))
       ∙ sym (pair-known after left right (n - 1) d.last).0
 
-  last-is-right : rightAt lines (lines_of lines - 1) ≡ right
+  last-is-right : right_at lines (lines_of lines - 1) ≡ right
   last-is-right =
-      ap (λ (z : ℕ). rightAt lines (z - 1)) count-lines ∙ agree.each ((n - 1) * 4 + 2) (omega (arith, d.some))
+      ap (λ (z : ℕ). right_at lines (z - 1)) count-lines ∙ agree.each ((n - 1) * 4 + 2) (omega (arith, d.some))
       ∙ sym (pair-known after left right (n - 1) d.last).1
 
-  lines-accepted : Done ≡ derivationFault t assignment left right lines
-  unfolding derivationFault ruleFault
+  lines-accepted : Done ≡ derivation_fault t assignment left right lines
+  unfolding derivation_fault rule_fault
   lines-accepted =
       both-done _ _ _ _ (shape-whole lines (λ e. absurd (omega (arith, long, d.some))) (omega (arith, long))) refl
       (both-done _ _ _ _ (first-none _ _ 0 (lines_of lines) (λ i l k. ap not (lines-follow i (omega arith)))) refl (last-both left right lines last-is-left last-is-right) refl) refl

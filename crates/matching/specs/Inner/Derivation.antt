@@ -1,12 +1,12 @@
 -- What checking a derivation, its rules and the marks of pairs promise.
 use Rattle.std.specs.Prelude.{ℕ, ◌+◌, ◌*◌, ◌<◌, ◌≤◌, ◌≡◌, List, Bool, true, false, length, get_or}
 use Rattle.subsumption.specs.declared.tables.Row.{Row}
-use Rattle.subsumption.specs.Tables.{Tables, Node, topAt, name_at, existsAt, andAt, varAt, decode, count_of}
+use Rattle.subsumption.specs.Tables.{Tables, Node, top_at, name_at, exists_at, and_at, var_at, decode, count_of}
 use Rattle.subsumption.specs.Atoms.{atoms}
 use Rattle.subsumption.specs.Inner.Roles.{RoleSets}
-use Rattle.subsumption.specs.Rules.{byRule}
+use Rattle.subsumption.specs.Rules.{by_rule}
 use Rattle.subsumption.specs.declared.refusal.Outcome.{Outcome}
-use Rattle.matching.specs.Derivation.{left_at, rightAt, provedBy, lineFollows, ruleFault}
+use Rattle.matching.specs.Derivation.{left_at, right_at, proved_by, line_follows, rule_fault}
 
 -- one mark a pair of ids, row by row
 pub record Square (count : ℕ) (marks : List Bool) : Type 0 where
@@ -26,19 +26,19 @@ pub record KnownAtoms (count : ℕ) (ids : List ℕ) : Type 0 where
 
 -- the variable has a choice
 abbrev pub Numbered : List ℕ → Node → Type 0
-Numbered assignment topAt = Unit {0}
+Numbered assignment top_at = Unit {0}
 Numbered assignment (name_at n) = Unit {0}
-Numbered assignment (existsAt r j) = Unit {0}
-Numbered assignment (andAt j k) = Unit {0}
-Numbered assignment (varAt k) = k < length assignment
+Numbered assignment (exists_at r j) = Unit {0}
+Numbered assignment (and_at j k) = Unit {0}
+Numbered assignment (var_at k) = k < length assignment
 
 -- an existential's role is in the tables' range
 abbrev pub LowRole : Node → Type 0
-LowRole topAt = Unit {0}
+LowRole top_at = Unit {0}
 LowRole (name_at n) = Unit {0}
-LowRole (existsAt r j) = r < 100
-LowRole (andAt j k) = Unit {0}
-LowRole (varAt k) = Unit {0}
+LowRole (exists_at r j) = r < 100
+LowRole (and_at j k) = Unit {0}
+LowRole (var_at k) = Unit {0}
 
 -- the tables have these concepts and inclusions, these sets of roles and these atoms
 pub record Of (t : Tables) (concepts inclusions into ids : List ℕ) : Type 0 where
@@ -50,19 +50,19 @@ pub record Of (t : Tables) (concepts inclusions into ids : List ℕ) : Type 0 wh
 -- the answer is what the rule asks of the line, with the marked pairs proved
 abbrev pub ByRule : List ℕ → List ℕ → List ℕ → List ℕ → List ℕ → List Bool → ℕ → ℕ → ℕ → ℕ → Bool → Type 0
 ByRule concepts inclusions into ids assignment marks rule left right extra answer =
-    (t : Tables) → Of t concepts inclusions into ids → answer ≡ byRule t assignment (seen (count_of concepts) marks) rule left right extra
+    (t : Tables) → Of t concepts inclusions into ids → answer ≡ by_rule t assignment (seen (count_of concepts) marks) rule left right extra
 
 -- the marked pairs are those on the first n lines
 pub record MarksOf (count : ℕ) (marks : List Bool) (lines : List ℕ) (n : ℕ) : Type 0 where
   pub square : Square count marks
-  pub same : (i j : ℕ) → i < count → j < count → seen count marks i j ≡ provedBy lines n i j
+  pub same : (i j : ℕ) → i < count → j < count → seen count marks i j ≡ proved_by lines n i j
 
 -- the answer says whether line k follows
 pub record LineTest (concepts inclusions into ids assignment : List ℕ) (lines : List ℕ) (k : ℕ) (answer : Bool) : Type 0 where
   pub left-known : answer ≡ true → left_at lines k < count_of concepts
-  pub right-known : answer ≡ true → rightAt lines k < count_of concepts
-  pub tells : (t : Tables) → Of t concepts inclusions into ids → answer ≡ lineFollows t assignment lines k
+  pub right-known : answer ≡ true → right_at lines k < count_of concepts
+  pub tells : (t : Tables) → Of t concepts inclusions into ids → answer ≡ line_follows t assignment lines k
 
 -- the answer is what the rules say of all lines
 pub record RulesTest (concepts inclusions into ids assignment : List ℕ) (lines : List ℕ) (answer : Outcome) : Type 0 where
-  pub tells : (t : Tables) → Of t concepts inclusions into ids → answer ≡ ruleFault t assignment lines
+  pub tells : (t : Tables) → Of t concepts inclusions into ids → answer ≡ rule_fault t assignment lines

@@ -14,13 +14,13 @@ pub mod Solve
 pub mod Widen
 use Rattle.std.specs.Prelude.{ℕ, ◌≤◌, ◌≡◌, List, Bool, true, false, length, take, get_or}
 use Rattle.subsumption.specs.declared.refusal.Outcome.TheVariants.{Done}
-use Rattle.subsumption.specs.Tables.{Tables, left_of, rightOf}
+use Rattle.subsumption.specs.Tables.{Tables, left_of, right_of}
 use Rattle.subsumption.specs.Subsumption.{Subsumed}
-use Rattle.subsumption.specs.Check.{assignmentFault}
+use Rattle.subsumption.specs.Check.{assignment_fault}
 use Rattle.settings.specs.Settings.{size}
 use Rattle.matching.specs.Solving.{takes}
 use Rattle.matching.specs.Among.{SolvesAmong}
-use Rattle.matching.specs.Inner.Search.Problem.{mostAt, AskedAt}
+use Rattle.matching.specs.Inner.Search.Problem.{most_at, AskedAt}
 
 -- A truth value tells whether a statement holds.
 abbrev pub Decided : Type 0 → Bool → Type 0
@@ -29,7 +29,7 @@ Decided P false = P → ⊥
 
 -- The question at place m holds under the assignment.
 abbrev pub HoldsAt : Tables → List ℕ → ℕ → Type 0
-HoldsAt t assignment m = Subsumed t assignment (left_of t.questions m) (rightOf t.questions m)
+HoldsAt t assignment m = Subsumed t assignment (left_of t.questions m) (right_of t.questions m)
 
 -- What the one takes, the other takes.
 abbrev pub Within : List ℕ → List ℕ → Type 0
@@ -44,7 +44,7 @@ pub record Between (low high assignment : List ℕ) : Type 0 where
 -- problem says.
 pub record Meets (t : Tables) (problem assignment : List ℕ) : Type 0 where
   pub solves : SolvesAmong (AskedAt problem) t assignment
-  pub few : (k : ℕ) → size (get_or assignment k 0) ≤ mostAt problem k
+  pub few : (k : ℕ) → size (get_or assignment k 0) ≤ most_at problem k
 
 -- A solution between the two sides.
 pub record SolutionIn (t : Tables) (problem low high choice : List ℕ) : Type 0 where
@@ -55,5 +55,5 @@ pub record SolutionIn (t : Tables) (problem low high choice : List ℕ) : Type 0
 -- No accepted assignment between the two sides is a solution.
 abbrev pub NoSolution : Tables → List ℕ → List ℕ → List ℕ → Type 0
 NoSolution t problem low high =
-    (other : List ℕ) → assignmentFault t other ≡ Done → Between (take t.variables low) (take t.variables high) other
+    (other : List ℕ) → assignment_fault t other ≡ Done → Between (take t.variables low) (take t.variables high) other
     → Meets t problem other → ⊥

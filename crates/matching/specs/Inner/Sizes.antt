@@ -2,9 +2,9 @@
 use Rattle.std.specs.Prelude.{ℕ}
 
 -- The numbers that tests read.
-abbrev pub problemSize : ℕ
-problemSize = 971
+abbrev pub problem_size : ℕ
+problem_size = 971
 
 -- What a search writes beside the nogoods.
-abbrev pub scratchSize : ℕ
-scratchSize = 16977
+abbrev pub scratch_size : ℕ
+scratch_size = 16977

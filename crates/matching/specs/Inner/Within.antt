@@ -4,11 +4,11 @@ use Rattle.subsumption.specs.declared.refusal.Refusal.TheVariants.{NoAssignment}
 use Rattle.subsumption.specs.declared.refusal.Outcome.{Outcome}
 use Rattle.subsumption.specs.declared.refusal.Outcome.TheVariants.{Done, Refused}
 use Rattle.subsumption.specs.Tables.{Tables}
-use Rattle.subsumption.specs.Refusal.{Reply, replyDone, replyRefused}
-use Rattle.subsumption.specs.Check.{assignmentFault}
+use Rattle.subsumption.specs.Refusal.{Reply, reply_done, reply_refused}
+use Rattle.subsumption.specs.Check.{assignment_fault}
 use Rattle.settings.specs.Settings.{Settings}
 use Rattle.matching.specs.Solving.{takes, Earlier}
-use Rattle.matching.specs.Within.{withinFault}
+use Rattle.matching.specs.Within.{within_fault}
 use Rattle.matching.specs.Among.{FirstAmong, NoneAmong, FilledAmong, UnfilledAmong}
 use Rattle.matching.specs.Inner.Search.{Within, Meets}
 use Rattle.matching.specs.Inner.Search.Problem.{Problem}
@@ -27,22 +27,22 @@ pub record Asking (wanted : ℕ) (before after : List ℕ) : Type 0 where
 -- The first solution that takes permitted atoms only, or there is none.
 pub record Found (t : Tables) (problem permitted choice : List ℕ) : Type 0 where
   pub long : length choice ≡ 8
-  pub accepted : assignmentFault t (take t.variables choice) ≡ Done
+  pub accepted : assignment_fault t (take t.variables choice) ≡ Done
   pub inside : Within (take t.variables choice) (take t.variables permitted)
   pub meets : Meets t problem (take t.variables choice)
   pub first :
-      (other : List ℕ) → assignmentFault t other ≡ Done → Within other (take t.variables permitted) → Meets t problem other
+      (other : List ℕ) → assignment_fault t other ≡ Done → Within other (take t.variables permitted) → Meets t problem other
       → (other ≡ take t.variables choice) ⊎ Earlier (take t.variables choice) other
 
 abbrev pub FoundBy : Tables → List ℕ → List ℕ → Bool → List ℕ → Type 0
 FoundBy t problem permitted true choice = Found t problem permitted choice
 FoundBy t problem permitted false choice =
-    (other : List ℕ) → assignmentFault t other ≡ Done → Within other (take t.variables permitted) → Meets t problem other → ⊥
+    (other : List ℕ) → assignment_fault t other ≡ Done → Within other (take t.variables permitted) → Meets t problem other → ⊥
 
 -- The same of whatever tables the sets and numbers are.
 abbrev pub FoundIn : List ℕ → List ℕ → List ℕ → Bool → List ℕ → Type 0
 FoundIn sets problem permitted found choice =
-    (t : Tables) → Problem t sets problem → assignmentFault t (take t.variables permitted) ≡ Done
+    (t : Tables) → Problem t sets problem → assignment_fault t (take t.variables permitted) ≡ Done
     → ((k q : ℕ) → t.variables ≤ k → takes permitted k q ≡ true → ⊥) → FoundBy t problem permitted found choice
 
 -- The first assignment within the settings that makes the asked questions hold, or there is none.
@@ -57,12 +57,12 @@ FoundAmong asked t s false choice = NoneAmong asked t s
 -- What a finder of the asked questions answers, where nothing is refused and where something is.
 abbrev pub FindsAmongAfter : Outcome → (ℕ → Type 0) → Tables → Settings → List ℕ → List ℕ → Reply → Type 0
 FindsAmongAfter Done asked t s before after reply =
-    ((reply ≡ replyDone 0) × FilledAmong asked t s before after)
-    ⊎ ((reply ≡ replyRefused NoAssignment) × UnfilledAmong asked t s before after)
-FindsAmongAfter (Refused r) asked t s before after reply = (reply ≡ replyRefused r) × (after ≡ before)
+    ((reply ≡ reply_done 0) × FilledAmong asked t s before after)
+    ⊎ ((reply ≡ reply_refused NoAssignment) × UnfilledAmong asked t s before after)
+FindsAmongAfter (Refused r) asked t s before after reply = (reply ≡ reply_refused r) × (after ≡ before)
 
 abbrev pub FindsAmong : (ℕ → Type 0) → Tables → Settings → List ℕ → List ℕ → Reply → Type 0
-FindsAmong asked t s before after reply = FindsAmongAfter (withinFault t s (length before)) asked t s before after reply
+FindsAmong asked t s before after reply = FindsAmongAfter (within_fault t s (length before)) asked t s before after reply
 
 -- The front of a choice is copied to the front of a buffer.
 pub record Copied (count : ℕ) (choice before after : List ℕ) : Type 0 where

@@ -2,30 +2,30 @@
 pub mod Explain
 use Rattle.std.specs.Prelude.{ℕ, ◌+◌, ◌-◌, ◌*◌, ◌<◌, ◌≤◌, ◌≡◌, List, [], ◌∷◌, Bool, true, false, length, get_or, drop}
 use Rattle.subsumption.specs.declared.refusal.Outcome.TheVariants.{Done}
-use Rattle.subsumption.specs.Tables.{Tables, count_of, pairsOf}
+use Rattle.subsumption.specs.Tables.{Tables, count_of, pairs_of}
 use Rattle.subsumption.specs.Subsumption.{Subsumed}
-use Rattle.subsumption.specs.Check.{tableFault}
+use Rattle.subsumption.specs.Check.{table_fault}
 use Rattle.subsumption.specs.Inner.Closure.{Ready}
-use Rattle.matching.specs.Derivation.{ruleAt, left_at, rightAt, extraAt, pair_at, provedBy, lineFollows}
+use Rattle.matching.specs.Derivation.{rule_at, left_at, right_at, extra_at, pair_at, proved_by, line_follows}
 use Rattle.matching.specs.Writer.{DerivationOf}
 use Rattle.matching.specs.Inner.Derivation.{Square, seen, Of, MarksOf}
 
 -- what the search asks: the checks have passed, and the atoms are at hand
 pub record Grounds (concepts inclusions ids assignment : List ℕ) : Type 0 where
   pub ready : Ready concepts inclusions ids assignment
-  pub few-pairs : pairsOf inclusions ≤ 192
+  pub few-pairs : pairs_of inclusions ≤ 192
 
 -- four numbers in front of what follows them
-abbrev pub inFront : ℕ → ℕ → ℕ → ℕ → List ℕ → List ℕ
-inFront rule left right extra rest = rule ∷ left ∷ right ∷ extra ∷ drop 4 rest
+abbrev pub in_front : ℕ → ℕ → ℕ → ℕ → List ℕ → List ℕ
+in_front rule left right extra rest = rule ∷ left ∷ right ∷ extra ∷ drop 4 rest
 
 -- line n is written, and nothing else changes
 pub record LineWritten (before after : List ℕ) (n rule left right extra : ℕ) : Type 0 where
   pub size : length after ≡ length before
-  pub rule-is : ruleAt after n ≡ rule
+  pub rule-is : rule_at after n ≡ rule
   pub left_is : left_at after n ≡ left
-  pub right_is : rightAt after n ≡ right
-  pub extra-is : extraAt after n ≡ extra
+  pub right_is : right_at after n ≡ right
+  pub extra-is : extra_at after n ≡ extra
   pub under : (p : ℕ) → p < n * 4 → get_or after p 0 ≡ get_or before p 0
   pub over : (p : ℕ) → (n + 1) * 4 ≤ p → get_or after p 0 ≡ get_or before p 0
 
@@ -51,7 +51,7 @@ pub record Blank (count : ℕ) (marks : List Bool) : Type 0 where
 pub record Asked (concepts inclusions into ids assignment : List ℕ) (left right : ℕ) : Type 0 where
   pub t : Tables
   pub of : Of t concepts inclusions into ids
-  pub accepted : tableFault t ≡ Done
+  pub accepted : table_fault t ≡ Done
   pub left-known : left < count_of concepts
   pub right-known : right < count_of concepts
   pub subsumed : Subsumed t assignment left right
@@ -61,9 +61,9 @@ pub record Written (concepts inclusions into ids assignment : List ℕ) (marks :
   pub marked : MarksOf (count_of concepts) marks out n
   pub room : n + unset marks ≡ count_of concepts * count_of concepts
   pub left-known : (k : ℕ) → k < n → left_at out k < count_of concepts
-  pub right-known : (k : ℕ) → k < n → rightAt out k < count_of concepts
-  pub fresh : (k : ℕ) → k < n → provedBy out k (left_at out k) (rightAt out k) ≡ false
-  pub follow : (k : ℕ) → k < n → (t : Tables) → Of t concepts inclusions into ids → lineFollows t assignment out k ≡ true
+  pub right-known : (k : ℕ) → k < n → right_at out k < count_of concepts
+  pub fresh : (k : ℕ) → k < n → proved_by out k (left_at out k) (right_at out k) ≡ false
+  pub follow : (k : ℕ) → k < n → (t : Tables) → Of t concepts inclusions into ids → line_follows t assignment out k ≡ true
 
 -- the asked pair is written last
 pub record WrittenTo (concepts inclusions into ids assignment : List ℕ) (left right : ℕ) (marks : List Bool) (out : List ℕ)

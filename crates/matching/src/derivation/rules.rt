@@ -1,15 +1,15 @@
 // The eight rules of a derivation line, tested against marked pairs. Private to the crate.
 ghost use Rattle.std.specs.Prelude.{◌≡◌, ◌<◌, ◌≤◌, eqb, ltb, length, get_or};
-ghost use Rattle.subsumption.specs.Lent.{before};
-ghost use Rattle.subsumption.specs.Tables.{or, both, count_of, pairsOf, left_of, rightOf};
+
+ghost use Rattle.subsumption.specs.Tables.{or, both, count_of, pairs_of, left_of, right_of};
 ghost use Rattle.subsumption.specs.Atoms.{pick};
 ghost use Rattle.subsumption.specs.Inner.Atoms.{Known};
 ghost use Rattle.subsumption.specs.Inner.Tables.{Rising};
 ghost use Rattle.subsumption.specs.Inner.Closure.{Ready};
-ghost use Rattle.subsumption.specs.Rules.{every, contains, same_name, is_top, onPicked, onBoth, onInner, onVariable};
+ghost use Rattle.subsumption.specs.Rules.{every, contains, same_name, is_top, on_picked, on_both, on_inner, on_variable};
 ghost use Rattle.matching.specs.Inner.Derivation.{Square, seen, node_of, KnownAtoms, Numbered, LowRole, ByRule};
 ghost use Rattle.subsumption.specs.Inner.Roles.{in_set};
-ghost use Rattle.subsumption.specs.Inner.Sizes.{rolesSize};
+ghost use Rattle.subsumption.specs.Inner.Sizes.{roles_size};
 
 use crate::derivation::marks::{has_mark, number_at};
 use subsumption::helpers::{Row, counts, pair_at, row_at};
@@ -45,7 +45,7 @@ fn by_member(marks: &[bool], count: usize, l: Row, right: usize, extra: usize) -
     requires square { Square count marks.now }
     requires rising { Rising count (node_of l) }
     requires right_lt_count { right < count }
-    ensures { result ≡ onPicked extra (λ i. seen count (before marks) i right) (node_of l) }
+    ensures { result ≡ on_picked extra (λ i. seen count marks.now i right) (node_of l) }
 {
     if l.kind != 3 {
         return false;
@@ -64,7 +64,7 @@ fn by_both(marks: &[bool], count: usize, left: usize, r: Row) -> bool
     requires square { Square count marks.now }
     requires rising { Rising count (node_of r) }
     requires left_lt_count { left < count }
-    ensures { result ≡ onBoth (λ j. seen count (before marks) left j) (node_of r) }
+    ensures { result ≡ on_both (λ j. seen count marks.now left j) (node_of r) }
 {
     if r.kind != 3 {
         return false;
@@ -77,13 +77,13 @@ fn by_both(marks: &[bool], count: usize, left: usize, r: Row) -> bool
 
 // Rule 5.
 fn by_inner(into: &[u64], marks: &[bool], count: usize, l: Row, r: Row) -> bool
-    requires into_len { length into.now ≡ rolesSize }
+    requires into_len { length into.now ≡ roles_size }
     requires low_role { LowRole (node_of l) }
     requires low_role_2 { LowRole (node_of r) }
     requires square { Square count marks.now }
     requires rising { Rising count (node_of l) }
     requires rising_2 { Rising count (node_of r) }
-    ensures { result ≡ onInner (in_set (before into)) (seen count (before marks)) (node_of l) (node_of r) }
+    ensures { result ≡ on_inner (in_set into.now) (seen count marks.now) (node_of l) (node_of r) }
 {
     if l.kind != 2 {
         return false;
@@ -109,9 +109,9 @@ fn by_inclusion(
     requires square { Square count marks.now }
     requires known { Known count inclusions.now }
     requires left_lt_count { (left < count) × (right < count) }
-    ensures { result ≡ both (ltb extra (pairsOf (before inclusions)))
-        (both (seen count (before marks) left (left_of (before inclusions) extra))
-        (seen count (before marks) (rightOf (before inclusions) extra) right)) }
+    ensures { result ≡ both (ltb extra (pairs_of inclusions.now))
+        (both (seen count marks.now left (left_of inclusions.now extra))
+        (seen count marks.now (right_of inclusions.now extra) right)) }
 {
     if inclusions.len() / 2 <= extra {
         return false;
@@ -126,7 +126,7 @@ fn by_inclusion(
 // Whether the choice takes that id.
 fn is_chosen(atoms: &[u16], choice: u64, id: usize) -> bool
     requires { length atoms.now ≤ 64 }
-    ensures { result ≡ contains id (pick (before atoms) choice) }
+    ensures { result ≡ contains id (pick atoms.now choice) }
 {
     let mut q = 0;
     while q < atoms.len() {
@@ -157,8 +157,8 @@ fn by_choice(
     requires known_atoms { KnownAtoms count atoms.now }
     requires numbered { Numbered assignment.now (node_of l) }
     requires right_lt_count { right < count }
-    ensures { result ≡ onVariable
-        (λ k. both (contains extra (pick (before atoms) (get_or (before assignment) k 0))) (seen count (before marks) extra right))
+    ensures { result ≡ on_variable
+        (λ k. both (contains extra (pick atoms.now (get_or assignment.now k 0))) (seen count marks.now extra right))
         (node_of l) }
 {
     if l.kind != 4 {
@@ -179,7 +179,7 @@ fn all_marked(atoms: &[u16], choice: u64, marks: &[bool], count: usize, left: us
     requires square { Square count marks.now }
     requires known_atoms { KnownAtoms count atoms.now }
     requires left_lt_count { left < count }
-    ensures { result ≡ every (λ p. seen count (before marks) left p) (pick (before atoms) choice) }
+    ensures { result ≡ every (λ p. seen count marks.now left p) (pick atoms.now choice) }
 {
     let mut q = 0;
     while q < atoms.len() {
@@ -210,8 +210,8 @@ fn by_all(
     requires known_atoms { KnownAtoms count atoms.now }
     requires numbered { Numbered assignment.now (node_of r) }
     requires left_lt_count { left < count }
-    ensures { result ≡ onVariable
-        (λ k. every (λ p. seen count (before marks) left p) (pick (before atoms) (get_or (before assignment) k 0))) (node_of r) }
+    ensures { result ≡ on_variable
+        (λ k. every (λ p. seen count marks.now left p) (pick atoms.now (get_or assignment.now k 0))) (node_of r) }
 {
     if r.kind != 4 {
         return false;
@@ -234,11 +234,11 @@ pub fn by_rule(
     extra: usize,
 ) -> bool
     requires ready { Ready concepts.now inclusions.now atoms.now assignment.now }
-    requires into_len { length into.now ≡ rolesSize }
+    requires into_len { length into.now ≡ roles_size }
     requires square { Square (count_of concepts.now) marks.now }
     requires left_bound { (left < count_of concepts.now) × (right < count_of concepts.now) }
-    ensures { ByRule (before concepts) (before inclusions) (before into) (before atoms) (before assignment)
-        (before marks) rule left right extra result }
+    ensures { ByRule concepts.now inclusions.now into.now atoms.now assignment.now
+        marks.now rule left right extra result }
 {
     let count = concepts.len() / 3;
     let l = row_at(concepts, left);

@@ -4,7 +4,7 @@
 // found is compared with the interval, and the pair is looked at, before anything rests on them.
 ghost use Rattle.std.specs.Prelude.{◌≡◌, ◌<◌, ◌≤◌, length};
 ghost use Rattle.matching.specs.Inner.Search.Nogoods.{Room};
-ghost use Rattle.matching.specs.Inner.Sizes.{scratchSize};
+ghost use Rattle.matching.specs.Inner.Sizes.{scratch_size};
 
 use crate::limits::{MASKS, PAIRS, WANTED};
 use crate::search::interval::Interval;
@@ -19,7 +19,7 @@ const LEFT: usize = 16;
 
 // Sets the bit of nogood c in the masks of the pairs of one word.
 fn note_word(scratch: &mut [u64], c: usize, word: u64, from: usize)
-    requires scratch_len { length scratch.old ≡ scratchSize }
+    requires scratch_len { length scratch.old ≡ scratch_size }
     requires c_bound { (c < 1024) × (from ≤ 14928) }
 {
     let mut q = next_bit(word, 0);
@@ -32,7 +32,7 @@ fn note_word(scratch: &mut [u64], c: usize, word: u64, from: usize)
 
 // Notes nogood c in the masks, and its pairs among those that some nogood wants.
 pub fn note(scratch: &mut [u64], c: usize, full: [u64; 8], nogood: Interval)
-    requires scratch_len { length scratch.old ≡ scratchSize }
+    requires scratch_len { length scratch.old ≡ scratch_size }
     requires c_bound { c < 1024 }
 {
     let low = nogood.low;
@@ -62,7 +62,7 @@ pub struct Weights {
 
 // With the masks of the pairs in the word that make a nogood dead.
 fn kill(scratch: &[u64], word: u64, from: usize, dead: u64) -> u64
-    requires scratch_len { length scratch.now ≡ scratchSize }
+    requires scratch_len { length scratch.now ≡ scratch_size }
     requires from_bound { from ≤ 14943 }
 {
     let mut sum = dead;
@@ -82,7 +82,7 @@ pub struct Counted {
 }
 
 fn count(scratch: &[u64], word: u64, from: usize, before: Counted) -> Counted
-    requires scratch_len { length scratch.now ≡ scratchSize }
+    requires scratch_len { length scratch.now ≡ scratch_size }
     requires from_bound { from ≤ 14943 }
 {
     let mut once = before.once;
@@ -105,7 +105,7 @@ fn weigh_variable(
     k: usize,
     before: Weights,
 ) -> Weights
-    requires scratch_len { length scratch.now ≡ scratchSize }
+    requires scratch_len { length scratch.now ≡ scratch_size }
     requires w_bound { (w < 16) × (k < 8) }
 {
     let lows = interval.low;
@@ -144,7 +144,7 @@ fn weigh_variable(
 }
 
 fn weigh(scratch: &[u64], w: usize, interval: Interval) -> Weights
-    requires scratch_len { length scratch.now ≡ scratchSize }
+    requires scratch_len { length scratch.now ≡ scratch_size }
     requires w_bound { w < 16 }
 {
     let mut weights = Weights {
@@ -209,7 +209,7 @@ fn present(w: usize, count: usize) -> u64
 
 pub fn choose(store: &[u64], scratch: &[u64], interval: Interval) -> Hint
     requires room { Room store.now }
-    requires scratch_len { length scratch.now ≡ scratchSize }
+    requires scratch_len { length scratch.now ≡ scratch_size }
 {
     let count = store[0] as usize;
     let mut found = Hint {

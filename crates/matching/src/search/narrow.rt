@@ -1,10 +1,9 @@
 // Narrowing, once before the search: a question with variables on the right only gets harder with more atoms. So if it fails with one
 // pair alone, no solution takes that pair, and the pair leaves the high side.
 ghost use Rattle.std.specs.Prelude.{◌≡◌, true, ◌<◌, length};
-ghost use Rattle.matching.specs.Inner.Search.Problem.{Shaped, held_at, rightAt, questionCount, AskedAt};
+ghost use Rattle.matching.specs.Inner.Search.Problem.{Shaped, held_at, right_at, question_count, AskedAt};
 ghost use Rattle.matching.specs.Inner.Search.Narrow.{Narrowed};
-ghost use Rattle.matching.specs.Inner.Sizes.{scratchSize};
-ghost use Rattle.subsumption.specs.Lent.{before};
+ghost use Rattle.matching.specs.Inner.Sizes.{scratch_size};
 
 use crate::limits::{ASKED, HELD, HOLDS, QUESTION_COUNT, SIDES};
 use crate::search::pairs::{with_pair, without_pair};
@@ -21,11 +20,11 @@ fn narrow_variable(
     full: [u64; 8],
 ) -> [u64; 8]
     requires shaped { Shaped sets.now problem.now }
-    requires scratch_len { (length scratch.old ≡ scratchSize) × (length full ≡ 8) }
-    requires m_bound { (m < questionCount problem.now) × (k < 8) }
-    requires asked_at { AskedAt problem.now m × (held_at problem.now (rightAt problem.now m) ≡ true) }
+    requires scratch_len { (length scratch.old ≡ scratch_size) × (length full ≡ 8) }
+    requires m_bound { (m < question_count problem.now) × (k < 8) }
+    requires asked_at { AskedAt problem.now m × (held_at problem.now (right_at problem.now m) ≡ true) }
     ensures result_len { length result ≡ 8 }
-    ensures narrowed { Narrowed (before sets) (before problem) full result }
+    ensures narrowed { Narrowed sets.now problem.now full result }
 {
     let none = [0u64; 8];
     let mut high = full;
@@ -52,10 +51,10 @@ fn narrow_question(
     full: [u64; 8],
 ) -> [u64; 8]
     requires shaped { Shaped sets.now problem.now }
-    requires scratch_len { (length scratch.old ≡ scratchSize) × (length full ≡ 8) }
-    requires m_bound { m < questionCount problem.now }
+    requires scratch_len { (length scratch.old ≡ scratch_size) × (length full ≡ 8) }
+    requires m_bound { m < question_count problem.now }
     ensures result_len { length result ≡ 8 }
-    ensures narrowed { Narrowed (before sets) (before problem) full result }
+    ensures narrowed { Narrowed sets.now problem.now full result }
 {
     if problem[ASKED + m] != 1 {
         return full;
@@ -81,9 +80,9 @@ fn narrow_question(
 
 pub fn narrow(sets: &[u64], problem: &[u16], scratch: &mut [u64], full: [u64; 8]) -> [u64; 8]
     requires shaped { Shaped sets.now problem.now }
-    requires scratch_len { (length scratch.old ≡ scratchSize) × (length full ≡ 8) }
+    requires scratch_len { (length scratch.old ≡ scratch_size) × (length full ≡ 8) }
     ensures result_len { length result ≡ 8 }
-    ensures narrowed { Narrowed (before sets) (before problem) full result }
+    ensures narrowed { Narrowed sets.now problem.now full result }
 {
     let count = problem[QUESTION_COUNT] as usize;
     let mut high = full;

@@ -6,8 +6,7 @@ ghost use Rattle.std.specs.Prelude.{◌≡◌, ◌<◌, length};
 ghost use Rattle.matching.specs.Inner.Search.Nogoods.{used, Room};
 ghost use Rattle.matching.specs.Inner.Search.Pairs.{Joined};
 ghost use Rattle.matching.specs.Inner.Search.Needs.{NeedAt, Kept, WantedOver};
-ghost use Rattle.matching.specs.Inner.Sizes.{problemSize};
-ghost use Rattle.subsumption.specs.Lent.{before};
+ghost use Rattle.matching.specs.Inner.Sizes.{problem_size};
 
 use crate::limits::MOST;
 use crate::search::interval::Interval;
@@ -20,7 +19,7 @@ fn need_at(store: &[u64], c: usize, high: [u64; 8], low: [u64; 8], k: usize, met
     requires room { Room store.now }
     requires c_bound { (c < used store.now) × (k < 8) }
     requires high_len { (length high ≡ 8) × (length low ≡ 8) }
-    ensures { NeedAt (before store) c high low k met result }
+    ensures { NeedAt store.now c high low k met result }
 {
     let kept = store[c * 16 + 9 + k];
     let wanted = (kept | high[k]) ^ kept;
@@ -75,11 +74,11 @@ fn count_needs(
     interval: Interval,
     k: usize,
 ) -> Wanted
-    requires problem_len { length problem.now ≡ problemSize }
+    requires problem_len { length problem.now ≡ problem_size }
     requires room { Room store.now }
     requires full_len { (length full ≡ 8) × (length interval.low ≡ 8) × (length interval.high ≡ 8) × (k < 8) }
     ensures low_len { (length result.low ≡ 8) × (length result.high ≡ 8) }
-    ensures wanted_over { WantedOver (before problem) (before store) full interval.low interval.high result.over result.low result.high }
+    ensures wanted_over { WantedOver problem.now store.now full interval.low interval.high result.over result.low result.high }
 {
     let low = interval.low;
     let high = interval.high;
@@ -130,11 +129,11 @@ fn is_counted(most: u16, low: u64, high: u64) -> bool {
 
 // Of the first variable of which more is wanted.
 pub fn count_all(problem: &[u16], store: &[u64], full: [u64; 8], interval: Interval) -> Wanted
-    requires problem_len { length problem.now ≡ problemSize }
+    requires problem_len { length problem.now ≡ problem_size }
     requires room { Room store.now }
     requires full_len { (length full ≡ 8) × (length interval.low ≡ 8) × (length interval.high ≡ 8) }
     ensures low_len { (length result.low ≡ 8) × (length result.high ≡ 8) }
-    ensures wanted_over { WantedOver (before problem) (before store) full interval.low interval.high result.over result.low result.high }
+    ensures wanted_over { WantedOver problem.now store.now full interval.low interval.high result.over result.low result.high }
 {
     let low = interval.low;
     let high = interval.high;

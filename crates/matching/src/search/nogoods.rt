@@ -1,16 +1,15 @@
 // Nogoods: intervals that hold no solution, kept for the whole search. A nogood shuts every interval inside it, and tells
 // which pairs are worth splitting. They stand in one list: how many, then the low and the high side of each.
 ghost use Rattle.std.specs.Prelude.{◌≡◌, ◌+◌, ◌<◌, ◌≤◌, length};
-ghost use Rattle.matching.specs.Inner.Search.Nogoods.{words, used, lowAt, highAt, Room, Put, Added};
-ghost use Rattle.matching.specs.Inner.Sizes.{scratchSize};
-ghost use Rattle.subsumption.specs.Lent.{before, after};
+ghost use Rattle.matching.specs.Inner.Search.Nogoods.{words, used, low_at, high_at, Room, Put, Added};
+ghost use Rattle.matching.specs.Inner.Sizes.{scratch_size};
 
 use crate::search::interval::Interval;
 use crate::search::lookup::note;
 
 pub fn fetch(store: &[u64], at: usize) -> [u64; 8]
     requires { at + 8 ≤ length store.now }
-    ensures { result ≡ words (before store) at }
+    ensures { result ≡ words store.now at }
 {
     let mut set = [0u64; 8];
     let mut k: usize = 0;
@@ -23,7 +22,7 @@ pub fn fetch(store: &[u64], at: usize) -> [u64; 8]
 
 pub fn put(store: &mut [u64], at: usize, set: [u64; 8])
     requires { at + 8 ≤ length store.old }
-    ensures { Put at set (before store) (after store) }
+    ensures { Put at set store.old store.new }
 {
     let mut k: usize = 0;
     while k < 8 {
@@ -36,9 +35,9 @@ pub fn put(store: &mut [u64], at: usize, set: [u64; 8])
 pub fn add(store: &mut [u64], scratch: &mut [u64], most: u64, full: [u64; 8], nogood: Interval)
     requires room { Room store.old }
     requires most_bound { most ≤ 1024 }
-    requires scratch_len { length scratch.old ≡ scratchSize }
+    requires scratch_len { length scratch.old ≡ scratch_size }
     requires low_len { (length nogood.low ≡ 8) × (length nogood.high ≡ 8) }
-    ensures { Added nogood.low nogood.high (before store) (after store) }
+    ensures { Added nogood.low nogood.high store.old store.new }
 {
     let filled = store[0];
     if filled >= most {
@@ -56,7 +55,7 @@ pub fn add(store: &mut [u64], scratch: &mut [u64], most: u64, full: [u64; 8], no
 pub fn nogood_at(store: &[u64], c: usize) -> Interval
     requires room { Room store.now }
     requires c_bound { c < used store.now }
-    ensures { (result.low ≡ lowAt (before store) c) × (result.high ≡ highAt (before store) c) }
+    ensures { (result.low ≡ low_at store.now c) × (result.high ≡ high_at store.now c) }
 {
     let low = fetch(store, c * 16 + 1);
     let high = fetch(store, c * 16 + 9);

@@ -2,7 +2,6 @@
 ghost use Rattle.std.specs.Prelude.{◌≡◌, length};
 ghost use Rattle.matching.specs.Inner.Search.Lent.{Lent};
 ghost use Rattle.matching.specs.Inner.Search.Order.{FirstOf};
-ghost use Rattle.subsumption.specs.Lent.{before};
 
 use crate::limits::PAIRS;
 use crate::search::interval::{Interval, has_bit};
@@ -20,7 +19,7 @@ pub fn first_solution(
 ) -> [u64; 8]
     requires lent { Lent sets.now problem.now store.old scratch.old }
     requires low_len { (length start.low ≡ 8) × (length start.high ≡ 8) × (length known ≡ 8) }
-    ensures { FirstOf (before sets) (before problem) start.low start.high (before store) known result }
+    ensures { FirstOf sets.now problem.now start.low start.high store.old known result }
 {
     let full = start.high;
     let mut interval = start;

@@ -5,7 +5,6 @@
 ghost use Rattle.std.specs.Prelude.{◌≡◌, true, false, ◌*◌, ◌+◌, ◌<◌, ◌≤◌, length};
 ghost use Rattle.matching.specs.Inner.Search.Problem.{Numbers, Shaped, line_at};
 ghost use Rattle.matching.specs.Inner.Search.Patterns.{ValueRead, BelowAll, AboveSome, Linked, Members, ClosedOnce, ClosedUp, Valued, ValuedIn, AllValued, Tested};
-ghost use Rattle.subsumption.specs.Lent.{before, after};
 
 use crate::limits::{ATOM_IDS, CLOSERS, COLUMNS, CONES, HELD, SIDES};
 use crate::search::sets::{
@@ -30,7 +29,7 @@ fn line_at(right: bool, id: usize) -> usize
 fn value_of(sets: &[u64], problem: &[u16], values: &[u64], right: bool, id: usize) -> Words
     requires shaped { Shaped sets.now problem.now }
     requires in_bounds { (576 ≤ length values.now) × (id < 192) }
-    ensures { ValueRead (before sets) (before problem) (before values) right id result }
+    ensures { ValueRead sets.now problem.now values.now right id result }
 {
     if problem[HELD + id] == 1 {
         return words_at(values, id * 3);
@@ -41,7 +40,7 @@ fn value_of(sets: &[u64], problem: &[u16], values: &[u64], right: bool, id: usiz
 // What is below every chosen atom.
 fn below_all(sets: &[u64], problem: &[u16], choice: u64) -> Words
     requires { Shaped sets.now problem.now }
-    ensures { BelowAll (before sets) (before problem) choice result }
+    ensures { BelowAll sets.now problem.now choice result }
 {
     let mut common = Words {
         first: ALL,
@@ -60,7 +59,7 @@ fn below_all(sets: &[u64], problem: &[u16], choice: u64) -> Words
 // What is above some chosen atom.
 fn above_some(sets: &[u64], problem: &[u16], choice: u64) -> Words
     requires { Shaped sets.now problem.now }
-    ensures { AboveSome (before sets) (before problem) choice result }
+    ensures { AboveSome sets.now problem.now choice result }
 {
     let mut sum = Words {
         first: 0,
@@ -80,7 +79,7 @@ fn above_some(sets: &[u64], problem: &[u16], choice: u64) -> Words
 fn linked(sets: &[u64], problem: &[u16], inner: Words, right: bool, j: usize) -> Words
     requires shaped { Shaped sets.now problem.now }
     requires j_bound { j < 192 }
-    ensures { Linked (before sets) (before problem) inner right j result }
+    ensures { Linked sets.now problem.now inner right j result }
 {
     let fits = fit_at(right, j);
     let mut sum = Words {
@@ -104,7 +103,7 @@ fn linked(sets: &[u64], problem: &[u16], inner: Words, right: bool, j: usize) ->
 fn has_members(problem: &[u16], x: Words, e: usize) -> bool
     requires numbers { Numbers problem.now }
     requires e_bound { e < 192 }
-    ensures { Members (before problem) x e result }
+    ensures { Members problem.now x e result }
 {
     let kind = problem[e * 3];
     if kind == 0 {
@@ -122,7 +121,7 @@ fn has_members(problem: &[u16], x: Words, e: usize) -> bool
 fn close_once(sets: &[u64], problem: &[u16], at: usize, x: Words) -> Words
     requires shaped { Shaped sets.now problem.now }
     requires at_bound { at + 3 ≤ 2496 }
-    ensures { ClosedOnce (before sets) (before problem) at x result }
+    ensures { ClosedOnce sets.now problem.now at x result }
 {
     let mut sum = x;
     let mut e = next_in(sets, at, 0);
@@ -141,7 +140,7 @@ fn close_once(sets: &[u64], problem: &[u16], at: usize, x: Words) -> Words
 fn close_up(sets: &[u64], problem: &[u16], at: usize, x: Words) -> Words
     requires shaped { Shaped sets.now problem.now }
     requires at_bound { at + 3 ≤ 2496 }
-    ensures { ClosedUp (before sets) (before problem) at x result }
+    ensures { ClosedUp sets.now problem.now at x result }
 {
     let mut sum = x;
     loop {
@@ -157,7 +156,7 @@ fn close_up(sets: &[u64], problem: &[u16], at: usize, x: Words) -> Words
 fn right_value(sets: &[u64], problem: &[u16], values: &[u64], choice: [u64; 8], j: usize) -> Words
     requires shaped { Shaped sets.now problem.now }
     requires in_bounds { (576 ≤ length values.now) × (j < 192) }
-    ensures { Valued (before sets) (before problem) (before values) choice true j result }
+    ensures { Valued sets.now problem.now values.now choice true j result }
 {
     let kind = problem[j * 3];
     let inner = problem[j * 3 + 2] as usize;
@@ -186,7 +185,7 @@ fn left_value(
 ) -> Words
     requires shaped { Shaped sets.now problem.now }
     requires in_bounds { (576 ≤ length values.now) × (j < 192) × (m < 32) }
-    ensures { ValuedIn (before sets) (before problem) (before values) choice m false j result }
+    ensures { ValuedIn sets.now problem.now values.now choice m false j result }
 {
     let kind = problem[j * 3];
     let inner = problem[j * 3 + 2] as usize;
@@ -214,7 +213,7 @@ fn make_values(
 )
     requires shaped { Shaped sets.now problem.now }
     requires in_bounds { (576 ≤ length values.old) × (m < 32) }
-    ensures { AllValued (before sets) (before problem) (after values) choice m right }
+    ensures { AllValued sets.now problem.now values.new choice m right }
 {
     let cone = CONES + m * 3;
     let mut j = next_in(sets, cone, 0);
@@ -241,7 +240,7 @@ pub fn question_holds(
 ) -> bool
     requires shaped { Shaped sets.now problem.now }
     requires in_bounds { (576 ≤ length values.old) × (m < 32) }
-    ensures { Tested (before sets) (before problem) m choice result }
+    ensures { Tested sets.now problem.now m choice result }
 {
     let left = problem[SIDES + m * 2] as usize;
     let right = problem[SIDES + m * 2 + 1] as usize;

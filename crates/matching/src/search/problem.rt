@@ -4,19 +4,19 @@
 // and the variable-free tops and conjunctions that bring what is asked of its left values. The search knows neither inclusions nor
 // pairs of roles.
 ghost use Rattle.std.specs.Prelude.{◌≡◌, true, false, ℕ, ◌+◌, ◌<◌, ◌≤◌, ltb, length, replicate};
-ghost use Rattle.subsumption.specs.Lent.{lent, before, after};
+ghost use Rattle.subsumption.specs.Lent.{lent};
 ghost use Rattle.subsumption.specs.Inner.Lent.{given};
 ghost use Rattle.subsumption.specs.declared.refusal.Outcome.TheVariants.{Done};
 ghost use Rattle.subsumption.specs.Tables.{both, node};
-ghost use Rattle.subsumption.specs.Check.{tableFault};
+ghost use Rattle.subsumption.specs.Check.{table_fault};
 ghost use Rattle.subsumption.specs.Inner.Atoms.{Layered};
 ghost use Rattle.subsumption.specs.Inner.Listing.{Accepted};
 ghost use Rattle.subsumption.specs.Inner.Tables.{Rising};
-ghost use Rattle.subsumption.specs.Inner.Sizes.{rolesSize};
-ghost use Rattle.square.specs.Inner.Square.{onLine};
-ghost use Rattle.matching.specs.Inner.Search.Problem.{fitAt, coneAt, closersAt, questionCount, Numbers, Shaped, Covered, Problem};
-ghost use Rattle.matching.specs.Inner.Search.Making.{CopiedAt, HeldNoted, HintsNoted, NumbersOf, LinesOf, Readable, kind_at, fits_by, isCloser, heldId, heldInside, Filled, FitsNoted, ConeNoted, NoCones, ConesNoted, Grew, WantsInner, AskedFor, NewAt, NextNew, Kept, KeptAll, ClosersNoted, NoClosers, AllClosers};
-ghost use Rattle.matching.specs.Inner.Sizes.{problemSize};
+ghost use Rattle.subsumption.specs.Inner.Sizes.{roles_size};
+ghost use Rattle.square.specs.Inner.Square.{on_line};
+ghost use Rattle.matching.specs.Inner.Search.Problem.{fit_at, cone_at, closers_at, question_count, Numbers, Shaped, Covered, Problem};
+ghost use Rattle.matching.specs.Inner.Search.Making.{CopiedAt, HeldNoted, HintsNoted, NumbersOf, LinesOf, Readable, kind_at, fits_by, is_closer, held_id, held_inside, Filled, FitsNoted, ConeNoted, NoCones, ConesNoted, Grew, WantsInner, AskedFor, NewAt, NextNew, Kept, KeptAll, ClosersNoted, NoClosers, AllClosers};
+ghost use Rattle.matching.specs.Inner.Sizes.{problem_size};
 
 use crate::limits::{
     ATOM_IDS, CLOSERS, CONES, FITS_LEFT, HELD, HOLDS, QUESTION_COUNT, SIDES, TABLE,
@@ -30,7 +30,7 @@ use subsumption::write_table;
 // ---- the numbers
 pub fn copy_at(from: &[u16], to: &mut [u16], at: usize)
     requires { at + length from.now ≤ length to.old }
-    ensures { CopiedAt (before from) at (before to) (after to) }
+    ensures { CopiedAt from.now at to.old to.new }
 {
     let mut p: usize = 0;
     while p < from.len() {
@@ -42,8 +42,8 @@ pub fn copy_at(from: &[u16], to: &mut [u16], at: usize)
 // A 1 for each id that holds a variable.
 fn note_held(concepts: &[u16], problem: &mut [u16])
     requires layered { Layered concepts.now }
-    requires problem_len { length problem.old ≡ problemSize }
-    ensures { HeldNoted (before concepts) (before problem) (after problem) }
+    requires problem_len { length problem.old ≡ problem_size }
+    ensures { HeldNoted concepts.now problem.old problem.new }
 {
     let mut marks = [false; CONCEPTS];
     mark_variables(concepts, &mut marks);
@@ -56,7 +56,7 @@ fn note_held(concepts: &[u16], problem: &mut [u16])
 
 // The variables of an id, a bit each, given those of smaller ids.
 fn variables_of(problem: &[u16], sets: &[u16], i: usize) -> u16
-    requires { (length problem.now ≡ problemSize) × (length sets.now ≡ 192) × (i < 192) }
+    requires { (length problem.now ≡ problem_size) × (length sets.now ≡ 192) × (i < 192) }
 {
     let kind = problem[i * 3];
     let a = problem[i * 3 + 1] as usize;
@@ -83,7 +83,7 @@ fn variables_of(problem: &[u16], sets: &[u16], i: usize) -> u16
 }
 
 fn note_variables(problem: &[u16], sets: &mut [u16])
-    requires { (length problem.now ≡ problemSize) × (length sets.old ≡ 192) }
+    requires { (length problem.now ≡ problem_size) × (length sets.old ≡ 192) }
 {
     let mut i: usize = 0;
     while i < CONCEPTS {
@@ -94,8 +94,8 @@ fn note_variables(problem: &[u16], sets: &mut [u16])
 
 // The variables of each question, a hint for narrowing and widening.
 fn note_holds(problem: &mut [u16])
-    requires { length problem.old ≡ problemSize }
-    ensures { HintsNoted (before problem) (after problem) }
+    requires { length problem.old ≡ problem_size }
+    ensures { HintsNoted problem.old problem.new }
 {
     let mut sets = [0u16; CONCEPTS];
     note_variables(problem, &mut sets);
@@ -118,8 +118,8 @@ fn note_holds(problem: &mut [u16])
 fn note_numbers(concepts: &[u16], questions: &[u16], ids: &[u16], problem: &mut [u16])
     requires layered { Layered concepts.now }
     requires questions_len_bound { (length questions.now ≤ 64) × (length ids.now ≤ 64) }
-    requires problem_value { problem.old ≡ replicate problemSize 0 }
-    ensures { NumbersOf (before concepts) (before questions) (before ids) (after problem) }
+    requires problem_value { problem.old ≡ replicate problem_size 0 }
+    ensures { NumbersOf concepts.now questions.now ids.now problem.new }
 {
     copy_at(concepts, problem, 0);
     note_held(concepts, problem);
@@ -139,9 +139,9 @@ fn note_lines(
     variables: u16,
     square: &mut [u64],
 )
-    requires variables_value { tableFault (given concepts inclusions questions roles variables) ≡ Done }
+    requires variables_value { table_fault (given concepts inclusions questions roles variables) ≡ Done }
     requires square_len { length square.old ≡ 1152 }
-    ensures { LinesOf (lent concepts inclusions questions roles variables) (after square) }
+    ensures { LinesOf (lent concepts inclusions questions roles variables) square.new }
 {
     let mut table = [0u8; TABLE];
     let nothing = [0u64; 8];
@@ -161,9 +161,9 @@ fn note_lines(
 // Whether the existential e holds no variable and fits the existential j.
 fn is_fitting(problem: &[u16], into: &[u64], count: usize, right: bool, j: usize, e: usize) -> bool
     requires readable { Readable problem.now count }
-    requires into_len { length into.now ≡ rolesSize }
+    requires into_len { length into.now ≡ roles_size }
     requires j_lt_count { (j < count) × (e < count) × (kind_at problem.now j ≡ 2) }
-    ensures { result ≡ fits_by (before problem) (before into) right j e }
+    ensures { result ≡ fits_by problem.now into.now right j e }
 {
     if problem[e * 3] != 2 {
         return false;
@@ -181,11 +181,11 @@ fn is_fitting(problem: &[u16], into: &[u64], count: usize, right: bool, j: usize
 
 fn note_fit(problem: &[u16], into: &[u64], count: usize, right: bool, j: usize, sets: &mut [u64])
     requires readable { Readable problem.now count }
-    requires into_len { length into.now ≡ rolesSize }
+    requires into_len { length into.now ≡ roles_size }
     requires j_lt_count { (j < count) × (kind_at problem.now j ≡ 2) }
     requires sets_len { length sets.old ≡ 2496 }
-    ensures { Filled (fitAt right j) (λ q. both (ltb q count) (fits_by (before problem) (before into) right j q))
-        (before sets) (after sets) }
+    ensures { Filled (fit_at right j) (λ q. both (ltb q count) (fits_by problem.now into.now right j q))
+        sets.old sets.new }
 {
     let at = fit_at(right, j);
     let mut e: usize = 0;
@@ -200,9 +200,9 @@ fn note_fit(problem: &[u16], into: &[u64], count: usize, right: bool, j: usize, 
 
 fn note_fits(problem: &[u16], into: &[u64], count: usize, right: bool, sets: &mut [u64])
     requires readable { Readable problem.now count }
-    requires into_len { length into.now ≡ rolesSize }
+    requires into_len { length into.now ≡ roles_size }
     requires sets_len { length sets.old ≡ 2496 }
-    ensures { FitsNoted (before problem) (before into) count right (before sets) (after sets) }
+    ensures { FitsNoted problem.now into.now count right sets.old sets.new }
 {
     let mut j: usize = 0;
     while j < count {
@@ -218,9 +218,9 @@ fn note_fits(problem: &[u16], into: &[u64], count: usize, right: bool, sets: &mu
 }
 
 fn is_closer(problem: &[u16], e: usize) -> bool
-    requires problem_len { length problem.now ≡ problemSize }
+    requires problem_len { length problem.now ≡ problem_size }
     requires e_bound { e < 192 }
-    ensures { result ≡ isCloser (before problem) e }
+    ensures { result ≡ is_closer problem.now e }
 {
     if problem[HELD + e] == 1 {
         return false;
@@ -233,10 +233,10 @@ fn is_closer(problem: &[u16], e: usize) -> bool
 
 // The id comes to the cone if it holds a variable.
 fn mark_held(problem: &[u16], sets: &mut [u64], at: usize, id: usize)
-    requires problem_len { length problem.now ≡ problemSize }
+    requires problem_len { length problem.now ≡ problem_size }
     requires at_in_bounds { at + 3 ≤ length sets.old }
     requires id_bound { id < 192 }
-    ensures { Filled at (heldId (before problem) id) (before sets) (after sets) }
+    ensures { Filled at (held_id problem.now id) sets.old sets.new }
 {
     if problem[HELD + id] == 1 {
         insert(sets, at, id);
@@ -245,10 +245,10 @@ fn mark_held(problem: &[u16], sets: &mut [u64], at: usize, id: usize)
 
 // The inner ids of an id of the cone.
 fn mark_inside(problem: &[u16], sets: &mut [u64], at: usize, i: usize)
-    requires problem_len { length problem.now ≡ problemSize }
+    requires problem_len { length problem.now ≡ problem_size }
     requires at_in_bounds { at + 3 ≤ length sets.old }
     requires i_bound { (i < 192) × Rising i (node problem.now i) }
-    ensures { Filled at (heldInside (before problem) i) (before sets) (after sets) }
+    ensures { Filled at (held_inside problem.now i) sets.old sets.new }
 {
     let kind = problem[i * 3];
     if kind == 3 {
@@ -264,10 +264,10 @@ fn mark_inside(problem: &[u16], sets: &mut [u64], at: usize, i: usize)
 // Inner ids are smaller, so one walk down reaches all.
 fn note_cone(problem: &[u16], count: usize, m: usize, sets: &mut [u64])
     requires readable { Readable problem.now count }
-    requires m_bound { m < questionCount problem.now }
+    requires m_bound { m < question_count problem.now }
     requires sets_len { length sets.old ≡ 2496 }
-    requires by_index { (q : ℕ) → q < 192 → onLine sets.old (coneAt m) q ≡ false }
-    ensures { ConeNoted (before problem) count m (before sets) (after sets) }
+    requires by_index { (q : ℕ) → q < 192 → on_line sets.old (cone_at m) q ≡ false }
+    ensures { ConeNoted problem.now count m sets.old sets.new }
 {
     let at = CONES + m * 3;
     mark_held(problem, sets, at, problem[SIDES + m * 2] as usize);
@@ -285,7 +285,7 @@ fn note_cones(problem: &[u16], count: usize, sets: &mut [u64])
     requires readable { Readable problem.now count }
     requires sets_len { length sets.old ≡ 2496 }
     requires no_cones { NoCones sets.old }
-    ensures { ConesNoted (before problem) count (before sets) (after sets) }
+    ensures { ConesNoted problem.now count sets.old sets.new }
 {
     let rows = problem[QUESTION_COUNT] as usize;
     let mut m: usize = 0;
@@ -300,8 +300,8 @@ fn note_cones(problem: &[u16], count: usize, sets: &mut [u64])
 fn want_inner(sets: &[u64], problem: &[u16], j: usize, wanted: &mut [u64])
     requires shaped { Shaped sets.now problem.now }
     requires j_bound { (j < 192) × (length wanted.old ≡ 3) }
-    ensures grew { Grew (before wanted) (after wanted) }
-    ensures wants_inner { WantsInner (before sets) (before problem) j (after wanted) }
+    ensures grew { Grew wanted.old wanted.new }
+    ensures wants_inner { WantsInner sets.now problem.now j wanted.new }
 {
     let at = FITS_LEFT + j * 3;
     let mut e = next_in(sets, at, 0);
@@ -316,7 +316,7 @@ fn want_inner(sets: &[u64], problem: &[u16], j: usize, wanted: &mut [u64])
 fn want_asked(sets: &[u64], problem: &[u16], m: usize, wanted: &mut [u64])
     requires shaped { Shaped sets.now problem.now }
     requires m_bound { (m < 32) × (length wanted.old ≡ 3) }
-    ensures { AskedFor (before sets) (before problem) m (after wanted) }
+    ensures { AskedFor sets.now problem.now m wanted.new }
 {
     insert(wanted, 0, problem[SIDES + m * 2 + 1] as usize);
     let cone = CONES + m * 3;
@@ -332,7 +332,7 @@ fn want_asked(sets: &[u64], problem: &[u16], m: usize, wanted: &mut [u64])
 fn is_covered(sets: &[u64], problem: &[u16], wanted: &[u64], e: usize) -> bool
     requires shaped { Shaped sets.now problem.now }
     requires e_bound { (e < 192) × (length wanted.now ≡ 3) }
-    ensures { result ≡ true → Covered (before sets) (before problem) (onLine (before wanted) 0) e }
+    ensures { result ≡ true → Covered sets.now problem.now (on_line wanted.now 0) e }
 {
     let row = words_at(sets, e * 3);
     let asked = meet(row, words_at(wanted, 0));
@@ -355,7 +355,7 @@ fn is_new(sets: &[u64], problem: &[u16], at: usize, wanted: &[u64], e: usize) ->
     requires shaped { Shaped sets.now problem.now }
     requires e_bound { (e < 192) × (length wanted.now ≡ 3) }
     requires at_bound { at + 3 ≤ 2496 }
-    ensures { NewAt (before sets) (before problem) at (before wanted) e result }
+    ensures { NewAt sets.now problem.now at wanted.now e result }
 {
     if has(sets, at, e) {
         return false;
@@ -381,7 +381,7 @@ fn next_new(
     requires shaped { Shaped sets.now problem.now }
     requires count_bound { (count ≤ 192) × (from ≤ count) × (length wanted.now ≡ 3) }
     requires at_bound { at + 3 ≤ 2496 }
-    ensures { NextNew (before sets) (before problem) count at (before wanted) from result }
+    ensures { NextNew sets.now problem.now count at wanted.now from result }
 {
     let mut e = from;
     while e < count {
@@ -398,7 +398,7 @@ fn keep(sets: &mut [u64], problem: &[u16], at: usize, wanted: &mut [u64], e: usi
     requires numbers { Numbers problem.now }
     requires e_bound { (e < 192) × (length wanted.old ≡ 3) }
     requires at_in_bounds { at + 3 ≤ length sets.old }
-    ensures { Kept (before problem) at e (before sets) (after sets) (before wanted) (after wanted) }
+    ensures { Kept problem.now at e sets.old sets.new wanted.old wanted.new }
 {
     insert(sets, at, e);
     if problem[e * 3] == 3 {
@@ -412,8 +412,8 @@ fn keep_all(sets: &mut [u64], problem: &[u16], count: usize, at: usize, wanted: 
     requires shaped { Shaped sets.old problem.now }
     requires count_bound { (count ≤ 192) × (length wanted.old ≡ 3) }
     requires at_bound { (at + 3 ≤ 2496) × (2400 ≤ at) }
-    requires by_index { (q : ℕ) → q < 192 → onLine sets.old at q ≡ false }
-    ensures { KeptAll (before problem) count at (before sets) (after sets) (before wanted) (after wanted) }
+    requires by_index { (q : ℕ) → q < 192 → on_line sets.old at q ≡ false }
+    ensures { KeptAll problem.now count at sets.old sets.new wanted.old wanted.new }
 {
     let mut from: usize = 0;
     loop {
@@ -434,8 +434,8 @@ fn keep_all(sets: &mut [u64], problem: &[u16], count: usize, at: usize, wanted: 
 fn note_closers_of(sets: &mut [u64], problem: &[u16], count: usize, m: usize)
     requires shaped { Shaped sets.old problem.now }
     requires count_bound { (count ≤ 192) × (m < 32) }
-    requires by_index { (q : ℕ) → q < 192 → onLine sets.old (closersAt m) q ≡ false }
-    ensures { ClosersNoted (before problem) count m (before sets) (after sets) }
+    requires by_index { (q : ℕ) → q < 192 → on_line sets.old (closers_at m) q ≡ false }
+    ensures { ClosersNoted problem.now count m sets.old sets.new }
 {
     let mut wanted = [0u64; 3];
     want_asked(sets, problem, m, &mut wanted);
@@ -446,7 +446,7 @@ fn note_closers(problem: &[u16], count: usize, sets: &mut [u64])
     requires shaped { Shaped sets.old problem.now }
     requires count_bound { count ≤ 192 }
     requires no_closers { NoClosers sets.old }
-    ensures { AllClosers (before problem) count (before sets) (after sets) }
+    ensures { AllClosers problem.now count sets.old sets.new }
 {
     let rows = problem[QUESTION_COUNT] as usize;
     let mut m: usize = 0;
@@ -469,9 +469,9 @@ pub fn make_problem(
 )
     requires accepted { Accepted (given concepts inclusions questions roles variables) ids.now }
     requires sets_value { sets.old ≡ replicate 2496 0 }
-    requires problem_value { problem.old ≡ replicate problemSize 0 }
-    ensures shaped { Shaped (after sets) (after problem) }
-    ensures problem { Problem (lent concepts inclusions questions roles variables) (after sets) (after problem) }
+    requires problem_value { problem.old ≡ replicate problem_size 0 }
+    ensures shaped { Shaped sets.new problem.new }
+    ensures problem { Problem (lent concepts inclusions questions roles variables) sets.new problem.new }
 {
     note_numbers(concepts, questions, ids, problem);
     note_lines(

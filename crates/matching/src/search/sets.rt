@@ -1,8 +1,8 @@
 // Sets of ids as three words: walking through one, joining and meeting.
 ghost use Rattle.std.specs.Prelude.{◌≡◌, ℕ, ◌+◌, ◌<◌, ◌≤◌, length};
-ghost use Rattle.subsumption.specs.Lent.{before, after};
+
 ghost use Rattle.subsumption.specs.Tables.{both};
-ghost use Rattle.matching.specs.Inner.Search.Problem.{fitAt};
+ghost use Rattle.matching.specs.Inner.Search.Problem.{fit_at};
 ghost use Rattle.matching.specs.Inner.Search.Sets.{in_words, NextBit, NextIn, Same, Joined, Compared, PutAt};
 
 use crate::limits::{FITS_LEFT, FITS_RIGHT};
@@ -17,7 +17,7 @@ pub struct Words {
 // Where the existentials stand that fit one with a variable.
 pub fn fit_at(right: bool, id: usize) -> usize
     requires { id < 192 }
-    ensures { result ≡ fitAt right id }
+    ensures { result ≡ fit_at right id }
 {
     if right {
         return FITS_RIGHT + id * 3;
@@ -44,7 +44,7 @@ pub fn next_bit(word: u64, from: usize) -> usize
 pub fn next_in(sets: &[u64], at: usize, from: usize) -> usize
     requires at_in_bounds { at + 3 ≤ length sets.now }
     requires from_bound { from ≤ 192 }
-    ensures { NextIn (before sets) at from result }
+    ensures { NextIn sets.now at from result }
 {
     let mut w = from / 64;
     let mut start = from % 64;
@@ -62,7 +62,7 @@ pub fn next_in(sets: &[u64], at: usize, from: usize) -> usize
 // The set that starts at that word.
 pub fn words_at(sets: &[u64], at: usize) -> Words
     requires { at + 3 ≤ length sets.now }
-    ensures { Same result (before sets) at }
+    ensures { Same result sets.now at }
 {
     Words {
         first: sets[at],
@@ -118,7 +118,7 @@ pub fn is_same(a: Words, b: Words) -> bool
 
 pub fn put_words(values: &mut [u64], at: usize, a: Words)
     requires { at + 3 ≤ length values.old }
-    ensures { PutAt (before values) (after values) at a }
+    ensures { PutAt values.old values.new at a }
 {
     values[at] = a.first;
     values[at + 1] = a.second;

@@ -4,12 +4,11 @@
 // give one of the whole, and a half whose nogood does not mention the pair speaks for the whole at once.
 ghost use Rattle.std.specs.Prelude.{◌≡◌, true, false, ◌<◌, length};
 ghost use Rattle.matching.specs.Solving.{takes};
-ghost use Rattle.matching.specs.Inner.Search.Problem.{Shaped, questionCount};
+ghost use Rattle.matching.specs.Inner.Search.Problem.{Shaped, question_count};
 ghost use Rattle.matching.specs.Inner.Search.Lent.{Lent};
 ghost use Rattle.matching.specs.Inner.Search.Nogoods.{Room};
 ghost use Rattle.matching.specs.Inner.Search.Solve.{FailingOf, Failing, RefutedBy, Searched, Answers, Stepped, CanSplit, Recalled, Merged};
-ghost use Rattle.matching.specs.Inner.Sizes.{problemSize, scratchSize};
-ghost use Rattle.subsumption.specs.Lent.{before, after};
+ghost use Rattle.matching.specs.Inner.Sizes.{problem_size, scratch_size};
 
 use crate::limits::{ASKED, HELD, HINT, MOST, PAIRS, QUESTION_COUNT, SIDES};
 use crate::search::interval::{Interval, Pick, has_bit, pick_undecided};
@@ -48,8 +47,8 @@ pub fn failing_of(
     right: bool,
 ) -> usize
     requires shaped { Shaped sets.now problem.now }
-    requires scratch_len { length scratch.old ≡ scratchSize }
-    ensures { FailingOf (before sets) (before problem) choice right result }
+    requires scratch_len { length scratch.old ≡ scratch_size }
+    ensures { FailingOf sets.now problem.now choice right result }
 {
     let count = problem[QUESTION_COUNT] as usize;
     let mut m: usize = 0;
@@ -74,8 +73,8 @@ pub fn failing_of(
 // An asked question that does not hold, or the number of all.
 fn failing(sets: &[u64], problem: &[u16], scratch: &mut [u64], choice: [u64; 8]) -> usize
     requires shaped { Shaped sets.now problem.now }
-    requires scratch_len { length scratch.old ≡ scratchSize }
-    ensures { Failing (before sets) (before problem) choice result }
+    requires scratch_len { length scratch.old ≡ scratch_size }
+    ensures { Failing sets.now problem.now choice result }
 {
     let first = failing_of(sets, problem, scratch, choice, true);
     if first < problem[QUESTION_COUNT] as usize {
@@ -94,10 +93,10 @@ fn refute(
     m: usize,
 ) -> Interval
     requires shaped { Shaped sets.now problem.now }
-    requires scratch_len { (length scratch.old ≡ scratchSize) × (m < questionCount problem.now) }
+    requires scratch_len { (length scratch.old ≡ scratch_size) × (m < question_count problem.now) }
     requires full_len { (length full ≡ 8) × (length low ≡ 8) }
     ensures low_len { (length result.low ≡ 8) × (length result.high ≡ 8) }
-    ensures refuted_by { RefutedBy (before sets) (before problem) full low m result.low result.high }
+    ensures refuted_by { RefutedBy sets.now problem.now full low m result.low result.high }
 {
     let empty = [0u64; 8];
     let side = problem[SIDES + m * 2 + 1] as usize;
@@ -127,9 +126,9 @@ fn try_low(
     requires lent { Lent sets.now problem.now store.old scratch.old }
     requires full_len { (length full ≡ 8) × (length low ≡ 8) }
     ensures low_len { (length result.low ≡ 8) × (length result.high ≡ 8) }
-    ensures room { Room (after store) }
-    ensures searched { Searched (before sets) (before problem) full low low (before store) (after store)
-        (λ t. Answers t (before problem) low low result.found result.low result.high) }
+    ensures room { Room store.new }
+    ensures searched { Searched sets.now problem.now full low low store.old store.new
+        (λ t. Answers t problem.now low low result.found result.low result.high) }
 {
     if !is_few(&problem[MOST..ASKED], low) {
         return Answer {
@@ -223,7 +222,7 @@ fn step_by_test(
 ) -> Step
     requires lent { Lent sets.now problem.now store.old scratch.old }
     requires full_len { (length full ≡ 8) × (length interval.low ≡ 8) × (length interval.high ≡ 8) }
-    ensures { Stepped (before sets) (before problem) full interval.low interval.high (before store) (after store) result }
+    ensures { Stepped sets.now problem.now full interval.low interval.high store.old store.new result }
 {
     let low = interval.low;
     let high = interval.high;
@@ -253,7 +252,7 @@ fn look_up(store: &[u64], place: usize, interval: Interval) -> Nogood
     requires room { Room store.now }
     requires low_len { (length interval.low ≡ 8) × (length interval.high ≡ 8) }
     ensures low_len_2 { (length result.low ≡ 8) × (length result.high ≡ 8) }
-    ensures recalled { Recalled (before store) interval.low interval.high result.shut result.low result.high }
+    ensures recalled { Recalled store.now interval.low interval.high result.shut result.low result.high }
 {
     let low = interval.low;
     let high = interval.high;
@@ -295,7 +294,7 @@ fn step_by_choice(
 ) -> Step
     requires lent { Lent sets.now problem.now store.old scratch.old }
     requires full_len { (length full ≡ 8) × (length interval.low ≡ 8) × (length interval.high ≡ 8) }
-    ensures { Stepped (before sets) (before problem) full interval.low interval.high (before store) (after store) result }
+    ensures { Stepped sets.now problem.now full interval.low interval.high store.old store.new result }
 {
     let hint = choose(store, scratch, interval);
     let known = look_up(store, hint.place, interval);
@@ -322,7 +321,7 @@ fn step_by_hint(
 ) -> Step
     requires lent { Lent sets.now problem.now store.old scratch.old }
     requires full_len { (length full ≡ 8) × (length interval.low ≡ 8) × (length interval.high ≡ 8) }
-    ensures { Stepped (before sets) (before problem) full interval.low interval.high (before store) (after store) result }
+    ensures { Stepped sets.now problem.now full interval.low interval.high store.old store.new result }
 {
     let known = look_up(store, scratch[HINT] as usize, interval);
     let low = known.low;
@@ -344,7 +343,7 @@ fn step_by_clamp(
 ) -> Step
     requires lent { Lent sets.now problem.now store.old scratch.old }
     requires full_len { (length full ≡ 8) × (length interval.low ≡ 8) × (length interval.high ≡ 8) }
-    ensures { Stepped (before sets) (before problem) full interval.low interval.high (before store) (after store) result }
+    ensures { Stepped sets.now problem.now full interval.low interval.high store.old store.new result }
 {
     let low = interval.low;
     let high = interval.high;
@@ -374,7 +373,7 @@ fn step_by_clamp(
 
 // A largest count may stop a variable that has something to take. A hint only.
 fn is_bounded(problem: &[u16], full: [u64; 8]) -> bool
-    requires { length problem.now ≡ problemSize }
+    requires { length problem.now ≡ problem_size }
 {
     let mut k: usize = 0;
     while k < 8 {
@@ -397,7 +396,7 @@ fn next_step(
 ) -> Step
     requires lent { Lent sets.now problem.now store.old scratch.old }
     requires full_len { (length full ≡ 8) × (length interval.low ≡ 8) × (length interval.high ≡ 8) }
-    ensures { Stepped (before sets) (before problem) full interval.low interval.high (before store) (after store) result }
+    ensures { Stepped sets.now problem.now full interval.low interval.high store.old store.new result }
 {
     if !is_bounded(problem, full) {
         return step_by_hint(sets, problem, store, scratch, full, interval);
@@ -413,7 +412,7 @@ fn next_step(
 
 // The next step looks at this nogood first.
 fn note_hint(scratch: &mut [u64], place: usize)
-    requires { length scratch.old ≡ scratchSize }
+    requires { length scratch.old ≡ scratch_size }
 {
     scratch[HINT] = place as u64;
 }
@@ -450,9 +449,9 @@ pub fn some_solution(
     requires lent { Lent sets.now problem.now store.old scratch.old }
     requires full_len { (length full ≡ 8) × (length interval.low ≡ 8) × (length interval.high ≡ 8) }
     ensures low_len { (length result.low ≡ 8) × (length result.high ≡ 8) }
-    ensures room { Room (after store) }
-    ensures searched { Searched (before sets) (before problem) full interval.low interval.high (before store) (after store)
-        (λ t. Answers t (before problem) interval.low interval.high result.found result.low result.high) }
+    ensures room { Room store.new }
+    ensures searched { Searched sets.now problem.now full interval.low interval.high store.old store.new
+        (λ t. Answers t problem.now interval.low interval.high result.found result.low result.high) }
 {
     let step = next_step(sets, problem, store, scratch, full, interval);
     if step.done {

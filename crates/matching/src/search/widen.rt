@@ -3,8 +3,7 @@
 ghost use Rattle.std.specs.Prelude.{◌≡◌, ◌≤◌, ◌<◌, length};
 ghost use Rattle.matching.specs.Inner.Search.Problem.{Shaped};
 ghost use Rattle.matching.specs.Inner.Search.Widen.{Mixed, StillFails};
-ghost use Rattle.matching.specs.Inner.Sizes.{scratchSize};
-ghost use Rattle.subsumption.specs.Lent.{before};
+ghost use Rattle.matching.specs.Inner.Sizes.{scratch_size};
 
 use crate::limits::{HOLDS, PAIRS};
 use crate::search::interval::ones;
@@ -114,10 +113,10 @@ fn widen_runs(
     target: [u64; 8],
 ) -> [u64; 8]
     requires shaped { Shaped sets.now problem.now }
-    requires scratch_len { (length scratch.old ≡ scratchSize) × (m < 32) }
+    requires scratch_len { (length scratch.old ≡ scratch_size) × (m < 32) }
     requires choice_len { (length choice ≡ 8) × (length target ≡ 8) }
     ensures mixed { Mixed choice target result }
-    ensures still_fails { StillFails (before sets) (before problem) m choice target result }
+    ensures still_fails { StillFails sets.now problem.now m choice target result }
 {
     let mut failing = choice;
     let mut from: usize = 0;
@@ -155,10 +154,10 @@ pub fn widen(
     target: [u64; 8],
 ) -> [u64; 8]
     requires shaped { Shaped sets.now problem.now }
-    requires scratch_len { (length scratch.old ≡ scratchSize) × (m < 32) }
+    requires scratch_len { (length scratch.old ≡ scratch_size) × (m < 32) }
     requires choice_len { (length choice ≡ 8) × (length target ≡ 8) }
     ensures mixed { Mixed choice target result }
-    ensures still_fails { StillFails (before sets) (before problem) m choice target result }
+    ensures still_fails { StillFails sets.now problem.now m choice target result }
 {
     let own = with_others(choice, target, problem[HOLDS + m]);
     if question_holds(sets, problem, scratch, m, own) {

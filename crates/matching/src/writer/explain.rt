@@ -1,8 +1,8 @@
 // The search for a pair that follows from marked pairs, with its rule and extra. Private to the crate.
 ghost use Rattle.std.specs.Prelude.{◌<◌, ◌≤◌, ◌≡◌, length};
-ghost use Rattle.subsumption.specs.Lent.{before};
-ghost use Rattle.subsumption.specs.Tables.{count_of, pairsOf};
-ghost use Rattle.subsumption.specs.Inner.Sizes.{rolesSize};
+
+ghost use Rattle.subsumption.specs.Tables.{count_of, pairs_of};
+ghost use Rattle.subsumption.specs.Inner.Sizes.{roles_size};
 ghost use Rattle.matching.specs.Inner.Derivation.{Square};
 ghost use Rattle.matching.specs.Inner.Writer.{Grounds};
 ghost use Rattle.matching.specs.Inner.Writer.Explain.{ExtraBound, Tried, Explained, Tested, Found};
@@ -34,9 +34,9 @@ pub enum Next {
 
 // How many extras the rule may have.
 fn extras(concepts: &[u16], inclusions: &[u16], rule: usize, left: usize) -> usize
-    requires concepts_bound { (count_of concepts.now ≤ 192) × (pairsOf inclusions.now ≤ 192) }
+    requires concepts_bound { (count_of concepts.now ≤ 192) × (pairs_of inclusions.now ≤ 192) }
     requires left_bound { left < count_of concepts.now }
-    ensures { ExtraBound (before concepts) (before inclusions) rule left result }
+    ensures { ExtraBound concepts.now inclusions.now rule left result }
 {
     if rule == 3 {
         return 2;
@@ -67,12 +67,12 @@ fn try_rule(
     right: usize,
 ) -> Extra
     requires grounds { Grounds concepts.now inclusions.now atoms.now assignment.now }
-    requires into_len { length into.now ≡ rolesSize }
+    requires into_len { length into.now ≡ roles_size }
     requires square { Square (count_of concepts.now) marks.now }
     requires left_bound { (left < count_of concepts.now) × (right < count_of concepts.now) }
     requires rule_bound { rule < 9 }
-    ensures { Tried (before concepts) (before inclusions) (before into) (before atoms) (before assignment)
-        (before marks) rule left right result }
+    ensures { Tried concepts.now inclusions.now into.now atoms.now assignment.now
+        marks.now rule left right result }
 {
     let bound = extras(concepts, inclusions, rule, left);
     let mut extra = 0;
@@ -99,11 +99,11 @@ fn explain(
     right: usize,
 ) -> Why
     requires grounds { Grounds concepts.now inclusions.now atoms.now assignment.now }
-    requires into_len { length into.now ≡ rolesSize }
+    requires into_len { length into.now ≡ roles_size }
     requires square { Square (count_of concepts.now) marks.now }
     requires left_bound { (left < count_of concepts.now) × (right < count_of concepts.now) }
-    ensures { Explained (before concepts) (before inclusions) (before into) (before atoms) (before assignment)
-        (before marks) left right result }
+    ensures { Explained concepts.now inclusions.now into.now atoms.now assignment.now
+        marks.now left right result }
 {
     let mut rule = 1;
     while rule < 9 {
@@ -129,9 +129,9 @@ pub fn test_line(
     line: u64,
 ) -> Next
     requires grounds { Grounds concepts.now inclusions.now atoms.now assignment.now }
-    requires into_len { length into.now ≡ rolesSize }
+    requires into_len { length into.now ≡ roles_size }
     requires square { Square (count_of concepts.now) marks.now }
-    ensures { Tested (before concepts) (before inclusions) (before into) (before atoms) (before assignment) (before marks) result }
+    ensures { Tested concepts.now inclusions.now into.now atoms.now assignment.now marks.now result }
 {
     let count = concepts.len() / 3;
     let rule = rule_of(line) as usize;
@@ -172,9 +172,9 @@ pub fn next_line(
     from: usize,
 ) -> Next
     requires grounds { Grounds concepts.now inclusions.now atoms.now assignment.now }
-    requires into_len { length into.now ≡ rolesSize }
+    requires into_len { length into.now ≡ roles_size }
     requires square { Square (count_of concepts.now) marks.now }
-    ensures { Found (before concepts) (before inclusions) (before into) (before atoms) (before assignment) (before marks) from result }
+    ensures { Found concepts.now inclusions.now into.now atoms.now assignment.now marks.now from result }
 {
     let count = concepts.len() / 3;
     let size = count * count;

@@ -1,5 +1,5 @@
 use native.Mathlib.Omega.{arith}
-use Rattle.matching.specs.Chosen.{chosenReply}
+use Rattle.matching.specs.Chosen.{chosen_reply}
 use Rattle.answers.proofs.AnswerLaws.{same_answer}
 use Rattle.matching_answers.proofs.chosen.Statement.{statement}
 use Rattle.matching_answers.proofs.chosen.Tie as tie
@@ -23,13 +23,13 @@ same_length : tie.Need-same-length
 same_length c = omega arith
 
 returns : tie.Need-returns
-returns c = record { replied = same_answer chosenReply _ c.before.before.before.before.before.before.put-chosen.result _ c.answer-of.result c.before.before.before.before.before.before.put-chosen.ensures.replied c.before.before.answer.given.1 c.answer-of.ensures; written = c.before.before.before.before.before.before.put-chosen.ensures.written }
+returns c = record { replied = same_answer chosen_reply _ c.before.before.before.before.before.before.put-chosen.result _ c.answer-of.result c.before.before.before.before.before.before.put-chosen.ensures.replied c.before.before.answer.given.1 c.answer-of.ensures; written = c.before.before.before.before.before.before.put-chosen.ensures.written }
 
 same-length-2 : tie.Need-same-length-2
 same-length-2 c = omega arith
 
 returns-2 : tie.Need-returns-2
-returns-2 c = record { replied = same_answer chosenReply _ c.before.before.before.before.before.before.put-chosen.result _ c.answer-of2.result c.before.before.before.before.before.before.put-chosen.ensures.replied c.before.before.answer2.given.1 c.answer-of2.ensures; written = c.before.before.before.before.before.before.put-chosen.ensures.written }
+returns-2 c = record { replied = same_answer chosen_reply _ c.before.before.before.before.before.before.put-chosen.result _ c.answer-of2.result c.before.before.before.before.before.before.put-chosen.ensures.replied c.before.before.answer2.given.1 c.answer-of2.ensures; written = c.before.before.before.before.before.before.put-chosen.ensures.written }
 
 pub chosen-spec : {M : Type 1} → statement M
 chosen-spec =

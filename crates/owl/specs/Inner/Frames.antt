@@ -8,19 +8,19 @@ use Rattle.owl.specs.declared.frames.Next.{Next}
 use Rattle.owl.specs.declared.frames.Next.TheVariants.{Go, Stop}
 use Rattle.subsumption.specs.declared.refusal.Refusal.TheVariants.{BadSyntax}
 use Rattle.owl.specs.Tokens.{opening}
-use Rattle.owl.specs.Judgement.{Kind, subclass, meet, exist, Frame, Want, item, bracket, role, State, Step, go, stop, goIf, first, closed, shut, hasRoom, begun, outside, ofRole, step}
+use Rattle.owl.specs.Judgement.{Kind, subclass, meet, exist, Frame, Want, item, bracket, role, State, Step, go, stop, go_if, first, closed, shut, has_room, begun, outside, of_role, step}
 
 abbrev pub kind_of : ℕ → Kind
 kind_of zero = subclass
 kind_of (suc zero) = meet
 kind_of (suc (suc code)) = exist
 
-abbrev pub wantOf : ℕ → Want
-wantOf zero = bracket subclass
-wantOf (suc zero) = bracket meet
-wantOf (suc (suc zero)) = bracket exist
-wantOf (suc (suc (suc zero))) = item
-wantOf (suc (suc (suc (suc code)))) = role
+abbrev pub want_of : ℕ → Want
+want_of zero = bracket subclass
+want_of (suc zero) = bracket meet
+want_of (suc (suc zero)) = bracket exist
+want_of (suc (suc (suc zero))) = item
+want_of (suc (suc (suc (suc code)))) = role
 
 -- the numbers of a list from `start` on that stand in front of `end`
 abbrev pub between : ℕ → ℕ → List ℕ → List ℕ
@@ -35,15 +35,15 @@ frame_of d used frames pending =
     record { kind = kind_of (get_or frames (d * 3) 0); role = get_or frames (d * 3 + 1) 0; members = between (start_of d frames) used pending }
 
 -- the frames, the innermost first, of which there are `depth`; the members of the innermost end in front of `used`
-unfoldable pub framesOf : ℕ → ℕ → List ℕ → List ℕ → List Frame
-framesOf zero used frames pending = []
-framesOf (suc d) used frames pending = frame_of d used frames pending ∷ framesOf d (start_of d frames) frames pending
+unfoldable pub frames_of : ℕ → ℕ → List ℕ → List ℕ → List Frame
+frames_of zero used frames pending = []
+frames_of (suc d) used frames pending = frame_of d used frames pending ∷ frames_of d (start_of d frames) frames pending
 
 abbrev pub state_of : Reader → List ℕ → List ℕ → List ℕ → List ℕ → State
 state_of r frames pending rows inclusions =
     record {
-      frames = framesOf r.depth r.used frames pending;
-      want = wantOf r.want;
+      frames = frames_of r.depth r.used frames pending;
+      want = want_of r.want;
       rows = take (r.count * 3) rows;
       inclusions = take (r.pairs * 2) inclusions;
     }
@@ -87,12 +87,12 @@ waiting r want = record { depth = r.depth; used = r.used; count = r.count; pairs
 
 -- the innermost frame has room for a class
 abbrev pub room_at : Reader → List ℕ → List ℕ → Bool
-room_at r frames pending = hasRoom (frame_of (r.depth - 1) r.used frames pending)
+room_at r frames pending = has_room (frame_of (r.depth - 1) r.used frames pending)
 
 -- what comes first in a bracket of that kind
 pub record FirstOf (kind want : ℕ) : Type 0 where
   pub behind : 2 < want
-  pub is-first : wantOf want ≡ first (kind_of kind)
+  pub is-first : want_of want ≡ first (kind_of kind)
 
 abbrev pub Opens : Reader → ℕ → List ℕ → List ℕ → Next → Type 0
 Opens r place frames frames' next =
@@ -103,7 +103,7 @@ Opens r place frames frames' next =
 abbrev pub Roles : Reader → ℕ → Word → List ℕ → List ℕ → Next → Type 0
 Roles r place word frames frames' next =
     (pending rows inclusions : List ℕ) → Fits r frames pending rows inclusions
-    → NextOf (ofRole place (state_of r frames pending rows inclusions) word) next frames' pending rows inclusions
+    → NextOf (of_role place (state_of r frames pending rows inclusions) word) next frames' pending rows inclusions
 
 abbrev pub Starts : Reader → ℕ → Word → Next → Type 0
 Starts r place word next =
@@ -113,7 +113,7 @@ Starts r place word next =
 abbrev pub Closes : Reader → List ℕ → List ℕ → List ℕ → List ℕ → List ℕ → Next → Type 0
 Closes r row pending pending' rows rows' next =
     (frames inclusions : List ℕ) → Fits r frames pending rows inclusions
-    → NextOf (closed row (framesOf r.depth r.used frames pending) (state_of r frames pending rows inclusions)) next frames
+    → NextOf (closed row (frames_of r.depth r.used frames pending) (state_of r frames pending rows inclusions)) next frames
     pending' rows' inclusions
 
 abbrev pub Begins : Reader → ℕ → Word → List ℕ → List ℕ → List ℕ → List ℕ → Next → Type 0
@@ -132,16 +132,16 @@ TellsRoom r frames answer = (pending : List ℕ) → length pending ≡ 192 → 
 abbrev pub Shuts : ℕ → Frame → Reader → List ℕ → List ℕ → List ℕ → List ℕ → List ℕ → List ℕ → List ℕ → Next → Type 0
 Shuts place f outer frames pending pending' rows rows' inclusions inclusions' next =
     Fits outer frames pending rows inclusions
-    → NextOf (shut place f (framesOf outer.depth outer.used frames pending) (state_of outer frames pending rows inclusions))
+    → NextOf (shut place f (frames_of outer.depth outer.used frames pending) (state_of outer frames pending rows inclusions))
     next frames pending' rows'
     inclusions'
 
 -- a word, by what may come next and by the frames
-abbrev pub wordStep : ℕ → State → Want → List Frame → Word → Step
-wordStep place s item [] word = outside place s word
-wordStep place s item (f ∷ fs) word = goIf (hasRoom f) (begun place s word) (BadSyntax place)
-wordStep place s (bracket kind) fs word = stop (BadSyntax place)
-wordStep place s role fs word = ofRole place s word
+abbrev pub word_step : ℕ → State → Want → List Frame → Word → Step
+word_step place s item [] word = outside place s word
+word_step place s item (f ∷ fs) word = go_if (has_room f) (begun place s word) (BadSyntax place)
+word_step place s (bracket kind) fs word = stop (BadSyntax place)
+word_step place s role fs word = of_role place s word
 
 -- a closing bracket whose frame has that kind; frames, and the rows or the inclusions, are not lent
 abbrev pub ShutsAxiom : Reader → ℕ → ℕ → List ℕ → List ℕ → List ℕ → Next → Type 0

@@ -7,18 +7,18 @@ use Rattle.owl.specs.declared.frames.Reader.{Reader}
 use Rattle.owl.specs.declared.frames.Next.{Next}
 use Rattle.owl.specs.declared.frames.Next.TheVariants.{Stop}
 use Rattle.owl.specs.Tokens.{Token, Placed, closing}
-use Rattle.owl.specs.Judgement.{State, Step, itemStep, step, ended, judge}
-use Rattle.owl.specs.Inner.Frames.{state_of, framesOf, Fits, NextOf, wordStep}
+use Rattle.owl.specs.Judgement.{State, Step, item_step, step, ended, judge}
+use Rattle.owl.specs.Inner.Frames.{state_of, frames_of, Fits, NextOf, word_step}
 
 -- a word in the innermost frame where a class would be too deep
-unfoldable pub deepNext : Word → ℕ → Next
-deepNext AxiomKey place = Stop (BadSyntax place)
-deepNext TopKey place = Stop (TooDeep place)
-deepNext AndKey place = Stop (TooDeep place)
-deepNext SomeKey place = Stop (TooDeep place)
-deepNext (NameOf n) place = Stop (TooDeep place)
-deepNext (RoleOf r) place = Stop (BadSyntax place)
-deepNext Other place = Stop (BadSyntax place)
+unfoldable pub deep_next : Word → ℕ → Next
+deep_next AxiomKey place = Stop (BadSyntax place)
+deep_next TopKey place = Stop (TooDeep place)
+deep_next AndKey place = Stop (TooDeep place)
+deep_next SomeKey place = Stop (TooDeep place)
+deep_next (NameOf n) place = Stop (TooDeep place)
+deep_next (RoleOf r) place = Stop (BadSyntax place)
+deep_next Other place = Stop (BadSyntax place)
 
 -- with some inclusions
 abbrev pub FitsSomehow : Reader → List ℕ → List ℕ → List ℕ → Type 0
@@ -29,7 +29,7 @@ abbrev pub StepsOnWord : Reader → ℕ → Word → List ℕ → List ℕ → L
 StepsOnWord r place word frames frames' pending pending' rows rows' next =
     (inclusions : List ℕ) → Fits r frames pending rows inclusions
     → NextOf
-    (wordStep place (state_of r frames pending rows inclusions) (state_of r frames pending rows inclusions).want
+    (word_step place (state_of r frames pending rows inclusions) (state_of r frames pending rows inclusions).want
     (state_of r frames pending rows inclusions).frames word)
     next frames' pending' rows' inclusions
 
@@ -37,7 +37,7 @@ StepsOnWord r place word frames frames' pending pending' rows rows' next =
 abbrev pub ShutsFrame : Reader → ℕ → List ℕ → List ℕ → List ℕ → List ℕ → List ℕ → List ℕ → List ℕ → Next → Type 0
 ShutsFrame r place frames pending pending' rows rows' inclusions inclusions' next =
     NextOf
-    (itemStep place (state_of r frames pending rows inclusions) (state_of r frames pending rows inclusions).frames closing)
+    (item_step place (state_of r frames pending rows inclusions) (state_of r frames pending rows inclusions).frames closing)
     next frames pending' rows' inclusions'
 
 abbrev pub Steps : Reader → ℕ → Token → List ℕ → List ℕ → List ℕ → List ℕ → List ℕ → List ℕ → List ℕ → List ℕ → Next → Type 0

@@ -1,8 +1,8 @@
 -- Rows and pairs whose ids can be replaced (src/moving.rt).
 use Rattle.std.specs.Prelude.{ℕ, ◌<◌, ◌*◌, ◌≡◌, List, Bool, true, length, get_or}
-use Rattle.subsumption.specs.Tables.{count_of, existsAt, andAt, node}
+use Rattle.subsumption.specs.Tables.{count_of, exists_at, and_at, node}
 use Rattle.renumbering.specs.declared.moving.Moved.{Moved}
-use Rattle.renumbering.specs.Renumbering.{movedFirst, movedSecond}
+use Rattle.renumbering.specs.Renumbering.{moved_first, moved_second}
 
 -- an inner id has a new one
 abbrev pub Known : List ℕ → Bool → ℕ → Type 0
@@ -10,12 +10,12 @@ Known order inner x = inner ≡ true → x < length order
 
 -- inner ids are smaller, so they are ids
 pub record Inward (concepts : List ℕ) : Type 0 where
-  pub some : (i r j : ℕ) → i < count_of concepts → node concepts i ≡ existsAt r j → j < i
-  pub and : (i j k : ℕ) → i < count_of concepts → node concepts i ≡ andAt j k → (j < i) × (k < i)
+  pub some : (i r j : ℕ) → i < count_of concepts → node concepts i ≡ exists_at r j → j < i
+  pub and : (i j k : ℕ) → i < count_of concepts → node concepts i ≡ and_at j k → (j < i) × (k < i)
 
-abbrev pub movedParts : List ℕ → List ℕ → ℕ → Moved
-movedParts order concepts i =
-    record { kind = get_or concepts (i * 3) 0; first = movedFirst order concepts i; second = movedSecond order concepts i }
+abbrev pub moved_parts : List ℕ → List ℕ → ℕ → Moved
+moved_parts order concepts i =
+    record { kind = get_or concepts (i * 3) 0; first = moved_first order concepts i; second = moved_second order concepts i }
 
 abbrev pub IdsBelow : ℕ → List ℕ → Type 0
 IdsBelow count ids = (p : ℕ) → p < length ids → get_or ids p 0 < count

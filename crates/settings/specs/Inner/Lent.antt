@@ -2,5 +2,5 @@
 use Rattle.subsumption.specs.Inner.Lent.{Slice}
 use Rattle.settings.specs.Settings.{Settings, settings}
 
-abbrev pub givenSettings : Slice → Slice → Settings
-givenSettings permitted largest = settings permitted.now largest.now
+abbrev pub given_settings : Slice → Slice → Settings
+given_settings permitted largest = settings permitted.now largest.now

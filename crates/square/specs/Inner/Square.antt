@@ -4,17 +4,17 @@ use Rattle.std.specs.Prelude.{ℕ, ◌+◌, ◌*◌, ◌/◌, ◌%◌, ◌<◌, 
 use Rattle.subsumption.specs.Atoms.{bit}
 
 -- y is in the set of the three words from `at` on
-unfoldable pub onLine : List ℕ → ℕ → ℕ → Bool
-onLine words at y = bit (get_or words (at + y / 64) 0) (y % 64)
+unfoldable pub on_line : List ℕ → ℕ → ℕ → Bool
+on_line words at y = bit (get_or words (at + y / 64) 0) (y % 64)
 
 -- i is marked below j
 abbrev pub in_row : List ℕ → ℕ → ℕ → Bool
-in_row square i j = onLine square (i * 3) j
+in_row square i j = on_line square (i * 3) j
 
-abbrev pub inColumn : List ℕ → ℕ → ℕ → Bool
-inColumn square i j = onLine square (576 + j * 3) i
+abbrev pub in_column : List ℕ → ℕ → ℕ → Bool
+in_column square i j = on_line square (576 + j * 3) i
 
 -- both halves say the same
 pub record Square (square : List ℕ) : Type 0 where
   pub long : length square ≡ 1152
-  pub mirror : (i j : ℕ) → i < 192 → j < 192 → in_row square i j ≡ inColumn square i j
+  pub mirror : (i j : ℕ) → i < 192 → j < 192 → in_row square i j ≡ in_column square i j

@@ -3,10 +3,10 @@ use Rattle.std.specs.Prelude.{◌≡◌, List, Bool}
 use Rattle.subsumption.specs.declared.refusal.Outcome.{Outcome}
 use Rattle.subsumption.specs.declared.refusal.Outcome.TheVariants.{Done}
 use Rattle.subsumption.specs.Tables.{Tables}
-use Rattle.subsumption.specs.Check.{useFault}
+use Rattle.subsumption.specs.Check.{use_fault}
 use Rattle.subsumption.specs.Inner.Atoms.{AtomMarks}
 
 -- checks 5 to 7, and the marks where they pass
 pub record Used (t : Tables) (marks : List Bool) (answer : Outcome) : Type 0 where
-  pub answered : answer ≡ useFault t
+  pub answered : answer ≡ use_fault t
   pub marked : answer ≡ Done → AtomMarks t.concepts t.inclusions t.questions marks

@@ -1,7 +1,7 @@
 -- The closure of the columns: the steps, what flows by them, and columns that take them all (src/closure.rt).
 use Rattle.std.specs.Prelude.{ℕ, ◌*◌, ◌<◌, ◌≤◌, ◌≡◌, Bool, true, false, length, get_or}
 use mathlib.Core.List.{List, Memᴰ}
-use Rattle.subsumption.specs.Tables.{Tables, topAt, name_at, existsAt, andAt, varAt, node, count_of, pairsOf, left_of, rightOf}
+use Rattle.subsumption.specs.Tables.{Tables, top_at, name_at, exists_at, and_at, var_at, node, count_of, pairs_of, left_of, right_of}
 use Rattle.subsumption.specs.Subsumption.{Subsumed}
 use Rattle.subsumption.specs.Inner.Tables.{Rising}
 use Rattle.subsumption.specs.Inner.Columns.{has, slack, Into}
@@ -12,76 +12,76 @@ use Rattle.subsumption.specs.Inner.Links.{AllLinked, Sorted}
 pub record Ready (concepts inclusions atoms assignment : List ℕ) : Type 0 where
   pub whole : length concepts ≡ count_of concepts * 3
   pub few : count_of concepts ≤ 192
-  pub even : length inclusions ≡ pairsOf inclusions * 2
+  pub even : length inclusions ≡ pairs_of inclusions * 2
   pub rising : (i : ℕ) → i < count_of concepts → Rising i (node concepts i)
-  pub numbered : (i k : ℕ) → node concepts i ≡ varAt k → k < length assignment
-  pub left-known : (m : ℕ) → m < pairsOf inclusions → left_of inclusions m < count_of concepts
-  pub right-known : (m : ℕ) → m < pairsOf inclusions → rightOf inclusions m < count_of concepts
+  pub numbered : (i k : ℕ) → node concepts i ≡ var_at k → k < length assignment
+  pub left-known : (m : ℕ) → m < pairs_of inclusions → left_of inclusions m < count_of concepts
+  pub right-known : (m : ℕ) → m < pairs_of inclusions → right_of inclusions m < count_of concepts
   pub low-names : (i n : ℕ) → node concepts i ≡ name_at n → n < 1000
-  pub low-roles : (i r x : ℕ) → node concepts i ≡ existsAt r x → r < 100
+  pub low-roles : (i r x : ℕ) → node concepts i ≡ exists_at r x → r < 100
   pub few-atoms : length atoms ≤ 64
   pub atoms-known : (q : ℕ) → q < length atoms → get_or atoms q 0 < count_of concepts
 
 -- what the steps at the inclusions ask of them
 pub record LowPairs (inclusions : List ℕ) : Type 0 where
-  pub left : (m : ℕ) → m < pairsOf inclusions → left_of inclusions m < 192
-  pub right : (m : ℕ) → m < pairsOf inclusions → rightOf inclusions m < 192
+  pub left : (m : ℕ) → m < pairs_of inclusions → left_of inclusions m < 192
+  pub right : (m : ℕ) → m < pairs_of inclusions → right_of inclusions m < 192
 
 -- the left sides of the inclusions are rows
 pub record LeftKnown (concepts inclusions : List ℕ) : Type 0 where
   pub few : count_of concepts ≤ 192
-  pub left : (m : ℕ) → m < pairsOf inclusions → left_of inclusions m < count_of concepts
+  pub left : (m : ℕ) → m < pairs_of inclusions → left_of inclusions m < count_of concepts
 
 abbrev pub AllIncluded : List ℕ → List ℕ → List ℕ → Type 0
 AllIncluded concepts inclusions columns =
-    (m : ℕ) → m < pairsOf inclusions → Into (count_of concepts) columns (left_of inclusions m) (rightOf inclusions m)
+    (m : ℕ) → m < pairs_of inclusions → Into (count_of concepts) columns (left_of inclusions m) (right_of inclusions m)
 
 module _ (concepts inclusions : List ℕ) (wide : ℕ → ℕ → Bool) (choose : ℕ → List ℕ) where
   -- a relation on ids that takes every step
   pub record Steps (R : ℕ → ℕ → Type 0) : Type 0 where
     pub same : (j : ℕ) → j < count_of concepts → R j j
-    pub top : (i j : ℕ) → i < count_of concepts → j < count_of concepts → node concepts j ≡ topAt → R i j
+    pub top : (i j : ℕ) → i < count_of concepts → j < count_of concepts → node concepts j ≡ top_at → R i j
     pub named :
         (i j k n : ℕ) → i < count_of concepts → j < count_of concepts → k < count_of concepts
         → node concepts j ≡ name_at n → node concepts k ≡ name_at n → R i j → R i k
-    pub first : (i j a b : ℕ) → i < count_of concepts → j < count_of concepts → node concepts j ≡ andAt a b → R i j → R i a
-    pub second : (i j a b : ℕ) → i < count_of concepts → j < count_of concepts → node concepts j ≡ andAt a b → R i j → R i b
-    pub meet : (i j a b : ℕ) → i < count_of concepts → j < count_of concepts → node concepts j ≡ andAt a b → R i a → R i b → R i j
-    pub included : (i m : ℕ) → i < count_of concepts → m < pairsOf inclusions → R i (left_of inclusions m) → R i (rightOf inclusions m)
+    pub first : (i j a b : ℕ) → i < count_of concepts → j < count_of concepts → node concepts j ≡ and_at a b → R i j → R i a
+    pub second : (i j a b : ℕ) → i < count_of concepts → j < count_of concepts → node concepts j ≡ and_at a b → R i j → R i b
+    pub meet : (i j a b : ℕ) → i < count_of concepts → j < count_of concepts → node concepts j ≡ and_at a b → R i a → R i b → R i j
+    pub included : (i m : ℕ) → i < count_of concepts → m < pairs_of inclusions → R i (left_of inclusions m) → R i (right_of inclusions m)
     pub linked :
         (i e f r s x y : ℕ) → i < count_of concepts → e < count_of concepts → f < count_of concepts
-        → node concepts e ≡ existsAt r x → node concepts f ≡ existsAt s y → wide r s ≡ true → R x y → R i e → R i f
+        → node concepts e ≡ exists_at r x → node concepts f ≡ exists_at s y → wide r s ≡ true → R x y → R i e → R i f
     pub chooses :
-        (i v k p : ℕ) → i < count_of concepts → v < count_of concepts → node concepts v ≡ varAt k → Memᴰ p (choose k) → R i v → R i p
+        (i v k p : ℕ) → i < count_of concepts → v < count_of concepts → node concepts v ≡ var_at k → Memᴰ p (choose k) → R i v → R i p
     pub all-chosen :
-        (i v k : ℕ) → i < count_of concepts → v < count_of concepts → node concepts v ≡ varAt k
+        (i v k : ℕ) → i < count_of concepts → v < count_of concepts → node concepts v ≡ var_at k
         → ((p : ℕ) → Memᴰ p (choose k) → R i p) → R i v
 
   -- the least such relation that holds what some columns have from the start
   pub data Flow (given : List ℕ) : ℕ → ℕ → Type 0 where
     flow-given : (i j : ℕ) → i < count_of concepts → j < count_of concepts → has given i j ≡ true → Flow given i j
     flow-same : (j : ℕ) → j < count_of concepts → Flow given j j
-    flow-top : (i j : ℕ) → i < count_of concepts → j < count_of concepts → node concepts j ≡ topAt → Flow given i j
+    flow-top : (i j : ℕ) → i < count_of concepts → j < count_of concepts → node concepts j ≡ top_at → Flow given i j
     flow-named :
         (i j k n : ℕ) → i < count_of concepts → j < count_of concepts → k < count_of concepts
         → node concepts j ≡ name_at n → node concepts k ≡ name_at n → Flow given i j → Flow given i k
-    flow-first : (i j a b : ℕ) → i < count_of concepts → j < count_of concepts → node concepts j ≡ andAt a b → Flow given i j → Flow given i a
+    flow-first : (i j a b : ℕ) → i < count_of concepts → j < count_of concepts → node concepts j ≡ and_at a b → Flow given i j → Flow given i a
     flow-second :
-        (i j a b : ℕ) → i < count_of concepts → j < count_of concepts → node concepts j ≡ andAt a b → Flow given i j → Flow given i b
+        (i j a b : ℕ) → i < count_of concepts → j < count_of concepts → node concepts j ≡ and_at a b → Flow given i j → Flow given i b
     flow-meet :
-        (i j a b : ℕ) → i < count_of concepts → j < count_of concepts → node concepts j ≡ andAt a b → Flow given i a → Flow given i b
+        (i j a b : ℕ) → i < count_of concepts → j < count_of concepts → node concepts j ≡ and_at a b → Flow given i a → Flow given i b
         → Flow given i j
     flow-included :
-        (i m : ℕ) → i < count_of concepts → m < pairsOf inclusions → Flow given i (left_of inclusions m) → Flow given i (rightOf inclusions m)
+        (i m : ℕ) → i < count_of concepts → m < pairs_of inclusions → Flow given i (left_of inclusions m) → Flow given i (right_of inclusions m)
     flow-linked :
         (i e f r s x y : ℕ) → i < count_of concepts → e < count_of concepts → f < count_of concepts
-        → node concepts e ≡ existsAt r x → node concepts f ≡ existsAt s y → wide r s ≡ true → Flow given x y → Flow given i e
+        → node concepts e ≡ exists_at r x → node concepts f ≡ exists_at s y → wide r s ≡ true → Flow given x y → Flow given i e
         → Flow given i f
     flow-chooses :
-        (i v k p : ℕ) → i < count_of concepts → v < count_of concepts → node concepts v ≡ varAt k → Memᴰ p (choose k)
+        (i v k p : ℕ) → i < count_of concepts → v < count_of concepts → node concepts v ≡ var_at k → Memᴰ p (choose k)
         → Flow given i v → Flow given i p
     flow-all-chosen :
-        (i v k : ℕ) → i < count_of concepts → v < count_of concepts → node concepts v ≡ varAt k
+        (i v k : ℕ) → i < count_of concepts → v < count_of concepts → node concepts v ≡ var_at k
         → ((p : ℕ) → Memᴰ p (choose k) → Flow given i p) → Flow given i v
 
   abbrev pub Sound : List ℕ → List ℕ → Type 0

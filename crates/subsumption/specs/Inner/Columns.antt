@@ -37,8 +37,8 @@ pub record Takes (before after : List ℕ) (to add : ℕ → Type 0) (changed : 
   pub quiet : changed ≡ false → after ≡ before
   pub less : changed ≡ true → slack after < slack before
 
-abbrev pub inThree : ℕ → ℕ → ℕ → ℕ → Type 0
-inThree first second third i = bit (get_or (first ∷ second ∷ third ∷ []) (i / 64) 0) (i % 64) ≡ true
+abbrev pub InThree : ℕ → ℕ → ℕ → ℕ → Type 0
+InThree first second third i = bit (get_or (first ∷ second ∷ third ∷ []) (i / 64) 0) (i % 64) ≡ true
 
 -- what the functions on a variable's choice ask of the atoms
 pub record Known (atoms : List ℕ) : Type 0 where

@@ -1,22 +1,22 @@
 -- The steps at the existentials, and the sets by which they are found (src/closure/links.rt, src/closure/sets.rt). Sets are laid out as
 -- columns are: `has sets e x` says that e is in the set x.
 use Rattle.std.specs.Prelude.{ℕ, ◌+◌, ◌<◌, ◌≤◌, ◌≡◌, List, Bool, true, ◌⊎◌, length}
-use Rattle.subsumption.specs.Tables.{existsAt, node, count_of}
+use Rattle.subsumption.specs.Tables.{exists_at, node, count_of}
 use Rattle.subsumption.specs.Atoms.{bit}
-use Rattle.subsumption.specs.Inner.Columns.{has, Into, inThree}
+use Rattle.subsumption.specs.Inner.Columns.{has, Into, InThree}
 use Rattle.subsumption.specs.Inner.Roles.{in_set}
 
 -- the existential e, of a role that counts as that role, has its inner id below that inner id
 pub record Linkable (concepts columns : List ℕ) (counts : ℕ → Bool) (inner e : ℕ) : Type 0 where
   pub narrow : ℕ
   pub from : ℕ
-  pub row : node concepts e ≡ existsAt narrow from
+  pub row : node concepts e ≡ exists_at narrow from
   pub counting : counts narrow ≡ true
   pub below : has columns from inner ≡ true
 
 abbrev pub LinkedTo : List ℕ → (ℕ → ℕ → Bool) → ℕ → List ℕ → Type 0
 LinkedTo concepts wide f columns =
-    (e s y : ℕ) → e < count_of concepts → node concepts f ≡ existsAt s y → Linkable concepts columns (λ r. wide r s) y e
+    (e s y : ℕ) → e < count_of concepts → node concepts f ≡ exists_at s y → Linkable concepts columns (λ r. wide r s) y e
     → Into (count_of concepts) columns e f
 
 abbrev pub AllLinked : List ℕ → (ℕ → ℕ → Bool) → List ℕ → Type 0
@@ -25,8 +25,8 @@ AllLinked concepts wide columns = (f : ℕ) → f < count_of concepts → Linked
 -- what looking for existentials asks of the rows
 pub record Inner (concepts : List ℕ) : Type 0 where
   pub few : count_of concepts ≤ 192
-  pub known : (e r x : ℕ) → e < count_of concepts → node concepts e ≡ existsAt r x → x < count_of concepts
-  pub low : (e r x : ℕ) → node concepts e ≡ existsAt r x → r < 100
+  pub known : (e r x : ℕ) → e < count_of concepts → node concepts e ≡ exists_at r x → x < count_of concepts
+  pub low : (e r x : ℕ) → node concepts e ≡ exists_at r x → r < 100
 
 -- ---- sets
 -- the set `to` takes in the id, and nothing else changes
@@ -39,8 +39,8 @@ pub record Inserted (before after : List ℕ) (to id : ℕ) : Type 0 where
 -- the set `to` is now that one
 pub record Put (before after : List ℕ) (to first second third : ℕ) : Type 0 where
   pub long : length after ≡ length before
-  pub only : (i : ℕ) → i < 192 → has after i to ≡ true → inThree first second third i
-  pub every : (i : ℕ) → i < 192 → inThree first second third i → has after i to ≡ true
+  pub only : (i : ℕ) → i < 192 → has after i to ≡ true → InThree first second third i
+  pub every : (i : ℕ) → i < 192 → InThree first second third i → has after i to ≡ true
   pub there : (i j : ℕ) → i < 192 → (j ≡ to → ⊥) → has after i j ≡ has before i j
 
 -- e is in one of the sets, from the set `from` on, that the word picks
@@ -65,12 +65,12 @@ pub record Union (sets : List ℕ) (numbers union : ℕ → Type 0) : Type 0 whe
 pub record WithInner (concepts : List ℕ) (n x e : ℕ) : Type 0 where
   pub before : e < n
   pub role : ℕ
-  pub row : node concepts e ≡ existsAt role x
+  pub row : node concepts e ≡ exists_at role x
 
 pub record WithRole (concepts : List ℕ) (n r e : ℕ) : Type 0 where
   pub before : e < n
   pub inner : ℕ
-  pub row : node concepts e ≡ existsAt r inner
+  pub row : node concepts e ≡ exists_at r inner
 
 -- those below n: by inner id, all inner ids, by role
 pub record Existentials (concepts outer inners lines : List ℕ) (n : ℕ) : Type 0 where

@@ -5,11 +5,11 @@ use Rattle.subsumption.specs.declared.refusal.Outcome.TheVariants.{Done}
 use Rattle.subsumption.specs.Tables.{Tables, tables}
 use Rattle.subsumption.specs.Atoms.{atoms}
 use Rattle.subsumption.specs.Refusal.{or_else}
-use Rattle.subsumption.specs.Check.{useFault, tableFault, pairFault, bufferFault}
+use Rattle.subsumption.specs.Check.{use_fault, table_fault, pair_fault, buffer_fault}
 
 -- The tables are accepted, and these are their atoms.
 pub record Accepted (t : Tables) (ids : List ℕ) : Type 0 where
-  pub passed : tableFault t ≡ Done
+  pub passed : table_fault t ≡ Done
   pub listed : ids ≡ atoms t
 
 -- They are so with some questions. What is left to do reads no question.
@@ -24,9 +24,9 @@ ForAccepted concepts inclusions roles variables ids Holds =
     → Holds (tables concepts inclusions questions roles variables)
 
 -- Listing the atoms of tables with an asked pair.
-unfoldable pub askedFault : Tables → ℕ → ℕ → ℕ → Outcome
-askedFault t left right size = or_else (pairFault t left right) (bufferFault 64 size)
+unfoldable pub asked_fault : Tables → ℕ → ℕ → ℕ → Outcome
+asked_fault t left right size = or_else (pair_fault t left right) (buffer_fault 64 size)
 
 -- Checks 5 to 8, with the atoms listed.
-unfoldable pub usedFault : Tables → ℕ → Outcome
-usedFault t size = or_else (useFault t) (bufferFault 64 size)
+unfoldable pub used_fault : Tables → ℕ → Outcome
+used_fault t size = or_else (use_fault t) (buffer_fault 64 size)

@@ -1,6 +1,6 @@
 -- Sets of the roles that count as a role (src/roles.rt).
 use Rattle.std.specs.Prelude.{ℕ, ◌+◌, ◌*◌, ◌/◌, ◌%◌, ◌<◌, ◌≡◌, List, Bool, eqb, length, get_or}
-use Rattle.subsumption.specs.Tables.{or, both, pairsOf, left_of, rightOf}
+use Rattle.subsumption.specs.Tables.{or, both, pairs_of, left_of, right_of}
 use Rattle.subsumption.specs.Atoms.{bit}
 use Rattle.subsumption.specs.Roles.{wider}
 
@@ -10,8 +10,8 @@ in_set into r s = bit (get_or into (s * 2 + r / 64) 0) (r % 64)
 
 -- check 16 passed
 pub record LowRoles (roles : List ℕ) : Type 0 where
-  pub narrow : (m : ℕ) → m < pairsOf roles → left_of roles m < 100
-  pub wide : (m : ℕ) → m < pairsOf roles → rightOf roles m < 100
+  pub narrow : (m : ℕ) → m < pairs_of roles → left_of roles m < 100
+  pub wide : (m : ℕ) → m < pairs_of roles → right_of roles m < 100
 
 pub record Started (into : List ℕ) : Type 0 where
   pub long : length into ≡ 200

@@ -3,7 +3,7 @@ use Rattle.std.specs.Prelude.{ℕ, ◌+◌, ◌*◌, ◌/◌, ◌%◌, ◌^◌, 
 use Rattle.std.specs.Int.Bits.{bit_and, bit_or}
 use Rattle.subsumption.specs.Tables.{both}
 use Rattle.subsumption.specs.Atoms.{bit}
-use Rattle.subsumption.specs.Table.{rowStart, marked}
+use Rattle.subsumption.specs.Table.{row_start, marked}
 use Rattle.subsumption.specs.Inner.Columns.{has}
 
 -- the bit of a row at j: set if j is an id and i is in its column
@@ -39,10 +39,10 @@ banded band i j = bit (get_or band (j / 8) 0) (i % 8 * 8 + j % 8)
 pub record RowWritten (band : List ℕ) (i : ℕ) (before after : List ℕ) : Type 0 where
   pub size : length after ≡ length before
   pub bits : (j : ℕ) → j < 192 → marked after i j ≡ banded band i j
-  pub under : (p : ℕ) → p < rowStart i → get_or after p 0 ≡ get_or before p 0
-  pub over : (p : ℕ) → rowStart i + 24 ≤ p → get_or after p 0 ≡ get_or before p 0
+  pub under : (p : ℕ) → p < row_start i → get_or after p 0 ≡ get_or before p 0
+  pub over : (p : ℕ) → row_start i + 24 ≤ p → get_or after p 0 ≡ get_or before p 0
 
 pub record Written (columns : List ℕ) (count : ℕ) (before after : List ℕ) : Type 0 where
   pub size : length after ≡ length before
   pub bits : (i j : ℕ) → i < count → j < 192 → marked after i j ≡ shown columns count i j
-  pub rest : (p : ℕ) → rowStart count ≤ p → get_or after p 0 ≡ get_or before p 0
+  pub rest : (p : ℕ) → row_start count ≤ p → get_or after p 0 ≡ get_or before p 0

@@ -2,13 +2,13 @@
 use Rattle.std.specs.Prelude.{ℕ, ◌*◌}
 
 -- The columns of a closure: three words for each of 192 ids.
-abbrev pub columnsSize : ℕ
-columnsSize = 192 * 3
+abbrev pub columns_size : ℕ
+columns_size = 192 * 3
 
 -- The sets of roles that count as a role: two words for each of 100.
-abbrev pub rolesSize : ℕ
-rolesSize = 100 * 2
+abbrev pub roles_size : ℕ
+roles_size = 100 * 2
 
 -- The bytes of a whole table.
-abbrev pub tableSize : ℕ
-tableSize = 192 * 24
+abbrev pub table_size : ℕ
+table_size = 192 * 24

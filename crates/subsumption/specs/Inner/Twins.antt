@@ -1,15 +1,15 @@
 -- Of each id its lowest twin, by keys of rows (src/twins.rt).
 use Rattle.std.specs.Prelude.{ℕ, ◌+◌, ◌*◌, ◌%◌, ◌<◌, ◌≤◌, ◌≡◌, List, Bool, eqb, length, get_or}
-use Rattle.subsumption.specs.Tables.{both, anyBelow, Node, topAt, name_at, existsAt, andAt, varAt, count_of, tree}
-use Rattle.subsumption.specs.Inner.Atoms.{markAt}
+use Rattle.subsumption.specs.Tables.{both, any_below, Node, top_at, name_at, exists_at, and_at, var_at, count_of, tree}
+use Rattle.subsumption.specs.Inner.Atoms.{mark_at}
 
 -- A row as one number: three bits for its kind, sixteen for its number, then the inner id, ids by their lowest twins.
 unfoldable pub key_of : (ℕ → ℕ) → Node → ℕ
-key_of lowest topAt = 0
+key_of lowest top_at = 0
 key_of lowest (name_at n) = 1 + n * 8
-key_of lowest (existsAt r j) = 2 + r * 8 + lowest j * 524288
-key_of lowest (andAt j k) = 3 + lowest j * 8 + lowest k * 524288
-key_of lowest (varAt k) = 4 + k * 8
+key_of lowest (exists_at r j) = 2 + r * 8 + lowest j * 524288
+key_of lowest (and_at j k) = 3 + lowest j * 8 + lowest k * 524288
+key_of lowest (var_at k) = 4 + k * 8
 
 -- the i-th key stands first at k
 pub record FirstSame (keys : List ℕ) (i k : ℕ) : Type 0 where
@@ -35,4 +35,4 @@ pub record LowestTwins (concepts firsts : List ℕ) : Type 0 where
 -- marked after is what some marked id has as its lowest twin
 pub record Lowered (firsts : List ℕ) (count : ℕ) (before after : List Bool) : Type 0 where
   pub long : length after ≡ 192
-  pub marks : (q : ℕ) → q < count → markAt after q ≡ anyBelow count (λ p. both (eqb (get_or firsts p 0) q) (markAt before p))
+  pub marks : (q : ℕ) → q < count → mark_at after q ≡ any_below count (λ p. both (eqb (get_or firsts p 0) q) (mark_at before p))

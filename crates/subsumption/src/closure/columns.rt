@@ -1,17 +1,17 @@
 // Columns of bits: column j is the set of ids known to be below j, three words of 64 bits. Each step answers whether it changed one.
 ghost use Rattle.std.specs.Prelude.{◌≡◌, ℕ, ◌<◌, true, length};
 ghost use mathlib.Core.List.{Memᴰ};
-ghost use Rattle.subsumption.specs.Lent.{before, after};
+
 ghost use Rattle.subsumption.specs.Atoms.{pick};
-ghost use Rattle.subsumption.specs.Inner.Columns.{has, Absorbs, Takes, inThree, Known, Common};
-ghost use Rattle.subsumption.specs.Inner.Sizes.{columnsSize};
+ghost use Rattle.subsumption.specs.Inner.Columns.{has, Absorbs, Takes, InThree, Known, Common};
+ghost use Rattle.subsumption.specs.Inner.Sizes.{columns_size};
 
 const ALL: u64 = 18446744073709551615;
 
 // The one place that changes a column.
 fn absorb(columns: &mut [u64], at: usize, add: u64) -> bool
     requires { at < length columns.old }
-    ensures { Absorbs (before columns) (after columns) at add result }
+    ensures { Absorbs columns.old columns.new at add result }
 {
     let old = columns[at];
     let new = old | add;
@@ -20,9 +20,9 @@ fn absorb(columns: &mut [u64], at: usize, add: u64) -> bool
 }
 
 pub fn take(columns: &mut [u64], to: usize, first: u64, second: u64, third: u64) -> bool
-    requires columns_len { length columns.old ≡ columnsSize }
+    requires columns_len { length columns.old ≡ columns_size }
     requires to_bound { to < 192 }
-    ensures { Takes (before columns) (after columns) (λ j. j ≡ to) (inThree first second third) result }
+    ensures { Takes columns.old columns.new (λ j. j ≡ to) (InThree first second third) result }
 {
     let a = absorb(columns, to * 3, first);
     let b = absorb(columns, to * 3 + 1, second);
@@ -32,9 +32,9 @@ pub fn take(columns: &mut [u64], to: usize, first: u64, second: u64, third: u64)
 
 // Everything known to be below `from` is below `to`.
 pub fn flow(columns: &mut [u64], from: usize, to: usize) -> bool
-    requires columns_len { length columns.old ≡ columnsSize }
+    requires columns_len { length columns.old ≡ columns_size }
     requires from_bound { (from < 192) × (to < 192) }
-    ensures { Takes (before columns) (after columns) (λ j. j ≡ to) (λ i. has (before columns) i from ≡ true) result }
+    ensures { Takes columns.old columns.new (λ j. j ≡ to) (λ i. has columns.old i from ≡ true) result }
 {
     let first = columns[from * 3];
     let second = columns[from * 3 + 1];
@@ -44,10 +44,10 @@ pub fn flow(columns: &mut [u64], from: usize, to: usize) -> bool
 
 // Everything known to be below both `left` and `right` is below `to`.
 pub fn meet(columns: &mut [u64], left: usize, right: usize, to: usize) -> bool
-    requires columns_len { length columns.old ≡ columnsSize }
+    requires columns_len { length columns.old ≡ columns_size }
     requires left_bound { (left < 192) × (right < 192) × (to < 192) }
-    ensures { Takes (before columns) (after columns) (λ j. j ≡ to)
-        (λ i. (has (before columns) i left ≡ true) × (has (before columns) i right ≡ true)) result }
+    ensures { Takes columns.old columns.new (λ j. j ≡ to)
+        (λ i. (has columns.old i left ≡ true) × (has columns.old i right ≡ true)) result }
 {
     let first = columns[left * 3] & columns[right * 3];
     let second = columns[left * 3 + 1] & columns[right * 3 + 1];
@@ -57,27 +57,27 @@ pub fn meet(columns: &mut [u64], left: usize, right: usize, to: usize) -> bool
 
 // Every id is below `to`.
 pub fn fill(columns: &mut [u64], to: usize) -> bool
-    requires columns_len { length columns.old ≡ columnsSize }
+    requires columns_len { length columns.old ≡ columns_size }
     requires to_bound { to < 192 }
-    ensures { Takes (before columns) (after columns) (λ j. j ≡ to) (λ i. Unit {0}) result }
+    ensures { Takes columns.old columns.new (λ j. j ≡ to) (λ i. Unit {0}) result }
 {
     take(columns, to, ALL, ALL, ALL)
 }
 
 // An id is below itself.
 pub fn mark(columns: &mut [u64], id: usize) -> bool
-    requires columns_len { length columns.old ≡ columnsSize }
+    requires columns_len { length columns.old ≡ columns_size }
     requires id_bound { id < 192 }
-    ensures { Takes (before columns) (after columns) (λ j. j ≡ id) (λ i. i ≡ id) result }
+    ensures { Takes columns.old columns.new (λ j. j ≡ id) (λ i. i ≡ id) result }
 {
     absorb(columns, id * 3 + id / 64, 1 << (id % 64))
 }
 
 // Whether i is known to be below j.
 pub fn below(columns: &[u64], i: usize, j: usize) -> bool
-    requires columns_len { length columns.now ≡ columnsSize }
+    requires columns_len { length columns.now ≡ columns_size }
     requires i_bound { (i < 192) × (j < 192) }
-    ensures { result ≡ has (before columns) i j }
+    ensures { result ≡ has columns.now i j }
 {
     (columns[j * 3 + i / 64] >> (i % 64)) % 2 == 1
 }
@@ -92,11 +92,11 @@ pub struct Words {
 
 // The bits that the columns of all chosen atoms have.
 fn common(atoms: &[u16], choice: u64, columns: &[u64]) -> Words
-    requires columns_len { length columns.now ≡ columnsSize }
+    requires columns_len { length columns.now ≡ columns_size }
     requires known { Known atoms.now }
-    ensures common { Common (length (before atoms)) (before atoms) choice (before columns) 0 result.first }
-    ensures common_2 { Common (length (before atoms)) (before atoms) choice (before columns) 1 result.second }
-    ensures common_3 { Common (length (before atoms)) (before atoms) choice (before columns) 2 result.third }
+    ensures common { Common (length atoms.now) atoms.now choice columns.now 0 result.first }
+    ensures common_2 { Common (length atoms.now) atoms.now choice columns.now 1 result.second }
+    ensures common_3 { Common (length atoms.now) atoms.now choice columns.now 2 result.third }
 {
     let mut first = ALL;
     let mut second = ALL;
@@ -122,11 +122,11 @@ fn common(atoms: &[u16], choice: u64, columns: &[u64]) -> Words
 
 // Everything known to be below all chosen atoms is below the variable `to`.
 pub fn gather(atoms: &[u16], choice: u64, columns: &mut [u64], to: usize) -> bool
-    requires columns_len { length columns.old ≡ columnsSize }
+    requires columns_len { length columns.old ≡ columns_size }
     requires known { Known atoms.now }
     requires to_bound { to < 192 }
-    ensures { Takes (before columns) (after columns) (λ j. j ≡ to)
-        (λ i. (p : ℕ) → Memᴰ p (pick (before atoms) choice) → has (before columns) i p ≡ true) result }
+    ensures { Takes columns.old columns.new (λ j. j ≡ to)
+        (λ i. (p : ℕ) → Memᴰ p (pick atoms.now choice) → has columns.old i p ≡ true) result }
 {
     let words = common(atoms, choice, columns);
     take(columns, to, words.first, words.second, words.third)
@@ -134,11 +134,11 @@ pub fn gather(atoms: &[u16], choice: u64, columns: &mut [u64], to: usize) -> boo
 
 // Everything known to be below the variable `from` is below all chosen atoms.
 pub fn spread(atoms: &[u16], choice: u64, columns: &mut [u64], from: usize) -> bool
-    requires columns_len { length columns.old ≡ columnsSize }
+    requires columns_len { length columns.old ≡ columns_size }
     requires known { Known atoms.now }
     requires from_bound { from < 192 }
-    ensures { Takes (before columns) (after columns) (λ p. Memᴰ p (pick (before atoms) choice))
-        (λ i. has (before columns) i from ≡ true) result }
+    ensures { Takes columns.old columns.new (λ p. Memᴰ p (pick atoms.now choice))
+        (λ i. has columns.old i from ≡ true) result }
 {
     let mut changed = false;
     let mut q = 0;

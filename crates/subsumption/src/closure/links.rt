@@ -1,12 +1,12 @@
 // The steps at the existentials. These are noted as sets, by inner id and by role, so that for one of them all those that it takes
 // in are found at once: their inner ids are below its own, and their roles count as its own.
 ghost use Rattle.std.specs.Prelude.{◌≡◌, true, ◌<◌, length, replicate};
-ghost use Rattle.subsumption.specs.Lent.{before, after};
+
 ghost use Rattle.subsumption.specs.Tables.{count_of};
-ghost use Rattle.subsumption.specs.Inner.Columns.{has, inThree};
+ghost use Rattle.subsumption.specs.Inner.Columns.{has, InThree};
 ghost use Rattle.subsumption.specs.Inner.Links.{Inner, Union, Existentials, KindsTo, Laid, LinkedTo};
 ghost use Rattle.subsumption.specs.Inner.Closure.{LinkPass};
-ghost use Rattle.subsumption.specs.Inner.Sizes.{columnsSize, rolesSize};
+ghost use Rattle.subsumption.specs.Inner.Sizes.{columns_size, roles_size};
 
 use crate::closure::columns::{Words, take};
 use crate::closure::sets::{insert, put, union};
@@ -14,10 +14,10 @@ use crate::closure::sets::{insert, put, union};
 // Notes the existentials: those of each inner id, all inner ids, those of each role.
 pub fn note_existentials(concepts: &[u16], outer: &mut [u64], inners: &mut [u64], lines: &mut [u64])
     requires inner { Inner concepts.now }
-    requires outer_value { outer.old ≡ replicate columnsSize 0 }
+    requires outer_value { outer.old ≡ replicate columns_size 0 }
     requires inners_value { inners.old ≡ replicate 3 0 }
-    requires lines_value { lines.old ≡ replicate columnsSize 0 }
-    ensures { Existentials (before concepts) (after outer) (after inners) (after lines) (count_of (before concepts)) }
+    requires lines_value { lines.old ≡ replicate columns_size 0 }
+    ensures { Existentials concepts.now outer.new inners.new lines.new (count_of concepts.now) }
 {
     let count = concepts.len() / 3;
     let mut e: usize = 0;
@@ -38,10 +38,10 @@ pub fn note_existentials(concepts: &[u16], outer: &mut [u64], inners: &mut [u64]
 
 // For each role the existentials whose role counts as it.
 pub fn note_kinds(into: &[u64], lines: &[u64], kinds: &mut [u64])
-    requires into_len { length into.now ≡ rolesSize }
-    requires lines_len { length lines.now ≡ columnsSize }
+    requires into_len { length into.now ≡ roles_size }
+    requires lines_len { length lines.now ≡ columns_size }
     requires kinds_len { length kinds.old ≡ 300 }
-    ensures { KindsTo (before into) (before lines) (after kinds) 100 }
+    ensures { KindsTo into.now lines.now kinds.new 100 }
 {
     let mut s: usize = 0;
     while s < 100 {
@@ -55,12 +55,12 @@ pub fn note_kinds(into: &[u64], lines: &[u64], kinds: &mut [u64])
 
 // The existentials whose inner id is below that id.
 fn over(columns: &[u64], outer: &[u64], inners: &[u64], inner: usize) -> Words
-    requires columns_len { length columns.now ≡ columnsSize }
-    requires outer_len { length outer.now ≡ columnsSize }
+    requires columns_len { length columns.now ≡ columns_size }
+    requires outer_len { length outer.now ≡ columns_size }
     requires inners_len { length inners.now ≡ 3 }
     requires inner_bound { inner < 192 }
-    ensures { Union (before outer) (λ x. (has (before columns) x inner ≡ true) × (has (before inners) x 0 ≡ true))
-        (inThree result.first result.second result.third) }
+    ensures { Union outer.now (λ x. (has columns.now x inner ≡ true) × (has inners.now x 0 ≡ true))
+        (InThree result.first result.second result.third) }
 {
     let at = inner * 3;
     let first = columns[at] & inners[0];
@@ -80,10 +80,10 @@ pub fn link_to(
 ) -> bool
     requires inner { Inner concepts.now }
     requires laid { Laid outer.now inners.now kinds.now }
-    requires columns_len { length columns.old ≡ columnsSize }
+    requires columns_len { length columns.old ≡ columns_size }
     requires f_bound { f < count_of concepts.now }
-    ensures { LinkPass (before concepts) (before outer) (before inners) (before kinds)
-        (λ wide. LinkedTo (before concepts) wide f) (before columns) (after columns) result }
+    ensures { LinkPass concepts.now outer.now inners.now kinds.now
+        (λ wide. LinkedTo concepts.now wide f) columns.old columns.new result }
 {
     if concepts[f * 3] != 2 {
         return false;

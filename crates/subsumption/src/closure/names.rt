@@ -1,6 +1,6 @@
 // Of each name its first row, by which the rows of one name exchange.
 ghost use Rattle.std.specs.Prelude.{◌≡◌, ◌+◌, ◌<◌, length};
-ghost use Rattle.subsumption.specs.Lent.{before, after};
+
 ghost use Rattle.subsumption.specs.Tables.{count_of};
 ghost use Rattle.subsumption.specs.Inner.Names.{Nameable, Seen, Firsts, IsNamed, FirstNamed};
 
@@ -8,7 +8,7 @@ use crate::limits::NAMES;
 
 fn is_named(concepts: &[u16], k: usize, name: u16) -> bool
     requires { k < count_of concepts.now }
-    ensures { IsNamed (before concepts) k name result }
+    ensures { IsNamed concepts.now k name result }
 {
     if concepts[k * 3] != 1 {
         return false;
@@ -21,7 +21,7 @@ fn first_named(concepts: &[u16], seen: &[u16], j: usize) -> usize
     requires nameable { Nameable concepts.now }
     requires seen { Seen concepts.now j seen.now }
     requires j_bound { j < count_of concepts.now }
-    ensures { FirstNamed (before concepts) j result }
+    ensures { FirstNamed concepts.now j result }
 {
     if concepts[j * 3] != 1 {
         return j;
@@ -39,7 +39,7 @@ fn note_seen(concepts: &[u16], j: usize, first: usize, seen: &mut [u16])
     requires seen { Seen concepts.now j seen.old }
     requires j_bound { j < count_of concepts.now }
     requires first_named { FirstNamed concepts.now j first }
-    ensures { Seen (before concepts) (j + 1) (after seen) }
+    ensures { Seen concepts.now (j + 1) seen.new }
 {
     if concepts[j * 3] != 1 {
         return;
@@ -52,7 +52,7 @@ fn note_seen(concepts: &[u16], j: usize, first: usize, seen: &mut [u16])
 pub fn note_firsts(concepts: &[u16], firsts: &mut [u16])
     requires nameable { Nameable concepts.now }
     requires firsts_len { length firsts.old ≡ 192 }
-    ensures { Firsts (before concepts) (after firsts) }
+    ensures { Firsts concepts.now firsts.new }
 {
     let count = concepts.len() / 3;
     let mut seen = [0u16; NAMES];

@@ -1,16 +1,16 @@
 // Sets of ids, laid out as the columns are: three words a set.
 ghost use Rattle.std.specs.Prelude.{◌≡◌, ◌+◌, ◌*◌, ◌<◌, ◌≤◌, length};
-ghost use Rattle.subsumption.specs.Lent.{before, after};
-ghost use Rattle.subsumption.specs.Inner.Columns.{inThree};
+
+ghost use Rattle.subsumption.specs.Inner.Columns.{InThree};
 ghost use Rattle.subsumption.specs.Inner.Links.{Inserted, Put, Joins, Union};
-ghost use Rattle.subsumption.specs.Inner.Sizes.{columnsSize};
+ghost use Rattle.subsumption.specs.Inner.Sizes.{columns_size};
 
 use crate::closure::columns::Words;
 
 pub fn insert(sets: &mut [u64], to: usize, id: usize)
     requires id_bound { id < 192 }
     requires to_in_bounds { to * 3 + 3 ≤ length sets.old }
-    ensures { Inserted (before sets) (after sets) to id }
+    ensures { Inserted sets.old sets.new to id }
 {
     let at = to * 3 + id / 64;
     sets[at] = sets[at] | (1 << (id % 64));
@@ -18,7 +18,7 @@ pub fn insert(sets: &mut [u64], to: usize, id: usize)
 
 pub fn put(sets: &mut [u64], to: usize, first: u64, second: u64, third: u64)
     requires { to * 3 + 3 ≤ length sets.old }
-    ensures { Put (before sets) (after sets) to first second third }
+    ensures { Put sets.old sets.new to first second third }
 {
     let at = to * 3;
     sets[at] = first;
@@ -29,8 +29,8 @@ pub fn put(sets: &mut [u64], to: usize, first: u64, second: u64, third: u64)
 // The set with all those, from the set `from` on, that the word picks.
 fn join(sets: &[u64], from: usize, word: u64, set: Words) -> Words
     requires { from * 3 + 192 ≤ length sets.now }
-    ensures { Joins (before sets) from word (inThree set.first set.second set.third)
-        (inThree result.first result.second result.third) }
+    ensures { Joins sets.now from word (InThree set.first set.second set.third)
+        (InThree result.first result.second result.third) }
 {
     let mut first = set.first;
     let mut second = set.second;
@@ -52,8 +52,8 @@ fn join(sets: &[u64], from: usize, word: u64, set: Words) -> Words
 
 // The union of all sets whose numbers the three words hold.
 pub fn union(sets: &[u64], first: u64, second: u64, third: u64) -> Words
-    requires { length sets.now ≡ columnsSize }
-    ensures { Union (before sets) (inThree first second third) (inThree result.first result.second result.third) }
+    requires { length sets.now ≡ columns_size }
+    ensures { Union sets.now (InThree first second third) (InThree result.first result.second result.third) }
 {
     let none = Words {
         first: 0,

@@ -1,11 +1,11 @@
 // The steps at the rows.
 ghost use Rattle.std.specs.Prelude.{◌≡◌, ◌<◌, length};
-ghost use Rattle.subsumption.specs.Lent.{before, after};
+
 ghost use Rattle.subsumption.specs.Tables.{count_of};
 ghost use Rattle.subsumption.specs.Inner.Names.{Firsts};
-ghost use Rattle.subsumption.specs.Inner.Settling.{Settleable, Descended, Ascended, chooseFrom};
+ghost use Rattle.subsumption.specs.Inner.Settling.{Settleable, Descended, Ascended, choose_from};
 ghost use Rattle.subsumption.specs.Inner.Closure.{SettlePass};
-ghost use Rattle.subsumption.specs.Inner.Sizes.{columnsSize};
+ghost use Rattle.subsumption.specs.Inner.Sizes.{columns_size};
 
 use crate::closure::columns::{fill, flow, gather, mark, meet, spread};
 
@@ -18,11 +18,11 @@ pub fn descend(
     j: usize,
 ) -> bool
     requires settleable { Settleable concepts.now atoms.now assignment.now }
-    requires columns_len { length columns.old ≡ columnsSize }
+    requires columns_len { length columns.old ≡ columns_size }
     requires j_bound { j < count_of concepts.now }
-    ensures { SettlePass (before concepts) (chooseFrom (before atoms) (before assignment))
-        (Descended (before concepts) (chooseFrom (before atoms) (before assignment)) j)
-        (before columns) (after columns) result }
+    ensures { SettlePass concepts.now (choose_from atoms.now assignment.now)
+        (Descended concepts.now (choose_from atoms.now assignment.now) j)
+        columns.old columns.new result }
 {
     let at = j * 3;
     let kind = concepts[at];
@@ -53,11 +53,11 @@ pub fn ascend(
 ) -> bool
     requires settleable { Settleable concepts.now atoms.now assignment.now }
     requires firsts { Firsts concepts.now firsts.now }
-    requires columns_len { length columns.old ≡ columnsSize }
+    requires columns_len { length columns.old ≡ columns_size }
     requires j_bound { j < count_of concepts.now }
-    ensures { SettlePass (before concepts) (chooseFrom (before atoms) (before assignment))
-        (Ascended (before concepts) (before firsts) (chooseFrom (before atoms) (before assignment)) j)
-        (before columns) (after columns) result }
+    ensures { SettlePass concepts.now (choose_from atoms.now assignment.now)
+        (Ascended concepts.now firsts.now (choose_from atoms.now assignment.now) j)
+        columns.old columns.new result }
 {
     let at = j * 3;
     let kind = concepts[at];

@@ -1,5 +1,5 @@
 use native.Mathlib.Omega.{arith}
-use Rattle.subsumption.proofs.Accepted.{wellFormed}
+use Rattle.subsumption.proofs.Accepted.{well_formed}
 use Rattle.allowance.proofs.AnswerLaws.{buffer-refuses, counted-filled, counted-spent, counted_none}
 use Rattle.allowance.proofs.find.find_set.Statement.{statement}
 use Rattle.allowance.proofs.find.find_set.Tie as tie
@@ -14,7 +14,7 @@ walk-known-requires : tie.Need-walk-known-requires
 walk-known-requires c κs = c.before.before.before.before.before.before.before.before.before.requires
 
 write-choice-requires : tie.Need-write-choice-requires
-write-choice-requires c κs = ((wellFormed _ c.before.before.before.before.before.before.before.before.before.before.before.before.before.requires.0.passed).few-variables, c.before.before.before.before.if1.false)
+write-choice-requires c κs = ((well_formed _ c.before.before.before.before.before.before.before.before.before.before.before.before.before.requires.0.passed).few-variables, c.before.before.before.before.if1.false)
 
 same_length : tie.Need-same-length
 same_length c = omega arith

@@ -1,6 +1,6 @@
 use mathlib.Core.Path.{refl, ◌∙◌}
 use native.Mathlib.Omega.{arith}
-use Rattle.subsumption.proofs.Accepted.{wellFormed}
+use Rattle.subsumption.proofs.Accepted.{well_formed}
 use Rattle.settings.proofs.SettingsLaws.{settings-long}
 use Rattle.matching.proofs.SearchLaws.Problem.{shaped-kept}
 use Rattle.matching.proofs.WithinLaws.{written-long, written-front}
@@ -21,7 +21,7 @@ slice-aggregate-put-counts : tie.Need-slice-aggregate-put-counts
 slice-aggregate-put-counts c = omega arith
 
 put-counts-requires : tie.Need-put-counts-requires
-put-counts-requires c κs = (c.before.before.before.make-problem.ensures.0.numbers.long, omega (arith, (settings-long _ _ c.before.before.before.before.before.before.before.before.before.before.before.before.before.requires.1).1, (wellFormed _ c.before.before.before.before.before.before.before.before.before.before.before.before.before.requires.0.passed).few-variables))
+put-counts-requires c κs = (c.before.before.before.make-problem.ensures.0.numbers.long, omega (arith, (settings-long _ _ c.before.before.before.before.before.before.before.before.before.before.before.before.before.requires.1).1, (well_formed _ c.before.before.before.before.before.before.before.before.before.before.before.before.before.requires.0.passed).few-variables))
 
 slice-aggregate-put-asked : tie.Need-slice-aggregate-put-asked
 slice-aggregate-put-asked c = omega arith
@@ -30,7 +30,7 @@ put-asked-requires : tie.Need-put-asked-requires
 put-asked-requires c κs = c.before.before.put-counts.ensures.long ∙ c.before.before.before.before.before.before.make-problem.ensures.0.numbers.long
 
 load-permitted-requires : tie.Need-load-permitted-requires
-load-permitted-requires c κs = omega (arith, (settings-long _ _ c.before.before.before.before.before.before.before.before.before.before.before.before.before.before.before.before.before.before.requires.1).0, (wellFormed _ c.before.before.before.before.before.before.before.before.before.before.before.before.before.before.before.before.before.before.requires.0.passed).few-variables)
+load-permitted-requires c κs = omega (arith, (settings-long _ _ c.before.before.before.before.before.before.before.before.before.before.before.before.before.before.before.before.before.before.requires.1).0, (well_formed _ c.before.before.before.before.before.before.before.before.before.before.before.before.before.before.before.before.before.before.requires.0.passed).few-variables)
 
 mul-pairs : tie.Need-overflow-mul-pairs
 mul-pairs c = omega (arith, pairs-few _ _ c.before.before.before.before.before.before.before.before.before.before.before.before.before.before.before.before.before.before.before.requires.0, ids-few _ _ c.before.before.before.before.before.before.before.before.before.before.before.before.before.before.before.before.before.before.before.requires.0)

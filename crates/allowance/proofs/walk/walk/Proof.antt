@@ -5,7 +5,7 @@ use native.Mathlib.Omega.{arith}
 use lib.ListN.{length, replicate}
 use Rattle.allowance.proofs.OrderLaws.{ahead}
 use Rattle.allowance.proofs.KeptLaws.{kept-none}
-use Rattle.allowance.proofs.WalkLaws.{readOff, Standing, standing-none, leave-standing, leave-read, leave-less, next-has, next-standing, next-read, next-less, Goes, goes_none, goes-leave, goes-next, walked-spent, walked-found, walked_none}
+use Rattle.allowance.proofs.WalkLaws.{read_off, Standing, standing-none, leave-standing, leave-read, leave-less, next-has, next-standing, next-read, next-less, Goes, goes_none, goes-leave, goes-next, walked-spent, walked-found, walked_none}
 use Rattle.allowance.proofs.walk.walk.Statement.{statement}
 use Rattle.allowance.proofs.walk.walk.Tie as tie
 
@@ -16,7 +16,7 @@ invariant-loop sets problem permitted count pairs allowance scratch₀ kept₀ p
 
 abbrev decreases-loop : tie.decreases-loop
 decreases-loop sets problem permitted count pairs allowance scratch₀ kept₀ place₀ met₀ scratch kept place met =
-    ahead (pairs - place.settled) (readOff count place.low place.settled)
+    ahead (pairs - place.settled) (read_off count place.low place.settled)
 
 loop-holds : tie.Need-loop-init invariant-loop decreases-loop
 loop-holds c = (standing-none _ _ _ c.before.before.requires.1.0, omega arith, refl, refl, goes_none _ _ _ _ _ _ (replicate 8 0) kept-none)

@@ -1,6 +1,6 @@
 use native.Mathlib.Omega.{arith}
 use native.Mathlib.Nat.{mul-le-mul_right}
-use Rattle.allowance.specs.Find.{countedReply}
+use Rattle.allowance.specs.Find.{counted_reply}
 use Rattle.batches.proofs.FindLaws.{finds-at}
 use Rattle.batches.proofs.find.find_at.Statement.{statement}
 use Rattle.batches.proofs.find.find_at.Tie as tie
@@ -36,7 +36,7 @@ same_length : tie.Need-same-length
 same_length c = omega arith
 
 returns : tie.Need-returns
-returns c = finds-at _ _ _ _ _ _ _ (countedReply c.before.before.find-all-permitted.result) c.before.before.before.before.before.least.ensures c.before.before.before.before.least2.ensures c.before.before.find-all-permitted.auto.1.1.1.1.1.1.0 c.before.before.find-all-permitted.ensures
+returns c = finds-at _ _ _ _ _ _ _ (counted_reply c.before.before.find-all-permitted.result) c.before.before.before.before.before.least.ensures c.before.before.before.before.least2.ensures c.before.before.find-all-permitted.auto.1.1.1.1.1.1.0 c.before.before.find-all-permitted.ensures
 
 pub find-at-spec : {M : Type 1} → statement M
 find-at-spec =

@@ -3,14 +3,14 @@ use mathlib.Core.Path.{refl, sym}
 use native.Mathlib.Omega.{arith}
 use Rattle.subsumption.specs.Tables.{count_of}
 use Rattle.subsumption.specs.Table.{marked}
-use Rattle.countermodel.specs.Inner.Show.{linksOf}
+use Rattle.countermodel.specs.Inner.Show.{links_of}
 use Rattle.countermodel.proofs.PuttingLaws.{JoinedTo, joined-none, joined-more, joined-done}
 use Rattle.countermodel.proofs.elements.put_links.Statement.{statement}
 use Rattle.countermodel.proofs.elements.put_links.Tie as tie
 
 abbrev invariant-loop : tie.invariant-loop
 invariant-loop concepts roles table at out₀ into count end₀ i₀ out end i =
-    (i ≤ count_of concepts) × (end ≤ at + i * 76800) × JoinedTo (linksOf concepts roles (marked table)) out₀ at i end out
+    (i ≤ count_of concepts) × (end ≤ at + i * 76800) × JoinedTo (links_of concepts roles (marked table)) out₀ at i end out
 
 abbrev decreases-loop : tie.decreases-loop
 decreases-loop concepts roles table at out₀ into count end₀ i₀ out end i = count_of concepts - i

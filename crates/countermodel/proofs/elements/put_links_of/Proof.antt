@@ -3,7 +3,7 @@ use mathlib.Core.Path.{◌≡◌, refl, ◌∙◌}
 use native.Mathlib.Omega.{arith}
 use lib.ListN.{length}
 use Rattle.subsumption.specs.Table.{marked}
-use Rattle.countermodel.specs.Inner.Show.{ForRoles, linksBy}
+use Rattle.countermodel.specs.Inner.Show.{ForRoles, links_by}
 use Rattle.countermodel.proofs.PuttingLaws.{JoinedTo, joined-none, joined-more, joined-skip, joined-done}
 use Rattle.countermodel.proofs.UsedLaws.{no-links}
 use Rattle.countermodel.proofs.elements.put_links_of.Statement.{statement}
@@ -11,7 +11,7 @@ use Rattle.countermodel.proofs.elements.put_links_of.Tie as tie
 
 abbrev invariant-loop : tie.invariant-loop
 invariant-loop concepts into table i at out₀ used end₀ s₀ out end s =
-    (s ≤ 100) × (end ≤ at + s * 768) × (length out ≡ length out₀) × ForRoles into (λ roles. JoinedTo (linksBy concepts roles (marked table) i) out₀ at s end out)
+    (s ≤ 100) × (end ≤ at + s * 768) × (length out ≡ length out₀) × ForRoles into (λ roles. JoinedTo (links_by concepts roles (marked table) i) out₀ at s end out)
 
 abbrev decreases-loop : tie.decreases-loop
 decreases-loop concepts into table i at out₀ used end₀ s₀ out end s = 100 - s

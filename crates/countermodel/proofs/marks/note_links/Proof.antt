@@ -5,7 +5,7 @@ use lib.ListN.{length, length-set}
 use borrow.Author.Tests.{not-true, not-false}
 use Rattle.subsumption.specs.Tables.{count_of}
 use Rattle.subsumption.specs.Table.{marked}
-use Rattle.countermodel.specs.Countermodel.{leadsTo}
+use Rattle.countermodel.specs.Countermodel.{leads_to}
 use Rattle.countermodel.specs.Inner.Show.{ForRoles}
 use Rattle.countermodel.proofs.NotingLaws.{NotedTo, none-length, noted-none, noted-silent, noted-unmarked, noted_more, not-linked, not_wider, linked, role-low, inner-low, links-done}
 use Rattle.countermodel.proofs.marks.note_links.Statement.{statement}
@@ -13,7 +13,7 @@ use Rattle.countermodel.proofs.marks.note_links.Tie as tie
 
 abbrev invariant-loop : tie.invariant-loop
 invariant-loop concepts into table i role links₀ count j₀ links j =
-    (length links ≡ 192) × ForRoles into (λ roles. NotedTo 192 (leadsTo roles role) concepts (marked table) i links j)
+    (length links ≡ 192) × ForRoles into (λ roles. NotedTo 192 (leads_to roles role) concepts (marked table) i links j)
 
 abbrev decreases-loop : tie.decreases-loop
 decreases-loop concepts into table i role links₀ count j₀ links j = count_of concepts - j

@@ -2,13 +2,13 @@ use Prim.Native.Nat.{◌-◌}
 use native.Mathlib.Omega.{arith}
 use Rattle.subsumption.specs.Tables.{count_of}
 use Rattle.subsumption.specs.Table.{marked}
-use Rattle.countermodel.specs.Countermodel.{isNamed}
+use Rattle.countermodel.specs.Countermodel.{is_named}
 use Rattle.countermodel.proofs.NotingLaws.{NotedTo, none-length, noted-none, noted-silent, noted-unmarked, noted_more, not_named, named, name-low, names-done}
 use Rattle.countermodel.proofs.marks.note_names.Statement.{statement}
 use Rattle.countermodel.proofs.marks.note_names.Tie as tie
 
 abbrev invariant-loop : tie.invariant-loop
-invariant-loop concepts table i names₀ count j₀ names j = NotedTo 1000 isNamed concepts (marked table) i names j
+invariant-loop concepts table i names₀ count j₀ names j = NotedTo 1000 is_named concepts (marked table) i names j
 
 abbrev decreases-loop : tie.decreases-loop
 decreases-loop concepts table i names₀ count j₀ names j = count_of concepts - j

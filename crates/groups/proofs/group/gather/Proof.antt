@@ -3,7 +3,7 @@ use mathlib.Core.Path.{sym, ap, ◌∙◌}
 use mathlib.Core.Logic.{⊎_elim}
 use native.Mathlib.Omega.{arith}
 use lib.ListN.{get_or}
-use Rattle.subsumption.specs.Tables.{pairsOf}
+use Rattle.subsumption.specs.Tables.{pairs_of}
 use Rattle.groups.specs.Inner.Group.{set_at, belongs}
 use Rattle.groups.proofs.GroupLaws.{Gathered, gathered_none, gathered-past, gathered-more}
 use Rattle.groups.proofs.group.gather.Statement.{statement}
@@ -13,7 +13,7 @@ abbrev invariant-loop : tie.invariant-loop
 invariant-loop sets questions reached count group₀ n₀ group n = Gathered (set_at (λ i. get_or sets i 0) questions) reached n group
 
 abbrev decreases-loop : tie.decreases-loop
-decreases-loop sets questions reached count group₀ n₀ group n = pairsOf questions - n
+decreases-loop sets questions reached count group₀ n₀ group n = pairs_of questions - n
 
 loop-holds : tie.Need-loop-init invariant-loop decreases-loop
 loop-holds c = gathered_none _ _

@@ -1,6 +1,6 @@
 use native.Mathlib.Omega.{arith}
 use mathlib.Core.Path.{refl}
-use Rattle.subsumption.proofs.Accepted.{table-concepts, concepts-layered, few-numbers, wellFormed}
+use Rattle.subsumption.proofs.Accepted.{table-concepts, concepts-layered, few-numbers, well_formed}
 use Rattle.groups.proofs.GroupLaws.{sets-known, group-set}
 use Rattle.groups.proofs.group.group_of.Statement.{statement}
 use Rattle.groups.proofs.group.group_of.Tie as tie
@@ -23,7 +23,7 @@ slice-aggregate-gather : tie.Need-slice-aggregate-gather
 slice-aggregate-gather c = omega arith
 
 gather-requires : tie.Need-gather-requires
-gather-requires c κs = (sets-known _ c.before.before.before.before.before.before.before.before.before.before.before.requires.0.passed _ c.before.before.before.before.write-sets.ensures, (wellFormed _ c.before.before.before.before.before.before.before.before.before.before.before.requires.0.passed).few-questions)
+gather-requires c κs = (sets-known _ c.before.before.before.before.before.before.before.before.before.before.before.requires.0.passed _ c.before.before.before.before.write-sets.ensures, (well_formed _ c.before.before.before.before.before.before.before.before.before.before.before.requires.0.passed).few-questions)
 
 returns : tie.Need-returns
 returns c = group-set _ c.before.before.before.before.before.before.before.before.before.before.before.before.requires.0.passed _ c.before.before.before.before.before.write-sets.ensures _ _ _ c.before.before.before.before.before.before.before.before.before.before.before.before.requires.1 c.before.before.reach.ensures c.gather.ensures

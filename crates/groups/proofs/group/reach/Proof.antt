@@ -2,7 +2,7 @@ use Prim.Native.Nat.{◌-◌, ◌≤◌}
 use mathlib.Core.Path.{◌≡◌}
 use native.Mathlib.Omega.{arith}
 use lib.ListN.{get_or}
-use Rattle.subsumption.specs.Tables.{pairsOf}
+use Rattle.subsumption.specs.Tables.{pairs_of}
 use Rattle.groups.specs.Inner.Group.{set_at, sweeps}
 use Rattle.groups.proofs.GroupLaws.{sweeps-next}
 use Rattle.groups.proofs.group.reach.Statement.{statement}
@@ -11,7 +11,7 @@ use Rattle.groups.proofs.group.reach.Tie as tie
 abbrev invariant-loop : tie.invariant-loop
 invariant-loop sets questions m reached₀ walk₀ reached walk =
     (walk ≤ 8)
-    × (reached ≡ sweeps (set_at (λ i. get_or sets i 0) questions) (pairsOf questions) walk (set_at (λ i. get_or sets i 0) questions m))
+    × (reached ≡ sweeps (set_at (λ i. get_or sets i 0) questions) (pairs_of questions) walk (set_at (λ i. get_or sets i 0) questions m))
 
 abbrev decreases-loop : tie.decreases-loop
 decreases-loop sets questions m reached₀ walk₀ reached walk = 8 - walk

@@ -3,7 +3,7 @@ use mathlib.Core.Path.{◌≡◌, refl, ◌∙◌}
 use mathlib.Core.Logic.{⊎_elim}
 use native.Mathlib.Omega.{arith}
 use lib.ListN.{get_or}
-use Rattle.subsumption.specs.Tables.{pairsOf}
+use Rattle.subsumption.specs.Tables.{pairs_of}
 use Rattle.groups.specs.Inner.Group.{set_at, swept}
 use Rattle.groups.proofs.GroupLaws.{swept-meeting, swept-apart}
 use Rattle.groups.proofs.group.sweep.Statement.{statement}
@@ -11,10 +11,10 @@ use Rattle.groups.proofs.group.sweep.Tie as tie
 
 abbrev invariant-loop : tie.invariant-loop
 invariant-loop sets questions from count reached₀ m₀ reached m =
-    (m ≤ pairsOf questions) × (reached ≡ swept (set_at (λ i. get_or sets i 0) questions) m from)
+    (m ≤ pairs_of questions) × (reached ≡ swept (set_at (λ i. get_or sets i 0) questions) m from)
 
 abbrev decreases-loop : tie.decreases-loop
-decreases-loop sets questions from count reached₀ m₀ reached m = pairsOf questions - m
+decreases-loop sets questions from count reached₀ m₀ reached m = pairs_of questions - m
 
 loop-holds : tie.Need-loop-init invariant-loop decreases-loop
 unfolding swept
@@ -38,7 +38,7 @@ loop-again c = (
 
 returns : tie.Need-returns invariant-loop decreases-loop
 returns c =
-    let e : c.before.loop.m ≡ pairsOf c.before.before.before.before.args.questions.now = omega (arith, c.before.loop.invariant.0) in
+    let e : c.before.loop.m ≡ pairs_of c.before.before.before.before.args.questions.now = omega (arith, c.before.loop.invariant.0) in
     rw (← e) c.before.loop.invariant.1
 
 pub sweep-spec : {M : Type 1} → statement M

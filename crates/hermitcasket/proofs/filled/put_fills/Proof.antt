@@ -2,13 +2,13 @@ use Prim.Native.Nat.{◌-◌, ◌≤◌}
 use native.Mathlib.Omega.{arith}
 use Rattle.subsumption.specs.Tables.{tables}
 use Rattle.numerals.proofs.PieceLaws.{Printed, printed-none}
-use Rattle.hermitcasket.proofs.FillLaws.{fillsLeft, fill-room, fills-more, fills-done}
+use Rattle.hermitcasket.proofs.FillLaws.{fills_left, fill-room, fills-more, fills-done}
 use Rattle.hermitcasket.proofs.filled.put_fills.Statement.{statement}
 use Rattle.hermitcasket.proofs.filled.put_fills.Tie as tie
 use Rattle.hermitcasket.proofs.filled.put_variable.Reads as put-variable-reads
 
 abbrev invariant-loop : tie.invariant-loop
-invariant-loop concepts inclusions questions roles variables assignment at out₀ end₀ k₀ out end k = (k ≤ variables) × Printed (fillsLeft (tables concepts inclusions questions roles variables) assignment) out₀ at out end k
+invariant-loop concepts inclusions questions roles variables assignment at out₀ end₀ k₀ out end k = (k ≤ variables) × Printed (fills_left (tables concepts inclusions questions roles variables) assignment) out₀ at out end k
 
 abbrev decreases-loop : tie.decreases-loop
 decreases-loop concepts inclusions questions roles variables assignment at out₀ end₀ k₀ out end k = variables - k

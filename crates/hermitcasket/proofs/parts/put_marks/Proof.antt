@@ -1,12 +1,12 @@
 use Prim.Native.Nat.{◌-◌}
 use native.Mathlib.Omega.{arith}
 use Rattle.numerals.proofs.PieceLaws.{Printed, printed-none}
-use Rattle.hermitcasket.proofs.MarkLines.{marksLeft, marks-room, marks-set, marks-unset, marks-done}
+use Rattle.hermitcasket.proofs.MarkLines.{marks_left, marks-room, marks-set, marks-unset, marks-done}
 use Rattle.hermitcasket.proofs.parts.put_marks.Statement.{statement}
 use Rattle.hermitcasket.proofs.parts.put_marks.Tie as tie
 
 abbrev invariant-loop : tie.invariant-loop
-invariant-loop link i role marks count out₀ end₀ q₀ out end q = Printed (marksLeft link i role marks count) out₀ 0 out end q
+invariant-loop link i role marks count out₀ end₀ q₀ out end q = Printed (marks_left link i role marks count) out₀ 0 out end q
 
 abbrev decreases-loop : tie.decreases-loop
 decreases-loop link i role marks count out₀ end₀ q₀ out end q = count - q

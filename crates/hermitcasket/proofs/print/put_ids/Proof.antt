@@ -2,12 +2,12 @@ use Prim.Native.Nat.{◌-◌, ◌≤◌}
 use native.Mathlib.Omega.{arith}
 use lib.ListN.{length}
 use Rattle.numerals.proofs.PieceLaws.{Printed, printed-none, piece-room, printed-more}
-use Rattle.hermitcasket.proofs.FillLaws.{idsLeft, ids_next, ids-done}
+use Rattle.hermitcasket.proofs.FillLaws.{ids_left, ids_next, ids-done}
 use Rattle.hermitcasket.proofs.print.put_ids.Statement.{statement}
 use Rattle.hermitcasket.proofs.print.put_ids.Tie as tie
 
 abbrev invariant-loop : tie.invariant-loop
-invariant-loop ids at out₀ end₀ i₀ out end i = (i ≤ length ids) × Printed (idsLeft ids) out₀ at out end i
+invariant-loop ids at out₀ end₀ i₀ out end i = (i ≤ length ids) × Printed (ids_left ids) out₀ at out end i
 
 abbrev decreases-loop : tie.decreases-loop
 decreases-loop ids at out₀ end₀ i₀ out end i = length ids - i

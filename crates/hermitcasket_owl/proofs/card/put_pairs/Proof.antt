@@ -1,14 +1,14 @@
 use Prim.Native.Nat.{◌+◌, ◌-◌, ◌*◌}
 use mathlib.Core.Path.{◌≡◌, refl}
 use native.Mathlib.Omega.{arith}
-use Rattle.subsumption.specs.Tables.{pairsOf}
+use Rattle.subsumption.specs.Tables.{pairs_of}
 use Rattle.numerals.proofs.PieceLaws.{Printed, printed-none}
-use Rattle.hermitcasket_owl.proofs.CardLaws.{pairsLeft, pair-room, pair-more, pairs-done}
+use Rattle.hermitcasket_owl.proofs.CardLaws.{pairs_left, pair-room, pair-more, pairs-done}
 use Rattle.hermitcasket_owl.proofs.card.put_pairs.Statement.{statement}
 use Rattle.hermitcasket_owl.proofs.card.put_pairs.Tie as tie
 
 abbrev invariant-loop : tie.invariant-loop
-invariant-loop inclusions at out₀ count end₀ i₀ t9 out end i = (count ≡ pairsOf inclusions) × Printed (pairsLeft inclusions) out₀ at out end i
+invariant-loop inclusions at out₀ count end₀ i₀ t9 out end i = (count ≡ pairs_of inclusions) × Printed (pairs_left inclusions) out₀ at out end i
 
 abbrev decreases-loop : tie.decreases-loop
 decreases-loop inclusions at out₀ count end₀ i₀ t9 out end i = count - i

@@ -3,12 +3,12 @@ use mathlib.Core.Path.{◌≡◌, refl}
 use native.Mathlib.Omega.{arith}
 use Rattle.subsumption.specs.Tables.{count_of}
 use Rattle.numerals.proofs.PieceLaws.{Printed, printed-none}
-use Rattle.hermitcasket_owl.proofs.CardLaws.{rowsLeft, row_room, row_more, rows-done}
+use Rattle.hermitcasket_owl.proofs.CardLaws.{rows_left, row_room, row_more, rows-done}
 use Rattle.hermitcasket_owl.proofs.card.put_rows.Statement.{statement}
 use Rattle.hermitcasket_owl.proofs.card.put_rows.Tie as tie
 
 abbrev invariant-loop : tie.invariant-loop
-invariant-loop concepts at out₀ count end₀ i₀ out end i = (count ≡ count_of concepts) × Printed (rowsLeft concepts) out₀ at out end i
+invariant-loop concepts at out₀ count end₀ i₀ out end i = (count ≡ count_of concepts) × Printed (rows_left concepts) out₀ at out end i
 
 abbrev decreases-loop : tie.decreases-loop
 decreases-loop concepts at out₀ count end₀ i₀ out end i = count - i

@@ -2,7 +2,7 @@ use borrow.Author.Rules.{rules}
 use native.Mathlib.Omega.{arith}
 use Rattle.incremental.proofs.ClosingLaws.{Rounding, rounding-first, rounding-turn, rounding-less, rounding-done}
 use Rattle.subsumption.proofs.Closing.{weight}
-use Rattle.subsumption.specs.Inner.Settling.{chooseFrom}
+use Rattle.subsumption.specs.Inner.Settling.{choose_from}
 use Rattle.subsumption.specs.Inner.Roles.{in_set}
 use Rattle.subsumption.specs.Inner.Columns.{slack}
 use lib.ListN.{length}
@@ -14,7 +14,7 @@ use Rattle.incremental.proofs.closing.round.Reads as round-reads
 use Rattle.incremental.proofs.order.note_order.Reads as note-order-reads
 
 abbrev invariant-loop : tie.invariant-loop
-invariant-loop concepts inclusions atoms choices chain idle into outer inners roles square₀ order busy₀ square busy = (length order ≡ 192) × Rounding concepts inclusions (in_set into) (chooseFrom atoms choices) square₀ square busy
+invariant-loop concepts inclusions atoms choices chain idle into outer inners roles square₀ order busy₀ square busy = (length order ≡ 192) × Rounding concepts inclusions (in_set into) (choose_from atoms choices) square₀ square busy
 
 abbrev decreases-loop : tie.decreases-loop
 decreases-loop concepts inclusions atoms choices chain idle into outer inners roles square₀ order busy₀ square busy = slack square + weight busy

@@ -1,6 +1,6 @@
 use native.Mathlib.Omega.{arith}
 use Rattle.incremental.proofs.IncludingLaws.{LeftTo, left-first, left-more, left-done}
-use Rattle.subsumption.specs.Tables.{pairsOf}
+use Rattle.subsumption.specs.Tables.{pairs_of}
 use Prim.Native.Nat.{◌-◌, ◌+◌, ◌*◌}
 use Rattle.incremental.proofs.including.include_left.Statement.{statement}
 use Rattle.incremental.proofs.including.include_left.Tie as tie
@@ -11,7 +11,7 @@ abbrev invariant-loop : tie.invariant-loop
 invariant-loop inclusions chain count square₀ done covered₀ i l pairs changed₀ m₀ square covered changed m = LeftTo count inclusions done i l square₀ covered₀ m covered square changed
 
 abbrev decreases-loop : tie.decreases-loop
-decreases-loop inclusions chain count square₀ done covered₀ i l pairs changed₀ m₀ square covered changed m = pairsOf inclusions - m
+decreases-loop inclusions chain count square₀ done covered₀ i l pairs changed₀ m₀ square covered changed m = pairs_of inclusions - m
 
 mul-m : tie.Need-overflow-mul-m invariant-loop decreases-loop
 mul-m c = omega arith

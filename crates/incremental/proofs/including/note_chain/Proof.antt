@@ -6,20 +6,20 @@ use mathlib.Core.Path.{ap}
 use native.Mathlib.Omega.{arith}
 use Rattle.incremental.proofs.ChainLaws.{chain-none, chain_more, chain-all}
 use Rattle.incremental.specs.Inner.Including.{ChainTo}
-use Rattle.subsumption.specs.Tables.{pairsOf}
+use Rattle.subsumption.specs.Tables.{pairs_of}
 use mathlib.Core.Path.{subst, sym}
 use Prim.Native.Nat.{◌-◌, ◌≤◌, ◌*◌}
 use Rattle.incremental.proofs.including.note_chain.Statement.{statement}
 use Rattle.incremental.proofs.including.note_chain.Tie as tie
 
 abbrev invariant-loop : tie.invariant-loop
-invariant-loop inclusions chain₀ m₀ chain m = (m ≤ pairsOf inclusions) × ChainTo inclusions chain m
+invariant-loop inclusions chain₀ m₀ chain m = (m ≤ pairs_of inclusions) × ChainTo inclusions chain m
 
 abbrev decreases-loop : tie.decreases-loop
 decreases-loop inclusions chain₀ m₀ chain m = m
 
 loop-holds : tie.Need-loop-init invariant-loop decreases-loop
-loop-holds c = (omega arith, subst (λ z. ChainTo c.args.inclusions.now z (pairsOf c.args.inclusions.now)) (sym c.requires.1) (chain-none _ c.requires.0.few))
+loop-holds c = (omega arith, subst (λ z. ChainTo c.args.inclusions.now z (pairs_of c.args.inclusions.now)) (sym c.requires.1) (chain-none _ c.requires.0.few))
 
 sub-m : tie.Need-overflow-sub-m invariant-loop decreases-loop
 sub-m c = omega arith

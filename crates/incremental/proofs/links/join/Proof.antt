@@ -1,7 +1,7 @@
 use native.Mathlib.Omega.{arith}
 use Rattle.incremental.proofs.LinkLaws.{Joining, joining-first, joining-low, joining-more, joining-done}
 use Rattle.square.proofs.BitLaws.{rest-less}
-use Rattle.incremental.specs.Inner.Marking.{inThree}
+use Rattle.incremental.specs.Inner.Marking.{InThree}
 use lib.Count.{trailing_le}
 use lib.Bits.{and_le_r}
 use Prim.Native.Nat.{◌-◌}
@@ -9,7 +9,7 @@ use Rattle.incremental.proofs.links.join.Statement.{statement}
 use Rattle.incremental.proofs.links.join.Tie as tie
 
 abbrev invariant-loop : tie.invariant-loop
-invariant-loop sets from word first₀ second₀ third₀ rest₀ first second third rest = Joining sets from word (inThree first₀ second₀ third₀) rest first second third
+invariant-loop sets from word first₀ second₀ third₀ rest₀ first second third rest = Joining sets from word (InThree first₀ second₀ third₀) rest first second third
 
 abbrev decreases-loop : tie.decreases-loop
 decreases-loop sets from word first₀ second₀ third₀ rest₀ first second third rest = rest

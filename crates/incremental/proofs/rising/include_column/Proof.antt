@@ -3,7 +3,7 @@ use borrow.Author.Rules.{rules}
 use mathlib.Core.Path.{sym, ◌∙◌}
 use borrow.Author.Tests.{not-false}
 use Prim.Native.Nat.{◌-◌, ◌+◌, ◌*◌}
-use Rattle.subsumption.specs.Tables.{pairsOf}
+use Rattle.subsumption.specs.Tables.{pairs_of}
 use Rattle.incremental.specs.Inner.Rising.{ColumnGains}
 use Rattle.incremental.proofs.RisingLaws.{gains-first, gains-more}
 use Rattle.incremental.proofs.rising.include_column.Statement.{statement}
@@ -17,7 +17,7 @@ abbrev invariant-loop : tie.invariant-loop
 invariant-loop inclusions count square₀ j pairs changed₀ m₀ square changed m = ColumnGains count inclusions square₀ square changed
 
 abbrev decreases-loop : tie.decreases-loop
-decreases-loop inclusions count square₀ j pairs changed₀ m₀ square changed m = pairsOf inclusions - m
+decreases-loop inclusions count square₀ j pairs changed₀ m₀ square changed m = pairs_of inclusions - m
 
 -- src/rising.rt:31:5
 loop-holds : tie.Need-loop-init invariant-loop decreases-loop

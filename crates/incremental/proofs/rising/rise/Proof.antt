@@ -2,7 +2,7 @@ use native.Mathlib.Omega.{arith}
 use Prim.Native.Nat.{◌-◌}
 use Rattle.subsumption.specs.Tables.{count_of}
 use Rattle.subsumption.specs.Inner.Roles.{in_set}
-use Rattle.subsumption.specs.Inner.Settling.{chooseFrom}
+use Rattle.subsumption.specs.Inner.Settling.{choose_from}
 use Rattle.incremental.proofs.RisingLaws.{RisenTo, risen-first, risen-next, risen-done}
 use Rattle.incremental.proofs.rising.rise.Statement.{statement}
 use Rattle.incremental.proofs.rising.rise.Tie as tie
@@ -12,7 +12,7 @@ use Rattle.incremental.proofs.rising.rise_column.Reads as rise-column-reads
 
 abbrev invariant-loop : tie.invariant-loop
 invariant-loop concepts inclusions atoms choices into outer inners roles square₀ count changed₀ j₀ square changed j =
-    RisenTo concepts inclusions (in_set into) (chooseFrom atoms choices) j square₀ square changed
+    RisenTo concepts inclusions (in_set into) (choose_from atoms choices) j square₀ square changed
 
 abbrev decreases-loop : tie.decreases-loop
 decreases-loop concepts inclusions atoms choices into outer inners roles square₀ count changed₀ j₀ square changed j =

@@ -2,7 +2,7 @@ use native.Mathlib.Omega.{arith}
 use Prim.Native.Nat.{◌-◌, ◌*◌}
 use mathlib.Core.Path.{sym, ◌∙◌}
 use Rattle.subsumption.specs.Tables.{count_of}
-use Rattle.subsumption.specs.Inner.Settling.{chooseFrom}
+use Rattle.subsumption.specs.Inner.Settling.{choose_from}
 use Rattle.incremental.proofs.RowsLaws.{RowsTo, rows-first, rows-skip, rows_more, rows-done}
 use Rattle.incremental.proofs.rows.close_rows.Statement.{statement}
 use Rattle.incremental.proofs.rows.close_rows.Tie as tie
@@ -14,7 +14,7 @@ use Rattle.square.proofs.helpers.insert.Reads as insert-reads
 use Rattle.incremental.proofs.settling.settle_row.Reads as settle-row-reads
 
 abbrev invariant-loop : tie.invariant-loop
-invariant-loop concepts inclusions atoms choices chain idle order square₀ count done₀ changed₀ hint₀ n₀ square done changed hint n = RowsTo concepts inclusions (chooseFrom atoms choices) square₀ n done hint square changed
+invariant-loop concepts inclusions atoms choices chain idle order square₀ count done₀ changed₀ hint₀ n₀ square done changed hint n = RowsTo concepts inclusions (choose_from atoms choices) square₀ n done hint square changed
 
 abbrev decreases-loop : tie.decreases-loop
 decreases-loop concepts inclusions atoms choices chain idle order square₀ count done₀ changed₀ hint₀ n₀ square done changed hint n = count_of concepts * 2 - n

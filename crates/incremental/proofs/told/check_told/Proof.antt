@@ -1,8 +1,8 @@
 use native.Mathlib.Omega.{arith}
 use Rattle.incremental.proofs.ToldLaws.{told-ragged, told-even}
-use Rattle.incremental.specs.Inner.Told.{badPair}
+use Rattle.incremental.specs.Inner.Told.{bad_pair}
 use Rattle.subsumption.proofs.Scans.{Scan, scan-none, scan-more, scan-found, scan-done}
-use Rattle.subsumption.specs.Tables.{pairsOf, left_of, rightOf}
+use Rattle.subsumption.specs.Tables.{pairs_of, left_of, right_of}
 use Rattle.subsumption.specs.declared.refusal.Refusal.TheVariants.{BadAssignment}
 use lib.ListN.{length}
 use mathlib.Core.Path.{◌≡◌, sym, ◌∙◌}
@@ -12,10 +12,10 @@ use Rattle.incremental.proofs.told.check_told.Tie as tie
 use Rattle.incremental.proofs.told.is_bad.Reads as is-bad-reads
 
 abbrev invariant-loop : tie.invariant-loop
-invariant-loop atoms variables told pairs m₀ m = (length told % 2 ≡ 0) × Scan BadAssignment (λ n. badPair atoms variables (left_of told n) (rightOf told n)) (pairsOf told) m
+invariant-loop atoms variables told pairs m₀ m = (length told % 2 ≡ 0) × Scan BadAssignment (λ n. bad_pair atoms variables (left_of told n) (right_of told n)) (pairs_of told) m
 
 abbrev decreases-loop : tie.decreases-loop
-decreases-loop atoms variables told pairs m₀ m = pairsOf told - m
+decreases-loop atoms variables told pairs m₀ m = pairs_of told - m
 
 returns : tie.Need-returns invariant-loop decreases-loop
 returns c = told-ragged _ _ _ c.if1.true

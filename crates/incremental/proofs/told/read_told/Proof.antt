@@ -1,7 +1,7 @@
 use native.Mathlib.Omega.{arith}
 use Rattle.incremental.proofs.ToldLaws.{told_none, read_low, told_more, told-done}
 use Rattle.incremental.specs.Inner.Told.{ToldTo}
-use Rattle.subsumption.specs.Tables.{pairsOf}
+use Rattle.subsumption.specs.Tables.{pairs_of}
 use lib.ListN.{length}
 use mathlib.Core.Path.{ap}
 use Prim.Native.Nat.{◌-◌, ◌*◌}
@@ -13,7 +13,7 @@ abbrev invariant-loop : tie.invariant-loop
 invariant-loop atoms told choices₀ pairs m₀ choices m = ToldTo atoms told m choices
 
 abbrev decreases-loop : tie.decreases-loop
-decreases-loop atoms told choices₀ pairs m₀ choices m = pairsOf told - m
+decreases-loop atoms told choices₀ pairs m₀ choices m = pairs_of told - m
 
 loop-holds : tie.Need-loop-init invariant-loop decreases-loop
 loop-holds c = told_none _ _ c.before.before.before.requires.0 _ c.before.before.before.requires.1

@@ -11,10 +11,10 @@ use borrow.Author.Tests.{eq-eqb, ne_eqb, eqb-true, lt-ltb, le-ltb}
 use Rattle.subsumption.specs.Tables.{or, both}
 use Rattle.subsumption.specs.Inner.Roles.{in_set}
 use Rattle.subsumption.proofs.Bools.{or-first, or-second, or-skip, or_cases, both-none, both-skip, both-second, both-intro, same_bool, le-or-lt, eq-or-ne}
-use Rattle.square.specs.Inner.Square.{onLine}
+use Rattle.square.specs.Inner.Square.{on_line}
 use Rattle.square.specs.Inner.Sets.{Inserted}
-use Rattle.matching.specs.Inner.Search.Problem.{fitAt, counting}
-use Rattle.matching.specs.Inner.Search.Making.{kind_at, first_at, Outside, Filled, fits_by, isOpen, fitsIn, FitsNoted, isCloser}
+use Rattle.matching.specs.Inner.Search.Problem.{fit_at, counting}
+use Rattle.matching.specs.Inner.Search.Making.{kind_at, first_at, Outside, Filled, fits_by, is_open_at, fits_in, FitsNoted, is_closer}
 
 -- ---- one line
 or_assoc : (a b c : Bool) → or a (or b c) ≡ or (or a b) c
@@ -28,13 +28,13 @@ filled_none at sets = record { long = refl; here = λ q l. refl; there = λ x q 
 
 pub filled-as : (at : ℕ) (f g : ℕ → Bool) (a b : List ℕ) → ((q : ℕ) → f q ≡ g q) → Filled at f a b → Filled at g a b
 filled-as at f g a b e F =
-    record { long = F.long; here = λ q l. F.here q l ∙ ap (λ (z : Bool). or z (onLine a at q)) (e q); there = F.there }
+    record { long = F.long; here = λ q l. F.here q l ∙ ap (λ (z : Bool). or z (on_line a at q)) (e q); there = F.there }
 
 pub filled-then : (at : ℕ) (f g : ℕ → Bool) (a b c : List ℕ) → Filled at f a b → Filled at g b c → Filled at (λ q. or (g q) (f q)) a c
 filled-then at f g a b c F G =
     record {
       long = G.long ∙ F.long;
-      here = λ q l. G.here q l ∙ ap (or (g q)) (F.here q l) ∙ or_assoc (g q) (f q) (onLine a at q);
+      here = λ q l. G.here q l ∙ ap (or (g q)) (F.here q l) ∙ or_assoc (g q) (f q) (on_line a at q);
       there = λ x q l o. G.there x q l o ∙ F.there x q l o;
     }
 
@@ -44,10 +44,10 @@ filled-one at y a b I =
       long = I.long;
       here =
           λ q l.
-          same_bool (onLine b at q) (or (eqb q y) (onLine a at q))
+          same_bool (on_line b at q) (or (eqb q y) (on_line a at q))
           (λ u. ⊎_elim (λ v. or-second (eqb q y) _ v) (λ v. or-first (eqb q y) _ (eq-eqb q y v)) (I.bits q l u))
           (λ u.
-          ⊎_elim (λ v. subst (λ (z : ℕ). onLine b at z ≡ true) (sym (eqb-true q y v)) I.taken) (λ v. I.kept at q v)
+          ⊎_elim (λ v. subst (λ (z : ℕ). on_line b at z ≡ true) (sym (eqb-true q y v)) I.taken) (λ v. I.kept at q v)
           (or_cases (eqb q y) _ u));
       there = I.there;
     }
@@ -92,16 +92,16 @@ module _ (at : ℕ) (test : ℕ → Bool) where
 
 -- ---- the tests
 module _ (problem : List ℕ) (e : ℕ) where
-  pub closer-held : get_or problem (576 + e) 0 ≡ 1 → false ≡ isCloser problem e
-  unfolding isCloser
+  pub closer-held : get_or problem (576 + e) 0 ≡ 1 → false ≡ is_closer problem e
+  unfolding is_closer
   closer-held h = sym (both-none _ _ (ap not (eq-eqb _ 1 h)))
 
-  pub closer-top : (get_or problem (576 + e) 0 ≡ 1 → ⊥) → kind_at problem e ≡ 0 → true ≡ isCloser problem e
-  unfolding isCloser
+  pub closer-top : (get_or problem (576 + e) 0 ≡ 1 → ⊥) → kind_at problem e ≡ 0 → true ≡ is_closer problem e
+  unfolding is_closer
   closer-top n h = sym (both-intro _ _ (ap not (ne_eqb _ 1 n)) (or-first _ _ (eq-eqb _ 0 h)))
 
-  pub closer-and : (get_or problem (576 + e) 0 ≡ 1 → ⊥) → (kind_at problem e ≡ 0 → ⊥) → eqb (kind_at problem e) 3 ≡ isCloser problem e
-  unfolding isCloser
+  pub closer-and : (get_or problem (576 + e) 0 ≡ 1 → ⊥) → (kind_at problem e ≡ 0 → ⊥) → eqb (kind_at problem e) 3 ≡ is_closer problem e
+  unfolding is_closer
   closer-and n h = sym (both-skip _ _ (ap not (ne_eqb _ 1 n)) ∙ or-skip _ _ (ne_eqb _ 0 h))
 
   module _ (into : List ℕ) (right : Bool) (j : ℕ) where
@@ -122,15 +122,15 @@ module _ (problem : List ℕ) (e : ℕ) where
         ∙ sym (both-skip _ _ (eq-eqb _ 2 h) ∙ both-skip _ _ (ap not (ne_eqb _ 1 n)))
 
 -- ---- the lines of the existentials that fit
-pub fit-room : (right : Bool) (j : ℕ) → j < 192 → fitAt right j + 3 ≤ 2304
+pub fit-room : (right : Bool) (j : ℕ) → j < 192 → fit_at right j + 3 ≤ 2304
 fit-room true j l = omega arith
 fit-room false j l = omega arith
 
-fits-apart : (right : Bool) (j k : ℕ) → j < k → fitAt right j + 3 ≤ fitAt right k
+fits-apart : (right : Bool) (j k : ℕ) → j < k → fit_at right j + 3 ≤ fit_at right k
 fits-apart true j k l = omega arith
 fits-apart false j k l = omega arith
 
-fits-inside : (right : Bool) (k : ℕ) → k < 192 → (fitAt right 0 ≤ fitAt right k) × (fitAt right k + 3 ≤ fitAt right 192)
+fits-inside : (right : Bool) (k : ℕ) → k < 192 → (fit_at right 0 ≤ fit_at right k) × (fit_at right k + 3 ≤ fit_at right 192)
 fits-inside true k l = (omega arith, omega arith)
 fits-inside false k l = (omega arith, omega arith)
 
@@ -139,9 +139,9 @@ module _ (problem into : List ℕ) (count : ℕ) (right : Bool) (before : List �
     pub within : k ≤ count
     pub long : length after ≡ length before
     pub done :
-        (j q : ℕ) → j < k → q < 192 → onLine after (fitAt right j) q ≡ or (fitsIn problem into count right j q) (onLine before (fitAt right j) q)
-    pub rest : (j q : ℕ) → k ≤ j → j < 192 → q < 192 → onLine after (fitAt right j) q ≡ onLine before (fitAt right j) q
-    pub there : Outside (fitAt right 0) (fitAt right 192) before after
+        (j q : ℕ) → j < k → q < 192 → on_line after (fit_at right j) q ≡ or (fits_in problem into count right j q) (on_line before (fit_at right j) q)
+    pub rest : (j q : ℕ) → k ≤ j → j < 192 → q < 192 → on_line after (fit_at right j) q ≡ on_line before (fit_at right j) q
+    pub there : Outside (fit_at right 0) (fit_at right 192) before after
 
   pub fits-none : FitsTo 0 before
   fits-none =
@@ -154,8 +154,8 @@ module _ (problem into : List ℕ) (count : ℕ) (right : Bool) (before : List �
       }
 
   module _ (k : ℕ) (mid : List ℕ) (few : count ≤ 192) (F : FitsTo k mid) (low : k < count) where
-    pub fits-skip : isOpen problem k ≡ false → FitsTo (k + 1) mid
-    unfolding fitsIn
+    pub fits-skip : is_open_at problem k ≡ false → FitsTo (k + 1) mid
+    unfolding fits_in
     fits-skip n =
         record {
           within = omega arith;
@@ -165,18 +165,18 @@ module _ (problem into : List ℕ) (count : ℕ) (right : Bool) (before : List �
               ⊎_elim
               (λ (u : j ≡ k).
               F.rest j q (omega arith) (omega arith) h
-              ∙ sym (or-skip _ _ (both-none _ _ (subst (λ (z : ℕ). isOpen problem z ≡ false) (sym u) n))))
+              ∙ sym (or-skip _ _ (both-none _ _ (subst (λ (z : ℕ). is_open_at problem z ≡ false) (sym u) n))))
               (λ (u : j ≡ k → ⊥). F.done j q (omega arith) h) (eq-or-ne j k);
           rest = λ j q l h m. F.rest j q (omega arith) h m;
           there = F.there;
         }
 
-    module _ (after : List ℕ) (G : Filled (fitAt right k) (up_to (fits_by problem into right k) count) mid after) (open-one : isOpen problem k ≡ true) where
-      own : (q : ℕ) → q < 192 → onLine after (fitAt right k) q ≡ or (fitsIn problem into count right k q) (onLine before (fitAt right k) q)
-      unfolding fitsIn
+    module _ (after : List ℕ) (G : Filled (fit_at right k) (up_to (fits_by problem into right k) count) mid after) (open-one : is_open_at problem k ≡ true) where
+      own : (q : ℕ) → q < 192 → on_line after (fit_at right k) q ≡ or (fits_in problem into count right k q) (on_line before (fit_at right k) q)
+      unfolding fits_in
       own q l =
           G.here q l ∙ ap (or (up_to (fits_by problem into right k) count q)) (F.rest k q (omega arith) (omega arith) l)
-          ∙ ap (λ (z : Bool). or z (onLine before (fitAt right k) q)) (sym (both-skip _ _ open-one))
+          ∙ ap (λ (z : Bool). or z (on_line before (fit_at right k) q)) (sym (both-skip _ _ open-one))
 
       pub fits_more : FitsTo (k + 1) after
       fits_more =
@@ -187,30 +187,30 @@ module _ (problem into : List ℕ) (count : ℕ) (right : Bool) (before : List �
                 λ j q l h.
                 ⊎_elim
                 (λ (u : j ≡ k).
-                subst (λ (z : ℕ). onLine after (fitAt right z) q ≡ or (fitsIn problem into count right z q) (onLine before (fitAt right z) q)) (sym u) (own q h))
-                (λ (u : j ≡ k → ⊥). G.there (fitAt right j) q h (inl (fits-apart right j k (omega arith))) ∙ F.done j q (omega arith) h)
+                subst (λ (z : ℕ). on_line after (fit_at right z) q ≡ or (fits_in problem into count right z q) (on_line before (fit_at right z) q)) (sym u) (own q h))
+                (λ (u : j ≡ k → ⊥). G.there (fit_at right j) q h (inl (fits-apart right j k (omega arith))) ∙ F.done j q (omega arith) h)
                 (eq-or-ne j k);
             rest =
-                λ j q l h m. G.there (fitAt right j) q m (inr (fits-apart right k j (omega arith))) ∙ F.rest j q (omega arith) h m;
+                λ j q l h m. G.there (fit_at right j) q m (inr (fits-apart right k j (omega arith))) ∙ F.rest j q (omega arith) h m;
             there =
                 λ x q l o.
                 G.there x q l
-                (⊎_elim (λ (u : x + 3 ≤ fitAt right 0). inl (omega (arith, (fits-inside right k (omega arith)).0)))
-                (λ (u : fitAt right 192 ≤ x). inr (omega (arith, (fits-inside right k (omega arith)).1))) o)
+                (⊎_elim (λ (u : x + 3 ≤ fit_at right 0). inl (omega (arith, (fits-inside right k (omega arith)).0)))
+                (λ (u : fit_at right 192 ≤ x). inr (omega (arith, (fits-inside right k (omega arith)).1))) o)
                 ∙ F.there x q l o;
           }
 
   pub fits-done : (k : ℕ) (after : List ℕ) → count ≤ k → FitsTo k after → FitsNoted problem into count right before after
   fits-done k after h F = record { long = F.long; here = λ j q l m. F.done j q (omega arith) m; there = F.there }
 
-pub open-held : (problem : List ℕ) (j : ℕ) → kind_at problem j ≡ 2 → get_or problem (576 + j) 0 ≡ 1 → isOpen problem j ≡ true
-unfolding isOpen
+pub open-held : (problem : List ℕ) (j : ℕ) → kind_at problem j ≡ 2 → get_or problem (576 + j) 0 ≡ 1 → is_open_at problem j ≡ true
+unfolding is_open_at
 open-held problem j h e = both-intro _ _ (eq-eqb _ 2 h) (eq-eqb _ 1 e)
 
-pub open-other : (problem : List ℕ) (j : ℕ) → (kind_at problem j ≡ 2 → ⊥) → isOpen problem j ≡ false
-unfolding isOpen
+pub open-other : (problem : List ℕ) (j : ℕ) → (kind_at problem j ≡ 2 → ⊥) → is_open_at problem j ≡ false
+unfolding is_open_at
 open-other problem j n = both-none _ _ (ne_eqb _ 2 n)
 
-pub open_free : (problem : List ℕ) (j : ℕ) → (get_or problem (576 + j) 0 ≡ 1 → ⊥) → isOpen problem j ≡ false
-unfolding isOpen
+pub open_free : (problem : List ℕ) (j : ℕ) → (get_or problem (576 + j) 0 ≡ 1 → ⊥) → is_open_at problem j ≡ false
+unfolding is_open_at
 open_free problem j n = both-second (eqb (kind_at problem j) 2) _ (ne_eqb _ 1 n)

@@ -10,20 +10,20 @@ use lib.ListN.{length, get_or, set, length-set, replicate, get_or-replicate}
 use lib.Seq.{get_or-set_same, get_or-set_other}
 use mir.Val.{bool_byte}
 use borrow.Author.Tests.{eqb-true, not-false}
-use Rattle.subsumption.specs.Tables.{Tables, node, decode, count_of, pairsOf, left_of, rightOf}
+use Rattle.subsumption.specs.Tables.{Tables, node, decode, count_of, pairs_of, left_of, right_of}
 use Rattle.subsumption.specs.Atoms.{atoms}
-use Rattle.subsumption.specs.Check.{malformedRow, malformed, malformedFault, conceptFault}
+use Rattle.subsumption.specs.Check.{malformed_row, malformed, malformed_fault, concept_fault}
 use Rattle.subsumption.specs.Inner.Tables.{Rising}
-use Rattle.subsumption.specs.Inner.Atoms.{Layered, markAt, VariableMarks}
+use Rattle.subsumption.specs.Inner.Atoms.{Layered, mark_at, VariableMarks}
 use Rattle.subsumption.specs.Inner.Listing.{Accepted}
 use Rattle.subsumption.proofs.Bools.{or-false, le-or-lt, eq-or-ne}
 use Rattle.subsumption.proofs.Refusals.{passed_first, passed-second, passed-at}
 use Rattle.subsumption.proofs.Nodes.{node-exists, node-and, node-var}
 use Rattle.subsumption.proofs.WellFormed.{WellFormed}
-use Rattle.subsumption.proofs.Accepted.{wellFormed, table-concepts, concepts-layered}
+use Rattle.subsumption.proofs.Accepted.{well_formed, table-concepts, concepts-layered}
 use Rattle.subsumption.proofs.AtomLaws.{atom-known}
-use Rattle.subsumption.proofs.Chosen.{getD-member}
-use Rattle.matching.specs.Inner.Search.Problem.{held_at, atomAt, left_at, rightAt, inner_at, Numbers}
+use Rattle.subsumption.proofs.Chosen.{get_or-member}
+use Rattle.matching.specs.Inner.Search.Problem.{held_at, atom_at, left_at, right_at, inner_at, Numbers}
 use Rattle.matching.specs.Inner.Search.Making.{CopiedAt, HeldNoted, HintsNoted, NumbersOf, kind_at, first_at, Readable}
 
 -- ---- a copy
@@ -74,7 +74,7 @@ module _ (marks : List Bool) (before : List ℕ) where
   pub record HeldTo (n : ℕ) (after : List ℕ) : Type 0 where
     pub within : n ≤ 192
     pub long : length after ≡ length before
-    pub here : (i : ℕ) → i < n → held_at after i ≡ markAt marks i
+    pub here : (i : ℕ) → i < n → held_at after i ≡ mark_at marks i
     pub there : (p : ℕ) → (p < 576) ⊎ (576 + n ≤ p) → get_or after p 0 ≡ get_or before p 0
 
   pub held_none : HeldTo 0 before
@@ -172,17 +172,17 @@ pub accepted-layered : (t : Tables) (ids : List ℕ) → Accepted t ids → Laye
 accepted-layered t ids A = concepts-layered t (table-concepts t A.passed)
 
 pub few-asked : (t : Tables) (ids : List ℕ) → Accepted t ids → length t.questions ≤ 64
-few-asked t ids A = omega (arith, (wellFormed t A.passed).even-questions, (wellFormed t A.passed).few-questions)
+few-asked t ids A = omega (arith, (well_formed t A.passed).even-questions, (well_formed t A.passed).few-questions)
 
 pub few-listed : (t : Tables) (ids : List ℕ) → Accepted t ids → length ids ≤ 64
-few-listed t ids A = subst (λ (z : List ℕ). length z ≤ 64) (sym A.listed) (wellFormed t A.passed).few-atoms
+few-listed t ids A = subst (λ (z : List ℕ). length z ≤ 64) (sym A.listed) (well_formed t A.passed).few-atoms
 
 pub problem-long : (problem : List ℕ) → problem ≡ replicate 971 0 → length problem ≡ 971
 problem-long problem e = ap length e
 
 -- ---- rows of accepted tables
-kind-bound : (v k a b : ℕ) → malformedRow v k a b ≡ false → k < 5
-unfolding malformedRow
+kind-bound : (v k a b : ℕ) → malformed_row v k a b ≡ false → k < 5
+unfolding malformed_row
 kind-bound v zero a b h = omega arith
 kind-bound v (suc zero) a b h = omega arith
 kind-bound v (suc (suc zero)) a b h = omega arith
@@ -190,8 +190,8 @@ kind-bound v (suc (suc (suc zero))) a b h = omega arith
 kind-bound v (suc (suc (suc (suc zero)))) a b h = omega arith
 kind-bound v (suc (suc (suc (suc (suc k))))) a b h = absurd (true≢false h)
 
-second-bound : (v i k a b : ℕ) → malformedRow v k a b ≡ false → Rising i (decode k a b) → i < 192 → b < 192
-unfolding malformedRow decode
+second-bound : (v i k a b : ℕ) → malformed_row v k a b ≡ false → Rising i (decode k a b) → i < 192 → b < 192
+unfolding malformed_row decode
 second-bound v i zero a b h r l = omega (arith, eqb-true b 0 (not-false _ (or-false _ _ h).1))
 second-bound v i (suc zero) a b h r l = omega (arith, eqb-true b 0 (not-false _ (or-false _ _ h).1))
 second-bound v i (suc (suc zero)) a b h r l = omega arith
@@ -204,10 +204,10 @@ module _ (t : Tables) (ids problem : List ℕ) (A : Accepted t ids) (N : Numbers
   count = count_of t.concepts
 
   pub formed : WellFormed t
-  formed = wellFormed t A.passed
+  formed = well_formed t A.passed
 
-  row-passed : (i : ℕ) → i < count → malformedRow t.variables (get_or t.concepts (i * 3) 0) (get_or t.concepts (i * 3 + 1) 0) (get_or t.concepts (i * 3 + 2) 0) ≡ false
-  unfolding conceptFault malformedFault malformed
+  row-passed : (i : ℕ) → i < count → malformed_row t.variables (get_or t.concepts (i * 3) 0) (get_or t.concepts (i * 3 + 1) 0) (get_or t.concepts (i * 3 + 2) 0) ≡ false
+  unfolding concept_fault malformed_fault malformed
   row-passed i l =
       passed-at _ (malformed t.concepts t.variables) 0 _ (passed_first _ _ (passed-second _ _ (table-concepts t A.passed))) i (omega arith) (omega arith)
 
@@ -253,32 +253,32 @@ module _ (t : Tables) (ids problem : List ℕ) (A : Accepted t ids) (N : Numbers
       ⊎_elim (λ h. absurd (omega (arith, past-kind i h l)))
       (λ h. omega (arith, formed.numbered i (first_at problem i) (sym (same-node i h) ∙ node-var problem i e), formed.few-variables)) (le-or-lt count i)
 
-  atoms-low : (q : ℕ) → q < 64 → atomAt problem q < 192
+  atoms-low : (q : ℕ) → q < 64 → atom_at problem q < 192
   atoms-low q l =
       ⊎_elim (λ h. omega (arith, N.no-atoms q h l))
       (λ h.
-      let u = atom-known t (get_or ids q 0) (subst (λ (z : List ℕ). Memᴰ (get_or ids q 0) z) A.listed (getD-member ids q h)) in
+      let u = atom-known t (get_or ids q 0) (subst (λ (z : List ℕ). Memᴰ (get_or ids q 0) z) A.listed (get_or-member ids q h)) in
       omega (arith, N.atoms q h, formed.few))
       (le-or-lt (length ids) q)
 
-  pub left-same : (m : ℕ) → m < pairsOf t.questions → left_at problem m ≡ left_of t.questions m
+  pub left-same : (m : ℕ) → m < pairs_of t.questions → left_at problem m ≡ left_of t.questions m
   left-same m l = N.sides (m * 2) (omega (arith, formed.even-questions))
 
-  pub right-same : (m : ℕ) → m < pairsOf t.questions → rightAt problem m ≡ rightOf t.questions m
+  pub right-same : (m : ℕ) → m < pairs_of t.questions → right_at problem m ≡ right_of t.questions m
   right-same m l = ap (λ (z : ℕ). get_or problem z 0) (omega arith) ∙ N.sides (m * 2 + 1) (omega (arith, formed.even-questions))
 
   left-low : (m : ℕ) → m < 32 → left_at problem m < 192
   left-low m l =
       ⊎_elim (λ h. omega (arith, N.no_sides (m * 2) (omega (arith, formed.even-questions)) (omega arith)))
-      (λ h. omega (arith, left-same m h, formed.question-left m h, formed.few)) (le-or-lt (pairsOf t.questions) m)
+      (λ h. omega (arith, left-same m h, formed.question-left m h, formed.few)) (le-or-lt (pairs_of t.questions) m)
 
-  right-low : (m : ℕ) → m < 32 → rightAt problem m < 192
+  right-low : (m : ℕ) → m < 32 → right_at problem m < 192
   right-low m l =
       ⊎_elim
       (λ h.
-      let u : rightAt problem m ≡ 0 = ap (λ (z : ℕ). get_or problem z 0) (omega arith) ∙ N.no_sides (m * 2 + 1) (omega (arith, formed.even-questions)) (omega arith) in
+      let u : right_at problem m ≡ 0 = ap (λ (z : ℕ). get_or problem z 0) (omega arith) ∙ N.no_sides (m * 2 + 1) (omega (arith, formed.even-questions)) (omega arith) in
       omega arith)
-      (λ h. omega (arith, right-same m h, formed.question-right m h, formed.few)) (le-or-lt (pairsOf t.questions) m)
+      (λ h. omega (arith, right-same m h, formed.question-right m h, formed.few)) (le-or-lt (pairs_of t.questions) m)
 
   pub numbers : Numbers problem
   numbers =

@@ -2,7 +2,7 @@ use borrow.Author.Rules.{rules}
 use mathlib.Core.Path.{sym, ap, ◌∙◌}
 use Rattle.subsumption.specs.declared.refusal.Code.{Code}
 use Rattle.matching.specs.declared.chosen.Chosen.{Chosen}
-use Rattle.matching.specs.Inner.Chosen.{toldOf}
+use Rattle.matching.specs.Inner.Chosen.{told_of}
 use Rattle.matching.proofs.chosen.tell.Statement.{statement}
 use Rattle.matching.proofs.chosen.tell.Tie as tie
 
@@ -16,12 +16,12 @@ code-of-requires : tie.Need-code-of-requires
 code-of-requires c κs = search rules
 
 returns : tie.Need-returns
-returns c = ap (λ (z : Chosen). toldOf z c.before.before.before.args.size) (sym c.before.answer.given.1)
+returns c = ap (λ (z : Chosen). told_of z c.before.before.before.args.size) (sym c.before.answer.given.1)
 
 returns-2 : tie.Need-returns-2
 returns-2 c =
     ap (λ (z : Code). record { number = z.number; place = z.place; count = c.before.before.before.before.args.size }) c.code_of_lem.ensures
-    ∙ ap (λ (z : Chosen). toldOf z c.before.before.before.before.args.size) (sym c.before.before.answer2.given.1)
+    ∙ ap (λ (z : Chosen). told_of z c.before.before.before.before.args.size) (sym c.before.before.answer2.given.1)
 
 pub tell-spec : {M : Type 1} → statement M
 tell-spec =

@@ -3,9 +3,9 @@ use native.Mathlib.Omega.{arith}
 use lib.ListN.{replicate}
 use lib.Seq.{length-take-le}
 use Rattle.subsumption.proofs.ListingLaws.{tables-rejected, tables-listed, tables-few}
-use Rattle.subsumption.proofs.Accepted.{wellFormed}
+use Rattle.subsumption.proofs.Accepted.{well_formed}
 use Rattle.matching.proofs.FindLaws.{tables-refuse, finds-all}
-use Rattle.matching.specs.Find.{matchReply}
+use Rattle.matching.specs.Find.{match_reply}
 use Rattle.matching.proofs.find.find_assignment.Statement.{statement}
 use Rattle.matching.proofs.find.find_assignment.Tie as tie
 
@@ -31,16 +31,16 @@ slice-aggregate-find-known : tie.Need-slice-aggregate-find-known
 slice-aggregate-find-known c = sym (length-take-le _ _ (omega (arith, tables-few _ (replicate 64 0) _ c.before.before.before.before.before.before.list-atoms.result refl c.before.before.before.before.before.before.list-atoms.ensures.replied c.before.before.before.before.before.before.list-atoms.ensures.written _ c.before.before.before.listed2.given.1, c.before.before.before.before.before.before.list-atoms.auto.1.1.1.1.1.0)))
 
 array-share-prefix-all : tie.Need-array-share-prefix-all
-array-share-prefix-all c = omega (arith, c.before.all-atoms.ensures.long, (wellFormed _ (tables-listed _ (replicate 64 0) _ c.before.before.before.before.before.before.list-atoms.result refl c.before.before.before.before.before.before.list-atoms.ensures.replied c.before.before.before.before.before.before.list-atoms.ensures.written _ c.before.before.before.listed2.given.1).passed).few-variables)
+array-share-prefix-all c = omega (arith, c.before.all-atoms.ensures.long, (well_formed _ (tables-listed _ (replicate 64 0) _ c.before.before.before.before.before.before.list-atoms.result refl c.before.before.before.before.before.before.list-atoms.ensures.replied c.before.before.before.before.before.before.list-atoms.ensures.written _ c.before.before.before.listed2.given.1).passed).few-variables)
 
 slice-aggregate-find-known-2 : tie.Need-slice-aggregate-find-known-2
-slice-aggregate-find-known-2 c = sym (length-take-le _ _ (omega (arith, c.before.before.all-atoms.ensures.long, (wellFormed _ (tables-listed _ (replicate 64 0) _ c.before.before.before.before.before.before.before.list-atoms.result refl c.before.before.before.before.before.before.before.list-atoms.ensures.replied c.before.before.before.before.before.before.before.list-atoms.ensures.written _ c.before.before.before.before.listed2.given.1).passed).few-variables)))
+slice-aggregate-find-known-2 c = sym (length-take-le _ _ (omega (arith, c.before.before.all-atoms.ensures.long, (well_formed _ (tables-listed _ (replicate 64 0) _ c.before.before.before.before.before.before.before.list-atoms.result refl c.before.before.before.before.before.before.before.list-atoms.ensures.replied c.before.before.before.before.before.before.before.list-atoms.ensures.written _ c.before.before.before.before.listed2.given.1).passed).few-variables)))
 
 array-share-prefix-most : tie.Need-array-share-prefix-most
-array-share-prefix-most c = (wellFormed _ (tables-listed _ (replicate 64 0) _ c.before.before.before.before.before.before.before.list-atoms.result refl c.before.before.before.before.before.before.before.list-atoms.ensures.replied c.before.before.before.before.before.before.before.list-atoms.ensures.written _ c.before.before.before.before.listed2.given.1).passed).few-variables
+array-share-prefix-most c = (well_formed _ (tables-listed _ (replicate 64 0) _ c.before.before.before.before.before.before.before.list-atoms.result refl c.before.before.before.before.before.before.before.list-atoms.ensures.replied c.before.before.before.before.before.before.before.list-atoms.ensures.written _ c.before.before.before.before.listed2.given.1).passed).few-variables
 
 slice-aggregate-find-known-3 : tie.Need-slice-aggregate-find-known-3
-slice-aggregate-find-known-3 c = sym (length-take-le _ (replicate 8 64) (wellFormed _ (tables-listed _ (replicate 64 0) _ c.before.before.before.before.before.before.before.before.list-atoms.result refl c.before.before.before.before.before.before.before.before.list-atoms.ensures.replied c.before.before.before.before.before.before.before.before.list-atoms.ensures.written _ c.before.before.before.before.before.listed2.given.1).passed).few-variables)
+slice-aggregate-find-known-3 c = sym (length-take-le _ (replicate 8 64) (well_formed _ (tables-listed _ (replicate 64 0) _ c.before.before.before.before.before.before.before.before.list-atoms.result refl c.before.before.before.before.before.before.before.before.list-atoms.ensures.replied c.before.before.before.before.before.before.before.before.list-atoms.ensures.written _ c.before.before.before.before.before.listed2.given.1).passed).few-variables)
 
 find-known-requires : tie.Need-find-known-requires
 find-known-requires c κs = tables-listed _ (replicate 64 0) _ c.before.before.before.before.before.before.before.before.before.list-atoms.result refl c.before.before.before.before.before.before.before.before.before.list-atoms.ensures.replied c.before.before.before.before.before.before.before.before.before.list-atoms.ensures.written _ c.before.before.before.before.before.before.listed2.given.1
@@ -52,7 +52,7 @@ same_length : tie.Need-same-length
 same_length c = omega arith
 
 returns-2 : tie.Need-returns-2
-returns-2 c = finds-all _ _ (tables-listed _ (replicate 64 0) _ c.before.before.before.before.before.before.before.before.before.before.before.before.list-atoms.result refl c.before.before.before.before.before.before.before.before.before.before.before.before.list-atoms.ensures.replied c.before.before.before.before.before.before.before.before.before.before.before.before.list-atoms.ensures.written _ c.before.before.before.before.before.before.before.before.before.listed2.given.1) _ (sym (length-take-le _ _ (omega (arith, tables-few _ (replicate 64 0) _ c.before.before.before.before.before.before.before.before.before.before.before.before.list-atoms.result refl c.before.before.before.before.before.before.before.before.before.before.before.before.list-atoms.ensures.replied c.before.before.before.before.before.before.before.before.before.before.before.before.list-atoms.ensures.written _ c.before.before.before.before.before.before.before.before.before.listed2.given.1, c.before.before.before.before.before.before.before.before.before.before.before.before.list-atoms.auto.1.1.1.1.1.0)))) _ c.before.before.before.before.before.before.before.all-atoms.ensures c.before.before.before.before.before.before.before.before.before.before.before.before.before.before.before.before.before.before.before.args.out.now c.before.before.find-known.new.1.1.1.1.1.1.1.1.1.0 (matchReply c.before.before.find-known.result) c.before.before.find-known.ensures
+returns-2 c = finds-all _ _ (tables-listed _ (replicate 64 0) _ c.before.before.before.before.before.before.before.before.before.before.before.before.list-atoms.result refl c.before.before.before.before.before.before.before.before.before.before.before.before.list-atoms.ensures.replied c.before.before.before.before.before.before.before.before.before.before.before.before.list-atoms.ensures.written _ c.before.before.before.before.before.before.before.before.before.listed2.given.1) _ (sym (length-take-le _ _ (omega (arith, tables-few _ (replicate 64 0) _ c.before.before.before.before.before.before.before.before.before.before.before.before.list-atoms.result refl c.before.before.before.before.before.before.before.before.before.before.before.before.list-atoms.ensures.replied c.before.before.before.before.before.before.before.before.before.before.before.before.list-atoms.ensures.written _ c.before.before.before.before.before.before.before.before.before.listed2.given.1, c.before.before.before.before.before.before.before.before.before.before.before.before.list-atoms.auto.1.1.1.1.1.0)))) _ c.before.before.before.before.before.before.before.all-atoms.ensures c.before.before.before.before.before.before.before.before.before.before.before.before.before.before.before.before.before.before.before.args.out.now c.before.before.find-known.new.1.1.1.1.1.1.1.1.1.0 (match_reply c.before.before.find-known.result) c.before.before.find-known.ensures
 
 pub find-assignment-spec : {M : Type 1} → statement M
 find-assignment-spec =

@@ -1,13 +1,13 @@
 use native.Mathlib.Omega.{arith}
 use mathlib.Core.Path.{sym, ap, ◌∙◌}
 use lib.ListN.{length}
-use Rattle.subsumption.proofs.Accepted.{wellFormed}
+use Rattle.subsumption.proofs.Accepted.{well_formed}
 use Rattle.matching.proofs.WithinLaws.{settings-known, settings-refuse}
 use Rattle.matching.proofs.within.find_known.Statement.{statement}
 use Rattle.matching.proofs.within.find_known.Tie as tie
 
 check-settings-requires : tie.Need-check-settings-requires
-check-settings-requires c κs = omega (arith, ap length c.before.before.before.before.before.before.before.before.requires.listed, (wellFormed _ c.before.before.before.before.before.before.before.before.requires.passed).few-atoms)
+check-settings-requires c κs = omega (arith, ap length c.before.before.before.before.before.before.before.before.requires.listed, (well_formed _ c.before.before.before.before.before.before.before.before.requires.passed).few-atoms)
 
 enum-known-checked : tie.Need-enum-known-checked
 enum-known-checked c = omega arith

@@ -1,6 +1,6 @@
 use native.Mathlib.Omega.{arith}
 use mathlib.Core.Path.{refl}
-use Rattle.subsumption.proofs.Accepted.{wellFormed}
+use Rattle.subsumption.proofs.Accepted.{well_formed}
 use Rattle.matching.proofs.WithinLaws.{buffer-refuses, finds-filled, finds-nothing}
 use Rattle.matching.proofs.within.find_set.Statement.{statement}
 use Rattle.matching.proofs.within.find_set.Tie as tie
@@ -12,7 +12,7 @@ find-first-requires : tie.Need-find-first-requires
 find-first-requires c κs = c.before.before.before.before.before.before.before.before.before.requires
 
 write-choice-requires : tie.Need-write-choice-requires
-write-choice-requires c κs = ((wellFormed _ c.before.before.before.before.before.before.before.before.before.before.before.before.before.requires.0.passed).few-variables, c.before.before.before.before.if1.false)
+write-choice-requires c κs = ((well_formed _ c.before.before.before.before.before.before.before.before.before.before.before.before.before.requires.0.passed).few-variables, c.before.before.before.before.if1.false)
 
 same_length : tie.Need-same-length
 same_length c = omega arith

@@ -3,7 +3,7 @@ use native.Mathlib.Omega.{arith}
 use lib.ListN.{replicate}
 use lib.Seq.{length-take-le}
 use Rattle.subsumption.proofs.ListingLaws.{tables-rejected, tables-listed, tables-few}
-use Rattle.matching.specs.Find.{matchReply}
+use Rattle.matching.specs.Find.{match_reply}
 use Rattle.matching.proofs.FindLaws.{all_asked}
 use Rattle.matching.proofs.WithinLaws.{tables-refuse, finds-within}
 use Rattle.matching.proofs.within.find_within.Statement.{statement}
@@ -37,7 +37,7 @@ same_length : tie.Need-same-length
 same_length c = omega arith
 
 returns-2 : tie.Need-returns-2
-returns-2 c = finds-within _ _ _ c.before.before.before.before.before.before.before.before.before.before.before.before.before.before.before.before.before.before.args.out.now c.before.before.find-known.new.1.1.1.1.1.1.1.1.1.0 (matchReply c.before.before.find-known.result) (all_asked _ (tables-listed _ (replicate 64 0) _ c.before.before.before.before.before.before.before.before.before.list-atoms.result refl c.before.before.before.before.before.before.before.before.before.list-atoms.ensures.replied c.before.before.before.before.before.before.before.before.before.list-atoms.ensures.written _ c.before.before.before.before.before.before.listed2.given.1).passed) c.before.before.find-known.ensures
+returns-2 c = finds-within _ _ _ c.before.before.before.before.before.before.before.before.before.before.before.before.before.before.before.before.before.before.args.out.now c.before.before.find-known.new.1.1.1.1.1.1.1.1.1.0 (match_reply c.before.before.find-known.result) (all_asked _ (tables-listed _ (replicate 64 0) _ c.before.before.before.before.before.before.before.before.before.list-atoms.result refl c.before.before.before.before.before.before.before.before.before.list-atoms.ensures.replied c.before.before.before.before.before.before.before.before.before.list-atoms.ensures.written _ c.before.before.before.before.before.before.listed2.given.1).passed) c.before.before.find-known.ensures
 
 pub find-within-spec : {M : Type 1} → statement M
 find-within-spec =

@@ -2,7 +2,7 @@
 use Rattle.std.specs.Prelude.{ℕ, ◌<◌, ◌≤◌, ◌/◌, ◌%◌, ◌≡◌, List, Bool, true, false, not, length, take}
 use Rattle.subsumption.specs.declared.refusal.Outcome.TheVariants.{Done}
 use Rattle.subsumption.specs.Tables.{Tables, both}
-use Rattle.subsumption.specs.Check.{assignmentFault}
+use Rattle.subsumption.specs.Check.{assignment_fault}
 use Rattle.matching.specs.declared.search.interval.Pick.{Pick}
 use Rattle.matching.specs.declared.search.interval.Pick.TheVariants.{At, Nothing}
 use Rattle.subsumption.specs.Table.{counted}
@@ -13,7 +13,7 @@ use Rattle.matching.specs.Inner.Search.{Within}
 pub record IntervalOf (t : Tables) (low high : List ℕ) : Type 0 where
   pub low-long : length low ≡ 8
   pub high-long : length high ≡ 8
-  pub accepted : assignmentFault t (take t.variables high) ≡ Done
+  pub accepted : assignment_fault t (take t.variables high) ≡ Done
   pub ordered : Within low high
   pub idle : (k q : ℕ) → t.variables ≤ k → takes high k q ≡ true → ⊥
 
@@ -22,8 +22,8 @@ unfoldable pub undecided : List ℕ → List ℕ → ℕ → Bool
 undecided low high p = both (takes high (p / 64) (p % 64)) (not (takes low (p / 64) (p % 64)))
 
 -- How many pairs are undecided.
-unfoldable pub openPairs : List ℕ → List ℕ → ℕ
-openPairs low high = counted (undecided low high) 512
+unfoldable pub open_pairs : List ℕ → List ℕ → ℕ
+open_pairs low high = counted (undecided low high) 512
 
 -- The first pair that may be taken or left, if there is one.
 abbrev pub Picked : List ℕ → List ℕ → Pick → Type 0

@@ -2,7 +2,7 @@
 use Rattle.std.specs.Prelude.{ℕ, ◌≡◌, List, take}
 use Rattle.subsumption.specs.declared.refusal.Outcome.TheVariants.{Done}
 use Rattle.subsumption.specs.Tables.{Tables}
-use Rattle.subsumption.specs.Check.{assignmentFault}
+use Rattle.subsumption.specs.Check.{assignment_fault}
 use Rattle.matching.specs.Among.{SolvesAmong}
 use Rattle.matching.specs.Inner.Search.{Within}
 use Rattle.matching.specs.Inner.Search.Problem.{Problem, AskedAt}
@@ -11,9 +11,9 @@ use Rattle.matching.specs.Inner.Search.Problem.{Problem, AskedAt}
 pub record Narrower (t : Tables) (problem before after : List ℕ) : Type 0 where
   pub fewer : Within after before
   pub all :
-      (other : List ℕ) → assignmentFault t other ≡ Done → SolvesAmong (AskedAt problem) t other → Within other (take t.variables before)
+      (other : List ℕ) → assignment_fault t other ≡ Done → SolvesAmong (AskedAt problem) t other → Within other (take t.variables before)
       → Within other (take t.variables after)
 
 abbrev pub Narrowed : List ℕ → List ℕ → List ℕ → List ℕ → Type 0
 Narrowed sets problem before after =
-    (t : Tables) → Problem t sets problem → assignmentFault t (take t.variables before) ≡ Done → Narrower t problem before after
+    (t : Tables) → Problem t sets problem → assignment_fault t (take t.variables before) ≡ Done → Narrower t problem before after

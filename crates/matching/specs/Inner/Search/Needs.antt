@@ -5,14 +5,14 @@ use Rattle.subsumption.specs.Atoms.{bit}
 use Rattle.matching.specs.Solving.{takes}
 use Rattle.matching.specs.Inner.Search.{Within}
 use Rattle.matching.specs.Inner.Search.Interval.{IntervalOf}
-use Rattle.matching.specs.Inner.Search.Nogoods.{lowAt, highAt, Nogoods}
+use Rattle.matching.specs.Inner.Search.Nogoods.{low_at, high_at, Nogoods}
 use Rattle.matching.specs.Inner.Search.Solve.{Refuted}
 
 -- The nogood at place c is around the low side and leaves out of the high one no more than these pairs of variable k, none of them
 -- met before.
 pub record Need (store : List ℕ) (c : ℕ) (high low : List ℕ) (k met wanted : ℕ) : Type 0 where
-  pub above : Within (lowAt store c) low
-  pub wants : (l q : ℕ) → takes high l q ≡ true → (takes (highAt store c) l q ≡ true) ⊎ ((l ≡ k) × (bit wanted q ≡ true))
+  pub above : Within (low_at store c) low
+  pub wants : (l q : ℕ) → takes high l q ≡ true → (takes (high_at store c) l q ≡ true) ⊎ ((l ≡ k) × (bit wanted q ≡ true))
   pub fresh : (q : ℕ) → bit wanted q ≡ true → bit met q ≡ false
 
 abbrev pub NeedAt : List ℕ → ℕ → List ℕ → List ℕ → ℕ → ℕ → ℕ → Type 0

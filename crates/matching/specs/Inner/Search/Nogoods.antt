@@ -9,11 +9,11 @@ words store at = take 8 (drop at store)
 abbrev pub used : List ℕ → ℕ
 used store = get_or store 0 0
 
-abbrev pub lowAt : List ℕ → ℕ → List ℕ
-lowAt store c = words store (c * 16 + 1)
+abbrev pub low_at : List ℕ → ℕ → List ℕ
+low_at store c = words store (c * 16 + 1)
 
-abbrev pub highAt : List ℕ → ℕ → List ℕ
-highAt store c = words store (c * 16 + 9)
+abbrev pub high_at : List ℕ → ℕ → List ℕ
+high_at store c = words store (c * 16 + 9)
 
 -- There is room for 1024.
 pub record Room (store : List ℕ) : Type 0 where
@@ -22,7 +22,7 @@ pub record Room (store : List ℕ) : Type 0 where
 
 pub record Nogoods (t : Tables) (problem store : List ℕ) : Type 0 where
   pub room : Room store
-  pub each : (c : ℕ) → c < used store → NoSolution t problem (lowAt store c) (highAt store c)
+  pub each : (c : ℕ) → c < used store → NoSolution t problem (low_at store c) (high_at store c)
 
 -- Eight numbers are written at a place.
 pub record Put (at : ℕ) (set before after : List ℕ) : Type 0 where
@@ -32,8 +32,8 @@ pub record Put (at : ℕ) (set before after : List ℕ) : Type 0 where
 
 -- An interval was there before, or it is the new one.
 abbrev pub Kept : List ℕ → List ℕ → ℕ → Type 0
-Kept before after c = (c < used before) × (lowAt after c ≡ lowAt before c) × (highAt after c ≡ highAt before c)
+Kept before after c = (c < used before) × (low_at after c ≡ low_at before c) × (high_at after c ≡ high_at before c)
 
 pub record Added (low high before after : List ℕ) : Type 0 where
   pub room : Room after
-  pub each : (c : ℕ) → c < used after → Kept before after c ⊎ ((lowAt after c ≡ low) × (highAt after c ≡ high))
+  pub each : (c : ℕ) → c < used after → Kept before after c ⊎ ((low_at after c ≡ low) × (high_at after c ≡ high))

@@ -2,7 +2,7 @@
 use Rattle.std.specs.Prelude.{ℕ, ◌≡◌, List, ◌⊎◌, take}
 use Rattle.subsumption.specs.declared.refusal.Outcome.TheVariants.{Done}
 use Rattle.subsumption.specs.Tables.{Tables}
-use Rattle.subsumption.specs.Check.{assignmentFault}
+use Rattle.subsumption.specs.Check.{assignment_fault}
 use Rattle.matching.specs.Solving.{Earlier}
 use Rattle.matching.specs.Inner.Search.{Between, Meets, SolutionIn}
 use Rattle.matching.specs.Inner.Search.Problem.{Problem}
@@ -13,7 +13,7 @@ use Rattle.matching.specs.Inner.Search.Nogoods.{Nogoods}
 pub record FirstIn (t : Tables) (problem low high choice : List ℕ) : Type 0 where
   pub solution : SolutionIn t problem low high choice
   pub first :
-      (other : List ℕ) → assignmentFault t other ≡ Done → Between (take t.variables low) (take t.variables high) other
+      (other : List ℕ) → assignment_fault t other ≡ Done → Between (take t.variables low) (take t.variables high) other
       → Meets t problem other
       → (other ≡ take t.variables choice) ⊎ Earlier (take t.variables choice) other
 

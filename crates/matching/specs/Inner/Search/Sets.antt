@@ -2,12 +2,12 @@
 use Rattle.std.specs.Prelude.{ℕ, ◌+◌, ◌<◌, ◌≤◌, ◌≡◌, List, [], ◌∷◌, Bool, true, false, ◌⊎◌, length, get_or}
 use Rattle.subsumption.specs.Tables.{or}
 use Rattle.subsumption.specs.Atoms.{bit}
-use Rattle.square.specs.Inner.Square.{onLine}
+use Rattle.square.specs.Inner.Square.{on_line}
 use Rattle.matching.specs.declared.search.sets.Words.{Words}
 
 -- c is in the three words
 abbrev pub in_words : Words → ℕ → Bool
-in_words w c = onLine (w.first ∷ w.second ∷ w.third ∷ []) 0 c
+in_words w c = on_line (w.first ∷ w.second ∷ w.third ∷ []) 0 c
 
 -- the lowest one of the word from a place on, or 64
 pub record NextBit (word from found : ℕ) : Type 0 where
@@ -20,12 +20,12 @@ pub record NextBit (word from found : ℕ) : Type 0 where
 pub record NextIn (sets : List ℕ) (at from found : ℕ) : Type 0 where
   pub after : from ≤ found
   pub within : found ≤ 192
-  pub here : found < 192 → onLine sets at found ≡ true
-  pub between : (k : ℕ) → from ≤ k → k < found → onLine sets at k ≡ false
+  pub here : found < 192 → on_line sets at found ≡ true
+  pub between : (k : ℕ) → from ≤ k → k < found → on_line sets at k ≡ false
 
 -- the three words are those of the set
 abbrev pub Same : Words → List ℕ → ℕ → Type 0
-Same w sets at = (c : ℕ) → c < 192 → in_words w c ≡ onLine sets at c
+Same w sets at = (c : ℕ) → c < 192 → in_words w c ≡ on_line sets at c
 
 -- no word is smaller
 pub record Grown (a r : Words) : Type 0 where

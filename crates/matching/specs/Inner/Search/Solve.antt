@@ -1,42 +1,42 @@
 -- What the steps of the search promise.
 use Rattle.std.specs.Prelude.{ℕ, ◌<◌, ◌≤◌, ◌≡◌, List, Bool, true, false, length, take}
 use Rattle.subsumption.specs.declared.refusal.Outcome.TheVariants.{Done}
-use Rattle.subsumption.specs.Tables.{Tables, pairsOf, rightOf, tree, hasVariable}
-use Rattle.subsumption.specs.Check.{assignmentFault}
+use Rattle.subsumption.specs.Tables.{Tables, pairs_of, right_of, tree, has_variable}
+use Rattle.subsumption.specs.Check.{assignment_fault}
 use Rattle.matching.specs.declared.search.solve.Step.{Step}
 use Rattle.matching.specs.Among.{SolvesAmong}
 use Rattle.matching.specs.Inner.Search.{HoldsAt, Within, SolutionIn, NoSolution}
 use Rattle.matching.specs.Inner.Search.Problem.{Problem, AskedAt}
 use Rattle.matching.specs.Inner.Search.Pairs.{Changed, Joined, Met}
 use Rattle.matching.specs.Inner.Search.Interval.{IntervalOf, undecided}
-use Rattle.matching.specs.Inner.Search.Nogoods.{used, lowAt, highAt, Nogoods, Room}
+use Rattle.matching.specs.Inner.Search.Nogoods.{used, low_at, high_at, Nogoods, Room}
 
 -- The first question of a kind that fails under the assignment, or the number of questions if all of the kind hold.
 pub record FirstFailing (t : Tables) (assignment : List ℕ) (kind : ℕ → Type 0) (m : ℕ) : Type 0 where
-  pub low : m ≤ pairsOf t.questions
-  pub of-kind : m < pairsOf t.questions → kind m
-  pub fails : m < pairsOf t.questions → HoldsAt t assignment m → ⊥
+  pub low : m ≤ pairs_of t.questions
+  pub of-kind : m < pairs_of t.questions → kind m
+  pub fails : m < pairs_of t.questions → HoldsAt t assignment m → ⊥
   pub before : (n : ℕ) → n < m → kind n → HoldsAt t assignment n
 
 -- An asked question whose right side holds a variable, or not.
 abbrev pub AskedOf : Tables → List ℕ → Bool → ℕ → Type 0
-AskedOf t problem right n = AskedAt problem n × (hasVariable (tree t.concepts (rightOf t.questions n)) ≡ right)
+AskedOf t problem right n = AskedAt problem n × (has_variable (tree t.concepts (right_of t.questions n)) ≡ right)
 
 abbrev pub FailingOf : List ℕ → List ℕ → List ℕ → Bool → ℕ → Type 0
 FailingOf sets problem choice right m =
-    (t : Tables) → Problem t sets problem → assignmentFault t (take t.variables choice) ≡ Done
+    (t : Tables) → Problem t sets problem → assignment_fault t (take t.variables choice) ≡ Done
     → FirstFailing t (take t.variables choice) (AskedOf t problem right) m
 
 -- An asked question that fails under the assignment, or the number of questions if all that are asked hold.
 pub record SomeFailing (t : Tables) (problem assignment : List ℕ) (m : ℕ) : Type 0 where
-  pub low : m ≤ pairsOf t.questions
-  pub asked : m < pairsOf t.questions → AskedAt problem m
-  pub fails : m < pairsOf t.questions → HoldsAt t assignment m → ⊥
-  pub hold : pairsOf t.questions ≤ m → SolvesAmong (AskedAt problem) t assignment
+  pub low : m ≤ pairs_of t.questions
+  pub asked : m < pairs_of t.questions → AskedAt problem m
+  pub fails : m < pairs_of t.questions → HoldsAt t assignment m → ⊥
+  pub hold : pairs_of t.questions ≤ m → SolvesAmong (AskedAt problem) t assignment
 
 abbrev pub Failing : List ℕ → List ℕ → List ℕ → ℕ → Type 0
 Failing sets problem choice m =
-    (t : Tables) → Problem t sets problem → assignmentFault t (take t.variables choice) ≡ Done
+    (t : Tables) → Problem t sets problem → assignment_fault t (take t.variables choice) ≡ Done
     → SomeFailing t problem (take t.variables choice) m
 
 -- An interval around another that holds no solution.
@@ -50,7 +50,7 @@ pub record Refuted (t : Tables) (problem low high low₁ high₁ : List ℕ) : T
 -- An asked question that fails at the low side gives an interval around it.
 abbrev pub RefutedBy : List ℕ → List ℕ → List ℕ → List ℕ → ℕ → List ℕ → List ℕ → Type 0
 RefutedBy sets problem full low m low₁ high₁ =
-    (t : Tables) → Problem t sets problem → m < pairsOf t.questions → AskedAt problem m → IntervalOf t low full
+    (t : Tables) → Problem t sets problem → m < pairs_of t.questions → AskedAt problem m → IntervalOf t low full
     → (HoldsAt t (take t.variables low) m → ⊥)
     → Refuted t problem low low low₁ high₁
 
@@ -91,8 +91,8 @@ pub record Merged (low₁ high₁ low₂ high₂ : List ℕ) (k q : ℕ) (low hi
 pub record Known (store low high low₁ high₁ : List ℕ) : Type 0 where
   pub place : ℕ
   pub kept : place < used store
-  pub low-here : low₁ ≡ lowAt store place
-  pub high-here : high₁ ≡ highAt store place
+  pub low-here : low₁ ≡ low_at store place
+  pub high-here : high₁ ≡ high_at store place
   pub above : Within low₁ low
   pub below : Within high high₁
 

@@ -1,6 +1,6 @@
 -- What carrying a failed test on promises.
 use Rattle.std.specs.Prelude.{ℕ, ◌<◌, ◌≡◌, List, true, ◌⊎◌, length, take}
-use Rattle.subsumption.specs.Tables.{Tables, pairsOf}
+use Rattle.subsumption.specs.Tables.{Tables, pairs_of}
 use Rattle.matching.specs.Solving.{takes}
 use Rattle.matching.specs.Inner.Search.{HoldsAt}
 use Rattle.matching.specs.Inner.Search.Problem.{Problem}
@@ -15,6 +15,6 @@ pub record Mixed (a b mix : List ℕ) : Type 0 where
 -- A question that fails at the choice fails there too.
 abbrev pub StillFails : List ℕ → List ℕ → ℕ → List ℕ → List ℕ → List ℕ → Type 0
 StillFails sets problem m choice target failing =
-    (t : Tables) → Problem t sets problem → m < pairsOf t.questions → (full : List ℕ) → IntervalOf t choice full
+    (t : Tables) → Problem t sets problem → m < pairs_of t.questions → (full : List ℕ) → IntervalOf t choice full
     → IntervalOf t target full
     → (HoldsAt t (take t.variables choice) m → ⊥) → HoldsAt t (take t.variables failing) m → ⊥

@@ -1,7 +1,7 @@
 -- What the search for a line promises: a pair that follows from marked pairs, with its rule and extra.
 use Rattle.std.specs.Prelude.{ℕ, ◌+◌, ◌*◌, ◌<◌, ◌≤◌, ◌≡◌, List, Bool, true, false}
 use Rattle.subsumption.specs.Tables.{Tables, count_of}
-use Rattle.subsumption.specs.Rules.{byRule}
+use Rattle.subsumption.specs.Rules.{by_rule}
 use Rattle.matching.specs.declared.writer.explain.Extra.{Extra}
 use Rattle.matching.specs.declared.writer.explain.Extra.TheVariants.{At, None}
 use Rattle.matching.specs.declared.writer.explain.Why.{Why}
@@ -15,20 +15,20 @@ pub record ExtraBound (concepts inclusions : List ℕ) (rule left bound : ℕ) :
   pub low : bound ≤ 192
   pub past :
       (t : Tables) → t.concepts ≡ concepts → t.inclusions ≡ inclusions → (assignment : List ℕ) (proved : ℕ → ℕ → Bool) (right extra : ℕ)
-      → bound ≤ extra → byRule t assignment proved rule left right extra ≡ false
+      → bound ≤ extra → by_rule t assignment proved rule left right extra ≡ false
 
 module _ (concepts inclusions into ids assignment : List ℕ) (marks : List Bool) where
   -- no extra below the bound serves the rule
   pub record NoExtra (rule left right bound : ℕ) : Type 0 where
     pub none :
         (t : Tables) → Of t concepts inclusions into ids → (extra : ℕ) → extra < bound
-        → byRule t assignment (seen (count_of concepts) marks) rule left right extra ≡ false
+        → by_rule t assignment (seen (count_of concepts) marks) rule left right extra ≡ false
 
   -- no rule below the bound gives the pair
   pub record NoRule (left right bound : ℕ) : Type 0 where
     pub none :
         (t : Tables) → Of t concepts inclusions into ids → (rule extra : ℕ) → rule < bound
-        → byRule t assignment (seen (count_of concepts) marks) rule left right extra ≡ false
+        → by_rule t assignment (seen (count_of concepts) marks) rule left right extra ≡ false
 
   -- the rule gives the pair
   pub record Gives (rule left right extra : ℕ) : Type 0 where
@@ -40,7 +40,7 @@ module _ (concepts inclusions into ids assignment : List ℕ) (marks : List Bool
   pub record Quiet (left right : ℕ) : Type 0 where
     pub none :
         seen (count_of concepts) marks left right ≡ false → (t : Tables) → Of t concepts inclusions into ids → (rule extra : ℕ)
-        → byRule t assignment (seen (count_of concepts) marks) rule left right extra ≡ false
+        → by_rule t assignment (seen (count_of concepts) marks) rule left right extra ≡ false
 
   -- the pairs from one cell up to another are quiet
   pub record QuietFrom (from to : ℕ) : Type 0 where
@@ -59,13 +59,13 @@ module _ (concepts inclusions into ids assignment : List ℕ) (marks : List Bool
   Tried rule left right (At extra) = Gives rule left right extra
   Tried rule left right None =
       (t : Tables) → Of t concepts inclusions into ids → (extra : ℕ)
-      → byRule t assignment (seen (count_of concepts) marks) rule left right extra ≡ false
+      → by_rule t assignment (seen (count_of concepts) marks) rule left right extra ≡ false
 
   abbrev pub Explained : ℕ → ℕ → Why → Type 0
   Explained left right (By rule extra) = Gives rule left right extra
   Explained left right Unknown =
       (t : Tables) → Of t concepts inclusions into ids → (rule extra : ℕ)
-      → byRule t assignment (seen (count_of concepts) marks) rule left right extra ≡ false
+      → by_rule t assignment (seen (count_of concepts) marks) rule left right extra ≡ false
 
   abbrev pub Tested : Next → Type 0
   Tested (Line rule left right extra) = New rule left right extra

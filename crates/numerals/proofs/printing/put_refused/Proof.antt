@@ -1,4 +1,4 @@
-use Rattle.numerals.specs.Printing.{numberText, refusedLine, numberKey, placeKey, refusedText}
+use Rattle.numerals.specs.Printing.{number_text, refused_line, number_key, place_key, refused_text}
 use Rattle.numerals.proofs.WriteLaws.{room-1, room-2, room-3, wrote-three}
 use borrow.Author.Rules.{rules}
 use Rattle.numerals.proofs.printing.put_refused.Statement.{statement}
@@ -8,8 +8,8 @@ slice-aggregate-put-bytes : tie.Need-slice-aggregate-put-bytes
 slice-aggregate-put-bytes c = search rules
 
 put-bytes-requires : tie.Need-put-bytes-requires
-unfolding refusedText
-put-bytes-requires c κs = room-1 c.before.before.before.args.out.now (0) (refusedLine) (numberText numberKey c.before.before.before.args.code.number) (numberText placeKey c.before.before.before.args.code.place) c.before.before.before.requires
+unfolding refused_text
+put-bytes-requires c κs = room-1 c.before.before.before.args.out.now (0) (refused_line) (number_text number_key c.before.before.before.args.code.number) (number_text place_key c.before.before.before.args.code.place) c.before.before.before.requires
 
 slice-aggregate-put-line : tie.Need-slice-aggregate-put-line
 slice-aggregate-put-line c = search rules
@@ -18,22 +18,22 @@ cast-put-line : tie.Need-overflow-cast-put-line
 cast-put-line c = search rules
 
 put-line-requires : tie.Need-put-line-requires
-unfolding refusedText
-put-line-requires c κs = room-2 _ _ (refusedLine) (numberText numberKey c.before.before.before.before.before.before.before.before.args.code.number) (numberText placeKey c.before.before.before.before.before.before.before.before.args.code.place) c.before.before.before.before.before.before.before.before.requires _ _ c.before.before.before.before.put-bytes.ensures
+unfolding refused_text
+put-line-requires c κs = room-2 _ _ (refused_line) (number_text number_key c.before.before.before.before.before.before.before.before.args.code.number) (number_text place_key c.before.before.before.before.before.before.before.before.args.code.place) c.before.before.before.before.before.before.before.before.requires _ _ c.before.before.before.before.put-bytes.ensures
 
 slice-aggregate-put-line-2 : tie.Need-slice-aggregate-put-line-2
 slice-aggregate-put-line-2 c = search rules
 
 put-line-requires-2 : tie.Need-put-line-requires-2
-unfolding refusedText
-put-line-requires-2 c κs = room-3 _ _ (refusedLine) (numberText numberKey c.before.before.before.before.before.before.before.before.before.before.before.before.before.args.code.number) (numberText placeKey c.before.before.before.before.before.before.before.before.before.before.before.before.before.args.code.place) c.before.before.before.before.before.before.before.before.before.before.before.before.before.requires _ _ c.before.before.before.before.before.before.before.before.before.put-bytes.ensures _ _ c.before.before.before.before.put-line.ensures
+unfolding refused_text
+put-line-requires-2 c κs = room-3 _ _ (refused_line) (number_text number_key c.before.before.before.before.before.before.before.before.before.before.before.before.before.args.code.number) (number_text place_key c.before.before.before.before.before.before.before.before.before.before.before.before.before.args.code.place) c.before.before.before.before.before.before.before.before.before.before.before.before.before.requires _ _ c.before.before.before.before.before.before.before.before.before.put-bytes.ensures _ _ c.before.before.before.before.put-line.ensures
 
 same_length : tie.Need-same-length
 same_length c = search rules
 
 returns : tie.Need-returns
-unfolding refusedText
-returns c = wrote-three _ _ (refusedLine) (numberText numberKey c.before.before.before.before.before.before.before.before.before.before.before.before.before.before.before.before.args.code.number) (numberText placeKey c.before.before.before.before.before.before.before.before.before.before.before.before.before.before.before.before.args.code.place) c.before.before.before.before.before.before.before.before.before.before.before.before.before.before.before.before.requires _ _ c.before.before.before.before.before.before.before.before.before.before.before.before.put-bytes.ensures _ _ c.before.before.before.before.before.before.before.put-line.ensures _ _ c.before.before.put-line2.ensures
+unfolding refused_text
+returns c = wrote-three _ _ (refused_line) (number_text number_key c.before.before.before.before.before.before.before.before.before.before.before.before.before.before.before.before.args.code.number) (number_text place_key c.before.before.before.before.before.before.before.before.before.before.before.before.before.before.before.before.args.code.place) c.before.before.before.before.before.before.before.before.before.before.before.before.before.before.before.before.requires _ _ c.before.before.before.before.before.before.before.before.before.before.before.before.put-bytes.ensures _ _ c.before.before.before.before.before.before.before.put-line.ensures _ _ c.before.before.put-line2.ensures
 
 pub put-refused-spec : {M : Type 1} → statement M
 put-refused-spec =

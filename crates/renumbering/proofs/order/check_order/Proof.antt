@@ -3,12 +3,12 @@ use lib.ListN.{length}
 use Prim.Native.Nat.{◌-◌}
 use Rattle.subsumption.specs.declared.refusal.Refusal.TheVariants.{BadOrder}
 use Rattle.subsumption.proofs.Scans.{Scan, scan-none, scan-more, scan-found, scan-done}
-use Rattle.renumbering.proofs.CheckLaws.{badAt, SeenTo, seen_none, seen_more, bad-high, bad-again, not-bad, order-refused, order-uneven, order-passed}
+use Rattle.renumbering.proofs.CheckLaws.{bad_at, SeenTo, seen_none, seen_more, bad-high, bad-again, not-bad, order-refused, order-uneven, order-passed}
 use Rattle.renumbering.proofs.order.check_order.Statement.{statement}
 use Rattle.renumbering.proofs.order.check_order.Tie as tie
 
 abbrev invariant-loop : tie.invariant-loop
-invariant-loop order count seen₀ m₀ seen m = Scan BadOrder (badAt count order) (length order) m × SeenTo order m seen
+invariant-loop order count seen₀ m₀ seen m = Scan BadOrder (bad_at count order) (length order) m × SeenTo order m seen
 
 abbrev decreases-loop : tie.decreases-loop
 decreases-loop order count seen₀ m₀ seen m = length order - m

@@ -4,14 +4,14 @@ use native.Mathlib.Omega.{arith}
 use lib.ListN.{length}
 use Rattle.subsumption.specs.declared.refusal.Refusal.TheVariants.{BadSettings}
 use Rattle.subsumption.proofs.Scans.{Scan, scan-none, scan-more, scan-found, scan-done}
-use Rattle.settings.specs.Settings.{settings, faultyAt}
+use Rattle.settings.specs.Settings.{settings, faulty_at}
 use Rattle.settings.proofs.SettingsLaws.{permitted-uneven, largest-uneven, even-goes-on}
 use Rattle.settings.proofs.check.check_settings.Statement.{statement}
 use Rattle.settings.proofs.check.check_settings.Tie as tie
 
 abbrev invariant-loop : tie.invariant-loop
 invariant-loop permitted largest variables atoms count k₀ k =
-    (length permitted ≡ variables) × (length largest ≡ variables) × Scan BadSettings (faultyAt atoms (settings permitted largest)) variables k
+    (length permitted ≡ variables) × (length largest ≡ variables) × Scan BadSettings (faulty_at atoms (settings permitted largest)) variables k
 
 abbrev decreases-loop : tie.decreases-loop
 decreases-loop permitted largest variables atoms count k₀ k = variables - k

@@ -1,4 +1,4 @@
-use Rattle.square.specs.Inner.Square.{onLine}
+use Rattle.square.specs.Inner.Square.{on_line}
 use Rattle.subsumption.specs.Atoms.{bit}
 use mathlib.Core.Path.{refl}
 use borrow.Author.Rules.{rules}
@@ -18,7 +18,7 @@ shr-result : tie.Need-overflow-shr-result
 shr-result c = search rules
 
 returns : tie.Need-returns
-unfolding onLine bit
+unfolding on_line bit
 returns c = refl
 
 pub has-spec : {M : Type 1} → statement M

@@ -4,17 +4,17 @@ use borrow.Author.Tests.{eq-eqb, ne_eqb}
 use borrow.Author.Rules.{rules}
 use Prim.Native.Nat.{◌-◌}
 use native.Mathlib.Omega.{arith}
-use Rattle.subsumption.specs.Tables.{pairsOf}
-use Rattle.subsumption.specs.Inner.Atoms.{inGroundRight}
+use Rattle.subsumption.specs.Tables.{pairs_of}
+use Rattle.subsumption.specs.Inner.Atoms.{in_ground_right}
 use Rattle.subsumption.proofs.Marks.{MarkedTo, marked-to-none, marked-to-done, right-below, rights-more, rights-skip}
 use Rattle.subsumption.proofs.atoms.mark_ground_rights.Statement.{statement}
 use Rattle.subsumption.proofs.atoms.mark_ground_rights.Tie as tie
 
 abbrev invariant-loop : tie.invariant-loop
-invariant-loop count questions sets marks₀ rows m₀ marks m = MarkedTo (inGroundRight questions sets) (pairsOf questions) marks₀ marks m
+invariant-loop count questions sets marks₀ rows m₀ marks m = MarkedTo (in_ground_right questions sets) (pairs_of questions) marks₀ marks m
 
 abbrev decreases-loop : tie.decreases-loop
-decreases-loop count questions sets marks₀ rows m₀ marks m = pairsOf questions - m
+decreases-loop count questions sets marks₀ rows m₀ marks m = pairs_of questions - m
 
 shared-slice-read-if1 : tie.Need-shared-slice-read-if1 invariant-loop decreases-loop
 shared-slice-read-if1 c = omega (arith, right-below _ _ _ _ c.before.before.before.before.before.before.before.before.requires.0 c.before.before.before.before.before.before.before.before.requires.1.0 (omega arith) c.before.before.pair-at.ensures)

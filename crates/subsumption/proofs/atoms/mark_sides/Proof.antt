@@ -2,17 +2,17 @@ use borrow.Author.Rules.{rules}
 use Prim.Native.Nat.{◌-◌}
 use native.Mathlib.Omega.{arith}
 use lib.ListN.{length-set}
-use Rattle.subsumption.specs.Tables.{pairsOf}
-use Rattle.subsumption.specs.Inner.Atoms.{inPair}
+use Rattle.subsumption.specs.Tables.{pairs_of}
+use Rattle.subsumption.specs.Inner.Atoms.{in_pair}
 use Rattle.subsumption.proofs.Marks.{MarkedTo, marked-to-none, marked-to-done, left_below, right-below, sides-more}
 use Rattle.subsumption.proofs.atoms.mark_sides.Statement.{statement}
 use Rattle.subsumption.proofs.atoms.mark_sides.Tie as tie
 
 abbrev invariant-loop : tie.invariant-loop
-invariant-loop count pairs marks₀ rows m₀ marks m = MarkedTo (inPair pairs) (pairsOf pairs) marks₀ marks m
+invariant-loop count pairs marks₀ rows m₀ marks m = MarkedTo (in_pair pairs) (pairs_of pairs) marks₀ marks m
 
 abbrev decreases-loop : tie.decreases-loop
-decreases-loop count pairs marks₀ rows m₀ marks m = pairsOf pairs - m
+decreases-loop count pairs marks₀ rows m₀ marks m = pairs_of pairs - m
 
 slice-write-marks : tie.Need-slice-write-marks invariant-loop decreases-loop
 slice-write-marks c = omega (arith, left_below _ _ _ _ c.before.before.before.before.before.before.before.requires.0 c.before.before.before.before.before.before.before.requires.1.0 (omega arith) c.before.before.pair-at.ensures)

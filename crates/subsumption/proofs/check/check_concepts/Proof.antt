@@ -1,4 +1,4 @@
-use Rattle.subsumption.specs.Check.{conceptFault}
+use Rattle.subsumption.specs.Check.{concept_fault}
 use Rattle.subsumption.proofs.Refusals.{stops, goes_on}
 use borrow.Author.Rules.{rules}
 use Rattle.subsumption.proofs.check.check_concepts.Statement.{statement}
@@ -14,7 +14,7 @@ enum-known-limits : tie.Need-enum-known-limits
 enum-known-limits c = search rules
 
 returns : tie.Need-returns
-unfolding conceptFault
+unfolding concept_fault
 returns c = search stops
 
 enum_told : tie.Need-enum-told
@@ -27,7 +27,7 @@ enum-known-rows : tie.Need-enum-known-rows
 enum-known-rows c = search rules
 
 returns-2 : tie.Need-returns-2
-unfolding conceptFault
+unfolding concept_fault
 returns-2 c = search (stops, goes_on)
 
 enum-told-2 : tie.Need-enum-told-2
@@ -37,7 +37,7 @@ check-inner-requires : tie.Need-check-inner-requires
 check-inner-requires c κs = search rules
 
 returns-3 : tie.Need-returns-3
-unfolding conceptFault
+unfolding concept_fault
 returns-3 c = search goes_on
 
 pub check-concepts-spec : {M : Type 1} → statement M

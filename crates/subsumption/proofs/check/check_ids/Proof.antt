@@ -1,4 +1,4 @@
-use Rattle.subsumption.specs.Check.{idFault}
+use Rattle.subsumption.specs.Check.{id_fault}
 use Rattle.subsumption.proofs.Refusals.{stops, goes_on}
 use Rattle.subsumption.proofs.Accepted.{inclusions-few}
 use borrow.Author.Rules.{rules}
@@ -13,7 +13,7 @@ enum-known-first : tie.Need-enum-known-first
 enum-known-first c = search rules
 
 returns : tie.Need-returns
-unfolding idFault
+unfolding id_fault
 returns c = search stops
 
 enum_told : tie.Need-enum-told
@@ -23,7 +23,7 @@ check-pairs-requires-2 : tie.Need-check-pairs-requires-2
 check-pairs-requires-2 c κs = search inclusions-few
 
 returns-2 : tie.Need-returns-2
-unfolding idFault
+unfolding id_fault
 returns-2 c = search goes_on
 
 pub check-ids-spec : {M : Type 1} → statement M

@@ -3,8 +3,8 @@ use Prim.Native.Nat.{◌-◌}
 use mathlib.Core.Path.{◌∙◌}
 use native.Mathlib.Omega.{arith}
 use Rattle.subsumption.specs.declared.refusal.Refusal.TheVariants.{VariableInInclusion}
-use Rattle.subsumption.specs.Tables.{pairsOf, left_of, rightOf, tree, hasVariable, or}
-use Rattle.subsumption.specs.Check.{inclusionFault}
+use Rattle.subsumption.specs.Tables.{pairs_of, left_of, right_of, tree, has_variable, or}
+use Rattle.subsumption.specs.Check.{inclusion_fault}
 use Rattle.subsumption.proofs.Scans.{Scan, scan-none, scan-more, scan-found, scan-done}
 use Rattle.subsumption.proofs.Marks.{left_below, right-below}
 use Rattle.subsumption.proofs.Accepted.{either_held}
@@ -13,10 +13,10 @@ use Rattle.subsumption.proofs.check.check_inclusions.Tie as tie
 
 abbrev invariant-loop : tie.invariant-loop
 invariant-loop concepts inclusions sets rows m₀ m =
-    Scan VariableInInclusion (λ k. or (hasVariable (tree concepts (left_of inclusions k))) (hasVariable (tree concepts (rightOf inclusions k)))) (pairsOf inclusions) m
+    Scan VariableInInclusion (λ k. or (has_variable (tree concepts (left_of inclusions k))) (has_variable (tree concepts (right_of inclusions k)))) (pairs_of inclusions) m
 
 abbrev decreases-loop : tie.decreases-loop
-decreases-loop concepts inclusions sets rows m₀ m = pairsOf inclusions - m
+decreases-loop concepts inclusions sets rows m₀ m = pairs_of inclusions - m
 
 read_left : tie.Need-shared-slice-read-either invariant-loop decreases-loop
 read_left c =
@@ -29,7 +29,7 @@ read_right c =
     (arith, right-below _ _ _ _ c.before.before.before.before.before.before.before.before.before.before.requires.1.1 c.before.before.before.before.before.before.before.before.before.before.requires.1.0 (omega arith) c.before.before.before.before.pair-at.ensures, c.before.before.before.before.before.before.before.before.before.before.requires.0.long)
 
 returns : tie.Need-returns invariant-loop decreases-loop
-unfolding inclusionFault
+unfolding inclusion_fault
 returns c =
     scan-found _ _ _ _ c.before.before.before.before.before.before.before.before.loop.invariant (omega arith)
     (either_held _ c.before.before.before.before.before.before.before.before.before.before.before.before.args.inclusions.now _ c.before.before.before.before.before.before.before.before.loop.m _ c.before.before.before.before.before.before.before.before.before.before.before.before.requires.0 c.before.before.before.before.before.before.before.before.before.before.before.before.requires.1.1 (omega arith) c.before.before.before.before.before.before.pair-at.ensures _ c.before.either.ensures ∙ c.if1.true)
@@ -40,7 +40,7 @@ loop-again c =
     (either_held _ c.before.before.before.before.before.before.before.before.before.before.before.before.args.inclusions.now _ c.before.before.before.before.before.before.before.before.loop.m _ c.before.before.before.before.before.before.before.before.before.before.before.before.requires.0 c.before.before.before.before.before.before.before.before.before.before.before.before.requires.1.1 (omega arith) c.before.before.before.before.before.before.pair-at.ensures _ c.before.either.ensures ∙ c.if1.false)
 
 returns-2 : tie.Need-returns-2 invariant-loop decreases-loop
-unfolding inclusionFault
+unfolding inclusion_fault
 returns-2 c = scan-done _ _ _ _ c.before.loop.invariant (omega arith)
 
 pub check-inclusions-spec : {M : Type 1} → statement M

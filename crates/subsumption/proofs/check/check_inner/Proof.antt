@@ -3,7 +3,7 @@ use mathlib.Core.Path.{◌∙◌}
 use native.Mathlib.Omega.{arith}
 use Rattle.subsumption.specs.declared.refusal.Refusal.TheVariants.{ForwardId}
 use Rattle.subsumption.specs.Tables.{node, count_of}
-use Rattle.subsumption.specs.Check.{forward, forwardFault}
+use Rattle.subsumption.specs.Check.{forward, forward_fault}
 use Rattle.subsumption.proofs.Scans.{Scan, scan-none, scan-more, scan-found, scan-done}
 use Rattle.subsumption.proofs.Forward.{row-forward}
 use Rattle.subsumption.proofs.check.check_inner.Statement.{statement}
@@ -16,7 +16,7 @@ abbrev decreases-loop : tie.decreases-loop
 decreases-loop concepts count i₀ i = count_of concepts - i
 
 returns : tie.Need-returns invariant-loop decreases-loop
-unfolding forwardFault
+unfolding forward_fault
 returns c =
     scan-found _ _ _ _ c.before.before.before.before.loop.invariant (omega arith)
     (row-forward _ _ _ _ c.before.before.row_at.ensures c.before.is-forward.ensures ∙ c.if1.true)
@@ -27,7 +27,7 @@ loop-again c =
     (row-forward _ _ _ _ c.before.before.row_at.ensures c.before.is-forward.ensures ∙ c.if1.false)
 
 returns-2 : tie.Need-returns-2 invariant-loop decreases-loop
-unfolding forwardFault
+unfolding forward_fault
 returns-2 c = scan-done _ _ _ _ c.before.loop.invariant (omega arith)
 
 pub check-inner-spec : {M : Type 1} → statement M

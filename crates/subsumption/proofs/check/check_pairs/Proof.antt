@@ -2,21 +2,21 @@ use Prim.Native.Nat.{◌+◌, ◌-◌}
 use mathlib.Core.Path.{◌∙◌}
 use native.Mathlib.Omega.{arith}
 use Rattle.subsumption.specs.declared.refusal.Refusal.TheVariants.{NoConcept}
-use Rattle.subsumption.specs.Tables.{pairsOf, left_of, rightOf}
-use Rattle.subsumption.specs.Check.{noConcept, pairsFault}
+use Rattle.subsumption.specs.Tables.{pairs_of, left_of, right_of}
+use Rattle.subsumption.specs.Check.{no_concept, pairs_fault}
 use Rattle.subsumption.proofs.Scans.{Scan, scan-none, scan-more, scan-found, scan-done}
 use Rattle.subsumption.proofs.Forward.{pair-unknown}
 use Rattle.subsumption.proofs.check.check_pairs.Statement.{statement}
 use Rattle.subsumption.proofs.check.check_pairs.Tie as tie
 
 abbrev invariant-loop : tie.invariant-loop
-invariant-loop before count pairs rows m₀ m = Scan (λ k. NoConcept (before + k)) (λ k. noConcept count (left_of pairs k) (rightOf pairs k)) (pairsOf pairs) m
+invariant-loop before count pairs rows m₀ m = Scan (λ k. NoConcept (before + k)) (λ k. no_concept count (left_of pairs k) (right_of pairs k)) (pairs_of pairs) m
 
 abbrev decreases-loop : tie.decreases-loop
-decreases-loop before count pairs rows m₀ m = pairsOf pairs - m
+decreases-loop before count pairs rows m₀ m = pairs_of pairs - m
 
 returns : tie.Need-returns invariant-loop decreases-loop
-unfolding pairsFault
+unfolding pairs_fault
 returns c =
     scan-found _ _ _ _ c.before.before.before.before.loop.invariant (omega arith)
     (pair-unknown _ c.before.before.before.before.before.before.args.pairs.now c.before.before.before.before.loop.m _ _ c.before.before.pair-at.ensures c.before.is-no-concept.ensures ∙ c.if1.true)
@@ -27,7 +27,7 @@ loop-again c =
     (pair-unknown _ c.before.before.before.before.before.before.args.pairs.now c.before.before.before.before.loop.m _ _ c.before.before.pair-at.ensures c.before.is-no-concept.ensures ∙ c.if1.false)
 
 returns-2 : tie.Need-returns-2 invariant-loop decreases-loop
-unfolding pairsFault
+unfolding pairs_fault
 returns-2 c = scan-done _ _ _ _ c.before.loop.invariant (omega arith)
 
 pub check-pairs-spec : {M : Type 1} → statement M

@@ -3,7 +3,7 @@ use mathlib.Core.Path.{◌∙◌}
 use native.Mathlib.Omega.{arith}
 use Rattle.subsumption.specs.declared.refusal.Refusal.TheVariants.{Malformed}
 use Rattle.subsumption.specs.Tables.{count_of}
-use Rattle.subsumption.specs.Check.{malformed, malformedFault}
+use Rattle.subsumption.specs.Check.{malformed, malformed_fault}
 use Rattle.subsumption.proofs.Scans.{Scan, scan-none, scan-more, scan-found, scan-done}
 use Rattle.subsumption.proofs.Shapes.{row-malformed}
 use Rattle.subsumption.proofs.check.check_rows.Statement.{statement}
@@ -25,7 +25,7 @@ is-malformed-requires : tie.Need-is-malformed-requires invariant-loop decreases-
 is-malformed-requires c κs = tt
 
 returns : tie.Need-returns invariant-loop decreases-loop
-unfolding malformedFault
+unfolding malformed_fault
 returns c =
     scan-found _ _ _ _ c.before.before.before.before.loop.invariant (omega arith)
     (row-malformed _ _ _ _ _ c.before.before.row_at.ensures c.before.is-malformed.ensures ∙ c.if1.true)
@@ -42,7 +42,7 @@ loop-again c =
     (row-malformed _ _ _ _ _ c.before.before.row_at.ensures c.before.is-malformed.ensures ∙ c.if1.false)
 
 returns-2 : tie.Need-returns-2 invariant-loop decreases-loop
-unfolding malformedFault
+unfolding malformed_fault
 returns-2 c = scan-done _ _ _ _ c.before.loop.invariant (omega arith)
 
 pub check-rows-spec : {M : Type 1} → statement M

@@ -3,8 +3,8 @@ use Prim.Native.Nat.{◌-◌}
 use mathlib.Core.Path.{◌∙◌}
 use native.Mathlib.Omega.{arith}
 use Rattle.subsumption.specs.declared.refusal.Refusal.TheVariants.{VariablesOnBothSides}
-use Rattle.subsumption.specs.Tables.{pairsOf, left_of, rightOf, tree, hasVariable, both}
-use Rattle.subsumption.specs.Check.{sidesFault}
+use Rattle.subsumption.specs.Tables.{pairs_of, left_of, right_of, tree, has_variable, both}
+use Rattle.subsumption.specs.Check.{sides_fault}
 use Rattle.subsumption.proofs.Scans.{Scan, scan-none, scan-more, scan-found, scan-done}
 use Rattle.subsumption.proofs.Marks.{left_below, right-below}
 use Rattle.subsumption.proofs.Accepted.{both-held}
@@ -13,10 +13,10 @@ use Rattle.subsumption.proofs.check.check_sides.Tie as tie
 
 abbrev invariant-loop : tie.invariant-loop
 invariant-loop concepts questions sets rows m₀ m =
-    Scan VariablesOnBothSides (λ k. both (hasVariable (tree concepts (left_of questions k))) (hasVariable (tree concepts (rightOf questions k)))) (pairsOf questions) m
+    Scan VariablesOnBothSides (λ k. both (has_variable (tree concepts (left_of questions k))) (has_variable (tree concepts (right_of questions k)))) (pairs_of questions) m
 
 abbrev decreases-loop : tie.decreases-loop
-decreases-loop concepts questions sets rows m₀ m = pairsOf questions - m
+decreases-loop concepts questions sets rows m₀ m = pairs_of questions - m
 
 read_left : tie.Need-shared-slice-read-and-also invariant-loop decreases-loop
 read_left c =
@@ -29,7 +29,7 @@ read_right c =
     (arith, right-below _ _ _ _ c.before.before.before.before.before.before.before.before.before.before.requires.1.1 c.before.before.before.before.before.before.before.before.before.before.requires.1.0 (omega arith) c.before.before.before.before.pair-at.ensures, c.before.before.before.before.before.before.before.before.before.before.requires.0.long)
 
 returns : tie.Need-returns invariant-loop decreases-loop
-unfolding sidesFault
+unfolding sides_fault
 returns c =
     scan-found _ _ _ _ c.before.before.before.before.before.before.before.before.loop.invariant (omega arith)
     (both-held _ c.before.before.before.before.before.before.before.before.before.before.before.before.args.questions.now _ c.before.before.before.before.before.before.before.before.loop.m _ c.before.before.before.before.before.before.before.before.before.before.before.before.requires.0 c.before.before.before.before.before.before.before.before.before.before.before.before.requires.1.1 (omega arith) c.before.before.before.before.before.before.pair-at.ensures _ c.before.and-also.ensures ∙ c.if1.true)
@@ -40,7 +40,7 @@ loop-again c =
     (both-held _ c.before.before.before.before.before.before.before.before.before.before.before.before.args.questions.now _ c.before.before.before.before.before.before.before.before.loop.m _ c.before.before.before.before.before.before.before.before.before.before.before.before.requires.0 c.before.before.before.before.before.before.before.before.before.before.before.before.requires.1.1 (omega arith) c.before.before.before.before.before.before.pair-at.ensures _ c.before.and-also.ensures ∙ c.if1.false)
 
 returns-2 : tie.Need-returns-2 invariant-loop decreases-loop
-unfolding sidesFault
+unfolding sides_fault
 returns-2 c = scan-done _ _ _ _ c.before.loop.invariant (omega arith)
 
 pub check-sides-spec : {M : Type 1} → statement M

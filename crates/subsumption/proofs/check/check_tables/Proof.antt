@@ -1,7 +1,7 @@
 use Rattle.subsumption.proofs.Replies.{same-reply, same-refused}
 use mathlib.Core.Path.{refl}
 use Rattle.subsumption.proofs.Refusals.{stops, goes_on, is-done}
-use Rattle.subsumption.specs.Check.{tableFault}
+use Rattle.subsumption.specs.Check.{table_fault}
 use borrow.Author.Rules.{rules}
 use Rattle.subsumption.proofs.check.check_tables.Statement.{statement}
 use Rattle.subsumption.proofs.check.check_tables.Tie as tie
@@ -16,7 +16,7 @@ enum-known-rows : tie.Need-enum-known-rows
 enum-known-rows c = search rules
 
 returns : tie.Need-returns
-unfolding tableFault
+unfolding table_fault
 returns c = same-refused _ _ (stops _ _ _ _ c.before.before.before.check-concepts.ensures c.before.rows.given.1)
 
 enum_told : tie.Need-enum-told
@@ -29,7 +29,7 @@ enum-known-ids : tie.Need-enum-known-ids
 enum-known-ids c = search rules
 
 returns-2 : tie.Need-returns-2
-unfolding tableFault
+unfolding table_fault
 returns-2 c = same-refused _ _ (goes_on _ _ _ _ c.before.before.before.before.before.before.check-concepts.ensures c.before.before.before.before.enum_told.given.1 (stops _ _ _ _ c.before.before.before.check-ids.ensures c.before.ids.given.1))
 
 enum-told-2 : tie.Need-enum-told-2
@@ -42,7 +42,7 @@ check-use-requires : tie.Need-check-use-requires
 check-use-requires c κs = (is-done _ _ c.before.before.before.before.before.before.check-concepts.ensures c.before.before.before.before.enum_told.given.1, (is-done _ _ c.before.before.before.check-ids.ensures c.before.enum-told2.given.1, refl))
 
 returns-3 : tie.Need-returns-3
-unfolding tableFault
+unfolding table_fault
 returns-3 c = same-reply c.before.check-use.result _ (goes_on _ _ _ _ c.before.before.before.before.before.before.before.before.check-concepts.ensures c.before.before.before.before.before.before.enum_told.given.1 (goes_on _ _ _ _ c.before.before.before.before.before.check-ids.ensures c.before.before.before.enum-told2.given.1 c.before.check-use.ensures.answered))
 
 pub check-tables-spec : {M : Type 1} → statement M

@@ -1,6 +1,6 @@
 use mathlib.Core.Path.{refl}
 use native.Mathlib.Omega.{arith}
-use Rattle.subsumption.specs.Check.{useFault}
+use Rattle.subsumption.specs.Check.{use_fault}
 use Rattle.subsumption.proofs.Refusals.{stops, goes_on}
 use Rattle.subsumption.proofs.AtomMarking.{use-refused, use-many, use-few}
 use Rattle.subsumption.proofs.Accepted.{few-numbers, concepts-layered, concepts-roles, concepts-few, inclusions-known, questions-known}
@@ -30,7 +30,7 @@ enum-known-grounds : tie.Need-enum-known-grounds
 enum-known-grounds c = search rules
 
 returns : tie.Need-returns
-unfolding useFault
+unfolding use_fault
 returns c = use-refused _ _ _ (stops _ _ _ _ c.before.before.before.check-inclusions.ensures c.before.grounds.given.1)
 
 enum_told : tie.Need-enum-told
@@ -46,7 +46,7 @@ enum-known-sides : tie.Need-enum-known-sides
 enum-known-sides c = search rules
 
 returns-2 : tie.Need-returns-2
-unfolding useFault
+unfolding use_fault
 returns-2 c = use-refused _ _ _ (goes_on _ _ _ _ c.before.before.before.before.before.before.before.check-inclusions.ensures c.before.before.before.before.before.enum_told.given.1 (stops _ _ _ _ c.before.before.before.check-sides.ensures c.before.sides.given.1))
 
 enum-told-2 : tie.Need-enum-told-2
@@ -59,7 +59,7 @@ enum-known-wide : tie.Need-enum-known-wide
 enum-known-wide c = search rules
 
 returns-3 : tie.Need-returns-3
-unfolding useFault
+unfolding use_fault
 returns-3 c = use-refused _ _ _ (goes_on _ _ _ _ c.before.before.before.before.before.before.before.before.before.before.check-inclusions.ensures c.before.before.before.before.before.before.before.before.enum_told.given.1 (goes_on _ _ _ _ c.before.before.before.before.before.before.check-sides.ensures c.before.before.before.before.enum-told2.given.1 (stops _ _ _ _ c.before.before.before.check-roles.ensures c.before.wide.given.1)))
 
 enum-told-3 : tie.Need-enum-told-3

@@ -4,7 +4,7 @@ use native.Mathlib.Omega.{arith}
 use Rattle.subsumption.specs.Roles.{wider}
 use Rattle.subsumption.specs.Inner.Columns.{slack}
 use Rattle.subsumption.specs.Inner.Names.{Firsts}
-use Rattle.subsumption.specs.Inner.Settling.{chooseFrom}
+use Rattle.subsumption.specs.Inner.Settling.{choose_from}
 use Rattle.subsumption.specs.Inner.Links.{Laid, Sorted}
 use Rattle.subsumption.proofs.Linking.{ready-nameable, ready-inner, sorted, laid}
 use Rattle.subsumption.proofs.Closing.{Closing, weight, pass-less, closing-first, closing-turn, closing-done}
@@ -17,7 +17,7 @@ use Rattle.subsumption.proofs.closure.round.Reads as round-reads
 use Rattle.subsumption.proofs.roles.note_roles.Reads as note-roles-reads
 
 abbrev invariant-loop : tie.invariant-loop
-invariant-loop concepts inclusions roles atoms assignment columns₀ firsts outer inners kinds busy₀ columns busy = (Firsts concepts firsts) × Closing concepts inclusions (wider roles) (chooseFrom atoms assignment) firsts columns₀ columns busy × Laid outer inners kinds × Sorted concepts (wider roles) outer inners kinds
+invariant-loop concepts inclusions roles atoms assignment columns₀ firsts outer inners kinds busy₀ columns busy = (Firsts concepts firsts) × Closing concepts inclusions (wider roles) (choose_from atoms assignment) firsts columns₀ columns busy × Laid outer inners kinds × Sorted concepts (wider roles) outer inners kinds
 
 abbrev decreases-loop : tie.decreases-loop
 decreases-loop concepts inclusions roles atoms assignment columns₀ firsts outer inners kinds busy₀ columns busy = slack columns + weight busy

@@ -1,7 +1,7 @@
 use Prim.Native.Nat.{◌-◌}
 use native.Mathlib.Omega.{arith}
 use mathlib.Core.Path.{refl}
-use Rattle.subsumption.specs.Tables.{pairsOf}
+use Rattle.subsumption.specs.Tables.{pairs_of}
 use Rattle.subsumption.proofs.RoleSetLaws.{SetsTo, sets-none, sets_more, sets-done}
 use Rattle.subsumption.proofs.roles.note_roles.Statement.{statement}
 use Rattle.subsumption.proofs.roles.note_roles.Tie as tie
@@ -12,7 +12,7 @@ abbrev invariant-loop : tie.invariant-loop
 invariant-loop roles into₀ rows m₀ into m = SetsTo roles into m
 
 abbrev decreases-loop : tie.decreases-loop
-decreases-loop roles into₀ rows m₀ into m = pairsOf roles - m
+decreases-loop roles into₀ rows m₀ into m = pairs_of roles - m
 
 start-requires : tie.Need-start-requires invariant-loop decreases-loop
 start-requires c κs = c.before.before.before.requires.1

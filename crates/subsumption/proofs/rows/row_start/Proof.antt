@@ -1,6 +1,6 @@
 use mathlib.Core.Path.{refl}
 use native.Mathlib.Omega.{arith}
-use Rattle.subsumption.specs.Table.{rowStart}
+use Rattle.subsumption.specs.Table.{row_start}
 use Rattle.subsumption.proofs.rows.row_start.Statement.{statement}
 use Rattle.subsumption.proofs.rows.row_start.Tie as tie
 
@@ -8,7 +8,7 @@ mul-result : tie.Need-overflow-mul-result
 mul-result c = omega arith
 
 returns : tie.Need-returns
-unfolding rowStart
+unfolding row_start
 returns c = refl
 
 pub row-start-spec : {M : Type 1} → statement M

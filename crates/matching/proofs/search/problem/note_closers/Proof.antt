@@ -1,6 +1,6 @@
 use Prim.Native.Nat.{◌-◌}
 use mathlib.Core.Path.{◌∙◌}
-use Rattle.matching.specs.Inner.Search.Problem.{questionCount}
+use Rattle.matching.specs.Inner.Search.Problem.{question_count}
 use Rattle.matching.proofs.SearchLaws.Making.Closers.{ClosersTo, closers-none, closers-more, closers-done}
 use native.Mathlib.Omega.{arith}
 use Rattle.matching.proofs.search.problem.note_closers.Statement.{statement}
@@ -10,7 +10,7 @@ abbrev invariant-loop : tie.invariant-loop
 invariant-loop problem count sets₀ rows m₀ sets m = ClosersTo problem count sets₀ m sets
 
 abbrev decreases-loop : tie.decreases-loop
-decreases-loop problem count sets₀ rows m₀ sets m = questionCount problem - m
+decreases-loop problem count sets₀ rows m₀ sets m = question_count problem - m
 
 shared-slice-read-rows : tie.Need-shared-slice-read-rows invariant-loop decreases-loop
 shared-slice-read-rows c = omega (arith, c.before.before.before.requires.0.numbers.long)

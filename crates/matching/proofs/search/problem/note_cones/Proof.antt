@@ -1,6 +1,6 @@
 use native.Mathlib.Omega.{arith}
 use Prim.Native.Nat.{◌-◌}
-use Rattle.matching.specs.Inner.Search.Problem.{questionCount}
+use Rattle.matching.specs.Inner.Search.Problem.{question_count}
 use mathlib.Core.Path.{◌∙◌}
 use Rattle.matching.proofs.SearchLaws.Making.Cones.{ConesTo, cones-none, cones-more, cones-done}
 use Rattle.matching.proofs.search.problem.note_cones.Statement.{statement}
@@ -10,7 +10,7 @@ abbrev invariant-loop : tie.invariant-loop
 invariant-loop problem count sets₀ rows m₀ sets m = ConesTo problem count sets₀ m sets
 
 abbrev decreases-loop : tie.decreases-loop
-decreases-loop problem count sets₀ rows m₀ sets m = questionCount problem - m
+decreases-loop problem count sets₀ rows m₀ sets m = question_count problem - m
 
 shared-slice-read-rows : tie.Need-shared-slice-read-rows invariant-loop decreases-loop
 shared-slice-read-rows c = omega (arith, c.before.before.before.requires.0.long)

@@ -1,14 +1,14 @@
 use native.Mathlib.Omega.{arith}
 use Prim.Native.Nat.{◌-◌, ◌≤◌}
 use mathlib.Core.Path.{sym, ◌∙◌, subst, ◌≡◌}
-use Rattle.matching.specs.Inner.Search.Problem.{fitAt}
+use Rattle.matching.specs.Inner.Search.Problem.{fit_at}
 use Rattle.matching.specs.Inner.Search.Making.{fits_by, Filled}
 use Rattle.matching.proofs.SearchLaws.Making.Filling.{up_to, walk_none, walk_more, walk-skip, walk-done, fit-room}
 use Rattle.matching.proofs.search.problem.note_fit.Statement.{statement}
 use Rattle.matching.proofs.search.problem.note_fit.Tie as tie
 
 abbrev invariant-loop : tie.invariant-loop
-invariant-loop problem into count right j sets₀ at e₀ sets e = (e ≤ count) × (at ≡ fitAt right j) × Filled at (up_to (fits_by problem into right j) e) sets₀ sets
+invariant-loop problem into count right j sets₀ at e₀ sets e = (e ≤ count) × (at ≡ fit_at right j) × Filled at (up_to (fits_by problem into right j) e) sets₀ sets
 
 abbrev decreases-loop : tie.decreases-loop
 decreases-loop problem into count right j sets₀ at e₀ sets e = count - e

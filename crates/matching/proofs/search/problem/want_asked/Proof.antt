@@ -1,6 +1,6 @@
 use Prim.Native.Nat.{◌-◌}
 use mathlib.Core.Path.{◌∙◌}
-use Rattle.matching.specs.Inner.Search.Problem.{coneAt}
+use Rattle.matching.specs.Inner.Search.Problem.{cone_at}
 use Rattle.matching.specs.Inner.Search.Making.{WantsInner}
 use Rattle.matching.proofs.SearchLaws.Making.Closers.{WantTo, want-first, asked-more, asked-done}
 use native.Mathlib.Omega.{arith}
@@ -13,7 +13,7 @@ use Rattle.matching.proofs.search.sets.next_in.Reads as next-in-reads
 use Rattle.square.proofs.helpers.insert.Reads as insert-reads
 
 abbrev invariant-loop : tie.invariant-loop
-invariant-loop sets problem m wanted₀ cone j₀ wanted j = WantTo sets (coneAt m) (WantsInner sets problem) wanted₀ j wanted
+invariant-loop sets problem m wanted₀ cone j₀ wanted j = WantTo sets (cone_at m) (WantsInner sets problem) wanted₀ j wanted
 
 abbrev decreases-loop : tie.decreases-loop
 decreases-loop sets problem m wanted₀ cone j₀ wanted j = 192 - j

@@ -1,6 +1,6 @@
 use Prim.Native.Nat.{◌-◌}
 use mathlib.Core.Bool.{false}
-use Rattle.matching.specs.Inner.Search.Problem.{fitAt}
+use Rattle.matching.specs.Inner.Search.Problem.{fit_at}
 use Rattle.matching.proofs.SearchLaws.Making.Closers.{WantTo, want-first, InnerIn, inner-more, inner-done}
 use native.Mathlib.Omega.{arith}
 use Rattle.matching.proofs.search.problem.want_inner.Statement.{statement}
@@ -11,7 +11,7 @@ use Rattle.matching.proofs.search.sets.next_in.Reads as next-in-reads
 use Rattle.square.proofs.helpers.insert.Reads as insert-reads
 
 abbrev invariant-loop : tie.invariant-loop
-invariant-loop sets problem j wanted₀ at e₀ wanted e = WantTo sets (fitAt false j) (InnerIn problem) wanted₀ e wanted
+invariant-loop sets problem j wanted₀ at e₀ wanted e = WantTo sets (fit_at false j) (InnerIn problem) wanted₀ e wanted
 
 abbrev decreases-loop : tie.decreases-loop
 decreases-loop sets problem j wanted₀ at e₀ wanted e = 192 - e

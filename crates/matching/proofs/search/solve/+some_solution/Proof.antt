@@ -4,7 +4,7 @@ use mathlib.Core.Bool.{not}
 use lib.ListN.{length}
 use borrow.Author.Tests.{not-false}
 use Rattle.subsumption.proofs.Columns.{any_false}
-use Rattle.matching.specs.Inner.Search.Interval.{openPairs}
+use Rattle.matching.specs.Inner.Search.Interval.{open_pairs}
 use Rattle.matching.proofs.SearchLaws.Interval.{open-high, take_less, leave-less}
 use Rattle.matching.proofs.SearchLaws.Solve.{step-answers, split-with, split-without, split-both, split-kept}
 use Prim.Native.Nat.{ℕ, ◌<◌}
@@ -24,7 +24,7 @@ use Rattle.matching.proofs.search.solve.+some_solution.{statement}
 use Rattle.matching.proofs.search.solve.+some_solution.Tie.{close}
 
 abbrev μ-some-solution : Measures 4 some-solution-kinds.ps ℕ
-μ-some-solution κs a = openPairs a.1.1.1.1.1.0.low a.1.1.1.1.1.0.high
+μ-some-solution κs a = open_pairs a.1.1.1.1.1.0.low a.1.1.1.1.1.0.high
 
 abbrev some-solution-at : ℕ → In 4 some-solution-kinds.ps
 some-solution-at t =
@@ -176,7 +176,7 @@ some-solution-some-solution-requires : (t : ℕ) → some-solution-lts.Need-some
   add_reads.Asked,
   add_reads.Learnt,
 ) (some-solution-at t) some-solution.Post
-some-solution-some-solution-requires t c κs = let u = c.before.before.before.before.before.before.before.before.before.before.before.before.before.before.next-step.ensures.1.1.0 c.before.before.before.before.before.before.before.before.before.if1.false in (subst (λ (z : ℕ). openPairs c.before.before.take.result.low c.before.before.take.result.high < z) c.before.before.before.before.before.before.before.before.before.before.before.before.before.before.before.before.before.before.before.before.before.requires.0 (take_less _ _ _ u.0 u.1 _ _ c.before.before.take.ensures.0 c.before.before.take.ensures.1), (record { shaped = c.before.before.before.before.before.before.before.before.before.before.before.before.before.before.before.before.before.before.before.before.before.requires.1.0.shaped; room = c.before.before.before.before.before.before.before.before.before.before.before.before.before.before.next-step.ensures.1.0; scratch-long = omega (arith, c.before.before.before.before.before.before.before.before.before.before.before.before.before.before.before.before.before.before.before.before.before.requires.1.0.scratch-long, c.before.before.before.before.before.before.before.before.before.before.before.scratch.given, c.before.before.before.before.scratch2.given) }, (c.before.before.before.before.before.before.before.before.before.before.before.before.before.before.before.before.before.before.before.before.before.requires.1.1.0, c.before.before.take.ensures.1.long, ap length c.before.before.take.ensures.0 ∙ c.before.before.before.before.before.before.before.before.before.before.before.before.before.before.before.before.before.before.before.before.before.requires.1.1.2)))
+some-solution-some-solution-requires t c κs = let u = c.before.before.before.before.before.before.before.before.before.before.before.before.before.before.next-step.ensures.1.1.0 c.before.before.before.before.before.before.before.before.before.if1.false in (subst (λ (z : ℕ). open_pairs c.before.before.take.result.low c.before.before.take.result.high < z) c.before.before.before.before.before.before.before.before.before.before.before.before.before.before.before.before.before.before.before.before.before.requires.0 (take_less _ _ _ u.0 u.1 _ _ c.before.before.take.ensures.0 c.before.before.take.ensures.1), (record { shaped = c.before.before.before.before.before.before.before.before.before.before.before.before.before.before.before.before.before.before.before.before.before.requires.1.0.shaped; room = c.before.before.before.before.before.before.before.before.before.before.before.before.before.before.next-step.ensures.1.0; scratch-long = omega (arith, c.before.before.before.before.before.before.before.before.before.before.before.before.before.before.before.before.before.before.before.before.before.requires.1.0.scratch-long, c.before.before.before.before.before.before.before.before.before.before.before.scratch.given, c.before.before.before.before.scratch2.given) }, (c.before.before.before.before.before.before.before.before.before.before.before.before.before.before.before.before.before.before.before.before.before.requires.1.1.0, c.before.before.take.ensures.1.long, ap length c.before.before.take.ensures.0 ∙ c.before.before.before.before.before.before.before.before.before.before.before.before.before.before.before.before.before.before.before.before.before.requires.1.1.2)))
 
 some-solution-mul-has-bit : (t : ℕ) → some-solution-lts.Need-overflow-mul-has-bit (
   next-step-reads.Asked,
@@ -356,7 +356,7 @@ some-solution-some-solution-requires-2 : (t : ℕ) → some-solution-lts.Need-so
   add_reads.Asked,
   add_reads.Learnt,
 ) (some-solution-at t) some-solution.Post
-some-solution-some-solution-requires-2 t c κs = let u = c.before.before.before.before.before.before.before.before.before.before.before.before.before.before.before.before.before.before.before.before.before.before.before.before.before.before.before.before.before.before.next-step.ensures.1.1.0 c.before.before.before.before.before.before.before.before.before.before.before.before.before.before.before.before.before.before.before.before.before.before.before.before.before.if1.false in (subst (λ (z : ℕ). openPairs c.before.before.leave.result.low c.before.before.leave.result.high < z) c.before.before.before.before.before.before.before.before.before.before.before.before.before.before.before.before.before.before.before.before.before.before.before.before.before.before.before.before.before.before.before.before.before.before.before.before.before.requires.0 (leave-less _ _ _ u.0 u.1 _ _ c.before.before.leave.ensures.0 c.before.before.leave.ensures.1), (record { shaped = c.before.before.before.before.before.before.before.before.before.before.before.before.before.before.before.before.before.before.before.before.before.before.before.before.before.before.before.before.before.before.before.before.before.before.before.before.before.requires.1.0.shaped; room = c.before.before.before.before.before.before.before.before.before.before.before.before.before.before.before.some-solution.ensures.1.0; scratch-long = omega (arith, c.before.before.before.before.before.before.before.before.before.before.before.before.before.before.before.before.before.before.before.before.before.before.before.before.before.before.before.before.before.before.before.before.before.before.before.before.before.requires.1.0.scratch-long, c.before.before.before.before.before.before.before.before.before.before.before.before.before.before.before.before.before.before.before.before.before.before.before.before.before.before.before.scratch.given, c.before.before.before.before.before.before.before.before.before.before.before.before.before.before.before.before.before.before.before.before.scratch2.given, c.before.before.before.before.before.before.before.before.before.before.before.before.scratch3.given, c.before.before.before.before.scratch4.given) }, (c.before.before.before.before.before.before.before.before.before.before.before.before.before.before.before.before.before.before.before.before.before.before.before.before.before.before.before.before.before.before.before.before.before.before.before.before.before.requires.1.1.0, ap length c.before.before.leave.ensures.0 ∙ c.before.before.before.before.before.before.before.before.before.before.before.before.before.before.before.before.before.before.before.before.before.before.before.before.before.before.before.before.before.before.before.before.before.before.before.before.before.requires.1.1.1, c.before.before.leave.ensures.1.long)))
+some-solution-some-solution-requires-2 t c κs = let u = c.before.before.before.before.before.before.before.before.before.before.before.before.before.before.before.before.before.before.before.before.before.before.before.before.before.before.before.before.before.before.next-step.ensures.1.1.0 c.before.before.before.before.before.before.before.before.before.before.before.before.before.before.before.before.before.before.before.before.before.before.before.before.before.if1.false in (subst (λ (z : ℕ). open_pairs c.before.before.leave.result.low c.before.before.leave.result.high < z) c.before.before.before.before.before.before.before.before.before.before.before.before.before.before.before.before.before.before.before.before.before.before.before.before.before.before.before.before.before.before.before.before.before.before.before.before.before.requires.0 (leave-less _ _ _ u.0 u.1 _ _ c.before.before.leave.ensures.0 c.before.before.leave.ensures.1), (record { shaped = c.before.before.before.before.before.before.before.before.before.before.before.before.before.before.before.before.before.before.before.before.before.before.before.before.before.before.before.before.before.before.before.before.before.before.before.before.before.requires.1.0.shaped; room = c.before.before.before.before.before.before.before.before.before.before.before.before.before.before.before.some-solution.ensures.1.0; scratch-long = omega (arith, c.before.before.before.before.before.before.before.before.before.before.before.before.before.before.before.before.before.before.before.before.before.before.before.before.before.before.before.before.before.before.before.before.before.before.before.before.before.requires.1.0.scratch-long, c.before.before.before.before.before.before.before.before.before.before.before.before.before.before.before.before.before.before.before.before.before.before.before.before.before.before.before.scratch.given, c.before.before.before.before.before.before.before.before.before.before.before.before.before.before.before.before.before.before.before.before.scratch2.given, c.before.before.before.before.before.before.before.before.before.before.before.before.scratch3.given, c.before.before.before.before.scratch4.given) }, (c.before.before.before.before.before.before.before.before.before.before.before.before.before.before.before.before.before.before.before.before.before.before.before.before.before.before.before.before.before.before.before.before.before.before.before.before.before.requires.1.1.0, ap length c.before.before.leave.ensures.0 ∙ c.before.before.before.before.before.before.before.before.before.before.before.before.before.before.before.before.before.before.before.before.before.before.before.before.before.before.before.before.before.before.before.before.before.before.before.before.before.requires.1.1.1, c.before.before.leave.ensures.1.long)))
 
 some-solution-mul-has-bit-2 : (t : ℕ) → some-solution-lts.Need-overflow-mul-has-bit-2 (
   next-step-reads.Asked,
