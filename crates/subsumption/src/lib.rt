@@ -1,5 +1,7 @@
 // Subsumption in EL under general inclusions: the checks of tables, atoms, the subsumption table, deciding a pair.
 // The operations, each without a `requires`, are what the crate passes on here; `helpers` has what the crates above share with it.
+#![tactic(auto)]
+
 mod atoms;
 mod check;
 mod closure;

@@ -1,0 +1,13 @@
+use Prim.Native.Nat.{◌-◌, ◌≤◌}
+use mathlib.Core.Path.{◌≡◌, ◌∙◌, ap}
+use native.Mathlib.Omega.{arith}
+use lib.ListN.{length}
+use Rattle.subsumption.specs.Inner.Atoms.{mark_at, marked_ids}
+use Rattle.subsumption.proofs.Lists.{keep-le, count_none, count_yes, count_no}
+use Rattle.subsumption.proofs.atoms.count_marks.Given as goal
+
+abbrev pub invariant-loop-p : goal.invariant-loop-p
+invariant-loop-p l = (l.p ≤ l.count) × (l.marked ≡ length (marked_ids l.marks l.p))
+
+abbrev pub decreases-loop-p : goal.decreases-loop-p
+decreases-loop-p l = l.count - l.p

@@ -1,0 +1,15 @@
+use Prim.Native.Nat.{◌-◌}
+use mathlib.Core.Path.{◌∙◌}
+use native.Mathlib.Omega.{arith}
+use Rattle.subsumption.specs.declared.refusal.Refusal.TheVariants.{ForwardId}
+use Rattle.subsumption.specs.Tables.{node, count_of}
+use Rattle.subsumption.specs.Check.{forward, forward_fault}
+use Rattle.subsumption.proofs.Scans.{Scan, scan-none, scan-more, scan-found, scan-done}
+use Rattle.subsumption.proofs.Forward.{row-forward}
+use Rattle.subsumption.proofs.check.check_inner.Given as goal
+
+abbrev pub invariant-loop-i : goal.invariant-loop-i
+invariant-loop-i l = Scan ForwardId (λ j. forward j (node l.concepts j)) (count_of l.concepts) l.i
+
+abbrev pub decreases-loop-i : goal.decreases-loop-i
+decreases-loop-i l = count_of l.concepts - l.i

@@ -1,0 +1,39 @@
+use borrow.Author.Rules.{rules}
+use Prim.Native.Nat.{◌-◌}
+use mathlib.Core.Path.{◌∙◌}
+use native.Mathlib.Omega.{arith}
+use Rattle.subsumption.specs.declared.refusal.Refusal.TheVariants.{VariablesOnBothSides}
+use Rattle.subsumption.specs.Tables.{pairs_of, left_of, right_of, tree, has_variable, both}
+use Rattle.subsumption.specs.Check.{sides_fault}
+use Rattle.subsumption.proofs.Scans.{Scan, scan-none, scan-more, scan-found, scan-done}
+use Rattle.subsumption.proofs.Marks.{left_below, right-below}
+use Rattle.subsumption.proofs.Accepted.{both-held}
+use Rattle.subsumption.proofs.check.check_sides.Goals as goal
+
+pub loop-m-init : goal.loop-m-init
+loop-m-init c = scan-none _ _ _
+
+pub bounds-sets-left : goal.bounds-sets-left
+bounds-sets-left c =
+    omega
+    (arith, left_below _ _ _ _ c.requires.known c.requires.concepts_bound (omega arith) c.pair_at-pair.ensures, c.requires.variable_sets.long)
+
+pub bounds-sets-right : goal.bounds-sets-right
+bounds-sets-right c =
+    omega
+    (arith, right-below _ _ _ _ c.requires.known c.requires.concepts_bound (omega arith) c.pair_at-pair.ensures, c.requires.variable_sets.long)
+
+pub returns-then-and_also : goal.returns-then-and_also
+unfolding sides_fault
+returns-then-and_also c =
+    scan-found _ _ _ _ c.loop-m.invariant (omega arith)
+    (both-held _ c.args.questions.now _ c.loop-m.m _ c.requires.variable_sets c.requires.known (omega arith) c.pair_at-pair.ensures _ c.and_also.ensures ∙ c.if-and_also.true)
+
+pub loop-m-preserved : goal.loop-m-preserved
+loop-m-preserved c =
+    scan-more _ _ _ _ c.loop-m.invariant (omega arith)
+    (both-held _ c.args.questions.now _ c.loop-m.m _ c.requires.variable_sets c.requires.known (omega arith) c.pair_at-pair.ensures _ c.and_also.ensures ∙ c.if-and_also.false)
+
+pub returns : goal.returns
+unfolding sides_fault
+returns c = scan-done _ _ _ _ c.loop-m.invariant (omega arith)

@@ -1,0 +1,10 @@
+use Prim.Native.Nat.{◌+◌, ◌*◌, ◌-◌}
+use native.Mathlib.Omega.{arith}
+use Rattle.subsumption.proofs.Including.{Included, included-first, included-more, included-done}
+use Rattle.subsumption.proofs.closure.include_all.Given as goal
+
+abbrev pub invariant-loop-m : goal.invariant-loop-m
+invariant-loop-m l = Included l.inclusions l.initial.columns l.columns l.changed l.m
+
+abbrev pub decreases-loop-m : goal.decreases-loop-m
+decreases-loop-m l = l.count - l.m

@@ -1,0 +1,11 @@
+use Prim.Native.Nat.{◌-◌, ◌≤◌}
+use native.Mathlib.Omega.{arith}
+use Rattle.subsumption.specs.Inner.Links.{KindsTo}
+use Rattle.subsumption.proofs.Linking.{kinds-none, kinds-more, kinds-done}
+use Rattle.subsumption.proofs.closure.links.note_kinds.Given as goal
+
+abbrev pub invariant-loop-s : goal.invariant-loop-s
+invariant-loop-s l = (l.s ≤ 100) × KindsTo l.into l.lines l.kinds l.s
+
+abbrev pub decreases-loop-s : goal.decreases-loop-s
+decreases-loop-s l = 100 - l.s

@@ -1,0 +1,14 @@
+use native.Mathlib.Omega.{arith}
+use Rattle.subsumption.proofs.SetLaws.{Joining, joining-first, joining-low, joining-more, joining-done}
+use Rattle.subsumption.proofs.WordLaws.{rest-less}
+use Rattle.subsumption.specs.Inner.Columns.{InThree}
+use lib.Count.{trailing_le}
+use lib.Bits.{and_le_r}
+use Prim.Native.Nat.{◌-◌}
+use Rattle.subsumption.proofs.closure.sets.join.Given as goal
+
+abbrev pub invariant-loop-rest : goal.invariant-loop-rest
+invariant-loop-rest l = Joining l.sets l.from l.word (InThree l.initial.first l.initial.second l.initial.third) l.rest l.first l.second l.third
+
+abbrev pub decreases-loop-rest : goal.decreases-loop-rest
+decreases-loop-rest l = l.rest

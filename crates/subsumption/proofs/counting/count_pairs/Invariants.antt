@@ -1,0 +1,10 @@
+use Prim.Native.Nat.{◌-◌}
+use native.Mathlib.Omega.{arith}
+use Rattle.subsumption.proofs.MarkLaws.{PairsTo, pairs-none, pairs-more, pairs-done}
+use Rattle.subsumption.proofs.counting.count_pairs.Given as goal
+
+abbrev pub invariant-loop-j : goal.invariant-loop-j
+invariant-loop-j l = PairsTo l.columns l.count l.j l.pairs
+
+abbrev pub decreases-loop-j : goal.decreases-loop-j
+decreases-loop-j l = l.count - l.j

@@ -1,0 +1,10 @@
+use Prim.Native.Nat.{◌-◌}
+use native.Mathlib.Omega.{arith}
+use Rattle.subsumption.proofs.Blocks.{BlockTo, block_none, block-skip, block_more, block-done}
+use Rattle.subsumption.proofs.rows.block.Given as goal
+
+abbrev pub invariant-loop-b : goal.invariant-loop-b
+invariant-loop-b l = BlockTo l.columns l.count l.m l.a l.b l.word
+
+abbrev pub decreases-loop-b : goal.decreases-loop-b
+decreases-loop-b l = 8 - l.b

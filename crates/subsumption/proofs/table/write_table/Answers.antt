@@ -1,0 +1,23 @@
+use lib.ListN.{replicate}
+use Rattle.subsumption.proofs.Deciding.{table-refused}
+use Rattle.subsumption.proofs.ListingLaws.{tables-rejected, tables-listed, tables-few, prepared}
+use lib.Seq.{length-take-le}
+use mathlib.Core.Path.{refl, sym}
+use native.Mathlib.Omega.{arith}
+use borrow.Author.Rules.{rules}
+use Rattle.subsumption.proofs.table.write_table.Goals as goal
+
+pub slice_bounds-ids-end : goal.slice_bounds-ids-end
+slice_bounds-ids-end c = omega (arith, tables-few _ (replicate 64 0) _ c.list_atoms-listed.result refl c.list_atoms-listed.ensures.replied c.list_atoms-listed.ensures.written _ c.in-Atoms.is)
+
+pub slice_bounds-put_table-end : goal.slice_bounds-put_table-end
+slice_bounds-put_table-end c = sym (length-take-le _ _ (omega (arith, tables-few _ (replicate 64 0) _ c.list_atoms-listed.result refl c.list_atoms-listed.ensures.replied c.list_atoms-listed.ensures.written _ c.in-Atoms.is)))
+
+pub put_table-requires : goal.put_table-requires
+put_table-requires c = prepared _ _ _ _ _ _ (tables-listed _ (replicate 64 0) _ c.list_atoms-listed.result refl c.list_atoms-listed.ensures.replied c.list_atoms-listed.ensures.written _ c.in-Atoms.is)
+
+pub returns-in-Rejected : goal.returns-in-Rejected
+returns-in-Rejected c = table-refused _ _ _ _ (tables-rejected _ (replicate 64 0) _ c.list_atoms-listed.result refl c.list_atoms-listed.ensures.replied c.list_atoms-listed.ensures.written _ c.in-Rejected.is)
+
+pub returns-in-Atoms : goal.returns-in-Atoms
+returns-in-Atoms c = c.put_table.ensures _ (tables-listed _ (replicate 64 0) _ c.list_atoms-listed.result refl c.list_atoms-listed.ensures.replied c.list_atoms-listed.ensures.written _ c.in-Atoms.is)

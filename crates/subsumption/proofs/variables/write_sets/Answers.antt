@@ -1,0 +1,26 @@
+use Rattle.subsumption.proofs.Marks.{SetsTo, sets-none, sets-row, sets-done, row-rising, row-narrow}
+use Rattle.subsumption.specs.Tables.{count_of}
+use native.Mathlib.Omega.{arith}
+use Prim.Native.Nat.{◌-◌}
+use Rattle.subsumption.proofs.variables.write_sets.Lts as lts
+use Rattle.subsumption.proofs.variables.write_sets.Goals as goal
+
+-- src/variables.rt:52:5
+pub loop-i-init : goal.loop-i-init
+loop-i-init c = search sets-none
+
+-- src/variables.rt:54:13
+pub set_of-set-requires : goal.set_of-set-requires
+set_of-set-requires c = record { rising = row-rising _ _ _ _ c.requires.layered (omega (arith, c.requires.layered.few)) c.row_at-row.ensures; narrow = row-narrow _ _ _ c.requires.by_index c.row_at-row.ensures }
+
+-- src/variables.rt:55:9
+pub bounds-sets-i : goal.bounds-sets-i
+bounds-sets-i c = omega (arith, c.requires.layered.few)
+
+-- src/variables.rt:52:5
+pub loop-i-preserved : goal.loop-i-preserved
+loop-i-preserved c = sets-row _ _ _ _ _ c.requires.layered c.loop-i.invariant (omega arith) c.row_at-row.ensures c.set_of-set.ensures
+
+-- src/variables.rt:44:1
+pub returns : goal.returns
+returns c = search sets-done
