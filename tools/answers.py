@@ -182,6 +182,8 @@ class Fn:
             return f"c.requires.{names[k]}", used
         if head == "ranges":
             return "c.ranges", 1
+        if head in ("well-formed", "well_formed"):
+            return "c.well_formed", 1
         want = norm(head)
         order = []
         if ups < len(chain):
@@ -206,6 +208,12 @@ class Fn:
                 got = self.by_arm(arm, fields)
                 if got:
                     return got
+        if ups < len(chain):
+            k = self.index[chain[ups]]
+            old, new = self.n["places"][k][2]
+            if self.n["places"][k][3]:
+                self.notes.append("step " + ".".join(fields) + " taken for " + new)
+                return self.arm(place, chain[ups], k, old, new, fields)
         self.notes.append("no step " + ".".join(fields))
         return None, 0
 

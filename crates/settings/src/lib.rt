@@ -1,5 +1,7 @@
 // Settings of the variables: the atoms that each may take, and how many of them at most. The check of settings, and what a search
 // does about largest counts. No operations: all is in `helpers`.
+#![tactic(auto)]
+
 mod check;
 mod counts;
 pub mod helpers;

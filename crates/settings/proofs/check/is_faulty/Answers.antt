@@ -1,0 +1,13 @@
+use mathlib.Core.Path.{sym, ◌∙◌}
+use native.Mathlib.Omega.{arith}
+use Rattle.settings.proofs.SettingsLaws.{past-faulty, count-faulty}
+use Rattle.settings.proofs.check.is_faulty.Goals as goal
+
+pub returns-then-is_past : goal.returns-then-is_past
+returns-then-is_past c = past-faulty _ _ _ (sym c.is_past.ensures ∙ c.if-is_past.true)
+
+pub overflow_cast-result : goal.overflow_cast-result
+overflow_cast-result c = omega (arith, c.type_inv.largest c.args.k)
+
+pub returns : goal.returns
+returns c = count-faulty _ _ _ (sym c.is_past.ensures ∙ c.if-is_past.false)

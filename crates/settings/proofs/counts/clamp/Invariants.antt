@@ -1,0 +1,10 @@
+use Prim.Native.Nat.{◌-◌}
+use native.Mathlib.Omega.{arith}
+use Rattle.settings.proofs.CountLaws.{ClampedTo, clamped-none, clamped-keep, clamped-more, clamped-all}
+use Rattle.settings.proofs.counts.clamp.Given as goal
+
+abbrev pub invariant-loop-k : goal.invariant-loop-k
+invariant-loop-k l = ClampedTo l.most l.low l.initial.inner l.inner l.k
+
+abbrev pub decreases-loop-k : goal.decreases-loop-k
+decreases-loop-k l = 8 - l.k

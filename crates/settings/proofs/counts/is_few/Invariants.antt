@@ -1,0 +1,12 @@
+use Prim.Native.Nat.{◌-◌}
+use native.Mathlib.Omega.{arith}
+use lib.ListN.{get_or}
+use Rattle.settings.proofs.SizeLaws.{size-most}
+use Rattle.settings.proofs.CountLaws.{FewTo, few-more}
+use Rattle.settings.proofs.counts.is_few.Given as goal
+
+abbrev pub invariant-loop-k : goal.invariant-loop-k
+invariant-loop-k l = FewTo l.most l.choice l.k
+
+abbrev pub decreases-loop-k : goal.decreases-loop-k
+decreases-loop-k l = 8 - l.k

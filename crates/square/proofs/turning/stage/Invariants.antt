@@ -1,0 +1,12 @@
+use native.Mathlib.Omega.{arith}
+use Rattle.square.proofs.TurningLaws.{StagedTo, staged-first, staged-more, staged_done}
+use borrow.Author.Rules.{Below-set}
+use mathlib.Core.Path.{ap, subst, sym}
+use Prim.Native.Nat.{◌-◌, ◌+◌, ◌*◌, ◌/◌}
+use Rattle.square.proofs.turning.stage.Given as goal
+
+abbrev pub invariant-loop-p : goal.invariant-loop-p
+invariant-loop-p l = StagedTo l.by l.low l.high l.initial.block l.p l.block
+
+abbrev pub decreases-loop-p : goal.decreases-loop-p
+decreases-loop-p l = 32 - l.p
