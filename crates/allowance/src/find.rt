@@ -19,7 +19,7 @@ use subsumption::refusal::{Outcome, Refusal};
 use subsumption::{Listed, list_atoms};
 
 // The answer, and the count of decisions: with a refusal other than 10 and 14 it is 0.
-#[derive(Drop)]
+#[derive(Clone, Copy)]
 pub struct Counted {
     pub answer: Match,
     pub count: u32,

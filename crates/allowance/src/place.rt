@@ -7,7 +7,7 @@ ghost use Rattle.allowance.specs.Inner.Place.{NextFrom};
 
 use matching::helpers::{has_bit, with_pair, without_pair};
 
-#[derive(Drop)]
+#[derive(Clone, Copy)]
 pub struct Place {
     pub low: [u64; 8],
     pub high: [u64; 8],
@@ -32,7 +32,7 @@ fn with_bit(set: [u64; 8], p: usize, count: usize, taken: bool) -> [u64; 8]
 }
 
 // What comes next, if anything does.
-#[derive(Drop)]
+#[derive(Clone, Copy)]
 pub struct Next {
     pub found: bool,
     pub place: Place,

@@ -12,7 +12,7 @@ use matching::helpers::{ASKED, MOST, SCRATCH, is_within};
 use settings::helpers::is_few;
 
 // What was found, or that the allowance was spent, and how many open ones were met.
-#[derive(Drop)]
+#[derive(Clone, Copy)]
 pub struct Trail {
     pub found: bool,
     pub spent: bool,

@@ -1,5 +1,7 @@
 // Answers in the numbers of the C interface: those of the operations of `subsumption`. Each function calls one operation and turns
 // its answer into numbers. They stand in small crates, so that a wrong one is soon refused.
+#![tactic(auto)]
+
 ghost use Rattle.std.specs.Prelude.{◌≡◌};
 ghost use Rattle.subsumption.specs.Lent.{lent};
 ghost use Rattle.subsumption.specs.Tables.{tree, variables_of};
@@ -16,7 +18,7 @@ use subsumption::{Decision, Listed, Tabled, VariableSet};
 
 // number 0: done; else the refusal's number, with its place and value 0.
 #[repr(C)]
-#[derive(Drop)]
+#[derive(Clone, Copy)]
 pub struct Answer {
     pub number: u16,
     pub place: u64,

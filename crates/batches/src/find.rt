@@ -18,7 +18,7 @@ use subsumption::{Listed, list_atoms};
 
 // number and place: of the whole, refusal 20 or 0; then what was left over, and for each table its number, place and count.
 #[repr(C)]
-#[derive(Drop)]
+#[derive(Clone, Copy)]
 pub struct Batch {
     pub number: u16,
     pub place: u64,

@@ -14,7 +14,7 @@ use subsumption::refusal::code_of;
 
 // number 0: so many entries and inclusions were read; else the refusal's number, with its place and zeros.
 #[repr(C)]
-#[derive(Drop)]
+#[derive(Clone, Copy)]
 pub struct CatalogueAnswer {
     pub number: u16,
     pub place: u64,

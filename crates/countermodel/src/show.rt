@@ -16,7 +16,7 @@ use subsumption::limits::ATOMS;
 use subsumption::refusal::{Outcome, Refusal};
 use subsumption::{Listed, Tabled, write_table};
 
-#[derive(Drop)]
+#[derive(Clone, Copy)]
 pub enum Shown {
     Rows(usize),
     Rejected(Refusal),

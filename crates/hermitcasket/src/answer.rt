@@ -71,7 +71,7 @@ fn answer_tables(
 }
 
 // How the output is to be written.
-#[derive(Drop)]
+#[derive(Clone, Copy)]
 pub enum Plan {
     // So many bytes of the buffer are all of it.
     Whole(usize),

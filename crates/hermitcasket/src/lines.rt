@@ -5,20 +5,20 @@ ghost use Rattle.hermitcasket.specs.Lines.{number, number_line, pair_line, row_l
 use numerals::{read_run, starts_with};
 
 // A number and the length used, its end among it.
-#[derive(Drop)]
+#[derive(Clone, Copy)]
 pub enum Number {
     Value(u16, usize),
     NoNumber,
 }
 
-#[derive(Drop)]
+#[derive(Clone, Copy)]
 pub enum PairLine {
     Two(u16, u16, usize),
     NoPair,
 }
 
 // Kind and two numbers, as the concept table has them.
-#[derive(Drop)]
+#[derive(Clone, Copy)]
 pub enum RowLine {
     Row(u16, u16, u16, usize),
     NoRow,

@@ -11,21 +11,21 @@ use numerals::starts_with;
 use subsumption::refusal::Refusal;
 
 // The length of the lines, or the place where the earliest faulty one starts.
-#[derive(Drop)]
+#[derive(Clone, Copy)]
 pub enum Lines {
     Upto(usize),
     Off(usize),
 }
 
 // What is asked of the tables: to solve them, or to show an interpretation where a pair fails.
-#[derive(Drop)]
+#[derive(Clone, Copy)]
 pub enum Ask {
     Fill,
     Show(u16, u16),
 }
 
 // What the text says: the variables, the counts of concepts, inclusions, questions and pairs of roles, and what is asked.
-#[derive(Drop)]
+#[derive(Clone, Copy)]
 pub enum Read {
     Problem(u16, usize, usize, usize, usize, Ask),
     Rejected(Refusal),
@@ -86,7 +86,7 @@ fn read_pairs(part: &[u8], at: usize, key: &[u8], count: usize, out: &mut [u16])
 }
 
 // A count, or a section's count of lines, and the length used.
-#[derive(Drop)]
+#[derive(Clone, Copy)]
 pub enum Section {
     Through(usize, usize),
     Faulty(Refusal),
@@ -166,7 +166,7 @@ fn read_roles(rest: &[u8], at: usize, out: &mut [u16]) -> Section
 }
 
 // The text's end.
-#[derive(Drop)]
+#[derive(Clone, Copy)]
 pub enum End {
     Asks(Ask),
     Damaged(Refusal),
@@ -191,7 +191,7 @@ fn read_end(rest: &[u8], at: usize) -> End
 }
 
 // The count of the questions, and what is asked behind them.
-#[derive(Drop)]
+#[derive(Clone, Copy)]
 pub enum Asked {
     Questions(usize, Ask),
     Wrong(Refusal),

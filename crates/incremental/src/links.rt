@@ -42,7 +42,7 @@ pub fn note_existentials(concepts: &[u16], outer: &mut [u64], inners: &mut [u64]
 }
 
 // A set of ids, by value.
-#[derive(Drop)]
+#[derive(Clone, Copy)]
 struct Words {
     first: u64,
     second: u64,

@@ -38,7 +38,7 @@ fn spread(atoms: &[u16], choice: u64, square: &mut [u64], to: usize) -> bool
 }
 
 // The three words of a line.
-#[derive(Drop)]
+#[derive(Clone, Copy)]
 struct Words {
     first: u64,
     second: u64,

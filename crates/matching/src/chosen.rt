@@ -12,14 +12,14 @@ use subsumption::limits::ATOMS;
 use subsumption::refusal::{Outcome, Refusal, code_of};
 use subsumption::{Listed, list_atoms};
 
-#[derive(Drop)]
+#[derive(Clone, Copy)]
 pub enum Chosen {
     Ids(usize),
     Rejected(Refusal),
 }
 
 // What is told beside the list.
-#[derive(Drop)]
+#[derive(Clone, Copy)]
 pub struct Told {
     pub number: u16,
     pub place: usize,

@@ -10,7 +10,7 @@ use subsumption::limits::ATOMS;
 use subsumption::refusal::Refusal;
 use subsumption::{Listed, list_atoms};
 
-#[derive(Drop)]
+#[derive(Clone, Copy)]
 pub enum Match {
     Filled,
     Rejected(Refusal),

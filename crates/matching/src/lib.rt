@@ -1,6 +1,8 @@
 // Matching under subsumption: the matcher, derivations and their checker. The matcher stands on the subsumption table's promise: it
 // asks the operation `write_table` for one table and reads no columns of the closure. The operations, each without a `requires`,
 // are what the crate passes on here.
+#![tactic(auto)]
+
 mod chosen;
 mod derivation;
 mod find;

@@ -29,7 +29,7 @@ use subsumption::{Listed, list_atoms};
 pub const ALL: u64 = 18446744073709551615;
 
 // A solution, if there is one.
-#[derive(Drop)]
+#[derive(Clone, Copy)]
 pub struct Solution {
     pub found: bool,
     pub choice: [u64; 8],

@@ -23,7 +23,7 @@ use subsumption::limits::{ATOMS, ROLE_WORDS};
 use subsumption::refusal::{Outcome, Refusal};
 use subsumption::{Decision, Listed};
 
-#[derive(Drop)]
+#[derive(Clone, Copy)]
 pub enum Derived {
     Lines(usize),
     Rejected(Refusal),

@@ -4,7 +4,7 @@ ghost use Rattle.numerals.specs.Bytes.{starts};
 ghost use Rattle.numerals.specs.Reading.{wrong_digit, run_of};
 
 // A number and how many digits gave it; none gave it where there are none.
-#[derive(Drop)]
+#[derive(Clone, Copy)]
 pub struct Run {
     pub value: u16,
     pub length: usize,

@@ -18,7 +18,7 @@ pub const ITEM: u16 = 3;
 pub const ROLE: u16 = 4;
 
 // How many frames, waiting members, entries and axioms there are, and what may come next.
-#[derive(Drop)]
+#[derive(Clone, Copy)]
 pub struct Reader {
     pub depth: usize,
     pub used: usize,
@@ -27,7 +27,7 @@ pub struct Reader {
     pub want: u16,
 }
 
-#[derive(Drop)]
+#[derive(Clone, Copy)]
 pub enum Next {
     Go(Reader),
     Stop(Refusal),

@@ -16,7 +16,7 @@ const SIDES: usize = 192;
 const TEXT: usize = 8192;
 
 // How many entries and inclusions there are.
-#[derive(Drop)]
+#[derive(Clone, Copy)]
 pub enum Catalogue {
     Tables(usize, usize),
     Rejected(Refusal),

@@ -5,7 +5,7 @@ ghost use Rattle.owl.specs.Inner.Words.{read_numbered};
 
 use numerals::{read_run, starts_with};
 
-#[derive(Drop)]
+#[derive(Clone, Copy)]
 pub enum Word {
     AxiomKey,
     TopKey,

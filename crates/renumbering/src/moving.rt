@@ -23,7 +23,7 @@ fn moved_field(order: &[u16], inner: bool, x: u16) -> u16
 }
 
 // A row's three numbers.
-#[derive(Drop)]
+#[derive(Clone, Copy)]
 struct Moved {
     kind: u16,
     first: u16,

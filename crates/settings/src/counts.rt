@@ -49,7 +49,7 @@ pub fn clamp(most: &[u16], low: [u64; 8], high: [u64; 8]) -> [u64; 8]
     inner
 }
 
-#[derive(Drop)]
+#[derive(Clone, Copy)]
 pub struct Sides {
     pub low: [u64; 8],
     pub high: [u64; 8],

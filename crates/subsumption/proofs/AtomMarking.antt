@@ -16,7 +16,7 @@ use Rattle.subsumption.specs.declared.refusal.Outcome.TheVariants.{Done, Refused
 use Rattle.subsumption.specs.declared.tables.Row.{Row}
 use Rattle.subsumption.specs.Inner.Tables.{row_of}
 use Rattle.subsumption.specs.Tables.{Tables, tables, or, both, any_below, node, decode, count_of, pairs_of, left_of, right_of, tree, has_variable}
-use Rattle.subsumption.specs.Atoms.{is_atomic, occurs, in_inclusion, in_question, stands, twin, is_lowest, is_atom, keep, atoms}
+use Rattle.subsumption.specs.Atoms.{is_atomic, occurs, in_inclusion, in_question, stands, is_lowest, is_atom, keep, atoms}
 use Rattle.subsumption.specs.Refusal.{or_else, refuse_if}
 use Rattle.subsumption.specs.Check.{inclusion_fault, sides_fault, roles_fault, atoms_fault, use_fault}
 use Rattle.subsumption.specs.Inner.Atoms.{Known, mark_at, held, VariableSets, MarkedBy, in_pair, on_side, on_ground_right, Spread, Narrowed, StandingMarks, AtomMarks, marked_ids}

@@ -2,19 +2,19 @@
 use Prim.Native.Nat.{ℕ, suc, ◌+◌, ◌*◌, ◌/◌, ◌%◌, ◌^◌, ◌<◌, ◌≤◌}
 use mathlib.Core.Path.{◌≡◌, refl, sym, ap, ap₂, ◌∙◌, subst}
 use mathlib.Core.List.{List}
-use mathlib.Core.Bool.{Bool, true, false, true≢false}
+use mathlib.Core.Bool.{Bool, true, false}
 use mathlib.Core.Logic.{⊎_elim}
 use native.Mathlib.Omega.{arith}
 use lib.Bits.{bit_or}
 use lib.Dec.{eqb}
 use lib.ListN.{length, get_or, set, length-set, replicate, get_or-replicate}
 use lib.Seq.{get_or-set_same, get_or-set_other}
-use borrow.Author.Tests.{eq-eqb, ne_eqb, eqb-true}
+use borrow.Author.Tests.{eq-eqb, ne_eqb}
 use Rattle.subsumption.specs.Tables.{or, both, pairs_of, left_of, right_of}
 use Rattle.subsumption.specs.Atoms.{bit}
 use Rattle.subsumption.specs.Roles.{wider_to, wider}
 use Rattle.subsumption.specs.Inner.Roles.{in_set, LowRoles, Started, Joined, Widened, RoleSets}
-use Rattle.subsumption.proofs.Bools.{or-first, or-skip, both_first, both-second, both-skip, both-none, same_bool, last-cases, le-or-lt, eq-or-ne}
+use Rattle.subsumption.proofs.Bools.{both_first, both-second, last-cases, le-or-lt, eq-or-ne}
 use Rattle.subsumption.proofs.Bits.{bit-or, bit-pow, bit-pow-other, bit-of-zero}
 use Rattle.subsumption.proofs.MarkLaws.{shifted}
 

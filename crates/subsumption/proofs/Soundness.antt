@@ -6,7 +6,7 @@ use mathlib.Core.Bool.{Bool, true}
 use Rattle.subsumption.specs.Tables.{Tables, count_of}
 use Rattle.subsumption.specs.Atoms.{chosen}
 use Rattle.subsumption.specs.Roles.{wider}
-use Rattle.subsumption.specs.Subsumption.{Linked, Interpretation, Reading, no_variables, assigned, Obeys, SubsumedBy, Subsumed}
+use Rattle.subsumption.specs.Subsumption.{Interpretation, Reading, no_variables, assigned, Obeys, SubsumedBy, Subsumed}
 use Rattle.subsumption.specs.Inner.Columns.{has}
 use Rattle.subsumption.specs.Inner.Closure.{Steps, Flow, flow-given, flow-same, flow-top, flow-named, flow-first, flow-second, flow-meet, flow-included, flow-linked, flow-chooses, flow-all-chosen}
 use Rattle.subsumption.proofs.WellFormed.{WellFormed}

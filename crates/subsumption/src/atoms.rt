@@ -1,7 +1,6 @@
 // Which ids are atoms: the lowest twins of those in inclusions and variable-free right sides and of all that stands in them, of
 // kinds 1 and 2.
 ghost use Rattle.std.specs.Prelude.{◌≡◌, false, ℕ, ◌<◌, ◌≤◌, eqb, length, replicate};
-
 ghost use Rattle.subsumption.specs.Tables.{decode, or, both, node, exists_at, count_of};
 ghost use Rattle.subsumption.specs.Atoms.{inside, is_atomic};
 ghost use Rattle.subsumption.specs.Inner.Tables.{Rising};

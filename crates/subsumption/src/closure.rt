@@ -6,7 +6,6 @@ pub mod sets;
 pub mod settling;
 
 ghost use Rattle.std.specs.Prelude.{◌≡◌, length};
-
 ghost use Rattle.subsumption.specs.Roles.{wider};
 ghost use Rattle.subsumption.specs.Inner.Roles.{LowRoles};
 ghost use Rattle.subsumption.specs.Inner.Names.{Firsts};

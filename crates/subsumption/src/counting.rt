@@ -1,6 +1,5 @@
 // How many pairs the columns hold: of each column the ones among the ids.
 ghost use Rattle.std.specs.Prelude.{◌≡◌, ◌-◌, ◌<◌, ◌≤◌, length};
-
 ghost use Rattle.subsumption.specs.Atoms.{bit};
 ghost use Rattle.subsumption.specs.Table.{counted, total};
 ghost use Rattle.subsumption.specs.Inner.Columns.{has};

@@ -12,7 +12,7 @@ use crate::limits::{ATOMS, WORDS};
 use crate::listing::{Listed, list_asked};
 use crate::refusal::{Outcome, Refusal};
 
-#[derive(Drop)]
+#[derive(Clone, Copy)]
 pub enum Decision {
     Yes,
     No,

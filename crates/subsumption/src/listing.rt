@@ -12,7 +12,7 @@ use crate::check::{check_alone, check_concepts, check_ids, check_use};
 use crate::limits::{ATOMS, CONCEPTS};
 use crate::refusal::{Outcome, Refusal};
 
-#[derive(Drop)]
+#[derive(Clone, Copy)]
 pub enum Listed {
     Atoms(usize),
     Rejected(Refusal),

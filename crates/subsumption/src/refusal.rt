@@ -4,7 +4,7 @@ ghost use Rattle.subsumption.specs.Refusal.{code_of};
 
 use crate::limits::ATOMS;
 
-#[derive(Drop)]
+#[derive(Clone, Copy)]
 pub enum Refusal {
     Limit(usize),
     Malformed(usize),
@@ -31,14 +31,14 @@ pub enum Refusal {
 }
 
 // What an operation answers that has nothing to give but its work.
-#[derive(Drop)]
+#[derive(Clone, Copy)]
 pub enum Outcome {
     Done,
     Refused(Refusal),
 }
 
 // The paper's number and place.
-#[derive(Drop)]
+#[derive(Clone, Copy)]
 pub struct Code {
     pub number: u16,
     pub place: usize,

@@ -1,7 +1,6 @@
 // Which roles count as which: for each role the set of those that do, two words a role. One pair is added at a time, as in
 // `wider_to`, so that chains and circles need no rounds.
 ghost use Rattle.std.specs.Prelude.{◌≡◌, ℕ, ◌<◌, length, replicate};
-
 ghost use Rattle.subsumption.specs.Tables.{pairs_of};
 ghost use Rattle.subsumption.specs.Inner.Roles.{in_set, LowRoles, Started, Joined, Widened, RoleSets};
 ghost use Rattle.subsumption.specs.Inner.Sizes.{roles_size};

@@ -1,6 +1,5 @@
 // Writing the rows of the subsumption table out of the columns. Private to the crate.
 ghost use Rattle.std.specs.Prelude.{◌≡◌, ◌+◌, ◌*◌, ◌/◌, ◌<◌, ◌≤◌, length};
-
 ghost use Rattle.subsumption.specs.Table.{row_start};
 ghost use Rattle.subsumption.specs.Inner.Rows.{exchanged, Transposed, BlockOf, BandOf, Banded, RowWritten, Written};
 ghost use Rattle.subsumption.specs.Inner.Sizes.{columns_size};

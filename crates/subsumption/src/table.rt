@@ -11,7 +11,7 @@ use crate::listing::{Listed, list_atoms};
 use crate::refusal::{Outcome, Refusal};
 use crate::rows::write_rows;
 
-#[derive(Drop)]
+#[derive(Clone, Copy)]
 pub enum Tabled {
     Marks(usize),
     Rejected(Refusal),

@@ -1,17 +1,16 @@
 // Rows of the tables, read by place.
 ghost use Rattle.std.specs.Prelude.{◌≡◌, ◌<◌};
-
 ghost use Rattle.subsumption.specs.Tables.{count_of, pairs_of};
 ghost use Rattle.subsumption.specs.Inner.Tables.{row_of, pair_of};
 
-#[derive(Drop)]
+#[derive(Clone, Copy)]
 pub struct Row {
     pub kind: u16,
     pub a: u16,
     pub b: u16,
 }
 
-#[derive(Drop)]
+#[derive(Clone, Copy)]
 pub struct Pair {
     pub left: u16,
     pub right: u16,

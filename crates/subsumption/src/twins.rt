@@ -1,7 +1,6 @@
 // Which ids are twins: of each id the lowest one of its concept. A row has a key, made of its kind, its number and the lowest
 // twins of its inner ids, so that equal keys are equal concepts. Slots by a key's remainder tell where its first row can be.
 ghost use Rattle.std.specs.Prelude.{◌≡◌, ℕ, ◌+◌, ◌*◌, ◌<◌, ◌≤◌, length, get_or};
-
 ghost use Rattle.subsumption.specs.Tables.{decode, node, exists_at, count_of};
 ghost use Rattle.subsumption.specs.Inner.Tables.{Rising};
 ghost use Rattle.subsumption.specs.Inner.Atoms.{Layered};

@@ -14,7 +14,7 @@ use crate::listing::{Listed, list_asked};
 use crate::refusal::Refusal;
 use crate::tables::row_at;
 
-#[derive(Drop)]
+#[derive(Clone, Copy)]
 pub enum VariableSet {
     Set(u8),
     Rejected(Refusal),

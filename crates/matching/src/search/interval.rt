@@ -10,14 +10,14 @@ use crate::limits::PAIRS;
 use crate::search::pairs::{with_pair, without_pair};
 use subsumption::limits::ATOMS;
 
-#[derive(Drop)]
+#[derive(Clone, Copy)]
 pub struct Interval {
     pub low: [u64; 8],
     pub high: [u64; 8],
 }
 
 // A pair of variable and position, counted through with 64 positions a variable.
-#[derive(Drop)]
+#[derive(Clone, Copy)]
 pub enum Pick {
     At(usize),
     Nothing,

@@ -52,7 +52,7 @@ pub fn note(scratch: &mut [u64], c: usize, full: [u64; 8], nogood: Interval)
 
 // Of 64 nogoods: those that cannot be around the interval, those with an open pair that they want taken, with one that they want
 // left out, and with more than one open pair.
-#[derive(Drop)]
+#[derive(Clone, Copy)]
 pub struct Weights {
     pub dead: u64,
     pub want: u64,
@@ -75,7 +75,7 @@ fn kill(scratch: &[u64], word: u64, from: usize, dead: u64) -> u64
 }
 
 // With the masks of the open pairs in the word: those that were there, and those that were there twice.
-#[derive(Drop)]
+#[derive(Clone, Copy)]
 pub struct Counted {
     pub once: u64,
     pub twice: u64,
@@ -163,7 +163,7 @@ fn weigh(scratch: &[u64], w: usize, interval: Interval) -> Weights
 
 // The place of a nogood that shuts the interval, else of one with a single open pair, else of the first one that is around the low
 // side. `spare` says that it is one with a single open pair.
-#[derive(Drop)]
+#[derive(Clone, Copy)]
 pub struct Hint {
     pub place: usize,
     pub spare: bool,

@@ -59,7 +59,7 @@ fn with_above(allowed: [u64; 8], nogood: Interval, high: [u64; 8]) -> [u64; 8]
 }
 
 // Whether more is wanted than the largest count of a variable, and then an interval around the asked one that holds no solution.
-#[derive(Drop)]
+#[derive(Clone, Copy)]
 pub struct Wanted {
     pub over: bool,
     pub low: [u64; 8],

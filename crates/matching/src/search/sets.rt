@@ -7,7 +7,7 @@ ghost use Rattle.matching.specs.Inner.Search.Sets.{in_words, NextBit, NextIn, Sa
 
 use crate::limits::{FITS_LEFT, FITS_RIGHT};
 
-#[derive(Drop)]
+#[derive(Clone, Copy)]
 pub struct Words {
     pub first: u64,
     pub second: u64,

@@ -31,7 +31,7 @@ const MERGED: u64 = 640;
 const NONE: usize = 1024;
 
 // A solution, as the low side, or an interval around the asked one that holds none.
-#[derive(Drop)]
+#[derive(Clone, Copy)]
 pub struct Answer {
     pub found: bool,
     pub low: [u64; 8],
@@ -170,7 +170,7 @@ fn pair_outside(a: [u64; 8], b: [u64; 8]) -> usize {
 
 // One step at an interval: an answer, or a pair to split at, with the place of the nogood that proposed it, and whether the pair
 // was its last open one.
-#[derive(Drop)]
+#[derive(Clone, Copy)]
 pub struct Step {
     pub done: bool,
     pub found: bool,
@@ -241,7 +241,7 @@ fn step_by_test(
 }
 
 // The nogood at a place, and whether it shuts the interval.
-#[derive(Drop)]
+#[derive(Clone, Copy)]
 pub struct Nogood {
     pub shut: bool,
     pub low: [u64; 8],

@@ -12,21 +12,21 @@ use crate::derivation::rules::by_rule;
 use crate::writer::propose::{extra_of, left_of, right_of, rule_of};
 use subsumption::helpers::row_at;
 
-#[derive(Drop)]
+#[derive(Clone, Copy)]
 pub enum Extra {
     At(usize),
     None,
 }
 
 // By a rule, with an extra.
-#[derive(Drop)]
+#[derive(Clone, Copy)]
 pub enum Why {
     By(usize, usize),
     Unknown,
 }
 
 // Rule, left, right and extra.
-#[derive(Drop)]
+#[derive(Clone, Copy)]
 pub enum Next {
     Line(usize, usize, usize, usize),
     Nothing,

@@ -1,5 +1,5 @@
 -- Transposing the square's rows into its columns, by blocks of 64 by 64 bits (src/turning.rt).
-use Rattle.std.specs.Prelude.{ℕ, ◌+◌, ◌-◌, ◌*◌, ◌/◌, ◌%◌, ◌^◌, ◌<◌, ◌≤◌, ◌≡◌, List, Bool, not, eqb, length, get_or}
+use Rattle.std.specs.Prelude.{ℕ, ◌+◌, ◌-◌, ◌*◌, ◌/◌, ◌%◌, ◌^◌, ◌<◌, ◌≤◌, ◌≡◌, List, not, eqb, length, get_or}
 use Rattle.subsumption.specs.Atoms.{bit}
 
 -- The words of a block in pairs that stand `by` apart: the first one of the pair p, and the pair of the word x.

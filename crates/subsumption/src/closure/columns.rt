@@ -1,7 +1,6 @@
 // Columns of bits: column j is the set of ids known to be below j, three words of 64 bits. Each step answers whether it changed one.
 ghost use Rattle.std.specs.Prelude.{◌≡◌, ℕ, ◌<◌, true, length};
 ghost use mathlib.Core.List.{Memᴰ};
-
 ghost use Rattle.subsumption.specs.Atoms.{pick};
 ghost use Rattle.subsumption.specs.Inner.Columns.{has, Absorbs, Takes, InThree, Known, Common};
 ghost use Rattle.subsumption.specs.Inner.Sizes.{columns_size};
@@ -83,7 +82,7 @@ pub fn below(columns: &[u64], i: usize, j: usize) -> bool
 }
 
 // The three words of a column.
-#[derive(Drop)]
+#[derive(Clone, Copy)]
 pub struct Words {
     pub first: u64,
     pub second: u64,

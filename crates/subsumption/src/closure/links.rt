@@ -1,7 +1,6 @@
 // The steps at the existentials. These are noted as sets, by inner id and by role, so that for one of them all those that it takes
 // in are found at once: their inner ids are below its own, and their roles count as its own.
 ghost use Rattle.std.specs.Prelude.{◌≡◌, true, ◌<◌, length, replicate};
-
 ghost use Rattle.subsumption.specs.Tables.{count_of};
 ghost use Rattle.subsumption.specs.Inner.Columns.{has, InThree};
 ghost use Rattle.subsumption.specs.Inner.Links.{Inner, Union, Existentials, KindsTo, Laid, LinkedTo};

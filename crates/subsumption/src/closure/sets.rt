@@ -1,6 +1,5 @@
 // Sets of ids, laid out as the columns are: three words a set.
 ghost use Rattle.std.specs.Prelude.{◌≡◌, ◌+◌, ◌*◌, ◌<◌, ◌≤◌, length};
-
 ghost use Rattle.subsumption.specs.Inner.Columns.{InThree};
 ghost use Rattle.subsumption.specs.Inner.Links.{Inserted, Put, Joins, Union};
 ghost use Rattle.subsumption.specs.Inner.Sizes.{columns_size};

@@ -1,6 +1,5 @@
 // The steps at the rows.
 ghost use Rattle.std.specs.Prelude.{◌≡◌, ◌<◌, length};
-
 ghost use Rattle.subsumption.specs.Tables.{count_of};
 ghost use Rattle.subsumption.specs.Inner.Names.{Firsts};
 ghost use Rattle.subsumption.specs.Inner.Settling.{Settleable, Descended, Ascended, choose_from};

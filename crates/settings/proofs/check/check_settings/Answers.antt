@@ -1,10 +1,6 @@
-use Prim.Native.Nat.{◌-◌}
-use mathlib.Core.Path.{◌∙◌, sym, ◌≡◌}
+use mathlib.Core.Path.{◌∙◌, sym}
 use native.Mathlib.Omega.{arith}
-use lib.ListN.{length}
-use Rattle.subsumption.specs.declared.refusal.Refusal.TheVariants.{BadSettings}
-use Rattle.subsumption.proofs.Scans.{Scan, scan-none, scan-more, scan-found, scan-done}
-use Rattle.settings.specs.Settings.{settings, faulty_at}
+use Rattle.subsumption.proofs.Scans.{scan-none, scan-more, scan-found, scan-done}
 use Rattle.settings.proofs.SettingsLaws.{permitted-uneven, largest-uneven, even-goes-on}
 use Rattle.settings.proofs.check.check_settings.Goals as goal
 
@@ -26,8 +22,7 @@ returns-then-is_faulty c =
     (scan-found _ _ _ _ c.loop-k.invariant.2 (omega arith) (sym c.is_faulty.ensures ∙ c.if-is_faulty.true))
 
 pub loop-k-preserved : goal.loop-k-preserved
-loop-k-preserved c =
-    (
+loop-k-preserved c = (
   c.loop-k.invariant.0,
   c.loop-k.invariant.1,
   scan-more _ _ _ _ c.loop-k.invariant.2 (omega arith) (sym c.is_faulty.ensures ∙ c.if-is_faulty.false),

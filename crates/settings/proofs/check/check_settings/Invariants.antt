@@ -1,11 +1,9 @@
 use Prim.Native.Nat.{◌-◌}
-use mathlib.Core.Path.{◌∙◌, sym, ◌≡◌}
-use native.Mathlib.Omega.{arith}
+use mathlib.Core.Path.{◌≡◌}
 use lib.ListN.{length}
 use Rattle.subsumption.specs.declared.refusal.Refusal.TheVariants.{BadSettings}
-use Rattle.subsumption.proofs.Scans.{Scan, scan-none, scan-more, scan-found, scan-done}
+use Rattle.subsumption.proofs.Scans.{Scan}
 use Rattle.settings.specs.Settings.{settings, faulty_at}
-use Rattle.settings.proofs.SettingsLaws.{permitted-uneven, largest-uneven, even-goes-on}
 use Rattle.settings.proofs.check.check_settings.Given as goal
 
 abbrev pub invariant-loop-k : goal.invariant-loop-k

@@ -1,7 +1,5 @@
-use Prim.Native.Nat.{◌-◌}
 use native.Mathlib.Omega.{arith}
-use lib.ListN.{length}
-use Rattle.settings.proofs.CountLaws.{LoadedTo, loaded-none, loaded-more, loaded-all}
+use Rattle.settings.proofs.CountLaws.{loaded-none, loaded-more, loaded-all}
 use Rattle.settings.proofs.check.load_permitted.Goals as goal
 
 pub loop-k-init : goal.loop-k-init

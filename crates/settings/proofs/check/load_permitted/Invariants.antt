@@ -1,7 +1,6 @@
 use Prim.Native.Nat.{◌-◌}
-use native.Mathlib.Omega.{arith}
 use lib.ListN.{length}
-use Rattle.settings.proofs.CountLaws.{LoadedTo, loaded-none, loaded-more, loaded-all}
+use Rattle.settings.proofs.CountLaws.{LoadedTo}
 use Rattle.settings.proofs.check.load_permitted.Given as goal
 
 abbrev pub invariant-loop-k : goal.invariant-loop-k

@@ -1,6 +1,5 @@
-use Prim.Native.Nat.{◌-◌}
 use native.Mathlib.Omega.{arith}
-use Rattle.settings.proofs.CountLaws.{ClampedTo, clamped-none, clamped-keep, clamped-more, clamped-all}
+use Rattle.settings.proofs.CountLaws.{clamped-none, clamped-keep, clamped-more, clamped-all}
 use Rattle.settings.proofs.counts.clamp.Goals as goal
 
 pub loop-k-init : goal.loop-k-init

@@ -1,6 +1,5 @@
 use Prim.Native.Nat.{◌-◌}
-use native.Mathlib.Omega.{arith}
-use Rattle.settings.proofs.CountLaws.{ClampedTo, clamped-none, clamped-keep, clamped-more, clamped-all}
+use Rattle.settings.proofs.CountLaws.{ClampedTo}
 use Rattle.settings.proofs.counts.clamp.Given as goal
 
 abbrev pub invariant-loop-k : goal.invariant-loop-k

@@ -1,8 +1,7 @@
-use Prim.Native.Nat.{◌-◌}
 use native.Mathlib.Omega.{arith}
 use lib.ListN.{get_or}
 use Rattle.settings.proofs.SizeLaws.{size-most}
-use Rattle.settings.proofs.CountLaws.{FewTo, few-more}
+use Rattle.settings.proofs.CountLaws.{few-more}
 use Rattle.settings.proofs.counts.is_few.Goals as goal
 
 pub loop-k-init : goal.loop-k-init

@@ -1,8 +1,5 @@
 use Prim.Native.Nat.{◌-◌}
-use native.Mathlib.Omega.{arith}
-use lib.ListN.{get_or}
-use Rattle.settings.proofs.SizeLaws.{size-most}
-use Rattle.settings.proofs.CountLaws.{FewTo, few-more}
+use Rattle.settings.proofs.CountLaws.{FewTo}
 use Rattle.settings.proofs.counts.is_few.Given as goal
 
 abbrev pub invariant-loop-k : goal.invariant-loop-k

@@ -1,6 +1,5 @@
 use Prim.Native.Nat.{◌-◌}
-use native.Mathlib.Omega.{arith}
-use Rattle.settings.proofs.CountLaws.{UnclampedTo, unclamped-none, unclamped-open, unclamped-around, unclamped-named, unclamped-all}
+use Rattle.settings.proofs.CountLaws.{UnclampedTo}
 use Rattle.settings.proofs.counts.unclamp.Given as goal
 
 abbrev pub invariant-loop-k : goal.invariant-loop-k

@@ -1,6 +1,5 @@
 use native.Mathlib.Omega.{arith}
 use Rattle.square.proofs.LoadingLaws.{loaded}
-use borrow.Author.Rules.{rules}
 use Rattle.square.proofs.loading.load.Goals as goal
 
 pub turn-requires : goal.turn-requires

@@ -3,7 +3,6 @@ use Prim.Native.Nat.{◌+◌, ◌*◌}
 use native.Mathlib.Omega.{arith}
 use Rattle.square.proofs.LoadingLaws.{row_loaded}
 use borrow.Author.Rules.{Below-set}
-use borrow.Author.Rules.{rules}
 use Rattle.square.proofs.loading.load_row.Goals as goal
 
 pub bounds-square-i-2 : goal.bounds-square-i-2

@@ -1,6 +1,5 @@
 use native.Mathlib.Omega.{arith}
-use Rattle.square.proofs.LoadingLaws.{RowsLoadedTo, loaded-first, loaded-more, loaded-done}
-use Prim.Native.Nat.{◌-◌}
+use Rattle.square.proofs.LoadingLaws.{loaded-first, loaded-more, loaded-done}
 use Rattle.square.proofs.loading.load_rows.Goals as goal
 
 pub loop-i-init : goal.loop-i-init

@@ -1,5 +1,4 @@
-use native.Mathlib.Omega.{arith}
-use Rattle.square.proofs.LoadingLaws.{RowsLoadedTo, loaded-first, loaded-more, loaded-done}
+use Rattle.square.proofs.LoadingLaws.{RowsLoadedTo}
 use Prim.Native.Nat.{◌-◌}
 use Rattle.square.proofs.loading.load_rows.Given as goal
 

@@ -3,7 +3,6 @@ use Rattle.square.proofs.LoadingLaws.{masked-all, masked-none, masked-some}
 use Rattle.subsumption.proofs.MarkLaws.{shifted-pos}
 use mathlib.Core.Path.{refl}
 use Prim.Native.Nat.{◌-◌, ◌*◌}
-use borrow.Author.Rules.{rules}
 use Rattle.square.proofs.loading.masked.Goals as goal
 
 pub returns-then-from-count : goal.returns-then-from-count

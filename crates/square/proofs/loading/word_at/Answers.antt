@@ -1,7 +1,6 @@
 use native.Mathlib.Omega.{arith}
 use Rattle.square.proofs.LoadingLaws.{word_first, word_more, word-done}
 use Prim.Native.Nat.{◌+◌}
-use borrow.Author.Rules.{rules}
 use Rattle.square.proofs.loading.word_at.Goals as goal
 
 pub overflow_cast-a : goal.overflow_cast-a

@@ -1,7 +1,6 @@
 use Rattle.square.specs.Inner.Square.{on_line}
 use Rattle.subsumption.specs.Atoms.{bit}
 use mathlib.Core.Path.{refl}
-use borrow.Author.Rules.{rules}
 use Rattle.square.proofs.sets.has.Goals as goal
 
 pub returns : goal.returns

@@ -1,6 +1,5 @@
 use native.Mathlib.Omega.{arith}
 use Rattle.square.proofs.SetLaws.{inserted}
-use borrow.Author.Rules.{rules}
 use Rattle.square.proofs.sets.insert.Goals as goal
 
 pub returns : goal.returns

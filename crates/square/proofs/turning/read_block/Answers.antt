@@ -1,6 +1,5 @@
 use native.Mathlib.Omega.{arith}
-use Rattle.square.proofs.TurningLaws.{ReadTo, read_first, read_more, read_done}
-use Prim.Native.Nat.{◌-◌}
+use Rattle.square.proofs.TurningLaws.{read_first, read_more, read_done}
 use Rattle.square.proofs.turning.read_block.Goals as goal
 
 pub loop-k-init : goal.loop-k-init

@@ -1,5 +1,4 @@
-use native.Mathlib.Omega.{arith}
-use Rattle.square.proofs.TurningLaws.{ReadTo, read_first, read_more, read_done}
+use Rattle.square.proofs.TurningLaws.{ReadTo}
 use Prim.Native.Nat.{◌-◌}
 use Rattle.square.proofs.turning.read_block.Given as goal
 

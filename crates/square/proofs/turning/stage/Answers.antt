@@ -1,8 +1,8 @@
 use native.Mathlib.Omega.{arith}
-use Rattle.square.proofs.TurningLaws.{StagedTo, staged-first, staged-more, staged_done}
+use Rattle.square.proofs.TurningLaws.{staged-first, staged-more, staged_done}
 use borrow.Author.Rules.{Below-set}
-use mathlib.Core.Path.{ap, subst, sym}
-use Prim.Native.Nat.{◌-◌, ◌+◌, ◌*◌, ◌/◌}
+use mathlib.Core.Path.{ap}
+use Prim.Native.Nat.{◌+◌}
 use Rattle.square.proofs.turning.stage.Goals as goal
 
 pub loop-p-init : goal.loop-p-init

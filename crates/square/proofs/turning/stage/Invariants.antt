@@ -1,8 +1,5 @@
-use native.Mathlib.Omega.{arith}
-use Rattle.square.proofs.TurningLaws.{StagedTo, staged-first, staged-more, staged_done}
-use borrow.Author.Rules.{Below-set}
-use mathlib.Core.Path.{ap, subst, sym}
-use Prim.Native.Nat.{◌-◌, ◌+◌, ◌*◌, ◌/◌}
+use Rattle.square.proofs.TurningLaws.{StagedTo}
+use Prim.Native.Nat.{◌-◌}
 use Rattle.square.proofs.turning.stage.Given as goal
 
 abbrev pub invariant-loop-p : goal.invariant-loop-p

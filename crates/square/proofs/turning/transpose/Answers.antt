@@ -1,5 +1,4 @@
 use Rattle.square.proofs.TurningLaws.{exchange-32, exchange-16, exchange-8, exchange-4, exchange-2, exchange-1, turned}
-use borrow.Author.Rules.{rules}
 use Rattle.square.proofs.turning.transpose.Goals as goal
 
 pub stage-requires : goal.stage-requires

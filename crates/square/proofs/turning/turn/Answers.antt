@@ -1,8 +1,5 @@
 use native.Mathlib.Omega.{arith}
-use Rattle.square.proofs.TurningLaws.{TurnedTo, turned-first, turned_more, turned-done}
-use lib.ListN.{length}
-use mathlib.Core.Path.{◌≡◌}
-use Prim.Native.Nat.{◌-◌}
+use Rattle.square.proofs.TurningLaws.{turned-first, turned_more, turned-done}
 use Rattle.square.proofs.turning.turn.Goals as goal
 
 pub loop-n-init : goal.loop-n-init

@@ -1,5 +1,4 @@
-use native.Mathlib.Omega.{arith}
-use Rattle.square.proofs.TurningLaws.{TurnedTo, turned-first, turned_more, turned-done}
+use Rattle.square.proofs.TurningLaws.{TurnedTo}
 use lib.ListN.{length}
 use mathlib.Core.Path.{◌≡◌}
 use Prim.Native.Nat.{◌-◌}

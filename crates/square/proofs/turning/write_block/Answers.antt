@@ -1,6 +1,5 @@
 use native.Mathlib.Omega.{arith}
-use Rattle.square.proofs.TurningLaws.{WriteTo, write-first, write-more, write_done}
-use Prim.Native.Nat.{◌-◌}
+use Rattle.square.proofs.TurningLaws.{write-first, write-more, write_done}
 use Rattle.square.proofs.turning.write_block.Goals as goal
 
 pub loop-k-init : goal.loop-k-init

@@ -1,5 +1,4 @@
-use native.Mathlib.Omega.{arith}
-use Rattle.square.proofs.TurningLaws.{WriteTo, write-first, write-more, write_done}
+use Rattle.square.proofs.TurningLaws.{WriteTo}
 use Prim.Native.Nat.{◌-◌}
 use Rattle.square.proofs.turning.write_block.Given as goal
 

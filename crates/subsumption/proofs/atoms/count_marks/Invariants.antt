@@ -1,9 +1,7 @@
 use Prim.Native.Nat.{◌-◌, ◌≤◌}
-use mathlib.Core.Path.{◌≡◌, ◌∙◌, ap}
-use native.Mathlib.Omega.{arith}
+use mathlib.Core.Path.{◌≡◌}
 use lib.ListN.{length}
-use Rattle.subsumption.specs.Inner.Atoms.{mark_at, marked_ids}
-use Rattle.subsumption.proofs.Lists.{keep-le, count_none, count_yes, count_no}
+use Rattle.subsumption.specs.Inner.Atoms.{marked_ids}
 use Rattle.subsumption.proofs.atoms.count_marks.Given as goal
 
 abbrev pub invariant-loop-p : goal.invariant-loop-p

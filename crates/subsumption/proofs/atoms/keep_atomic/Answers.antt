@@ -1,7 +1,5 @@
-use Prim.Native.Nat.{◌-◌}
 use native.Mathlib.Omega.{arith}
-use Rattle.subsumption.specs.Tables.{count_of}
-use Rattle.subsumption.proofs.AtomMarking.{NarrowedTo, narrowed_none, narrowed-more, narrowed-done}
+use Rattle.subsumption.proofs.AtomMarking.{narrowed_none, narrowed-more, narrowed-done}
 use Rattle.subsumption.proofs.atoms.keep_atomic.Goals as goal
 
 pub loop-p-init : goal.loop-p-init

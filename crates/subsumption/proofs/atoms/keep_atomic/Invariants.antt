@@ -1,7 +1,6 @@
 use Prim.Native.Nat.{◌-◌}
-use native.Mathlib.Omega.{arith}
 use Rattle.subsumption.specs.Tables.{count_of}
-use Rattle.subsumption.proofs.AtomMarking.{NarrowedTo, narrowed_none, narrowed-more, narrowed-done}
+use Rattle.subsumption.proofs.AtomMarking.{NarrowedTo}
 use Rattle.subsumption.proofs.atoms.keep_atomic.Given as goal
 
 abbrev pub invariant-loop-p : goal.invariant-loop-p

@@ -1,9 +1,8 @@
-use Prim.Native.Nat.{◌-◌, ◌≤◌}
 use mathlib.Core.Path.{◌≡◌, refl, ◌∙◌, ap}
 use native.Mathlib.Omega.{arith}
 use lib.ListN.{length, length-set}
 use Rattle.subsumption.specs.Inner.Atoms.{mark_at, marked_ids, in_front}
-use Rattle.subsumption.proofs.Lists.{ListedTo, listed-none, listed-room, listed-yes, listed-no, keep-le}
+use Rattle.subsumption.proofs.Lists.{listed-none, listed-room, listed-yes, listed-no, keep-le}
 use Rattle.subsumption.proofs.atoms.list_marks.Goals as goal
 
 pub loop-p-init : goal.loop-p-init
@@ -19,8 +18,7 @@ pub overflow_add-listed : goal.overflow_add-listed
 overflow_add-listed c = omega (arith, keep-le (mark_at c.args.marks.now) c.loop-p.p, c.loop-p.invariant.2.count)
 
 pub loop-p-preserved-then-marks-id : goal.loop-p-preserved-then-marks-id
-loop-p-preserved-then-marks-id c =
-    (
+loop-p-preserved-then-marks-id c = (
   omega arith,
   simp length-set c.loop-p.invariant.1,
   listed-yes _ _ _ _ _ c.loop-p.invariant.2 c.if-marks-id.true (omega (arith, listed-room (mark_at c.args.marks.now) _ c.loop-p.p _ c.if-marks-id.true (omega arith) c.requires.count_in_bounds_2, c.loop-p.invariant.2.count)),

@@ -1,9 +1,8 @@
 use Prim.Native.Nat.{◌-◌, ◌≤◌}
-use mathlib.Core.Path.{◌≡◌, refl, ◌∙◌, ap}
-use native.Mathlib.Omega.{arith}
-use lib.ListN.{length, length-set}
-use Rattle.subsumption.specs.Inner.Atoms.{mark_at, marked_ids, in_front}
-use Rattle.subsumption.proofs.Lists.{ListedTo, listed-none, listed-room, listed-yes, listed-no, keep-le}
+use mathlib.Core.Path.{◌≡◌}
+use lib.ListN.{length}
+use Rattle.subsumption.specs.Inner.Atoms.{mark_at}
+use Rattle.subsumption.proofs.Lists.{ListedTo}
 use Rattle.subsumption.proofs.atoms.list_marks.Given as goal
 
 abbrev pub invariant-loop-p : goal.invariant-loop-p

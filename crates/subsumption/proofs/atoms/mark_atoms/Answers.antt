@@ -1,6 +1,5 @@
 use mathlib.Core.Path.{refl}
 use Rattle.subsumption.proofs.AtomMarking.{atoms-marked}
-use borrow.Author.Rules.{rules}
 use Rattle.subsumption.proofs.atoms.mark_atoms.Goals as goal
 
 pub mark_standing-requires : goal.mark_standing-requires

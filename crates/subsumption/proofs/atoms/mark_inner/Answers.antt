@@ -1,4 +1,3 @@
-use borrow.Author.Rules.{rules}
 use native.Mathlib.Omega.{arith}
 use lib.ListN.{length-set}
 use Rattle.subsumption.proofs.Marks.{exists_below, first_below, second_below, marked-exists, marked-and, marked-rest}

@@ -1,10 +1,6 @@
-use borrow.Author.Rules.{rules}
-use Prim.Native.Nat.{◌-◌}
 use native.Mathlib.Omega.{arith}
 use lib.ListN.{length-set}
-use Rattle.subsumption.specs.Tables.{pairs_of}
-use Rattle.subsumption.specs.Inner.Atoms.{in_pair}
-use Rattle.subsumption.proofs.Marks.{MarkedTo, marked-to-none, marked-to-done, left_below, right-below, sides-more}
+use Rattle.subsumption.proofs.Marks.{marked-to-none, marked-to-done, left_below, right-below, sides-more}
 use Rattle.subsumption.proofs.atoms.mark_sides.Goals as goal
 
 pub loop-m-init : goal.loop-m-init

@@ -1,7 +1,5 @@
-use Prim.Native.Nat.{◌-◌}
 use native.Mathlib.Omega.{arith}
-use Rattle.subsumption.specs.Tables.{count_of}
-use Rattle.subsumption.proofs.Marks.{VariablesTo, variables-none, variables-row, variables-done, row-rising}
+use Rattle.subsumption.proofs.Marks.{variables-none, variables-row, variables-done, row-rising}
 use Rattle.subsumption.proofs.atoms.mark_variables.Goals as goal
 
 pub loop-i-init : goal.loop-i-init

@@ -1,7 +1,6 @@
 use Prim.Native.Nat.{◌-◌}
-use native.Mathlib.Omega.{arith}
 use Rattle.subsumption.specs.Tables.{count_of}
-use Rattle.subsumption.proofs.Marks.{VariablesTo, variables-none, variables-row, variables-done, row-rising}
+use Rattle.subsumption.proofs.Marks.{VariablesTo}
 use Rattle.subsumption.proofs.atoms.mark_variables.Given as goal
 
 abbrev pub invariant-loop-i : goal.invariant-loop-i

@@ -1,5 +1,5 @@
 use native.Mathlib.Omega.{arith}
-use Rattle.subsumption.proofs.Marks.{Spreading, spreading-none, spreading-skip, spreading-more, spreading-done, row-rising}
+use Rattle.subsumption.proofs.Marks.{spreading-none, spreading-skip, spreading-more, spreading-done, row-rising}
 use Rattle.subsumption.proofs.atoms.spread.Goals as goal
 
 pub loop-i-init : goal.loop-i-init
@@ -10,8 +10,11 @@ bounds-marks-i c = omega (arith, c.requires.layered.few)
 
 pub mark_inner-requires : goal.mark_inner-requires
 mark_inner-requires c =
-    record { rising = row-rising _ _ _ _ c.requires.layered
-      (omega (arith, c.requires.layered.few)) c.row_at-row.ensures; marks_len = omega arith }
+    record {
+      rising = row-rising _ _ _ _ c.requires.layered
+          (omega (arith, c.requires.layered.few)) c.row_at-row.ensures;
+      marks_len = omega arith;
+    }
 
 pub loop-i-preserved-then-marks-i : goal.loop-i-preserved-then-marks-i
 loop-i-preserved-then-marks-i c =

@@ -1,5 +1,4 @@
-use native.Mathlib.Omega.{arith}
-use Rattle.subsumption.proofs.Marks.{Spreading, spreading-none, spreading-skip, spreading-more, spreading-done, row-rising}
+use Rattle.subsumption.proofs.Marks.{Spreading}
 use Rattle.subsumption.proofs.atoms.spread.Given as goal
 
 abbrev pub invariant-loop-i : goal.invariant-loop-i

@@ -1,11 +1,6 @@
-use Prim.Native.Nat.{◌-◌, ◌^◌}
-use mathlib.Core.Path.{◌∙◌, sym, ◌≡◌}
-use mathlib.Core.Bool.{not}
+use mathlib.Core.Path.{◌∙◌, sym}
 use native.Mathlib.Omega.{arith}
-use lib.Dec.{ltb}
-use lib.ListN.{length, get_or}
-use Rattle.subsumption.specs.declared.refusal.Refusal.TheVariants.{BadAssignment}
-use Rattle.subsumption.proofs.Scans.{Scan, scan-none, scan-more, scan-found, scan-done}
+use Rattle.subsumption.proofs.Scans.{scan-none, scan-more, scan-found, scan-done}
 use Rattle.subsumption.proofs.Accepted.{wrong-count, right-count}
 use Rattle.subsumption.proofs.check.check_assignment.Goals as goal
 
@@ -21,8 +16,7 @@ returns-then-is_past c =
     (scan-found _ _ _ _ c.loop-k.invariant.1 (omega arith) (sym c.is_past.ensures ∙ c.if-is_past.true))
 
 pub loop-k-preserved : goal.loop-k-preserved
-loop-k-preserved c =
-    (
+loop-k-preserved c = (
   c.loop-k.invariant.0,
   scan-more _ _ _ _ c.loop-k.invariant.1 (omega arith) (sym c.is_past.ensures ∙ c.if-is_past.false),
 )

@@ -1,12 +1,10 @@
 use Prim.Native.Nat.{◌-◌, ◌^◌}
-use mathlib.Core.Path.{◌∙◌, sym, ◌≡◌}
+use mathlib.Core.Path.{◌≡◌}
 use mathlib.Core.Bool.{not}
-use native.Mathlib.Omega.{arith}
 use lib.Dec.{ltb}
 use lib.ListN.{length, get_or}
 use Rattle.subsumption.specs.declared.refusal.Refusal.TheVariants.{BadAssignment}
-use Rattle.subsumption.proofs.Scans.{Scan, scan-none, scan-more, scan-found, scan-done}
-use Rattle.subsumption.proofs.Accepted.{wrong-count, right-count}
+use Rattle.subsumption.proofs.Scans.{Scan}
 use Rattle.subsumption.proofs.check.check_assignment.Given as goal
 
 abbrev pub invariant-loop-k : goal.invariant-loop-k

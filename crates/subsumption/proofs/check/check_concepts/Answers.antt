@@ -1,6 +1,5 @@
 use Rattle.subsumption.specs.Check.{concept_fault}
 use Rattle.subsumption.proofs.Refusals.{stops, goes_on}
-use borrow.Author.Rules.{rules}
 use Rattle.subsumption.proofs.check.check_concepts.Goals as goal
 
 pub returns-in-Refused : goal.returns-in-Refused

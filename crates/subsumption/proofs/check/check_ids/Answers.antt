@@ -1,7 +1,6 @@
 use Rattle.subsumption.specs.Check.{id_fault}
 use Rattle.subsumption.proofs.Refusals.{stops, goes_on}
 use Rattle.subsumption.proofs.Accepted.{inclusions-few}
-use borrow.Author.Rules.{rules}
 use Rattle.subsumption.proofs.check.check_ids.Goals as goal
 
 pub returns-in-Refused : goal.returns-in-Refused

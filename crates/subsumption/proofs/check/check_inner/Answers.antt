@@ -1,10 +1,7 @@
-use Prim.Native.Nat.{◌-◌}
 use mathlib.Core.Path.{◌∙◌}
 use native.Mathlib.Omega.{arith}
-use Rattle.subsumption.specs.declared.refusal.Refusal.TheVariants.{ForwardId}
-use Rattle.subsumption.specs.Tables.{node, count_of}
-use Rattle.subsumption.specs.Check.{forward, forward_fault}
-use Rattle.subsumption.proofs.Scans.{Scan, scan-none, scan-more, scan-found, scan-done}
+use Rattle.subsumption.specs.Check.{forward_fault}
+use Rattle.subsumption.proofs.Scans.{scan-none, scan-more, scan-found, scan-done}
 use Rattle.subsumption.proofs.Forward.{row-forward}
 use Rattle.subsumption.proofs.check.check_inner.Goals as goal
 

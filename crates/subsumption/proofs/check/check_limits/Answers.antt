@@ -1,6 +1,5 @@
 use native.Mathlib.Omega.{arith}
 use Rattle.subsumption.proofs.LimitLaws.{limit-concepts, limit-inclusions, limit-questions, limit-variables, limit-roles, limit-none}
-use borrow.Author.Rules.{rules}
 use Rattle.subsumption.proofs.check.check_limits.Goals as goal
 
 pub returns-then-is_unfit : goal.returns-then-is_unfit

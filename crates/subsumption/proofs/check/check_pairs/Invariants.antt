@@ -1,11 +1,8 @@
 use Prim.Native.Nat.{◌+◌, ◌-◌}
-use mathlib.Core.Path.{◌∙◌}
-use native.Mathlib.Omega.{arith}
 use Rattle.subsumption.specs.declared.refusal.Refusal.TheVariants.{NoConcept}
 use Rattle.subsumption.specs.Tables.{pairs_of, left_of, right_of}
-use Rattle.subsumption.specs.Check.{no_concept, pairs_fault}
-use Rattle.subsumption.proofs.Scans.{Scan, scan-none, scan-more, scan-found, scan-done}
-use Rattle.subsumption.proofs.Forward.{pair-unknown}
+use Rattle.subsumption.specs.Check.{no_concept}
+use Rattle.subsumption.proofs.Scans.{Scan}
 use Rattle.subsumption.proofs.check.check_pairs.Given as goal
 
 abbrev pub invariant-loop-m : goal.invariant-loop-m

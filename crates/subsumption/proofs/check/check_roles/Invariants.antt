@@ -1,12 +1,8 @@
 use Prim.Native.Nat.{◌-◌}
-use mathlib.Core.Path.{sym, ap, ap₂, ◌∙◌}
-use native.Mathlib.Omega.{arith}
 use lib.Dec.{ltb}
 use Rattle.subsumption.specs.declared.refusal.Refusal.TheVariants.{BadRole}
 use Rattle.subsumption.specs.Tables.{pairs_of, left_of, right_of, or}
-use Rattle.subsumption.specs.Check.{roles_fault}
-use Rattle.subsumption.proofs.Scans.{Scan, scan-none, scan-more, scan-found, scan-done}
-use Rattle.subsumption.proofs.Accepted.{role-over}
+use Rattle.subsumption.proofs.Scans.{Scan}
 use Rattle.subsumption.proofs.check.check_roles.Given as goal
 
 abbrev pub invariant-loop-m : goal.invariant-loop-m

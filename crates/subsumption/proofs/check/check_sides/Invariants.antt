@@ -1,13 +1,7 @@
-use borrow.Author.Rules.{rules}
 use Prim.Native.Nat.{◌-◌}
-use mathlib.Core.Path.{◌∙◌}
-use native.Mathlib.Omega.{arith}
 use Rattle.subsumption.specs.declared.refusal.Refusal.TheVariants.{VariablesOnBothSides}
 use Rattle.subsumption.specs.Tables.{pairs_of, left_of, right_of, tree, has_variable, both}
-use Rattle.subsumption.specs.Check.{sides_fault}
-use Rattle.subsumption.proofs.Scans.{Scan, scan-none, scan-more, scan-found, scan-done}
-use Rattle.subsumption.proofs.Marks.{left_below, right-below}
-use Rattle.subsumption.proofs.Accepted.{both-held}
+use Rattle.subsumption.proofs.Scans.{Scan}
 use Rattle.subsumption.proofs.check.check_sides.Given as goal
 
 abbrev pub invariant-loop-m : goal.invariant-loop-m

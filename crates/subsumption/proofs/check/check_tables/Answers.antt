@@ -2,7 +2,6 @@ use Rattle.subsumption.proofs.Replies.{same-reply, same-refused}
 use mathlib.Core.Path.{refl}
 use Rattle.subsumption.proofs.Refusals.{stops, goes_on, is-done}
 use Rattle.subsumption.specs.Check.{table_fault}
-use borrow.Author.Rules.{rules}
 use Rattle.subsumption.proofs.check.check_tables.Goals as goal
 
 pub returns-in-Refused : goal.returns-in-Refused

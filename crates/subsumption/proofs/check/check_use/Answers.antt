@@ -4,7 +4,6 @@ use Rattle.subsumption.specs.Check.{use_fault}
 use Rattle.subsumption.proofs.Refusals.{stops, goes_on}
 use Rattle.subsumption.proofs.AtomMarking.{use-refused, use-many, use-few}
 use Rattle.subsumption.proofs.Accepted.{few-numbers, concepts-layered, concepts-roles, concepts-few, inclusions-known, questions-known}
-use borrow.Author.Rules.{rules}
 use Rattle.subsumption.proofs.check.check_use.Goals as goal
 
 pub write_sets-requires : goal.write_sets-requires

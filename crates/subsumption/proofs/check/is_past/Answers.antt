@@ -1,4 +1,3 @@
-use borrow.Author.Rules.{rules}
 use native.Mathlib.Omega.{arith}
 use Rattle.subsumption.proofs.Accepted.{none-past, bits-past}
 use Rattle.subsumption.proofs.check.is_past.Goals as goal

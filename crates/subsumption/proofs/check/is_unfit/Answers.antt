@@ -1,4 +1,3 @@
-use borrow.Author.Rules.{rules}
 use Rattle.subsumption.proofs.LimitLaws.{ragged, even-rows}
 use Rattle.subsumption.proofs.check.is_unfit.Goals as goal
 

@@ -1,13 +1,7 @@
-use Prim.Native.Nat.{◌+◌}
 use mathlib.Core.Path.{refl}
 use native.Mathlib.Omega.{arith}
-use Rattle.subsumption.specs.Roles.{wider}
-use Rattle.subsumption.specs.Inner.Columns.{slack}
-use Rattle.subsumption.specs.Inner.Names.{Firsts}
-use Rattle.subsumption.specs.Inner.Settling.{choose_from}
-use Rattle.subsumption.specs.Inner.Links.{Laid, Sorted}
 use Rattle.subsumption.proofs.Linking.{ready-nameable, ready-inner, sorted, laid}
-use Rattle.subsumption.proofs.Closing.{Closing, weight, pass-less, closing-first, closing-turn, closing-done}
+use Rattle.subsumption.proofs.Closing.{pass-less, closing-first, closing-turn, closing-done}
 use Rattle.subsumption.proofs.closure.close.Goals as goal
 
 pub note_firsts-requires : goal.note_firsts-requires

@@ -1,13 +1,10 @@
 use Prim.Native.Nat.{◌+◌}
-use mathlib.Core.Path.{refl}
-use native.Mathlib.Omega.{arith}
 use Rattle.subsumption.specs.Roles.{wider}
 use Rattle.subsumption.specs.Inner.Columns.{slack}
 use Rattle.subsumption.specs.Inner.Names.{Firsts}
 use Rattle.subsumption.specs.Inner.Settling.{choose_from}
 use Rattle.subsumption.specs.Inner.Links.{Laid, Sorted}
-use Rattle.subsumption.proofs.Linking.{ready-nameable, ready-inner, sorted, laid}
-use Rattle.subsumption.proofs.Closing.{Closing, weight, pass-less, closing-first, closing-turn, closing-done}
+use Rattle.subsumption.proofs.Closing.{Closing, weight}
 use Rattle.subsumption.proofs.closure.close.Given as goal
 
 abbrev pub invariant-loop-busy : goal.invariant-loop-busy

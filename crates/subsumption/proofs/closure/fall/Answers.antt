@@ -1,10 +1,5 @@
-use Prim.Native.Nat.{ℕ, ◌<◌, ◌≤◌}
-use mathlib.Core.Path.{◌≡◌}
-use lib.ListN.{length}
 use native.Mathlib.Omega.{arith}
-use Rattle.subsumption.specs.Tables.{count_of}
 use Rattle.subsumption.specs.Inner.Settling.{Descended, choose_from}
-use Rattle.subsumption.specs.Inner.Closure.{SettlePass}
 use Rattle.subsumption.proofs.Passes.{fall-first, fall-more, fall-done}
 use Rattle.subsumption.proofs.closure.fall.Goals as goal
 

@@ -1,6 +1,6 @@
-use Prim.Native.Nat.{◌+◌, ◌*◌, ◌-◌}
+use Prim.Native.Nat.{◌+◌, ◌*◌}
 use native.Mathlib.Omega.{arith}
-use Rattle.subsumption.proofs.Including.{Included, included-first, included-more, included-done}
+use Rattle.subsumption.proofs.Including.{included-first, included-more, included-done}
 use Rattle.subsumption.proofs.closure.include_all.Goals as goal
 
 pub loop-m-init : goal.loop-m-init

@@ -1,6 +1,5 @@
-use Prim.Native.Nat.{◌+◌, ◌*◌, ◌-◌}
-use native.Mathlib.Omega.{arith}
-use Rattle.subsumption.proofs.Including.{Included, included-first, included-more, included-done}
+use Prim.Native.Nat.{◌-◌}
+use Rattle.subsumption.proofs.Including.{Included}
 use Rattle.subsumption.proofs.closure.include_all.Given as goal
 
 abbrev pub invariant-loop-m : goal.invariant-loop-m

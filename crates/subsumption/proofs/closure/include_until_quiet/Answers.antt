@@ -1,9 +1,5 @@
-use Prim.Native.Nat.{◌+◌}
-use mathlib.Core.Path.{◌≡◌}
-use lib.ListN.{length}
 use native.Mathlib.Omega.{arith}
-use Rattle.subsumption.specs.Inner.Columns.{slack}
-use Rattle.subsumption.proofs.Closing.{Quieting, weight, quieting-first, quieting-more, quieting-less, quieting-done}
+use Rattle.subsumption.proofs.Closing.{quieting-first, quieting-more, quieting-less, quieting-done}
 use Rattle.subsumption.proofs.closure.include_until_quiet.Goals as goal
 
 pub loop-busy-init : goal.loop-busy-init

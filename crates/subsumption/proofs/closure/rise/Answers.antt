@@ -1,10 +1,6 @@
-use Prim.Native.Nat.{ℕ, ◌-◌, ◌<◌, ◌≤◌}
-use mathlib.Core.Path.{◌≡◌}
-use lib.ListN.{length}
 use native.Mathlib.Omega.{arith}
 use Rattle.subsumption.specs.Inner.Settling.{Ascended, choose_from}
 use Rattle.subsumption.specs.Inner.Links.{LinkedTo}
-use Rattle.subsumption.specs.Inner.Closure.{RisePass}
 use Rattle.subsumption.proofs.Passes.{pass-as, pass-then, loop-first, loop-more, loop-done}
 use Rattle.subsumption.proofs.closure.rise.Goals as goal
 

@@ -1,6 +1,5 @@
-use Prim.Native.Nat.{◌-◌}
 use native.Mathlib.Omega.{arith}
-use Rattle.subsumption.proofs.MarkLaws.{PairsTo, pairs-none, pairs-more, pairs-done}
+use Rattle.subsumption.proofs.MarkLaws.{pairs-none, pairs-more, pairs-done}
 use Rattle.subsumption.proofs.counting.count_pairs.Goals as goal
 
 pub loop-j-init : goal.loop-j-init

@@ -1,6 +1,5 @@
 use Prim.Native.Nat.{◌-◌}
-use native.Mathlib.Omega.{arith}
-use Rattle.subsumption.proofs.MarkLaws.{PairsTo, pairs-none, pairs-more, pairs-done}
+use Rattle.subsumption.proofs.MarkLaws.{PairsTo}
 use Rattle.subsumption.proofs.counting.count_pairs.Given as goal
 
 abbrev pub invariant-loop-j : goal.invariant-loop-j

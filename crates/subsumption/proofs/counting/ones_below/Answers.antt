@@ -1,7 +1,6 @@
 use native.Mathlib.Omega.{arith}
 use lib.Count.{ones-le}
 use Rattle.subsumption.proofs.MarkLaws.{ones-all, shifted-pos, ones-part, part-few}
-use borrow.Author.Rules.{rules}
 use Rattle.subsumption.proofs.counting.ones_below.Goals as goal
 
 pub overflow_cast-result : goal.overflow_cast-result

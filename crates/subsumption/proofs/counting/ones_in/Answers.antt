@@ -1,6 +1,5 @@
 use native.Mathlib.Omega.{arith}
 use Rattle.subsumption.proofs.MarkLaws.{ones-column}
-use borrow.Author.Rules.{rules}
 use Rattle.subsumption.proofs.counting.ones_in.Goals as goal
 
 pub returns : goal.returns

@@ -2,7 +2,6 @@ use Rattle.subsumption.proofs.Deciding.{few-atoms, few-concepts, prepared-ready,
 use mathlib.Core.Path.{refl}
 use native.Mathlib.Omega.{arith}
 use Rattle.subsumption.proofs.Deciding.{prepared-roles}
-use borrow.Author.Rules.{rules}
 use Rattle.subsumption.proofs.decide.decide_known.Goals as goal
 
 pub check_assignment-choices-requires : goal.check_assignment-choices-requires

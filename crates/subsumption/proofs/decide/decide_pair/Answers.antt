@@ -4,7 +4,6 @@ use Rattle.subsumption.proofs.ListingLaws.{asked-rejected, asked-passed, asked-l
 use lib.Seq.{length-take-le}
 use mathlib.Core.Path.{refl, sym}
 use native.Mathlib.Omega.{arith}
-use borrow.Author.Rules.{rules}
 use Rattle.subsumption.proofs.decide.decide_pair.Goals as goal
 
 pub slice_bounds-ids-end : goal.slice_bounds-ids-end

@@ -1,6 +1,5 @@
 use Rattle.subsumption.proofs.ListingLaws.{asked-concepts, asked-alone, asked-ids, asked-used}
 use Rattle.subsumption.proofs.Refusals.{is-done}
-use borrow.Author.Rules.{rules}
 use Rattle.subsumption.proofs.listing.list_asked.Goals as goal
 
 pub returns-in-Refused : goal.returns-in-Refused

@@ -1,6 +1,5 @@
 use Rattle.subsumption.proofs.ListingLaws.{listing-concepts, listing-ids, listing-used}
 use Rattle.subsumption.proofs.Refusals.{is-done}
-use borrow.Author.Rules.{rules}
 use Rattle.subsumption.proofs.listing.list_atoms.Goals as goal
 
 pub returns-in-Refused : goal.returns-in-Refused

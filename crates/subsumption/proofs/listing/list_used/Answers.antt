@@ -1,7 +1,6 @@
 use Rattle.subsumption.proofs.Accepted.{concepts-few}
 use native.Mathlib.Omega.{arith}
 use Rattle.subsumption.proofs.ListingLaws.{used-refused, used-short, used-room, used-listed}
-use borrow.Author.Rules.{rules}
 use Rattle.subsumption.proofs.listing.list_used.Goals as goal
 
 pub returns-in-Refused : goal.returns-in-Refused

@@ -1,7 +1,5 @@
-use borrow.Author.Rules.{rules}
 use mathlib.Core.Path.{sym, ap}
 use Rattle.subsumption.specs.Refusal.{code_of}
-use Rattle.subsumption.proofs.refusal.code_of.Lts as lts
 use Rattle.subsumption.proofs.refusal.code_of.Goals as goal
 
 pub returns-in-Limit : goal.returns-in-Limit

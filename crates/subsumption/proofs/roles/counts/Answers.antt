@@ -1,5 +1,4 @@
 use Rattle.subsumption.proofs.RoleSetLaws.{bit-read}
-use borrow.Author.Rules.{rules}
 use Rattle.subsumption.proofs.roles.counts.Goals as goal
 
 pub returns : goal.returns

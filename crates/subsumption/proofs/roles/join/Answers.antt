@@ -1,7 +1,6 @@
 use native.Mathlib.Omega.{arith}
 use lib.ListN.{length-set}
 use Rattle.subsumption.proofs.RoleSetLaws.{joined}
-use borrow.Author.Rules.{rules}
 use Rattle.subsumption.proofs.roles.join.Goals as goal
 
 pub bounds-into-to-3 : goal.bounds-into-to-3

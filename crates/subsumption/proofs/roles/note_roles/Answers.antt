@@ -1,8 +1,6 @@
-use Prim.Native.Nat.{◌-◌}
 use native.Mathlib.Omega.{arith}
 use mathlib.Core.Path.{refl}
-use Rattle.subsumption.specs.Tables.{pairs_of}
-use Rattle.subsumption.proofs.RoleSetLaws.{SetsTo, sets-none, sets_more, sets-done}
+use Rattle.subsumption.proofs.RoleSetLaws.{sets-none, sets_more, sets-done}
 use Rattle.subsumption.proofs.roles.note_roles.Goals as goal
 
 pub start-requires : goal.start-requires

@@ -1,8 +1,7 @@
-use Prim.Native.Nat.{◌-◌}
 use native.Mathlib.Omega.{arith}
 use lib.ListN.{length}
 use mathlib.Core.Path.{ap}
-use Rattle.subsumption.proofs.RoleSetLaws.{StartedTo, started_none, started-more, started-done}
+use Rattle.subsumption.proofs.RoleSetLaws.{started_none, started-more, started-done}
 use Rattle.subsumption.proofs.roles.start.Goals as goal
 
 pub loop-s-init : goal.loop-s-init

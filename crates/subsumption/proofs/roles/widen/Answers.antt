@@ -1,7 +1,6 @@
-use Prim.Native.Nat.{◌-◌}
 use native.Mathlib.Omega.{arith}
 use mathlib.Core.Path.{sym, ◌∙◌}
-use Rattle.subsumption.proofs.RoleSetLaws.{WidenedTo, widened_none, widened-skip, widened_more, widened-done}
+use Rattle.subsumption.proofs.RoleSetLaws.{widened_none, widened-skip, widened_more, widened-done}
 use Rattle.subsumption.proofs.roles.widen.Goals as goal
 
 pub loop-s-init : goal.loop-s-init

@@ -1,7 +1,5 @@
 use Prim.Native.Nat.{◌-◌}
-use native.Mathlib.Omega.{arith}
-use mathlib.Core.Path.{sym, ◌∙◌}
-use Rattle.subsumption.proofs.RoleSetLaws.{WidenedTo, widened_none, widened-skip, widened_more, widened-done}
+use Rattle.subsumption.proofs.RoleSetLaws.{WidenedTo}
 use Rattle.subsumption.proofs.roles.widen.Given as goal
 
 abbrev pub invariant-loop-s : goal.invariant-loop-s

@@ -1,6 +1,5 @@
-use Prim.Native.Nat.{◌-◌}
 use native.Mathlib.Omega.{arith}
-use Rattle.subsumption.proofs.Blocks.{BlockTo, block_none, block-skip, block_more, block-done}
+use Rattle.subsumption.proofs.Blocks.{block_none, block-skip, block_more, block-done}
 use Rattle.subsumption.proofs.rows.block.Goals as goal
 
 pub loop-b-init : goal.loop-b-init

@@ -1,6 +1,5 @@
 use Prim.Native.Nat.{◌-◌}
-use native.Mathlib.Omega.{arith}
-use Rattle.subsumption.proofs.Blocks.{BlockTo, block_none, block-skip, block_more, block-done}
+use Rattle.subsumption.proofs.Blocks.{BlockTo}
 use Rattle.subsumption.proofs.rows.block.Given as goal
 
 abbrev pub invariant-loop-b : goal.invariant-loop-b

@@ -1,6 +1,5 @@
-use Prim.Native.Nat.{◌-◌}
 use native.Mathlib.Omega.{arith}
-use Rattle.subsumption.proofs.Blocks.{BandTo, band-none, band-more, band-done}
+use Rattle.subsumption.proofs.Blocks.{band-none, band-more, band-done}
 use Rattle.subsumption.proofs.rows.fill_band.Goals as goal
 
 pub loop-a-init : goal.loop-a-init

@@ -1,6 +1,5 @@
 use Prim.Native.Nat.{◌-◌}
-use native.Mathlib.Omega.{arith}
-use Rattle.subsumption.proofs.Blocks.{BandTo, band-none, band-more, band-done}
+use Rattle.subsumption.proofs.Blocks.{BandTo}
 use Rattle.subsumption.proofs.rows.fill_band.Given as goal
 
 abbrev pub invariant-loop-a : goal.invariant-loop-a

@@ -1,5 +1,4 @@
 use native.Mathlib.Omega.{arith}
-use borrow.Author.Rules.{rules}
 use Rattle.subsumption.proofs.rows.renew_band.Goals as goal
 
 pub returns-then-i-ne0 : goal.returns-then-i-ne0

@@ -1,5 +1,4 @@
 use mathlib.Core.Path.{refl}
-use native.Mathlib.Omega.{arith}
 use Rattle.subsumption.specs.Table.{row_start}
 use Rattle.subsumption.proofs.rows.row_start.Goals as goal
 

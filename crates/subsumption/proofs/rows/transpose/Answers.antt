@@ -1,4 +1,3 @@
-use native.Mathlib.Omega.{arith}
 use Rattle.subsumption.proofs.Blocks.{transposed}
 use Rattle.subsumption.proofs.rows.transpose.Goals as goal
 

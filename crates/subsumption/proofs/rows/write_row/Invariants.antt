@@ -1,6 +1,5 @@
 use Prim.Native.Nat.{◌-◌}
-use native.Mathlib.Omega.{arith}
-use Rattle.subsumption.proofs.RowLaws.{RowTo, row_first, row_more, row_done, start_is}
+use Rattle.subsumption.proofs.RowLaws.{RowTo}
 use Rattle.subsumption.proofs.rows.write_row.Given as goal
 
 abbrev pub invariant-loop-at : goal.invariant-loop-at

@@ -1,10 +1,7 @@
-use Prim.Native.Nat.{◌-◌}
 use mathlib.Core.Path.{refl}
 use native.Mathlib.Omega.{arith}
-use borrow.Author.Rules.{rules}
-use Rattle.subsumption.specs.Inner.Rows.{Banded}
 use Rattle.subsumption.proofs.Blocks.{banded-first, banded-next}
-use Rattle.subsumption.proofs.RowLaws.{RowsTo, rows-first, rows_more, rows-done}
+use Rattle.subsumption.proofs.RowLaws.{rows-first, rows_more, rows-done}
 use Rattle.subsumption.proofs.rows.write_rows.Goals as goal
 
 pub loop-i-init : goal.loop-i-init

@@ -1,10 +1,6 @@
 use Prim.Native.Nat.{◌-◌}
-use mathlib.Core.Path.{refl}
-use native.Mathlib.Omega.{arith}
-use borrow.Author.Rules.{rules}
 use Rattle.subsumption.specs.Inner.Rows.{Banded}
-use Rattle.subsumption.proofs.Blocks.{banded-first, banded-next}
-use Rattle.subsumption.proofs.RowLaws.{RowsTo, rows-first, rows_more, rows-done}
+use Rattle.subsumption.proofs.RowLaws.{RowsTo}
 use Rattle.subsumption.proofs.rows.write_rows.Given as goal
 
 abbrev pub invariant-loop-i : goal.invariant-loop-i

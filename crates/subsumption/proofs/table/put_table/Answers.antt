@@ -3,7 +3,6 @@ use Rattle.subsumption.proofs.Refusals.{is-done, buffer-fits}
 use mathlib.Core.Path.{refl}
 use native.Mathlib.Omega.{arith}
 use Rattle.subsumption.proofs.Deciding.{prepared-roles}
-use borrow.Author.Rules.{rules}
 use Rattle.subsumption.proofs.table.put_table.Goals as goal
 
 pub check_assignment-choices-requires : goal.check_assignment-choices-requires

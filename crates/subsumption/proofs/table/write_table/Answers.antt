@@ -4,7 +4,6 @@ use Rattle.subsumption.proofs.ListingLaws.{tables-rejected, tables-listed, table
 use lib.Seq.{length-take-le}
 use mathlib.Core.Path.{refl, sym}
 use native.Mathlib.Omega.{arith}
-use borrow.Author.Rules.{rules}
 use Rattle.subsumption.proofs.table.write_table.Goals as goal
 
 pub slice_bounds-ids-end : goal.slice_bounds-ids-end

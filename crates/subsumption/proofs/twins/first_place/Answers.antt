@@ -3,7 +3,6 @@ use Prim.Native.Nat.{◌%◌}
 use lib.ListN.{get_or}
 use native.Mathlib.Omega.{arith}
 use Rattle.subsumption.proofs.TwinKeys.{none_before, none_below, slots_same, slots-new, first-own}
-use borrow.Author.Rules.{rules}
 use Rattle.subsumption.proofs.twins.first_place.Goals as goal
 
 pub overflow_cast-from : goal.overflow_cast-from

@@ -1,7 +1,5 @@
 use Prim.Native.Nat.{◌-◌, ◌≤◌}
-use mathlib.Core.Path.{◌≡◌, ◌∙◌, sym}
-use native.Mathlib.Omega.{arith}
-use Rattle.subsumption.proofs.TwinKeys.{NoneTo, none_more, first_found, first-own}
+use Rattle.subsumption.proofs.TwinKeys.{NoneTo}
 use Rattle.subsumption.proofs.twins.first_same.Given as goal
 
 abbrev pub invariant-loop-q : goal.invariant-loop-q

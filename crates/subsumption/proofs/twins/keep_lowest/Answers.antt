@@ -1,8 +1,6 @@
-use Prim.Native.Nat.{◌-◌}
 use native.Mathlib.Omega.{arith}
 use lib.ListN.{length-set}
-use borrow.Author.Rules.{rules}
-use Rattle.subsumption.proofs.TwinKeys.{LoweredTo, lowered_none, lowered-skip, lowered-more, lowered-done}
+use Rattle.subsumption.proofs.TwinKeys.{lowered_none, lowered-skip, lowered-more, lowered-done}
 use Rattle.subsumption.proofs.twins.keep_lowest.Goals as goal
 
 pub loop-p-init : goal.loop-p-init

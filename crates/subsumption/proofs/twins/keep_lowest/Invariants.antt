@@ -1,8 +1,5 @@
 use Prim.Native.Nat.{◌-◌}
-use native.Mathlib.Omega.{arith}
-use lib.ListN.{length-set}
-use borrow.Author.Rules.{rules}
-use Rattle.subsumption.proofs.TwinKeys.{LoweredTo, lowered_none, lowered-skip, lowered-more, lowered-done}
+use Rattle.subsumption.proofs.TwinKeys.{LoweredTo}
 use Rattle.subsumption.proofs.twins.keep_lowest.Given as goal
 
 abbrev pub invariant-loop-p : goal.invariant-loop-p

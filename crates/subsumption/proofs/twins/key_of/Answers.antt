@@ -1,7 +1,6 @@
 use native.Mathlib.Omega.{arith}
 use Rattle.subsumption.proofs.Marks.{exists_below, first_below, second_below}
 use Rattle.subsumption.proofs.TwinKeys.{key-name, key-exists, key-and, key-var, key-rest}
-use borrow.Author.Rules.{rules}
 use Rattle.subsumption.proofs.twins.key_of.Goals as goal
 
 pub returns-then-kind-eq1 : goal.returns-then-kind-eq1

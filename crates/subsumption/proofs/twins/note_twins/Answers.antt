@@ -1,10 +1,7 @@
-use Prim.Native.Nat.{◌-◌}
-use mathlib.Core.Path.{◌∙◌}
 use native.Mathlib.Omega.{arith}
 use lib.ListN.{length-set}
-use Rattle.subsumption.specs.Tables.{count_of}
 use Rattle.subsumption.proofs.Marks.{row-rising}
-use Rattle.subsumption.proofs.TwinKeys.{TwinsTo, twins-none, slots_kept, twins-more, twins-done}
+use Rattle.subsumption.proofs.TwinKeys.{twins-none, slots_kept, twins-more, twins-done}
 use Rattle.subsumption.proofs.twins.note_twins.Goals as goal
 
 pub loop-i-init : goal.loop-i-init

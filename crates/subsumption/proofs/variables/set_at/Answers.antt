@@ -1,7 +1,6 @@
 use Rattle.subsumption.proofs.Deciding.{few-concepts, few-numbers, layered}
 use mathlib.Core.Path.{refl}
 use native.Mathlib.Omega.{arith}
-use borrow.Author.Rules.{rules}
 use Rattle.subsumption.proofs.variables.set_at.Goals as goal
 
 pub write_sets-requires : goal.write_sets-requires

@@ -1,7 +1,6 @@
 use Rattle.subsumption.proofs.Marks.{exists_below, first_below, second_below, set-exists, set-and, set-variable, set_rest, narrow-variable, one-of-eight}
 use lib.ListN.{get_or}
 use native.Mathlib.Omega.{arith}
-use Rattle.subsumption.proofs.variables.set_of.Lts as lts
 use Rattle.subsumption.proofs.variables.set_of.Goals as goal
 
 -- src/variables.rt:31:16

@@ -1,8 +1,5 @@
-use Rattle.subsumption.proofs.Marks.{SetsTo, sets-none, sets-row, sets-done, row-rising, row-narrow}
-use Rattle.subsumption.specs.Tables.{count_of}
+use Rattle.subsumption.proofs.Marks.{sets-none, sets-row, sets-done, row-rising, row-narrow}
 use native.Mathlib.Omega.{arith}
-use Prim.Native.Nat.{◌-◌}
-use Rattle.subsumption.proofs.variables.write_sets.Lts as lts
 use Rattle.subsumption.proofs.variables.write_sets.Goals as goal
 
 -- src/variables.rt:52:5

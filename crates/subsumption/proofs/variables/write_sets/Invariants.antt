@@ -1,8 +1,6 @@
-use Rattle.subsumption.proofs.Marks.{SetsTo, sets-none, sets-row, sets-done, row-rising, row-narrow}
+use Rattle.subsumption.proofs.Marks.{SetsTo}
 use Rattle.subsumption.specs.Tables.{count_of}
-use native.Mathlib.Omega.{arith}
 use Prim.Native.Nat.{◌-◌}
-use Rattle.subsumption.proofs.variables.write_sets.Lts as lts
 use Rattle.subsumption.proofs.variables.write_sets.Given as goal
 
 abbrev pub invariant-loop-i : goal.invariant-loop-i

@@ -1,5 +1,4 @@
 use native.Mathlib.Omega.{arith}
-use borrow.Author.Rules.{rules}
 use Rattle.subsumption.proofs.Columns.{absorbs}
 use Rattle.subsumption.proofs.closure.columns.absorb.Goals as goal
 

@@ -1,7 +1,4 @@
-use Prim.Native.Nat.{◌-◌, ◌≤◌}
 use native.Mathlib.Omega.{arith}
-use lib.ListN.{length}
-use Rattle.subsumption.specs.Inner.Columns.{Common}
 use Rattle.subsumption.proofs.Choices.{common-none, common-skip, common-more, common-more-first, common-done}
 use Rattle.subsumption.proofs.closure.columns.common.Goals as goal
 

@@ -1,4 +1,3 @@
-use native.Mathlib.Omega.{arith}
 use Rattle.subsumption.proofs.Columns.{fill-takes}
 use Rattle.subsumption.proofs.closure.columns.fill.Goals as goal
 

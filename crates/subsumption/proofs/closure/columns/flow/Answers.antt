@@ -1,4 +1,3 @@
-use native.Mathlib.Omega.{arith}
 use Rattle.subsumption.proofs.Columns.{flow-takes}
 use Rattle.subsumption.proofs.closure.columns.flow.Goals as goal
 

@@ -1,5 +1,3 @@
-use native.Mathlib.Omega.{arith}
-use borrow.Author.Rules.{rules}
 use Rattle.subsumption.proofs.Choices.{gather-takes}
 use Rattle.subsumption.proofs.closure.columns.gather.Goals as goal
 

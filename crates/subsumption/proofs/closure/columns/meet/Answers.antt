@@ -1,4 +1,3 @@
-use native.Mathlib.Omega.{arith}
 use Rattle.subsumption.proofs.Columns.{meet-takes}
 use Rattle.subsumption.proofs.closure.columns.meet.Goals as goal
 

@@ -1,7 +1,5 @@
-use Prim.Native.Nat.{◌-◌}
 use native.Mathlib.Omega.{arith}
-use lib.ListN.{length}
-use Rattle.subsumption.proofs.Choices.{Spread, spread-first, spread-skip, spread-turn, spread-done}
+use Rattle.subsumption.proofs.Choices.{spread-first, spread-skip, spread-turn, spread-done}
 use Rattle.subsumption.proofs.closure.columns.spread.Goals as goal
 
 pub loop-q-init : goal.loop-q-init

@@ -1,7 +1,6 @@
 use Prim.Native.Nat.{◌-◌}
-use native.Mathlib.Omega.{arith}
 use lib.ListN.{length}
-use Rattle.subsumption.proofs.Choices.{Spread, spread-first, spread-skip, spread-turn, spread-done}
+use Rattle.subsumption.proofs.Choices.{Spread}
 use Rattle.subsumption.proofs.closure.columns.spread.Given as goal
 
 abbrev pub invariant-loop-q : goal.invariant-loop-q

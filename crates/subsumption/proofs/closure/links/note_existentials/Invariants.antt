@@ -1,10 +1,6 @@
-use native.Mathlib.Omega.{arith}
-use Rattle.subsumption.proofs.Linking.{existentials-none, existentials-skip, existentials-more, existentials-all, inner-low, role-low}
 use Rattle.subsumption.specs.Inner.Links.{Existentials}
 use Rattle.subsumption.specs.Tables.{count_of}
-use lib.ListN.{length}
-use mathlib.Core.Path.{ap}
-use Prim.Native.Nat.{◌-◌, ◌≤◌, ◌*◌, ◌+◌}
+use Prim.Native.Nat.{◌-◌, ◌≤◌}
 use Rattle.subsumption.proofs.closure.links.note_existentials.Given as goal
 
 abbrev pub invariant-loop-e : goal.invariant-loop-e

@@ -1,7 +1,5 @@
 use Prim.Native.Nat.{◌-◌, ◌≤◌}
-use native.Mathlib.Omega.{arith}
 use Rattle.subsumption.specs.Inner.Links.{KindsTo}
-use Rattle.subsumption.proofs.Linking.{kinds-none, kinds-more, kinds-done}
 use Rattle.subsumption.proofs.closure.links.note_kinds.Given as goal
 
 abbrev pub invariant-loop-s : goal.invariant-loop-s

@@ -1,4 +1,3 @@
-use native.Mathlib.Omega.{arith}
 use Rattle.subsumption.proofs.Linking.{over-union}
 use Rattle.subsumption.proofs.closure.links.over.Goals as goal
 

@@ -1,4 +1,3 @@
-use native.Mathlib.Omega.{arith}
 use Rattle.subsumption.proofs.Linking.{named-not, named-same}
 use Rattle.subsumption.proofs.closure.names.is_named.Goals as goal
 

@@ -1,7 +1,5 @@
-use Prim.Native.Nat.{◌-◌}
 use native.Mathlib.Omega.{arith}
-use Rattle.subsumption.specs.Inner.Names.{Seen}
-use Rattle.subsumption.proofs.Linking.{FirstsTo, firsts-none, firsts_more, firsts-done, seen_none}
+use Rattle.subsumption.proofs.Linking.{firsts-none, firsts_more, firsts-done, seen_none}
 use Rattle.subsumption.proofs.closure.names.note_firsts.Goals as goal
 
 pub loop-j-init : goal.loop-j-init

@@ -1,7 +1,6 @@
 use Prim.Native.Nat.{◌-◌}
-use native.Mathlib.Omega.{arith}
 use Rattle.subsumption.specs.Inner.Names.{Seen}
-use Rattle.subsumption.proofs.Linking.{FirstsTo, firsts-none, firsts_more, firsts-done, seen_none}
+use Rattle.subsumption.proofs.Linking.{FirstsTo}
 use Rattle.subsumption.proofs.closure.names.note_firsts.Given as goal
 
 abbrev pub invariant-loop-j : goal.invariant-loop-j

@@ -1,6 +1,5 @@
 use native.Mathlib.Omega.{arith}
 use Rattle.subsumption.proofs.Linking.{name-low, seen_skip, seen_more}
-use borrow.Author.Rules.{rules}
 use Rattle.subsumption.proofs.closure.names.note_seen.Goals as goal
 
 pub returns-then-concepts-j-ne1 : goal.returns-then-concepts-j-ne1

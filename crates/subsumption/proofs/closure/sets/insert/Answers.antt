@@ -1,4 +1,3 @@
-use borrow.Author.Rules.{rules}
 use native.Mathlib.Omega.{arith}
 use Rattle.subsumption.proofs.SetLaws.{inserted}
 use Rattle.subsumption.proofs.closure.sets.insert.Goals as goal

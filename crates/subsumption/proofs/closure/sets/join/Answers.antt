@@ -1,7 +1,6 @@
 use native.Mathlib.Omega.{arith}
-use Rattle.subsumption.proofs.SetLaws.{Joining, joining-first, joining-low, joining-more, joining-done}
+use Rattle.subsumption.proofs.SetLaws.{joining-first, joining-low, joining-more, joining-done}
 use Rattle.subsumption.proofs.WordLaws.{rest-less}
-use Rattle.subsumption.specs.Inner.Columns.{InThree}
 use lib.Count.{trailing_le}
 use lib.Bits.{and_le_r}
 use Prim.Native.Nat.{◌-◌}

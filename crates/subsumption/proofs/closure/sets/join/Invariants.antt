@@ -1,10 +1,5 @@
-use native.Mathlib.Omega.{arith}
-use Rattle.subsumption.proofs.SetLaws.{Joining, joining-first, joining-low, joining-more, joining-done}
-use Rattle.subsumption.proofs.WordLaws.{rest-less}
+use Rattle.subsumption.proofs.SetLaws.{Joining}
 use Rattle.subsumption.specs.Inner.Columns.{InThree}
-use lib.Count.{trailing_le}
-use lib.Bits.{and_le_r}
-use Prim.Native.Nat.{◌-◌}
 use Rattle.subsumption.proofs.closure.sets.join.Given as goal
 
 abbrev pub invariant-loop-rest : goal.invariant-loop-rest

@@ -1,4 +1,3 @@
-use native.Mathlib.Omega.{arith}
 use Rattle.subsumption.proofs.SetLaws.{unites}
 use Rattle.subsumption.proofs.closure.sets.union.Goals as goal
 

@@ -1,0 +1,13 @@
+use Prim.Native.Nat.{◌-◌}
+use mathlib.Core.Path.{◌≡◌, refl}
+use native.Mathlib.Omega.{arith}
+use lib.ListN.{length, length-set}
+use lib.Count.{ones-le, trailing_le}
+use Rattle.matching.proofs.ChosenLaws.Picked.{pick-length, pick-few, Writing, writing-none, writing-rest, writing-known, writing_more, writing-done}
+use Rattle.matching.proofs.chosen.put_picked.Given as goal
+
+abbrev pub invariant-loop-listed : goal.invariant-loop-listed
+invariant-loop-listed l = (length l.out ≡ length l.initial.out) × Writing l.ids l.choice l.initial.out l.out l.rest l.listed
+
+abbrev pub decreases-loop-listed : goal.decreases-loop-listed
+decreases-loop-listed l = l.count - l.listed

@@ -1,0 +1,14 @@
+use native.Mathlib.Omega.{arith}
+use Prim.Native.Nat.{◌≤◌, ◌-◌}
+use mathlib.Core.Path.{◌≡◌, ◌∙◌, sym}
+use lib.ListN.{length}
+use mathlib.Core.Bool.{true}
+use Rattle.matching.specs.Inner.Derivation.{seen}
+use Rattle.matching.proofs.DerivationLaws.Rules.{AllBelow, all_none, all-skip, all_more, marked_all, marked-not}
+use Rattle.matching.proofs.derivation.rules.all_marked.Given as goal
+
+abbrev pub invariant-loop-q : goal.invariant-loop-q
+invariant-loop-q l = (l.q ≤ length l.atoms) × AllBelow l.atoms l.choice (λ p. seen l.count l.marks l.left p ≡ true) l.q
+
+abbrev pub decreases-loop-q : goal.decreases-loop-q
+decreases-loop-q l = length l.atoms - l.q

@@ -1,0 +1,12 @@
+use native.Mathlib.Omega.{arith}
+use Prim.Native.Nat.{◌≤◌, ◌-◌}
+use mathlib.Core.Path.{◌≡◌}
+use lib.ListN.{length}
+use Rattle.matching.proofs.DerivationLaws.Rules.{AllBelow, all_none, all-skip, all_more, chosen-found, chosen_none}
+use Rattle.matching.proofs.derivation.rules.is_chosen.Given as goal
+
+abbrev pub invariant-loop-q : goal.invariant-loop-q
+invariant-loop-q l = (l.q ≤ length l.atoms) × AllBelow l.atoms l.choice (λ p. p ≡ l.id → ⊥) l.q
+
+abbrev pub decreases-loop-q : goal.decreases-loop-q
+decreases-loop-q l = length l.atoms - l.q

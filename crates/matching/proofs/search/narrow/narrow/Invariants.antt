@@ -1,0 +1,13 @@
+use Prim.Native.Nat.{◌-◌}
+use mathlib.Core.Path.{◌≡◌}
+use lib.ListN.{length}
+use native.Mathlib.Omega.{arith}
+use Rattle.matching.specs.Inner.Search.Narrow.{Narrowed}
+use Rattle.matching.proofs.SearchLaws.Narrow.{narrowed_none, narrowed-more}
+use Rattle.matching.proofs.search.narrow.narrow.Given as goal
+
+abbrev pub invariant-loop-m : goal.invariant-loop-m
+invariant-loop-m l = (length l.scratch ≡ 16977) × (length l.high ≡ 8) × Narrowed l.sets l.problem l.initial.high l.high
+
+abbrev pub decreases-loop-m : goal.decreases-loop-m
+decreases-loop-m l = l.count - l.m

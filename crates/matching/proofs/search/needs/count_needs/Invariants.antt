@@ -1,0 +1,11 @@
+use Prim.Native.Nat.{◌+◌, ◌-◌}
+use native.Mathlib.Omega.{arith}
+use borrow.Author.Rules.{rules}
+use Rattle.matching.proofs.SearchLaws.Needs.{Wanting, wanting-none, wanting-skip, wanting-more, wanting-over}
+use Rattle.matching.proofs.search.needs.count_needs.Given as goal
+
+abbrev pub invariant-loop-c : goal.invariant-loop-c
+invariant-loop-c l = Wanting l.problem l.store l.initial.allowed l.low l.high l.k l.about l.allowed l.met l.sum l.c
+
+abbrev pub decreases-loop-c : goal.decreases-loop-c
+decreases-loop-c l = l.count - l.c

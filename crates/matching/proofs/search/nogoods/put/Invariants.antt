@@ -1,0 +1,10 @@
+use Prim.Native.Nat.{◌-◌}
+use native.Mathlib.Omega.{arith}
+use Rattle.matching.proofs.SearchLaws.Nogoods.{Putting, putting-none, putting-more, putting-done}
+use Rattle.matching.proofs.search.nogoods.put.Given as goal
+
+abbrev pub invariant-loop-k : goal.invariant-loop-k
+invariant-loop-k l = Putting l.at l.set l.initial.store l.store l.k
+
+abbrev pub decreases-loop-k : goal.decreases-loop-k
+decreases-loop-k l = 8 - l.k

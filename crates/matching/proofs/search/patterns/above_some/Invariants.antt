@@ -1,0 +1,10 @@
+use Prim.Native.Nat.{◌-◌}
+use Rattle.matching.proofs.SearchLaws.Walks.{AboveTo, above-first, above_more, above-done}
+use native.Mathlib.Omega.{arith}
+use Rattle.matching.proofs.search.patterns.above_some.Given as goal
+
+abbrev pub invariant-loop-q : goal.invariant-loop-q
+invariant-loop-q l = AboveTo l.sets l.problem l.choice l.q l.sum
+
+abbrev pub decreases-loop-q : goal.decreases-loop-q
+decreases-loop-q l = 64 - l.q

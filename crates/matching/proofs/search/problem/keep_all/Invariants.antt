@@ -1,0 +1,11 @@
+use Rattle.matching.proofs.SearchLaws.Making.Closers.{KeepTo, weight, again-less, keep-first, keep-again, keep-more, keep-less, keep-done}
+use mathlib.Core.Path.{◌∙◌}
+use native.Mathlib.Omega.{arith}
+use Rattle.matching.proofs.search.problem.keep_all.Lts as lts
+use Rattle.matching.proofs.search.problem.keep_all.Given as goal
+
+abbrev pub invariant-loop-from : goal.invariant-loop-from
+invariant-loop-from l = KeepTo l.problem l.count l.at l.initial.sets l.initial.wanted l.from l.sets l.wanted
+
+abbrev pub decreases-loop-from : goal.decreases-loop-from
+decreases-loop-from l = weight l.sets l.at l.from

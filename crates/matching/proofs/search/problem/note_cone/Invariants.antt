@@ -1,0 +1,11 @@
+use native.Mathlib.Omega.{arith}
+use Prim.Native.Nat.{◌+◌, ◌*◌}
+use mathlib.Core.Path.{sym, ◌∙◌}
+use Rattle.matching.proofs.SearchLaws.Making.Cones.{ConeTo, cone-start, cone-skip, cone-more, cone-done}
+use Rattle.matching.proofs.search.problem.note_cone.Given as goal
+
+abbrev pub invariant-loop-i : goal.invariant-loop-i
+invariant-loop-i l = ConeTo l.problem l.count l.m l.initial.sets l.i l.sets
+
+abbrev pub decreases-loop-i : goal.decreases-loop-i
+decreases-loop-i l = l.i

@@ -1,0 +1,11 @@
+use native.Mathlib.Omega.{arith}
+use Prim.Native.Nat.{◌-◌}
+use mathlib.Core.Path.{◌∙◌}
+use Rattle.matching.proofs.SearchLaws.Making.Filling.{FitsTo, fits-none, fits-skip, fits_more, fits-done, open-held, open-other, open_free}
+use Rattle.matching.proofs.search.problem.note_fits.Given as goal
+
+abbrev pub invariant-loop-j : goal.invariant-loop-j
+invariant-loop-j l = FitsTo l.problem l.into l.count l.right l.initial.sets l.j l.sets
+
+abbrev pub decreases-loop-j : goal.decreases-loop-j
+decreases-loop-j l = l.count - l.j

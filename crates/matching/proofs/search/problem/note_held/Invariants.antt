@@ -1,0 +1,11 @@
+use native.Mathlib.Omega.{arith}
+use Prim.Native.Nat.{◌-◌}
+use mathlib.Core.Path.{refl}
+use Rattle.matching.proofs.SearchLaws.Making.Numbers.{HeldTo, held_none, held_more, held-done}
+use Rattle.matching.proofs.search.problem.note_held.Given as goal
+
+abbrev pub invariant-loop-i : goal.invariant-loop-i
+invariant-loop-i l = HeldTo l.marks l.initial.problem l.i l.problem
+
+abbrev pub decreases-loop-i : goal.decreases-loop-i
+decreases-loop-i l = 192 - l.i

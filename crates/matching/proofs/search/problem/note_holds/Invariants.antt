@@ -1,0 +1,12 @@
+use native.Mathlib.Omega.{arith}
+use Prim.Native.Nat.{◌+◌, ◌-◌, ◌*◌, ◌≤◌}
+use mathlib.Core.Path.{refl}
+use Rattle.matching.specs.Inner.Search.Making.{HintsNoted}
+use Rattle.matching.proofs.SearchLaws.Making.Numbers.{hints-none, hints-more}
+use Rattle.matching.proofs.search.problem.note_holds.Given as goal
+
+abbrev pub invariant-loop-m : goal.invariant-loop-m
+invariant-loop-m l = (l.m ≤ 32) × HintsNoted l.initial.problem l.problem
+
+abbrev pub decreases-loop-m : goal.decreases-loop-m
+decreases-loop-m l = 32 - l.m

@@ -1,0 +1,10 @@
+use Prim.Native.Nat.{◌-◌}
+use Rattle.matching.proofs.SearchLaws.Sets.{WalkedTo, walked-first, walked-found, walked_more, walked-done}
+use native.Mathlib.Omega.{arith}
+use Rattle.matching.proofs.search.sets.next_in.Given as goal
+
+abbrev pub invariant-loop-w : goal.invariant-loop-w
+invariant-loop-w l = WalkedTo l.sets l.at l.from l.w l.start
+
+abbrev pub decreases-loop-w : goal.decreases-loop-w
+decreases-loop-w l = 3 - l.w

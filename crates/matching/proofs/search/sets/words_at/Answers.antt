@@ -1,0 +1,6 @@
+use Rattle.square.proofs.SetLaws.{line-three}
+use borrow.Author.Rules.{rules}
+use Rattle.matching.proofs.search.sets.words_at.Goals as goal
+
+pub returns : goal.returns
+returns c = λ y l. line-three _ _ y l

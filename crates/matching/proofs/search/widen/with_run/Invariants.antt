@@ -1,0 +1,10 @@
+use Prim.Native.Nat.{◌-◌}
+use native.Mathlib.Omega.{arith}
+use Rattle.matching.proofs.SearchLaws.Pairs.{MixedTo, mixed-none, mixed-more, mixed-all}
+use Rattle.matching.proofs.search.widen.with_run.Given as goal
+
+abbrev pub invariant-loop-k : goal.invariant-loop-k
+invariant-loop-k l = MixedTo l.choice l.target l.mix l.k
+
+abbrev pub decreases-loop-k : goal.decreases-loop-k
+decreases-loop-k l = 8 - l.k

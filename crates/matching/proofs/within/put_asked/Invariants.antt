@@ -1,0 +1,10 @@
+use Prim.Native.Nat.{◌-◌}
+use native.Mathlib.Omega.{arith}
+use Rattle.matching.proofs.WithinLaws.{AskedTo, asked-none, asked-more, asked-all}
+use Rattle.matching.proofs.within.put_asked.Given as goal
+
+abbrev pub invariant-loop-m : goal.invariant-loop-m
+invariant-loop-m l = AskedTo l.wanted l.initial.problem l.problem l.m
+
+abbrev pub decreases-loop-m : goal.decreases-loop-m
+decreases-loop-m l = 32 - l.m

@@ -1,0 +1,12 @@
+use borrow.Author.Rules.{rules}
+use Prim.Native.Nat.{◌+◌, ◌-◌, ◌*◌, ◌/◌, ◌^◌, ◌<◌, ◌≤◌}
+use native.Mathlib.Omega.{arith}
+use lib.Count.{trailing_le}
+use Rattle.matching.proofs.writer.sets.next.Lts as lts
+use Rattle.matching.proofs.writer.sets.next.Given as goal
+
+abbrev pub invariant-loop-w : goal.invariant-loop-w
+invariant-loop-w l = (l.from ≤ l.w * 64 + l.low) × (l.low < 64)
+
+abbrev pub decreases-loop-w : goal.decreases-loop-w
+decreases-loop-w l = 3 - l.w

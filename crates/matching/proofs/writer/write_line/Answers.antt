@@ -1,0 +1,6 @@
+use Rattle.matching.proofs.WriterLaws.Lines.{write-front}
+use borrow.Author.Rules.{rules}
+use Rattle.matching.proofs.writer.write_line.Goals as goal
+
+pub returns : goal.returns
+returns c = write-front c.args.out.now c.args.n _ _ _ _ c.requires _ c.put_line.ensures
