@@ -240,7 +240,7 @@ module _ (sets problem : List ℕ) (at : ℕ) where
   pub followed-first : (x : Words) → Followed sets problem at x x
   followed-first x = record { kept = λ c l e. e; least = λ c l e. by-set c l e }
 
-  lift : {c : ℕ} (x y : Words) → Followed sets problem at x y → Follows sets problem at y c → Follows sets problem at x c
+  lift : (x y : Words) {c : ℕ} → Followed sets problem at x y → Follows sets problem at y c → Follows sets problem at x c
   lift x y F (by-set c l e) = F.least c l e
   lift x y F (by-top e c l o n m r) = by-top e c l o n m r
   lift x y F (by_and e i j c l o n p q m r) = by_and e i j c l o n (lift x y F p) (lift x y F q) m r

@@ -70,8 +70,11 @@ gather-closed f n c h =
 
 -- the place of a member
 pub place : {A : Type 0} (default : A) (list : List A) (a : A) → Memᴰ a list → (j : ℕ) × (j < length list) × (get_or list j default ≡ a)
-place default list a (Memᴰ.head e) = (0, omega arith, sym e)
-place default list a (Memᴰ.tail {x} {xs} m) = let (j, l, e) = place default xs a m in (suc j, omega arith, e)
+place {A = A} default list a m = go a list m
+  where
+    go : (a : A) (list : List A) → Memᴰ a list → (j : ℕ) × (j < length list) × (get_or list j default ≡ a)
+    go a list (Memᴰ.head e) = (0, omega arith, sym e)
+    go a list (Memᴰ.tail {x} {xs} m) = let (j, l, e) = go a xs m in (suc j, omega arith, e)
 
 abbrev pub concept_at : List Concept → ℕ → Concept
 concept_at E j = get_or E j top

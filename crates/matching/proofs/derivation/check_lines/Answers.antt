@@ -18,7 +18,7 @@ pub mark_pair-requires : goal.mark_pair-requires
 mark_pair-requires c = record { square = c.loop-k.invariant.1.1.0.square; i_lt_count = (omega (arith, c.line_follows.ensures.left-known c.if-line_follows.true, c.number_at-left.ensures), omega (arith, c.line_follows.ensures.right-known c.if-line_follows.true, c.number_at-right.ensures)) }
 
 pub loop-k-preserved : goal.loop-k-preserved
-loop-k-preserved c = (omega arith, (c.mark_pair.auto.0 ∙ c.loop-k.invariant.1.0, (marks-more _ _ _ _ c.loop-k.invariant.1.1.0 _ _ _ c.number_at-left.ensures c.number_at-right.ensures (omega (arith, c.line_follows.ensures.left-known c.if-line_follows.true, c.number_at-left.ensures)) (omega (arith, c.line_follows.ensures.right-known c.if-line_follows.true, c.number_at-right.ensures)) c.mark_pair.ensures, passed-more _ _ _ _ _ _ _ _ c.loop-k.invariant.1.1.1 (omega arith) c.line_follows.ensures c.if-line_follows.true)))
+loop-k-preserved c = (omega arith, (omega (arith, c.loop-k.invariant.1.0), (marks-more _ _ _ _ c.loop-k.invariant.1.1.0 _ _ _ c.number_at-left.ensures c.number_at-right.ensures (omega (arith, c.line_follows.ensures.left-known c.if-line_follows.true, c.number_at-left.ensures)) (omega (arith, c.line_follows.ensures.right-known c.if-line_follows.true, c.number_at-right.ensures)) c.mark_pair.ensures, passed-more _ _ _ _ _ _ _ _ c.loop-k.invariant.1.1.1 (omega arith) c.line_follows.ensures c.if-line_follows.true)))
 
 pub shape_of-marks-in-loop-k : goal.shape_of-marks-in-loop-k
 shape_of-marks-in-loop-k c = c.loop-k.invariant.1.0

@@ -36,4 +36,4 @@ pub returns-in-Rejected : goal.returns-in-Rejected
 returns-in-Rejected c = tables-refuse _ c.args.out.now _ (tables-rejected _ (replicate 64 0) _ c.list_atoms-listed.result refl c.list_atoms-listed.ensures.replied c.list_atoms-listed.ensures.written _ c.in-Rejected.is)
 
 pub returns-in-Atoms : goal.returns-in-Atoms
-returns-in-Atoms c = finds-all _ _ (tables-listed _ (replicate 64 0) _ c.list_atoms-listed.result refl c.list_atoms-listed.ensures.replied c.list_atoms-listed.ensures.written _ c.in-Atoms.is) _ (sym (length-take-le _ _ (omega (arith, tables-few _ (replicate 64 0) _ c.list_atoms-listed.result refl c.list_atoms-listed.ensures.replied c.list_atoms-listed.ensures.written _ c.in-Atoms.is)))) _ c.all_atoms-all.ensures c.args.out.now c.find_known.new.1.1.1.1.1.1.1.1.1.0 (match_reply c.find_known.result) c.find_known.ensures
+returns-in-Atoms c = finds-all _ _ (tables-listed _ (replicate 64 0) _ c.list_atoms-listed.result refl c.list_atoms-listed.ensures.replied c.list_atoms-listed.ensures.written _ c.in-Atoms.is) _ (sym (length-take-le _ _ (omega (arith, tables-few _ (replicate 64 0) _ c.list_atoms-listed.result refl c.list_atoms-listed.ensures.replied c.list_atoms-listed.ensures.written _ c.in-Atoms.is)))) _ c.all_atoms-all.ensures c.args.out.now c.find_known.new.out (match_reply c.find_known.result) c.find_known.ensures

@@ -7,9 +7,6 @@ use Rattle.matching.proofs.within.find_set.Goals as goal
 pub returns-then-out-count : goal.returns-then-out-count
 returns-then-out-count c = buffer-refuses _ _ _ c.args.out.now c.requires.accepted.passed c.requires.largest_value c.if-out-count.true
 
-pub find_first-first-requires : goal.find_first-first-requires
-find_first-first-requires c = let all = c.before.before.before.before.before.before.before.before.before.requires in record { accepted = all.0; largest_value = all.1 }
-
 pub write_choice-requires : goal.write_choice-requires
 write_choice-requires c = record { count_bound = (well_formed _ c.requires.accepted.passed).few-variables; count_in_bounds = c.if-out-count.false }
 

@@ -21,4 +21,4 @@ pub returns-in-Rejected : goal.returns-in-Rejected
 returns-in-Rejected c = tables-refuse _ _ c.args.out.now _ (tables-rejected _ (replicate 64 0) _ c.list_atoms-listed.result refl c.list_atoms-listed.ensures.replied c.list_atoms-listed.ensures.written _ c.in-Rejected.is)
 
 pub returns-in-Atoms : goal.returns-in-Atoms
-returns-in-Atoms c = finds-within _ _ _ c.args.out.now c.find_known.new.1.1.1.1.1.1.1.1.1.0 (match_reply c.find_known.result) (all_asked _ (tables-listed _ (replicate 64 0) _ c.list_atoms-listed.result refl c.list_atoms-listed.ensures.replied c.list_atoms-listed.ensures.written _ c.in-Atoms.is).passed) c.find_known.ensures
+returns-in-Atoms c = finds-within _ _ _ c.args.out.now c.find_known.new.out (match_reply c.find_known.result) (all_asked _ (tables-listed _ (replicate 64 0) _ c.list_atoms-listed.result refl c.list_atoms-listed.ensures.replied c.list_atoms-listed.ensures.written _ c.in-Atoms.is).passed) c.find_known.ensures

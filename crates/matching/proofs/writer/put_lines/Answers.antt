@@ -17,8 +17,5 @@ slice_bounds-write_lines-end c = sym (blank-marks _ c.requires.grounds.ready.few
 pub write_lines-requires : goal.write_lines-requires
 write_lines-requires c = record { grounds = c.requires.grounds; into_len = c.requires.into_len; asked = c.requires.asked; blank = blank-marks _ c.requires.grounds.ready.few; concepts_in_bounds = c.requires.concepts_in_bounds }
 
-pub shape_of-out : goal.shape_of-out
-shape_of-out c = c.write_lines.auto.1.1.1.1.1.1.1.1.0
-
 pub returns : goal.returns
 returns c = lines-written _ _ _ _ _ _ _ _ _ _ _ c.requires.grounds c.requires.concepts_in_bounds c.write_lines.ensures.written_to c.write_lines.ensures.rest_kept

@@ -49,7 +49,7 @@ pub overflow_add-from-in-Line : goal.overflow_add-from-in-Line
 overflow_add-from-in-Line c = omega (arith, cell-small _ _ _ _ c.loop-rule.invariant.1.1.0.marked.square (found-line _ _ _ _ _ _ _ _ c.next_line-next.ensures _ _ _ _ c.in-Line.is).left-known (found-line _ _ _ _ _ _ _ _ c.next_line-next.ensures _ _ _ _ c.in-Line.is).right-known)
 
 pub shape_of-marks-then-is_pair : goal.shape_of-marks-then-is_pair
-shape_of-marks-then-is_pair c = c.mark_pair.auto.0 ∙ c.loop-rule.invariant.0
+shape_of-marks-then-is_pair c = omega (arith, c.loop-rule.invariant.0)
 
 pub shape_of-out-then-is_pair : goal.shape_of-out-then-is_pair
 shape_of-out-then-is_pair c = c.write_line.ensures.size ∙ c.loop-rule.invariant.1.0.size
@@ -61,7 +61,7 @@ pub loop-rule-smaller-in-Line : goal.loop-rule-smaller-in-Line
 loop-rule-smaller-in-Line c = measure-less _ _ _ _ (ap (λ (z : ℕ). z + 1) (ap unset c.mark_pair.ensures) ∙ unset-less _ _ _ _ _ _ _ _ c.loop-rule.invariant.1.1.0 _ _ _ _ (found-line _ _ _ _ _ _ _ _ c.next_line-next.ensures _ _ _ _ c.in-Line.is))
 
 pub loop-rule-preserved-in-Line : goal.loop-rule-preserved-in-Line
-loop-rule-preserved-in-Line c = (c.mark_pair.auto.0 ∙ c.loop-rule.invariant.0, (kept_more _ _ _ _ _ _ _ _ _ c.loop-rule.invariant.1.0 c.write_line.ensures, (written-more _ _ _ _ _ _ _ _ c.loop-rule.invariant.1.1.0 _ _ _ _ (found-line _ _ _ _ _ _ _ _ c.next_line-next.ensures _ _ _ _ c.in-Line.is) c.requires.grounds.ready _ _ c.write_line.ensures c.mark_pair.ensures, written-other _ _ _ _ _ _ _ _ c.loop-rule.invariant.1.1.0 _ _ _ _ (found-line _ _ _ _ _ _ _ _ c.next_line-next.ensures _ _ _ _ c.in-Line.is) c.requires.grounds.ready _ _ c.write_line.ensures c.mark_pair.ensures _ _ _ c.requires.asked.left-known c.requires.asked.right-known c.is_pair.ensures c.if-is_pair.false c.loop-rule.invariant.1.1.1)))
+loop-rule-preserved-in-Line c = (omega (arith, c.loop-rule.invariant.0), (kept_more _ _ _ _ _ _ _ _ _ c.loop-rule.invariant.1.0 c.write_line.ensures, (written-more _ _ _ _ _ _ _ _ c.loop-rule.invariant.1.1.0 _ _ _ _ (found-line _ _ _ _ _ _ _ _ c.next_line-next.ensures _ _ _ _ c.in-Line.is) c.requires.grounds.ready _ _ c.write_line.ensures c.mark_pair.ensures, written-other _ _ _ _ _ _ _ _ c.loop-rule.invariant.1.1.0 _ _ _ _ (found-line _ _ _ _ _ _ _ _ c.next_line-next.ensures _ _ _ _ c.in-Line.is) c.requires.grounds.ready _ _ c.write_line.ensures c.mark_pair.ensures _ _ _ c.requires.asked.left-known c.requires.asked.right-known c.is_pair.ensures c.if-is_pair.false c.loop-rule.invariant.1.1.1)))
 
 pub shape_of-marks-then-from-eq0 : goal.shape_of-marks-then-from-eq0
 shape_of-marks-then-from-eq0 c = c.loop-rule.invariant.0

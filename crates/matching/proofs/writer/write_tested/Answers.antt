@@ -49,7 +49,7 @@ overflow_add-n c = omega (arith, written-room _ _ _ _ _ _ _ _ c.loop-k.invariant
 
 -- src/writer.rt:155:17
 pub shape_of-marks-then-is_pair : goal.shape_of-marks-then-is_pair
-shape_of-marks-then-is_pair c = c.mark_pair.auto.0 ∙ c.loop-k.invariant.0
+shape_of-marks-then-is_pair c = omega (arith, c.loop-k.invariant.0)
 
 -- src/writer.rt:155:17
 pub shape_of-out-then-is_pair : goal.shape_of-out-then-is_pair
@@ -61,7 +61,7 @@ returns-then-is_pair c = record { begun = begun-last _ _ _ _ _ _ _ _ _ _ (writte
 
 -- src/writer.rt:146:5
 pub loop-k-preserved-in-Line : goal.loop-k-preserved-in-Line
-loop-k-preserved-in-Line c = (c.mark_pair.auto.0 ∙ c.loop-k.invariant.0, (kept_more _ _ _ _ _ _ _ _ _ c.loop-k.invariant.1.0 c.write_line.ensures, (written-more _ _ _ _ _ _ _ _ c.loop-k.invariant.1.1.0 _ _ _ _ (tested-line _ _ _ _ _ _ _ c.test_line-next.ensures _ _ _ _ c.in-Line.is) c.requires.grounds.ready _ _ c.write_line.ensures c.mark_pair.ensures, written-other _ _ _ _ _ _ _ _ c.loop-k.invariant.1.1.0 _ _ _ _ (tested-line _ _ _ _ _ _ _ c.test_line-next.ensures _ _ _ _ c.in-Line.is) c.requires.grounds.ready _ _ c.write_line.ensures c.mark_pair.ensures _ _ _ c.requires.left_bound.0 c.requires.left_bound.1 c.is_pair.ensures c.if-is_pair.false c.loop-k.invariant.1.1.1)))
+loop-k-preserved-in-Line c = (omega (arith, c.loop-k.invariant.0), (kept_more _ _ _ _ _ _ _ _ _ c.loop-k.invariant.1.0 c.write_line.ensures, (written-more _ _ _ _ _ _ _ _ c.loop-k.invariant.1.1.0 _ _ _ _ (tested-line _ _ _ _ _ _ _ c.test_line-next.ensures _ _ _ _ c.in-Line.is) c.requires.grounds.ready _ _ c.write_line.ensures c.mark_pair.ensures, written-other _ _ _ _ _ _ _ _ c.loop-k.invariant.1.1.0 _ _ _ _ (tested-line _ _ _ _ _ _ _ c.test_line-next.ensures _ _ _ _ c.in-Line.is) c.requires.grounds.ready _ _ c.write_line.ensures c.mark_pair.ensures _ _ _ c.requires.left_bound.0 c.requires.left_bound.1 c.is_pair.ensures c.if-is_pair.false c.loop-k.invariant.1.1.1)))
 
 -- src/writer.rt:146:5
 pub loop-k-preserved : goal.loop-k-preserved

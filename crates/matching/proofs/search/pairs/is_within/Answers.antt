@@ -7,7 +7,7 @@ pub loop-k-init : goal.loop-k-init
 loop-k-init c = within_none _ _
 
 pub returns-then-a-k : goal.returns-then-a-k
-returns-then-a-k c = within-not c.args.t1 c.args.t2 c.loop-k.k c.if-a-k.true
+returns-then-a-k c = within-not c.args.a c.args.b c.loop-k.k c.if-a-k.true
 
 pub loop-k-preserved : goal.loop-k-preserved
 loop-k-preserved c = within_more _ _ _ c.if-a-k.false c.loop-k.invariant

@@ -10,7 +10,7 @@ pub loop-k-init : goal.loop-k-init
 loop-k-init c = combined-none _ _ _ c.requires.0
 
 pub loop-k-preserved : goal.loop-k-preserved
-loop-k-preserved c = combined-more bit_or _ c.args.t2 _ _ _ (omega arith) (ap (λ (z : ℕ). bit_or z (get_or c.args.t2 c.loop-k.k 0)) (c.loop-k.invariant.rest _ (omega arith))) c.loop-k.invariant
+loop-k-preserved c = combined-more bit_or _ c.args.b _ _ _ (omega arith) (ap (λ (z : ℕ). bit_or z (get_or c.args.b c.loop-k.k 0)) (c.loop-k.invariant.rest _ (omega arith))) c.loop-k.invariant
 
 pub returns : goal.returns
 returns c = joined-all _ _ _ _ c.requires.0 c.requires.1 (omega arith) c.loop-k.invariant

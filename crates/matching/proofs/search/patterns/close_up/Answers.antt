@@ -7,9 +7,6 @@ use Rattle.matching.proofs.search.patterns.close_up.Goals as goal
 pub loop-more-init : goal.loop-more-init
 loop-more-init c = followed-first _ _ _ _
 
-pub close_once-more-requires : goal.close_once-more-requires
-close_once-more-requires c = let all = c.before.before.before.requires in record { shaped = all.0; at_bound = all.1 }
-
 pub returns-then-is_same : goal.returns-then-is_same
 returns-then-is_same c = closed-up _ _ _ _ _ _ c.loop-more.invariant c.close_once-more.ensures (c.is_same.ensures.same c.if-is_same.true)
 

@@ -16,7 +16,7 @@ pub bounds-choice-k : goal.bounds-choice-k
 bounds-choice-k c = omega (arith, c.requires.shaped.numbers.variable-low c.args.j c.requires.in_bounds.1 c.if-kind-eq4.true)
 
 pub returns-then-kind-eq4 : goal.returns-then-kind-eq4
-returns-then-kind-eq4 c = valued-in _ _ _ _ _ _ _ _ (omega arith) (left-by-var c.args.sets.now c.args.problem.now c.args.values.now c.args.t4 c.args.j _ c.if-kind-eq4.true c.above_some.ensures)
+returns-then-kind-eq4 c = valued-in _ _ _ _ _ _ _ _ (omega arith) (left-by-var c.args.sets.now c.args.problem.now c.args.values.now c.args.choice c.args.j _ c.if-kind-eq4.true c.above_some.ensures)
 
 pub overflow_cast-problem : goal.overflow_cast-problem
 overflow_cast-problem c = omega (arith, c.requires.shaped.numbers.first-low c.args.j c.requires.in_bounds.1 c.if-kind-eq3.true)
@@ -28,7 +28,7 @@ pub value_of-b-requires : goal.value_of-b-requires
 value_of-b-requires c = record { shaped = c.requires.shaped; in_bounds = (c.requires.in_bounds.0, omega (arith, c.requires.shaped.numbers.inner-low c.args.j c.requires.in_bounds.1)) }
 
 pub returns-then-kind-eq3 : goal.returns-then-kind-eq3
-returns-then-kind-eq3 c = valued-in _ _ _ _ _ _ _ _ (omega arith) (left-by-and c.args.sets.now c.args.problem.now c.args.values.now c.args.t4 c.args.j _ _ _ c.if-kind-eq3.true c.value_of-a.ensures c.value_of-b.ensures c.join.ensures)
+returns-then-kind-eq3 c = valued-in _ _ _ _ _ _ _ _ (omega arith) (left-by-and c.args.sets.now c.args.problem.now c.args.values.now c.args.choice c.args.j _ _ _ c.if-kind-eq3.true c.value_of-a.ensures c.value_of-b.ensures c.join.ensures)
 
 pub overflow_mul-inner-2 : goal.overflow_mul-inner-2
 overflow_mul-inner-2 c = omega (arith, c.requires.shaped.numbers.inner-low c.args.j c.requires.in_bounds.1)
@@ -37,4 +37,4 @@ pub words_at-requires : goal.words_at-requires
 words_at-requires c = omega (arith, c.requires.shaped.numbers.inner-low c.args.j c.requires.in_bounds.1)
 
 pub returns : goal.returns
-returns c = left-by-exists c.args.sets.now c.args.problem.now c.args.values.now c.args.t4 c.args.j _ c.if-kind-eq4.false c.if-kind-eq3.false _ _ _ (omega arith) c.words_at.ensures c.close_up-own.ensures c.linked.ensures
+returns c = left-by-exists c.args.sets.now c.args.problem.now c.args.values.now c.args.choice c.args.j _ c.if-kind-eq4.false c.if-kind-eq3.false _ _ _ (omega arith) c.words_at.ensures c.close_up-own.ensures c.linked.ensures

@@ -16,7 +16,7 @@ pub bounds-choice-k : goal.bounds-choice-k
 bounds-choice-k c = omega (arith, c.requires.shaped.numbers.variable-low c.args.j c.requires.in_bounds.1 c.if-kind-eq4.true)
 
 pub returns-then-kind-eq4 : goal.returns-then-kind-eq4
-returns-then-kind-eq4 c = right-by-var c.args.sets.now c.args.problem.now c.args.values.now c.args.t4 c.args.j _ c.if-kind-eq4.true c.below_all.ensures
+returns-then-kind-eq4 c = right-by-var c.args.sets.now c.args.problem.now c.args.values.now c.args.choice c.args.j _ c.if-kind-eq4.true c.below_all.ensures
 
 pub overflow_cast-problem : goal.overflow_cast-problem
 overflow_cast-problem c = omega (arith, c.requires.shaped.numbers.first-low c.args.j c.requires.in_bounds.1 c.if-kind-eq3.true)
@@ -28,7 +28,7 @@ pub value_of-b-requires : goal.value_of-b-requires
 value_of-b-requires c = record { shaped = c.requires.shaped; in_bounds = (c.requires.in_bounds.0, omega (arith, c.requires.shaped.numbers.inner-low c.args.j c.requires.in_bounds.1)) }
 
 pub returns-then-kind-eq3 : goal.returns-then-kind-eq3
-returns-then-kind-eq3 c = right-by-and c.args.sets.now c.args.problem.now c.args.values.now c.args.t4 c.args.j _ _ _ c.if-kind-eq3.true c.value_of-a.ensures c.value_of-b.ensures c.meet.ensures
+returns-then-kind-eq3 c = right-by-and c.args.sets.now c.args.problem.now c.args.values.now c.args.choice c.args.j _ _ _ c.if-kind-eq3.true c.value_of-a.ensures c.value_of-b.ensures c.meet.ensures
 
 pub overflow_mul-inner-2 : goal.overflow_mul-inner-2
 overflow_mul-inner-2 c = omega (arith, c.requires.shaped.numbers.inner-low c.args.j c.requires.in_bounds.1)
@@ -37,4 +37,4 @@ pub words_at-own-requires : goal.words_at-own-requires
 words_at-own-requires c = omega (arith, c.requires.shaped.numbers.inner-low c.args.j c.requires.in_bounds.1)
 
 pub returns : goal.returns
-returns c = right-by-exists c.args.sets.now c.args.problem.now c.args.values.now c.args.t4 c.args.j _ c.if-kind-eq4.false c.if-kind-eq3.false _ c.words_at-own.ensures c.linked.ensures
+returns c = right-by-exists c.args.sets.now c.args.problem.now c.args.values.now c.args.choice c.args.j _ c.if-kind-eq4.false c.if-kind-eq3.false _ c.words_at-own.ensures c.linked.ensures

@@ -6,9 +6,6 @@ use Rattle.matching.proofs.search.solve.next_step.Goals as goal
 pub is_bounded-requires : goal.is_bounded-requires
 is_bounded-requires c = c.requires.lent.shaped.numbers.long
 
-pub step_by_hint-requires : goal.step_by_hint-requires
-step_by_hint-requires c = let all = c.before.before.before.before.before.before.before.before.requires in record { lent = all.0; full_len = all.1 }
-
 pub shape_of-store-then-not-is_bounded : goal.shape_of-store-then-not-is_bounded
 shape_of-store-then-not-is_bounded c = omega (arith, c.requires.lent.room.long, c.step_by_hint.ensures.1.0.long)
 
@@ -23,9 +20,6 @@ count_all-wanted-requires c = record { problem_len = c.requires.lent.shaped.numb
 
 pub returns-then-wanted : goal.returns-then-wanted
 returns-then-wanted c = step-answered _ _ _ _ _ _ _ c.answered.result.done c.answered.result.found false _ _ _ _ c.answered.result.pair c.answered.ensures c.count_all-wanted.ensures.low_len c.requires.lent.room (by-wanted _ _ _ _ _ _ c.count_all-wanted.result.over _ _ c.count_all-wanted.ensures.wanted_over c.if-wanted.true)
-
-pub step_by_clamp-requires : goal.step_by_clamp-requires
-step_by_clamp-requires c = let all = c.before.before.before.before.before.before.before.before.before.before.before.before.before.requires in record { lent = all.0; full_len = all.1 }
 
 pub shape_of-store : goal.shape_of-store
 shape_of-store c = omega (arith, c.requires.lent.room.long, c.step_by_clamp.ensures.1.0.long)

@@ -15,9 +15,6 @@ returns-then-known c = step-answered _ _ _ _ _ _ _ c.answered.result.done c.answ
 pub returns-then-can_split : goal.returns-then-can_split
 returns-then-can_split c = step-split _ _ _ _ _ _ _ c.splitting.result.done c.splitting.result.found _ _ _ _ c.splitting.ensures (c.requires.full_len.1, c.requires.full_len.2) c.requires.lent.room (can-split _ _ _ c.can_split.result c.can_split.ensures c.if-can_split.true) (by-nothing _ _ _ _ _ _)
 
-pub step_by_test-requires : goal.step_by_test-requires
-step_by_test-requires c = let all = c.before.before.before.before.before.before.before.before.before.before.before.before.before.before.before.before.before.requires in record { lent = all.0; full_len = all.1 }
-
 pub shape_of-store : goal.shape_of-store
 shape_of-store c = omega (arith, c.requires.lent.room.long, c.step_by_test.ensures.1.0.long)
 

@@ -12,9 +12,6 @@ look_up-known-requires c = record { room = c.requires.lent.room; low_len = (c.re
 pub returns-then-known : goal.returns-then-known
 returns-then-known c = step-answered _ _ _ _ _ _ _ c.answered.result.done c.answered.result.found false _ _ _ _ c.answered.result.pair c.answered.ensures c.look_up-known.ensures.low_len_2 c.requires.lent.room (by-known _ _ _ _ _ _ c.look_up-known.result.shut _ _ c.look_up-known.ensures.recalled c.if-known.true)
 
-pub step_by_choice-requires : goal.step_by_choice-requires
-step_by_choice-requires c = let all = c.before.before.before.before.before.before.before.before.before.before.before.before.requires in record { lent = all.0; full_len = all.1 }
-
 pub shape_of-store : goal.shape_of-store
 shape_of-store c = omega (arith, c.requires.lent.room.long, c.step_by_choice.ensures.1.0.long)
 

@@ -30,7 +30,7 @@ pub loop-from-smaller-then-not-question_holds : goal.loop-from-smaller-then-not-
 loop-from-smaller-then-not-question_holds c = omega (arith, c.twice-size-then-not-question_holds.ensures)
 
 pub loop-from-preserved-then-not-question_holds : goal.loop-from-preserved-then-not-question_holds
-loop-from-preserved-then-not-question_holds c = (omega arith, mixed-again _ _ _ _ c.loop-from.invariant.1 c.with_run-next.ensures, still-tested _ _ _ _ _ _ (mixed-again _ _ _ _ c.loop-from.invariant.1 c.with_run-next.ensures) c.question_holds.result c.question_holds.ensures (not-true _ c.if-not-question_holds.true), c.twice-size-then-not-question_holds.ensures.0, c.twice-size-then-not-question_holds.ensures.1)
+loop-from-preserved-then-not-question_holds c = (omega arith, mixed-again _ _ _ _ c.loop-from.invariant.1 c.with_run-next.ensures, still-tested _ _ _ _ _ _ (mixed-again _ _ _ _ c.loop-from.invariant.1 c.with_run-next.ensures) c.question_holds.result c.question_holds.ensures (c.if-not-question_holds.true), c.twice-size-then-not-question_holds.ensures.0, c.twice-size-then-not-question_holds.ensures.1)
 
 pub loop-from-preserved-then-size-eq1 : goal.loop-from-preserved-then-size-eq1
 loop-from-preserved-then-size-eq1 c = (omega arith, c.loop-from.invariant.1, c.loop-from.invariant.2, omega arith, omega arith)
