@@ -198,7 +198,7 @@ module _ (t : Tables) (wf : WellFormed t) (σ : ℕ → Concept) (bits below inn
         → Included (extended t.roles I E inner (reach I)) no_variables (tree t.concepts (left_of t.inclusions m)) (tree t.concepts (right_of t.inclusions m))
     still-included I obeys m l =
         included-still t I E (concepts-closed t σ) inner (reach I) inner-decides (new I) t.variables σ (of I) (old I) (tree t.concepts (left_of t.inclusions m))
-        (tree t.concepts (right_of t.inclusions m)) (each-id t wf _ _ (λ p o a. atom-holds I p (left-atom t wf m p l o a)))
+        (tree t.concepts (right_of t.inclusions m)) (each-id t wf (HoldsOf I) _ (λ p o a. atom-holds I p (left-atom t wf m p l o a)))
         (numbered t wf (right_of t.inclusions m)) (id-in t σ _ (wf.right-known m l)) (obeys.inclusions m l) (λ K o. o.inclusions m l)
 
     -- old links by the interpretation, new ones because they stand under all wider roles
@@ -225,7 +225,7 @@ module _ (t : Tables) (wf : WellFormed t) (σ : ℕ → Concept) (bits below inn
         let K = extended t.roles I E inner (reach I) in
         member-ground I no_variables (assigned t α I) r g x
         (old-out t I E (concepts-closed t σ) inner (reach I) inner-decides (new I) t.variables σ (of I) (old I) r
-        (each-id t wf _ _ (λ p o a. atom-holds I p (right-atom t wf m p l g o a))) x k
+        (each-id t wf (HoldsOf I) _ (λ p o a. atom-holds I p (right-atom t wf m p l g o a))) x k
         (member-ground K (substituted σ K) no_variables r g x
         (s K (still-obeys I obeys) x (omega arith)
         (old-in t.roles I E inner (reach I) (assigned t α I) (substituted σ K) t.variables

@@ -70,7 +70,7 @@ pub shape_of-out-then-from-eq0 : goal.shape_of-out-then-from-eq0
 shape_of-out-then-from-eq0 c = c.loop-rule.invariant.1.0.size
 
 pub returns-then-from-eq0 : goal.returns-then-from-eq0
-returns-then-from-eq0 c = let all = absurd (scan-stops _ _ _ _ _ _ _ _ c.next_line-next.ensures _ _ c.requires.asked c.loop-rule.invariant.1.1.1 c.in_default.is c.if-from-eq0.true) in record { written_to = all.0; rest_kept = all.1 }
+returns-then-from-eq0 c = absurd (scan-stops _ _ _ _ _ _ _ _ c.next_line-next.ensures _ _ c.requires.asked c.loop-rule.invariant.1.1.1 c.in_default.is c.if-from-eq0.true)
 
 pub loop-rule-smaller : goal.loop-rule-smaller
 loop-rule-smaller c = omega (arith, started-some _ c.if-from-eq0.false)

@@ -12,9 +12,6 @@ question_holds-requires c = record { shaped = c.requires.shaped; in_bounds = (om
 pub widen_runs-requires : goal.widen_runs-requires
 widen_runs-requires c = record { shaped = c.requires.shaped; scratch_len = (omega arith, c.requires.scratch_len.1); choice_len = (c.requires.choice_len.0, c.requires.choice_len.1) }
 
-pub returns-then-question_holds : goal.returns-then-question_holds
-returns-then-question_holds c = let all = c.widen_runs.ensures in record { mixed = all.0; still_fails = all.1 }
-
 pub widen_runs-requires-2 : goal.widen_runs-requires-2
 widen_runs-requires-2 c = record { shaped = c.requires.shaped; scratch_len = (omega arith, c.requires.scratch_len.1); choice_len = (c.with_others-own.ensures.long, c.requires.choice_len.1) }
 
