@@ -166,7 +166,7 @@ class Fn:
             return "c.args", 1
         if head == "requires":
             pre = self.n["pre"]
-            if not pre:
+            if not pre or len(fields) == 1:
                 return "c.requires", 1
             names = pre["fields"]
             k, used = 0, 1
@@ -236,6 +236,17 @@ class Fn:
         names = self.n["clauses"][k] if "clauses" in self.n else None
         used = 1
         path = f"c.{new}"
+        callee = self.n["places"][k][3]
+        if len(fields) > 2 and fields[1] == "new" and callee in self.n["params"] and fields[2] in "01":
+            j = 2
+            while j < len(fields) and fields[j] == "1":
+                j += 1
+            at = j - 2
+            if j < len(fields) and fields[j] == "0":
+                j += 1
+            given = self.n["params"][callee]
+            if at < len(given):
+                return f"{path}.new.{given[at]}", j
         if len(fields) > 1 and fields[1] == "ensures" and names:
             cl = names["fields"]
             j, used = 0, 2
@@ -384,6 +395,13 @@ def turn(crate, names, only):
                     if norm(a) == norm(re.sub(r"-\d+$", "", old)):
                         asked = b
             b = fn.body(body, place)
+            b = re.sub(r"not-(?:true|false) _ c(\.if-not[\w.-]*)", r"c@\1", b)
+            b = re.sub(r"(?<![\w.'-])(c\.if-not[\w-]*\.(?:true|false))(?![\w'-])", r"(ap not \1)", b)
+            b = b.replace("c@.", "c.")
+            if asked and re.match(r"^(c\.[\w.-]+)$", b.strip()) and ".before" not in body:
+                return
+            if re.match(r"^(c\.[\w-]*requires|c\.requires|c\.[\w-]+\.ensures)$", b.strip()) and asked:
+                return
             if asked and len(asked) > 1:
                 lead, parts = "", split_tuple(b)
                 if not parts:
