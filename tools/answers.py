@@ -146,6 +146,7 @@ class Fn:
     def __init__(self, names, own):
         self.n = names
         self.own = own
+        self.cycle = False
         self.index = {p[0]: k for k, p in enumerate(names["places"])}
         self.notes = []
 
@@ -164,7 +165,23 @@ class Fn:
         head = fields[0]
         if head == "args":
             return "c.args", 1
+        if head == "requires" and self.cycle:
+            if len(fields) > 1 and fields[1] == "0":
+                return "c.decreases", 2
+            if len(fields) > 1 and fields[1] == "1":
+                got, used = self.of_requires(["requires"] + fields[2:])
+                return got, used + 1 if got else 0
+            self.notes.append("cycle requires " + ".".join(fields))
+            return None, 0
         if head == "requires":
+            return self.of_requires(fields)
+        if head == "ranges":
+            return "c.ranges", 1
+        if head in ("well-formed", "well_formed"):
+            return "c.well_formed", 1
+        return self.of_step(place, ups, fields, chain)
+
+    def of_requires(self, fields):
             pre = self.n["pre"]
             if not pre or len(fields) == 1:
                 return "c.requires", 1
@@ -180,10 +197,9 @@ class Fn:
                     self.notes.append("requires " + ".".join(fields))
                     return None, 0
             return f"c.requires.{names[k]}", used
-        if head == "ranges":
-            return "c.ranges", 1
-        if head in ("well-formed", "well_formed"):
-            return "c.well_formed", 1
+
+    def of_step(self, place, ups, fields, chain):
+        head = fields[0]
         want = norm(head)
         order = []
         if ups < len(chain):
@@ -313,6 +329,107 @@ def invariant(fn, loop, args, body, param="l"):
     return label, new
 
 
+def as_record(fn, new, b, asked):
+    """A tuple of clauses as a record with their names."""
+    lead, parts = "", split_tuple(b)
+    if not parts:
+        m = re.match(r"^((?:let\b|subst\b|rw\b).*\sin\s*)(\(.*\))\s*$", b.strip(), re.S)
+        if m and split_tuple(m.group(2)):
+            lead, parts = m.group(1).rstrip() + " ", split_tuple(m.group(2))
+    if parts:
+        while len(parts) < len(asked) and split_tuple(parts[-1]):
+            parts = parts[:-1] + split_tuple(parts[-1])
+        if len(parts) > len(asked):
+            parts = parts[:len(asked) - 1] + ["(" + ", ".join(parts[len(asked) - 1:]) + ")"]
+        if len(parts) == len(asked):
+            return lead + "record { " + "; ".join(f"{f} = {v}" for f, v in zip(asked, parts)) + " }"
+        fn.notes.append(f"{new}: {len(parts)} parts for {asked}")
+        return b
+    if re.match(r"^(search|grind|elim|omega|absurd|let)\b", b.strip()):
+        fn.notes.append(f"{new}: whole for {asked}")
+        return b
+    return f"let all = {b.strip()} in record {{ " + "; ".join(f"{f} = all.{i}" for i, f in enumerate(asked)) + " }"
+
+
+def turn_cycle(crate, names, folder, path):
+    text = open(os.path.join(folder, "Proof.antt"), encoding="utf-8").read()
+    keys = {k.split(".Lts-")[1]: k for k in names if k.startswith(f"Rattle-{crate}-proofs.{path}.Lts-")}
+    many = len(keys) > 1
+    uses, decls = [], {}
+    for it in blocks(text):
+        if it["kind"] == "use":
+            line = it["lines"][0]
+            if re.search(r"\.(Tie|Lts-\w+|Kinds|Reads)\b", line) or ".{statement}" in line or "borrow.Fn." in line:
+                continue
+            uses.append(line)
+        elif it["kind"] == "decl":
+            decls[it["name"]] = "\n".join(it["body"])
+            if it["unfolding"]:
+                print(path, it["name"], "unfolds")
+    whole = next(v for k, v in decls.items() if k.endswith("-spec"))
+    invs, answers = [], []
+    pre = {f: (names[k]["pre"] or {}).get("fields") for f, k in keys.items()}
+    for f, key in keys.items():
+        n = names[key]
+        n.setdefault("clauses", [None] * len(n["places"]))
+        n.setdefault("arms", [None] * len(n["places"]))
+        fn = Fn(n, path)
+        fn.cycle = True
+        dash = f.replace("_", "-")
+        at = whole.index(f"{dash}-lts.spec")
+        args = spec_args("tie.spec" + whole[at + len(f"{dash}-lts.spec"):])
+        if args[0].startswith("(") and "-lts" not in args[0]:
+            pass
+        k = next(i for i, a in enumerate(args) if a.endswith(".Post"))
+        rest = args[k + 1:]
+        loops = n["loops"]
+        names_of_loops = rest[:2 * len(loops)]
+        rest = rest[2 * len(loops):2 * len(loops) + len(n["needs"])]
+        prefix = f"{f}-" if many else ""
+        mu = decls.get(f"μ-{dash}")
+        invs.append(f"abbrev pub decreases-{f} : goal.decreases-{f}\ndecreases-{f} l = {mu.split('=', 1)[1].strip()}")
+        for name in names_of_loops:
+            body = decls[name]
+            eq = re.match(r"^(\S+)((?:\s+[^\s=]+)*)\s*=\s*", body)
+            which = "decreases" if "-μ-" in name else "invariant"
+            got = invariant(fn, name.split("-")[-1], eq.group(2).split(), body[eq.end():])
+            label = f"{which}-{prefix}{got[0]}"
+            invs.append(f"abbrev pub {label} : goal.{label}\n{label} l =\n    {got[1].strip()}")
+        for (old, new), arg, places in zip(n["needs"], rest, n["asked_at"]):
+            inner = strip_parens(arg)
+            if inner.endswith(" t") and inner[:-2] in decls:
+                body = decls[inner[:-2]]
+                eq = re.match(r"^(\S+)((?:\s+[^\s=]+)*)\s*=\s*", body)
+                body = body[eq.end():]
+            else:
+                m = re.match(r"^λ\s+([^.]*?)\.\s+", inner + " ")
+                body = inner[m.end():]
+            if PURE.match(body.strip()):
+                continue
+            b = fn.body(body, places[0])
+            b = re.sub(r"not-(?:true|false) _ c(\.if-not[\w.-]*)", r"c@\1", b)
+            b = re.sub(r"(?<![\w.'-])(c\.if-not[\w-]*\.(?:true|false))(?![\w'-])", r"(ap not \1)", b)
+            b = b.replace("c@.", "c.")
+            base = re.sub(r"-\d+$", "", old)
+            asked = None
+            for a, v in (n.get("asked") or {}).items():
+                if norm(a) == norm(old) or (norm(a) == norm(base) and not a.startswith("returns")):
+                    asked = v
+            parts = split_tuple(b)
+            own = next((g for g in keys if norm(base) == norm(f"{g}-requires")), None)
+            if not own and asked and len(asked) > 1:
+                b = as_record(fn, new, b, asked)
+            answers.append(f"pub {prefix}{new} : goal.{prefix}{new}\n{prefix}{new} t c =\n    {b.strip()}")
+        if fn.notes:
+            print(path, f, fn.notes)
+    here = f"Rattle.{crate}.proofs.{path}"
+    os.remove(os.path.join(folder, "Proof.antt"))
+    with open(os.path.join(folder, "Invariants.antt"), "w", encoding="utf-8") as out:
+        out.write("\n".join(uses + [f"use {here}.Given as goal"]) + "\n\n" + "\n\n".join(invs) + "\n")
+    with open(os.path.join(folder, "Answers.antt"), "w", encoding="utf-8") as out:
+        out.write("\n".join(uses + [f"use {here}.Goals as goal"]) + "\n\n" + "\n\n".join(answers) + "\n")
+
+
 def turn(crate, names, only):
     root = f"crates/{crate}/proofs"
     for folder, dirs, files in sorted(os.walk(root)):
@@ -320,6 +437,9 @@ def turn(crate, names, only):
             continue
         path = os.path.relpath(folder, root).replace("/", ".")
         if only and not any(path == o or path.endswith("." + o) for o in only):
+            continue
+        if path.split(".")[-1].startswith("+"):
+            turn_cycle(crate, names, folder, path)
             continue
         key = f"Rattle-{crate}-proofs.{path}.Lts"
         if key not in names:
@@ -403,25 +523,7 @@ def turn(crate, names, only):
             if re.match(r"^(c\.[\w-]*requires|c\.requires|c\.[\w-]+\.ensures)$", b.strip()) and asked:
                 return
             if asked and len(asked) > 1:
-                lead, parts = "", split_tuple(b)
-                if not parts:
-                    m = re.match(r"^((?:let\b|subst\b|rw\b).*\sin\s*)(\(.*\))\s*$", b.strip(), re.S)
-                    if m and split_tuple(m.group(2)):
-                        lead, parts = m.group(1).rstrip() + " ", split_tuple(m.group(2))
-                if parts:
-                    while len(parts) < len(asked):
-                        more = split_tuple(parts[-1])
-                        if not more:
-                            break
-                        parts = parts[:-1] + more
-                    if len(parts) > len(asked):
-                        parts = parts[:len(asked) - 1] + ["(" + ", ".join(parts[len(asked) - 1:]) + ")"]
-                    if len(parts) == len(asked):
-                        b = lead + "record { " + "; ".join(f"{f} = {v}" for f, v in zip(asked, parts)) + " }"
-                    else:
-                        fn.notes.append(f"{new}: {len(parts)} parts for {asked}")
-                elif not re.match(r"^(search|grind|elim|omega)\b", b.strip()):
-                    b = f"let all = {b.strip()} in record {{ " + "; ".join(f"{f} = all.{i}" for i, f in enumerate(asked)) + " }"
+                b = as_record(fn, new, b, asked)
             lines = list(comments) + [f"pub {new} : goal.{new}"] + list(unfolding)
             lines.append(f"{new} {params} =" + (" " if "\n" not in b else "\n    ") + b.strip())
             answers[k] = "\n".join(lines)

@@ -31,7 +31,7 @@ loop-j-preserved-then-not-counts c =
   c.loop-j.invariant.0,
   λ roles R.
       noted-silent _ _ _ _ _ _ _ (c.loop-j.invariant.1 roles R) (omega arith)
-      (not_wider _ _ _ c.row_at-row.ensures c.requires.checked c.if-row-ne2.false roles _ R _ c.requires.i_bound.1 _ c.counts.ensures ((ap not c.if-not-counts.true))),
+      (not_wider _ _ _ c.row_at-row.ensures c.requires.checked c.if-row-ne2.false roles _ R _ c.requires.i_bound.1 _ c.counts.ensures (c.if-not-counts.true)),
 )
 
 pub is_marked-requires : goal.is_marked-requires
@@ -47,7 +47,7 @@ loop-j-preserved-then-is_marked c =
   λ roles R.
       noted_more _ _ _ _ _ _ _ (c.loop-j.invariant.1 roles R) (omega arith) _ c.is_marked.ensures c.if-is_marked.true _
       (inner-low _ _ _ c.row_at-row.ensures c.requires.checked (omega arith) c.if-row-ne2.false)
-      (linked _ _ _ c.row_at-row.ensures c.requires.checked c.if-row-ne2.false roles _ R _ c.requires.i_bound.1 _ c.counts.ensures ((ap not c.if-not-counts.false))),
+      (linked _ _ _ c.row_at-row.ensures c.requires.checked c.if-row-ne2.false roles _ R _ c.requires.i_bound.1 _ c.counts.ensures (c.if-not-counts.false)),
 )
 
 pub loop-j-preserved : goal.loop-j-preserved
