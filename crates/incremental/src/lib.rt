@@ -1,4 +1,6 @@
 // Keeping a subsumption table while inclusions are added (02, A.7). The one operation, without a `requires`, is what the crate passes on.
+#![tactic(auto)]
+
 mod bytes;
 mod closing;
 mod including;

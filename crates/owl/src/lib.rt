@@ -1,4 +1,6 @@
 // Catalogues in OWL functional syntax (02, A.8). The one operation, without a `requires`, is what the crate passes on.
+#![tactic(auto)]
+
 mod frames;
 mod judging;
 mod read;

@@ -1,0 +1,7 @@
+use native.Mathlib.Omega.{arith}
+use borrow.Author.Rules.{rules}
+use Rattle.countermodel.proofs.NotingLaws.{mark-read}
+use Rattle.countermodel.proofs.marks.is_marked.Goals as goal
+
+pub returns : goal.returns
+returns c = mark-read _ _ _

@@ -1,0 +1,15 @@
+use Prim.Native.Nat.{◌-◌}
+use mathlib.Core.Path.{◌∙◌, sym}
+use native.Mathlib.Omega.{arith}
+use Rattle.subsumption.specs.declared.refusal.Refusal.TheVariants.{Malformed}
+use Rattle.subsumption.proofs.Scans.{Scan, scan-none, scan-more, scan-found, scan-done}
+use Rattle.countermodel.specs.Rows.{rows_of, at}
+use Rattle.countermodel.specs.Membership.{bad_row, rows_fault}
+use Rattle.countermodel.proofs.MemberLaws.Checks.{bad-row-at}
+use Rattle.countermodel.proofs.membership.check.check_rows.Given as goal
+
+abbrev pub invariant-loop-p : goal.invariant-loop-p
+invariant-loop-p l = Scan Malformed (λ q. bad_row l.size (at l.rows q 0) (at l.rows q 1) (at l.rows q 3)) (rows_of l.rows) l.p
+
+abbrev pub decreases-loop-p : goal.decreases-loop-p
+decreases-loop-p l = rows_of l.rows - l.p

@@ -1,0 +1,23 @@
+use mathlib.Core.Path.{refl, sym}
+use native.Mathlib.Omega.{arith}
+use lib.ListN.{replicate}
+use lib.Seq.{length-take-le}
+use borrow.Author.Rules.{rules}
+use Rattle.subsumption.proofs.ListingLaws.{tables-rejected, tables-listed, tables-few}
+use Rattle.countermodel.proofs.MemberLaws.Deciding.{tables-refused, listing}
+use Rattle.countermodel.proofs.membership.decide_member.Goals as goal
+
+pub slice_bounds-ids-end : goal.slice_bounds-ids-end
+slice_bounds-ids-end c = omega (arith, tables-few _ (replicate 64 0) _ c.list_atoms-listed.result refl c.list_atoms-listed.ensures.replied c.list_atoms-listed.ensures.written _ c.in-Atoms.is)
+
+pub slice_bounds-decide_known-end : goal.slice_bounds-decide_known-end
+slice_bounds-decide_known-end c = sym (length-take-le _ _ (omega (arith, tables-few _ (replicate 64 0) _ c.list_atoms-listed.result refl c.list_atoms-listed.ensures.replied c.list_atoms-listed.ensures.written _ c.in-Atoms.is)))
+
+pub decide_known-requires : goal.decide_known-requires
+decide_known-requires c = listing _ _ _ _ _ _ (tables-listed _ (replicate 64 0) _ c.list_atoms-listed.result refl c.list_atoms-listed.ensures.replied c.list_atoms-listed.ensures.written _ c.in-Atoms.is)
+
+pub returns-in-Rejected : goal.returns-in-Rejected
+returns-in-Rejected c = tables-refused _ _ _ _ _ _ _ (tables-rejected _ (replicate 64 0) _ c.list_atoms-listed.result refl c.list_atoms-listed.ensures.replied c.list_atoms-listed.ensures.written _ c.in-Rejected.is)
+
+pub returns-in-Atoms : goal.returns-in-Atoms
+returns-in-Atoms c = c.decide_known.ensures _ _ _ (tables-listed _ (replicate 64 0) _ c.list_atoms-listed.result refl c.list_atoms-listed.ensures.replied c.list_atoms-listed.ensures.written _ c.in-Atoms.is)

@@ -1,0 +1,137 @@
+use Prim.Native.Nat.{ℕ, ◌+◌, ◌*◌, ◌-◌, ◌<◌}
+use mathlib.Core.Path.{refl}
+use native.Mathlib.Omega.{arith}
+use lib.ListN.{length, get_or}
+use borrow.Author.Rules.{rules}
+use borrow.Author.Tests.{not-true, not-false}
+use Rattle.countermodel.specs.Rows.{rows_of}
+use Rattle.countermodel.specs.Inner.Membership.{Remembers}
+use Rattle.countermodel.proofs.MemberLaws.Scanning.{Unmet, unmet-none, unmet-more}
+use Rattle.countermodel.proofs.MemberLaws.Weights.{weight, atom-falls, link-falls, first-falls, second-falls, variable-falls, link-known, first-known, second-known, choice-known}
+use Rattle.countermodel.proofs.MemberLaws.Memo.{known-yes, known-no}
+use Rattle.countermodel.proofs.MemberLaws.Walking.{in_top, in-name, in-exists, in-first, in_both, in-var, noted-walked, Leads, leads-met, leads-none, Sofar, sofar-none, sofar-skip, sofar-more, sofar-not, sofar-done}
+use Rattle.countermodel.proofs.membership.walk.+in_all_member_at_some_link.Goals as goal
+
+pub in_all-loop-q-init : goal.in_all-loop-q-init
+in_all-loop-q-init t c =
+    (sofar-none _ _ _ _ _ _, c.requires.remembers)
+
+pub in_all-loop-q-preserved-then-picked-eq0 : goal.in_all-loop-q-preserved-then-picked-eq0
+in_all-loop-q-preserved-then-picked-eq0 t c =
+    (sofar-skip _ _ _ _ _ _ _ (omega arith) c.loop-q.invariant.0 c.if-picked-eq0.true, c.loop-q.invariant.1)
+
+pub in_all-member_at-requires : goal.in_all-member_at-requires
+in_all-member_at-requires t c =
+    (omega (arith, atom-falls _ _ _ _ c.requires.walkable c.loop-q.q (omega arith), c.decreases), (c.requires.walkable, (c.requires.stretches, (c.loop-q.invariant.1, (c.requires.element_bound, c.requires.walkable.atoms-known _ (omega arith))))))
+
+pub in_all-returns-then-not-member_at : goal.in_all-returns-then-not-member_at
+in_all-returns-then-not-member_at t c =
+    record { answered = sofar-not _ _ c.args.assignment.now _ c.args.element _ c.loop-q.q (omega arith) c.if-picked-eq0.false (c.member_at.ensures.answered.no (c.if-not-member_at.true)); remembered = c.member_at.ensures.remembered }
+
+pub in_all-loop-q-preserved : goal.in_all-loop-q-preserved
+in_all-loop-q-preserved t c =
+    (sofar-more _ _ _ _ _ _ _ (omega arith) c.loop-q.invariant.0 (c.member_at.ensures.answered.yes (c.if-not-member_at.false)), c.member_at.ensures.remembered)
+
+pub in_all-returns : goal.in_all-returns
+in_all-returns t c =
+    record { answered = sofar-done _ _ _ _ _ _ _ c.loop-q.invariant.0 (omega arith); remembered = c.loop-q.invariant.1 }
+
+pub member_at-returns-then-known-eq1 : goal.member_at-returns-then-known-eq1
+member_at-returns-then-known-eq1 t c =
+    known-yes _ _ _ _ _ c.requires.remembers _ _ (omega arith) c.if-known-eq1.true
+
+pub member_at-returns-then-known-eq2 : goal.member_at-returns-then-known-eq2
+member_at-returns-then-known-eq2 t c =
+    known-no _ _ _ _ _ c.requires.remembers _ _ (omega arith) c.if-known-eq2.true
+
+pub member_at-bears-named-requires : goal.member_at-bears-named-requires
+member_at-bears-named-requires t c =
+    record { low_rows = c.requires.walkable.low; stretches = c.requires.stretches; element_bound = c.requires.element_bound.0 }
+
+pub member_at-returns-then-kind-eq1 : goal.member_at-returns-then-kind-eq1
+member_at-returns-then-kind-eq1 t c =
+    noted-walked _ _ _ _ c.requires.walkable _ _ c.requires.element_bound.0 c.requires.element_bound.1 _ _ c.requires.remembers _ _ c.note.ensures (in-name _ _ _ _ c.requires.walkable _ _ _ c.if-kind-eq1.true c.bears-named.ensures)
+
+pub member_at-some_link-linked-requires : goal.member_at-some_link-linked-requires
+member_at-some_link-linked-requires t c =
+    (omega (arith, link-falls _ _ _ _ c.requires.walkable c.args.id c.if-kind-eq2.true, c.decreases), (c.requires.walkable, (c.requires.stretches, (c.requires.remembers, (c.requires.element_bound.0, link-known _ _ _ _ c.requires.walkable _ c.if-kind-eq2.true c.requires.element_bound.1)))))
+
+pub member_at-returns-then-kind-eq2 : goal.member_at-returns-then-kind-eq2
+member_at-returns-then-kind-eq2 t c =
+    noted-walked _ _ _ _ c.requires.walkable _ _ c.requires.element_bound.0 c.requires.element_bound.1 _ _ c.some_link-linked.ensures.remembered _ _ c.note-then-kind-eq2.ensures (in-exists _ _ _ _ c.requires.walkable _ _ _ c.if-kind-eq2.true c.some_link-linked.ensures.answered)
+
+pub member_at-member_at-first-requires : goal.member_at-member_at-first-requires
+member_at-member_at-first-requires t c =
+    (omega (arith, first-falls _ _ _ _ c.requires.walkable c.args.id c.if-kind-eq3.true, c.decreases), (c.requires.walkable, (c.requires.stretches, (c.requires.remembers, (c.requires.element_bound.0, first-known _ _ _ _ c.requires.walkable _ c.if-kind-eq3.true c.requires.element_bound.1)))))
+
+pub member_at-returns-then-not-first : goal.member_at-returns-then-not-first
+member_at-returns-then-not-first t c =
+    noted-walked _ _ _ _ c.requires.walkable _ _ c.requires.element_bound.0 c.requires.element_bound.1 _ _ c.member_at-first.ensures.remembered _ _ c.note-then-not-first.ensures (in-first _ _ _ _ c.requires.walkable _ _ _ c.if-kind-eq3.true c.member_at-first.ensures.answered (c.if-not-first.true))
+
+pub member_at-member_at-second-requires : goal.member_at-member_at-second-requires
+member_at-member_at-second-requires t c =
+    (omega (arith, second-falls _ _ _ _ c.requires.walkable c.args.id c.if-kind-eq3.true, c.decreases), (c.requires.walkable, (c.requires.stretches, (c.member_at-first.ensures.remembered, (c.requires.element_bound.0, second-known _ _ _ _ c.requires.walkable _ c.if-kind-eq3.true c.requires.element_bound.1)))))
+
+pub member_at-note-requires-then-kind-eq3 : goal.member_at-note-requires-then-kind-eq3
+member_at-note-requires-then-kind-eq3 t c =
+    omega (arith, c.requires.walkable.few, c.requires.element_bound.0, c.requires.element_bound.1)
+
+pub member_at-returns-then-kind-eq3 : goal.member_at-returns-then-kind-eq3
+member_at-returns-then-kind-eq3 t c =
+    noted-walked _ _ _ _ c.requires.walkable _ _ c.requires.element_bound.0 c.requires.element_bound.1 _ _ c.member_at-second.ensures.remembered _ _ c.note-then-kind-eq3.ensures (in_both _ _ _ _ c.requires.walkable _ _ _ _ c.if-kind-eq3.true c.member_at-first.ensures.answered (c.if-not-first.false) c.member_at-second.ensures.answered)
+
+pub member_at-overflow_cast-choice : goal.member_at-overflow_cast-choice
+member_at-overflow_cast-choice t c =
+    omega (arith, choice-known _ _ _ _ c.requires.walkable c.args.id c.if-kind-eq4.true)
+
+pub member_at-offset_bounds-assignment-a : goal.member_at-offset_bounds-assignment-a
+member_at-offset_bounds-assignment-a t c =
+    omega (arith, choice-known _ _ _ _ c.requires.walkable c.args.id c.if-kind-eq4.true)
+
+pub member_at-bounds-assignment-a : goal.member_at-bounds-assignment-a
+member_at-bounds-assignment-a t c =
+    omega (arith, choice-known _ _ _ _ c.requires.walkable c.args.id c.if-kind-eq4.true)
+
+pub member_at-in_all-chosen-requires : goal.member_at-in_all-chosen-requires
+member_at-in_all-chosen-requires t c =
+    (omega (arith, variable-falls _ _ _ _ c.requires.walkable c.args.id c.if-kind-eq4.true, c.decreases), (c.requires.walkable, (c.requires.stretches, (c.requires.remembers, c.requires.element_bound.0))))
+
+pub member_at-returns-then-kind-eq4 : goal.member_at-returns-then-kind-eq4
+member_at-returns-then-kind-eq4 t c =
+    noted-walked _ _ _ _ c.requires.walkable _ _ c.requires.element_bound.0 c.requires.element_bound.1 _ _ c.in_all-chosen.ensures.remembered _ _ c.note-then-kind-eq4.ensures (in-var _ _ _ _ c.requires.walkable _ _ _ c.if-kind-eq4.true c.in_all-chosen.ensures.answered)
+
+pub member_at-returns : goal.member_at-returns
+member_at-returns t c =
+    record { answered = in_top _ _ _ _ c.requires.walkable _ _ c.if-kind-eq1.false c.if-kind-eq2.false c.if-kind-eq3.false c.if-kind-eq4.false; remembered = c.requires.remembers }
+
+pub some_link-loop-p-init : goal.some_link-loop-p-init
+some_link-loop-p-init t c =
+    (unmet-none _ _ _ _ (c.requires.stretches.low _), c.requires.remembers)
+
+pub some_link-loop-p-preserved-then-rows-at : goal.some_link-loop-p-preserved-then-rows-at
+some_link-loop-p-preserved-then-rows-at t c =
+    (unmet-more _ _ _ _ _ c.loop-p.invariant.0 (λ w. c.if-rows-at.true w.link.from), c.loop-p.invariant.1)
+
+pub some_link-loop-p-preserved-then-rows-at-ne1 : goal.some_link-loop-p-preserved-then-rows-at-ne1
+some_link-loop-p-preserved-then-rows-at-ne1 t c =
+    (unmet-more _ _ _ _ _ c.loop-p.invariant.0 (λ w. c.if-rows-at-ne1.true w.link.kind), c.loop-p.invariant.1)
+
+pub some_link-loop-p-preserved-then-rows-at-2 : goal.some_link-loop-p-preserved-then-rows-at-2
+some_link-loop-p-preserved-then-rows-at-2 t c =
+    (unmet-more _ _ _ _ _ c.loop-p.invariant.0 (λ w. c.if-rows-at-2.true w.link.role), c.loop-p.invariant.1)
+
+pub some_link-member_at-requires : goal.some_link-member_at-requires
+some_link-member_at-requires t c =
+    (omega (arith, c.decreases), (c.requires.walkable, (c.requires.stretches, (c.loop-p.invariant.1, (c.requires.walkable.low.right _ (omega arith), c.requires.element_bound.1)))))
+
+pub some_link-returns-then-member_at : goal.some_link-returns-then-member_at
+some_link-returns-then-member_at t c =
+    record { answered = leads-met _ _ c.args.assignment.now _ _ _ c.args.inner c.requires.walkable.low c.loop-p.p (record { link = record { known = omega arith; kind = c.if-rows-at-ne1.false; from = c.if-rows-at.false; role = c.if-rows-at-2.false; to = refl }; member = c.member_at.ensures.answered.yes c.if-member_at.true }); remembered = c.member_at.ensures.remembered }
+
+pub some_link-loop-p-preserved : goal.some_link-loop-p-preserved
+some_link-loop-p-preserved t c =
+    (unmet-more _ _ _ _ _ c.loop-p.invariant.0 (λ w. c.member_at.ensures.answered.no c.if-member_at.false w.member), c.member_at.ensures.remembered)
+
+pub some_link-returns : goal.some_link-returns
+some_link-returns t c =
+    record { answered = leads-none _ _ _ _ _ _ _ _ c.requires.stretches _ c.loop-p.invariant.0 (omega arith); remembered = c.loop-p.invariant.1 }

@@ -1,0 +1,10 @@
+use Prim.Native.Nat.{◌-◌}
+use native.Mathlib.Omega.{arith}
+use Rattle.countermodel.proofs.UsedLaws.{UsedTo, used-none, used-yes, used-no, used-done}
+use Rattle.countermodel.proofs.roles.mark_used.Given as goal
+
+abbrev pub invariant-loop-r : goal.invariant-loop-r
+invariant-loop-r l = UsedTo l.into l.own l.used l.r
+
+abbrev pub decreases-loop-r : goal.decreases-loop-r
+decreases-loop-r l = 100 - l.r

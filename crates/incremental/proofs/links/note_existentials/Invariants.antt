@@ -1,0 +1,15 @@
+use native.Mathlib.Omega.{arith}
+use Rattle.incremental.proofs.LinkLaws.{existentials-none, existentials-skip, existentials-more, existentials-all}
+use Rattle.incremental.specs.Inner.Links.{Existentials}
+use Rattle.subsumption.proofs.Linking.{inner-low, role-low}
+use Rattle.subsumption.specs.Tables.{count_of}
+use lib.ListN.{length}
+use mathlib.Core.Path.{ap}
+use Prim.Native.Nat.{◌-◌, ◌≤◌, ◌*◌, ◌+◌}
+use Rattle.incremental.proofs.links.note_existentials.Given as goal
+
+abbrev pub invariant-loop-e : goal.invariant-loop-e
+invariant-loop-e l = (l.e ≤ count_of l.concepts) × Existentials l.concepts l.outer l.inners l.roles l.e
+
+abbrev pub decreases-loop-e : goal.decreases-loop-e
+decreases-loop-e l = count_of l.concepts - l.e

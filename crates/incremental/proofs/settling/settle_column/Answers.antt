@@ -1,0 +1,33 @@
+use native.Mathlib.Omega.{arith}
+use Rattle.incremental.proofs.SettlingLaws.{meet-and, meet-var, meet-none}
+use Rattle.subsumption.proofs.Settling.{settle-known, and_low, var-low}
+use Prim.Native.Nat.{◌+◌, ◌*◌}
+use borrow.Author.Rules.{rules}
+use Rattle.incremental.proofs.settling.settle_column.Goals as goal
+
+pub overflow_cast-x : goal.overflow_cast-x
+overflow_cast-x c = omega (arith, c.type_inv.concepts (c.args.j * 3 + 1))
+
+pub overflow_cast-y : goal.overflow_cast-y
+overflow_cast-y c = omega (arith, c.type_inv.concepts (c.args.j * 3 + 2))
+
+pub meet-requires : goal.meet-requires
+meet-requires c = record { square = c.requires.square; left_bound = ((and_low c.requires.settleable c.args.j c.requires.j_bound c.if-kind-eq3.true).0, (and_low c.requires.settleable c.args.j c.requires.j_bound c.if-kind-eq3.true).1, omega (arith, c.requires.settleable.few)) }
+
+pub returns-then-kind-eq3 : goal.returns-then-kind-eq3
+returns-then-kind-eq3 c = meet-and _ _ _ c.requires.settleable _ c.requires.j_bound _ _ _ c.if-kind-eq3.true c.meet.ensures
+
+pub returns-then-kind-ne4 : goal.returns-then-kind-ne4
+returns-then-kind-ne4 c = meet-none _ _ _ _ c.requires.square c.if-kind-eq3.false c.if-kind-ne4.true
+
+pub offset_bounds-choices-x : goal.offset_bounds-choices-x
+offset_bounds-choices-x c = omega (arith, var-low c.requires.settleable c.args.j c.requires.j_bound c.if-kind-ne4.false)
+
+pub bounds-choices-x : goal.bounds-choices-x
+bounds-choices-x c = omega (arith, var-low c.requires.settleable c.args.j c.requires.j_bound c.if-kind-ne4.false)
+
+pub gather-requires : goal.gather-requires
+gather-requires c = record { square = c.requires.square; known = settle-known c.requires.settleable; to_bound = omega (arith, c.requires.settleable.few) }
+
+pub returns : goal.returns
+returns c = meet-var _ _ _ c.requires.settleable _ c.requires.j_bound _ _ _ c.if-kind-ne4.false c.gather.ensures

@@ -1,0 +1,16 @@
+use native.Mathlib.Omega.{arith}
+use Rattle.incremental.proofs.ToldLaws.{told-ragged, told-even}
+use Rattle.incremental.specs.Inner.Told.{bad_pair}
+use Rattle.subsumption.proofs.Scans.{Scan, scan-none, scan-more, scan-found, scan-done}
+use Rattle.subsumption.specs.Tables.{pairs_of, left_of, right_of}
+use Rattle.subsumption.specs.declared.refusal.Refusal.TheVariants.{BadAssignment}
+use lib.ListN.{length}
+use mathlib.Core.Path.{◌≡◌, sym, ◌∙◌}
+use Prim.Native.Nat.{◌-◌, ◌%◌}
+use Rattle.incremental.proofs.told.check_told.Given as goal
+
+abbrev pub invariant-loop-m : goal.invariant-loop-m
+invariant-loop-m l = (length l.told % 2 ≡ 0) × Scan BadAssignment (λ n. bad_pair l.atoms l.variables (left_of l.told n) (right_of l.told n)) (pairs_of l.told) l.m
+
+abbrev pub decreases-loop-m : goal.decreases-loop-m
+decreases-loop-m l = pairs_of l.told - l.m

@@ -1,0 +1,27 @@
+use Prim.Native.Nat.{◌-◌}
+use native.Mathlib.Omega.{arith}
+use lib.ListN.{length}
+use mathlib.Core.Path.{sym, ◌∙◌}
+use Rattle.numerals.proofs.ReadingLaws.{Counted, digit-right, counted_none, counted-end, counted-wrong, counted-more}
+use Rattle.numerals.proofs.reading.read_run.Goals as goal
+
+pub loop-n-init : goal.loop-n-init
+loop-n-init c = counted_none _
+
+pub returns-then-is_wrong_digit : goal.returns-then-is_wrong_digit
+returns-then-is_wrong_digit c = search counted-wrong
+
+pub overflow_sub-value : goal.overflow_sub-value
+overflow_sub-value c = (digit-right _ _ _ (sym c.is_wrong_digit.ensures ∙ c.if-is_wrong_digit.false)).low
+
+pub overflow_cast-value : goal.overflow_cast-value
+overflow_cast-value c = omega (arith, digit-right _ _ _ (sym c.is_wrong_digit.ensures ∙ c.if-is_wrong_digit.false))
+
+pub overflow_add-value : goal.overflow_add-value
+overflow_add-value c = omega (arith, digit-right _ _ _ (sym c.is_wrong_digit.ensures ∙ c.if-is_wrong_digit.false))
+
+pub loop-n-preserved : goal.loop-n-preserved
+loop-n-preserved c = search counted-more
+
+pub returns : goal.returns
+returns c = search counted-end
