@@ -1,0 +1,12 @@
+use Rattle.renumbering.proofs.MovingLaws.{first-known, second-known, row_moved}
+use borrow.Author.Rules.{rules}
+use Rattle.renumbering.proofs.moving.moved_row.Goals as goal
+
+pub moved_field-first-requires : goal.moved_field-first-requires
+moved_field-first-requires c = first-known _ c.args.order.now c.requires.inward c.requires.order_len _ c.requires.i_bound _ c.row_at-row.ensures
+
+pub moved_field-second-requires : goal.moved_field-second-requires
+moved_field-second-requires c = second-known _ c.args.order.now c.requires.inward c.requires.order_len _ c.requires.i_bound _ c.row_at-row.ensures
+
+pub returns : goal.returns
+returns c = row_moved _ _ _ _ _ _ c.row_at-row.ensures c.moved_field-first.ensures c.moved_field-second.ensures
