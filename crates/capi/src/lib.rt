@@ -1,4 +1,6 @@
 // The operations for C and Rust. No logic of its own: each export passes on the answer in numbers that the crates of answers give.
+#![tactic(auto)]
+
 ghost use Rattle.std.specs.Prelude.{◌≡◌};
 ghost use Rattle.subsumption.specs.Lent.{lent};
 ghost use Rattle.subsumption.specs.Tables.{tree, variables_of};

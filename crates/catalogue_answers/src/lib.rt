@@ -1,5 +1,7 @@
 // Answers in the numbers of the C interface: those of the operations that keep a catalogue, its table updated, its concepts
 // renumbered, its text read.
+#![tactic(auto)]
+
 ghost use Rattle.std.specs.Prelude.{◌≡◌};
 ghost use Rattle.incremental.specs.Update.{Updates};
 ghost use Rattle.renumbering.specs.Renumber.{Renumbers};

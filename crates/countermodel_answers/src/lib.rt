@@ -1,4 +1,6 @@
 // Answers in the numbers of the C interface: those of the operations of `countermodel`.
+#![tactic(auto)]
+
 ghost use Rattle.countermodel.specs.Show.{Shows};
 ghost use Rattle.countermodel.specs.Membership.{DecidesMember};
 ghost use Rattle.answers.specs.Answer.{replied};

@@ -1,4 +1,6 @@
 // Answers in the numbers of the C interface: those of the operations of `matching` on derivations.
+#![tactic(auto)]
+
 ghost use Rattle.std.specs.Prelude.{◌≡◌};
 ghost use Rattle.subsumption.specs.Lent.{lent};
 ghost use Rattle.subsumption.specs.Refusal.{reply_of};

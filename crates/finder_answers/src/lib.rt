@@ -1,4 +1,6 @@
 // Answers in the numbers of the C interface: those of the finders above `matching`, on an allowance and of a group.
+#![tactic(auto)]
+
 ghost use Rattle.std.specs.Prelude.{◌≡◌};
 ghost use Rattle.settings.specs.Settings.{lent_settings};
 ghost use Rattle.allowance.specs.Find.{counted_reply, FindsCounted};

@@ -1,4 +1,6 @@
 // Answers in the numbers of the C interface: those of the matcher.
+#![tactic(auto)]
+
 ghost use Rattle.std.specs.Prelude.{◌≡◌};
 ghost use Rattle.subsumption.specs.Lent.{lent};
 ghost use Rattle.settings.specs.Settings.{lent_settings};

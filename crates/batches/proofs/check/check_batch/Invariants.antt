@@ -1,0 +1,17 @@
+use Prim.Native.Nat.{◌-◌, ◌≤◌}
+use mathlib.Core.Path.{◌≡◌, sym, ◌∙◌}
+use native.Mathlib.Omega.{arith}
+use lib.Dec.{ltb}
+use lib.ListN.{length, get_or}
+use borrow.Author.Tests.{lt-ltb, le-ltb}
+use Rattle.subsumption.specs.declared.refusal.Refusal.TheVariants.{BadBatch}
+use Rattle.subsumption.proofs.Scans.{Scan, scan-none, scan-more, scan-found, scan-done}
+use Rattle.batches.specs.Batch.{total}
+use Rattle.batches.proofs.BatchLaws.{too_many, other-shares, other-sum, shaped-goes-on}
+use Rattle.batches.proofs.check.check_batch.Given as goal
+
+abbrev pub invariant-loop-k : goal.invariant-loop-k
+invariant-loop-k l = (length l.lengths ≤ 8) × (length l.shares ≡ length l.lengths) × (total l.lengths (length l.lengths) ≡ l.size) × Scan BadBatch (λ j. ltb 1000000 (get_or l.shares j 0)) (length l.lengths) l.k
+
+abbrev pub decreases-loop-k : goal.decreases-loop-k
+decreases-loop-k l = length l.lengths - l.k
