@@ -1,6 +1,9 @@
 // The program: one problem in house text from standard input, its answer to standard output.
+#![tactic(auto)]
+
 mod answer;
 mod filled;
+mod input;
 mod lines;
 mod parts;
 mod print;
@@ -13,9 +16,18 @@ ghost use Rattle.hermitcasket.specs.Answer.{Held};
 
 use answer::Plan;
 use parts::put_part;
+use std::io;
+use std::io::Write;
 
 // Writes part after part.
-fn write_parts(concepts: &[u16], into: &[u64], table: &[u8], parts: usize, out: &mut [u8])
+fn write_parts<W: Write>(
+    output: &mut W,
+    concepts: &[u16],
+    into: &[u64],
+    table: &[u8],
+    parts: usize,
+    out: &mut [u8],
+) -> io::Result<()>
     requires held { (t : Tables) × Held t concepts.now into.now table.now }
     requires parts_bound { parts ≤ parts_of concepts.now }
     requires in_bounds { 4096 ≤ length out.old }
@@ -24,27 +36,26 @@ fn write_parts(concepts: &[u16], into: &[u64], table: &[u8], parts: usize, out: 
     while k < parts {
         let size = put_part(concepts, into, table, k, out);
         if 0 < size {
-            io::write_all(1, &out[..size]);
+            output.write_all(&out[..size])?;
         }
         k += 1;
     }
+    Ok(())
 }
 
-fn main() {
+fn main(rt: HostRuntime) -> io::Result<()> {
     let mut text = [0u8; 8193];
-    let n = io::read_full(0, &mut text);
+    let n = input::read_full(&mut rt.stdin(), &mut text)?;
     let mut concepts = [0u16; 576];
     let mut into = [0u64; 200];
     let mut table = [0u8; 4608];
     let mut out = [0u8; 4096];
     let plan = answer::answer(&text[..n], &mut concepts, &mut into, &mut table, &mut out);
     match plan {
-        Plan::Whole(size) => {
-            io::write_all(1, &out[..size]);
-        }
+        Plan::Whole(size) => rt.stdout().write_all(&out[..size]),
         Plan::Parts(count, parts) => {
             let m = count * 3;
-            write_parts(&concepts[..m], &into, &table, parts, &mut out);
+            write_parts(&mut rt.stdout(), &concepts[..m], &into, &table, parts, &mut out)
         }
     }
 }

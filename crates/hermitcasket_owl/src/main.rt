@@ -1,11 +1,17 @@
 // The program: one catalogue in OWL functional syntax from standard input, its card in house text to standard output.
+#![tactic(auto)]
+
 mod answer;
 mod card;
+mod input;
 
-fn main() {
+use std::io;
+use std::io::Write;
+
+fn main(rt: HostRuntime) -> io::Result<()> {
     let mut text = [0u8; 8193];
-    let n = io::read_full(0, &mut text);
+    let n = input::read_full(&mut rt.stdin(), &mut text)?;
     let mut out = [0u8; 4096];
     let size = answer::answer(&text[..n], &mut out);
-    io::write_all(1, &out[..size]);
+    rt.stdout().write_all(&out[..size])
 }

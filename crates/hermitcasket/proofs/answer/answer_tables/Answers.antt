@@ -1,0 +1,17 @@
+use Rattle.hermitcasket.proofs.ProgramLaws.{filled-sound, filled-accepted, filled-fits, filled-exact, answered-filled, answered-refused}
+use lib.ListN.{replicate}
+use native.Mathlib.Omega.{arith}
+use borrow.Author.Rules.{rules}
+use Rattle.hermitcasket.proofs.answer.answer_tables.Goals as goal
+
+pub slice_bounds-put_filled-end : goal.slice_bounds-put_filled-end
+slice_bounds-put_filled-end c = filled-exact _ c.requires.variables_bound (replicate 8 0) _ (omega arith) c.find_assignment-found.result c.find_assignment-found.ensures c.in-Filled.is
+
+pub put_filled-requires : goal.put_filled-requires
+put_filled-requires c = record { variables_value = filled-sound _ c.requires.variables_bound (replicate 8 0) _ (omega arith) c.find_assignment-found.result c.find_assignment-found.ensures c.in-Filled.is; assignment_value = filled-accepted _ c.requires.variables_bound (replicate 8 0) _ (omega arith) c.find_assignment-found.result c.find_assignment-found.ensures c.in-Filled.is; assignment_in_bounds = filled-fits _ c.requires.variables_bound (replicate 8 0) _ (omega arith) c.find_assignment-found.result c.find_assignment-found.ensures c.in-Filled.is c.args.out.now c.requires.in_bounds }
+
+pub returns-in-Filled : goal.returns-in-Filled
+returns-in-Filled c = answered-filled _ c.requires.variables_bound (replicate 8 0) _ (omega arith) c.find_assignment-found.result c.find_assignment-found.ensures _ _ _ c.in-Filled.is c.put_filled.ensures
+
+pub returns-in-Rejected : goal.returns-in-Rejected
+returns-in-Rejected c = answered-refused _ c.requires.variables_bound (replicate 8 0) _ (omega arith) c.find_assignment-found.result c.find_assignment-found.ensures _ _ _ _ c.in-Rejected.is c.answer_refused.ensures

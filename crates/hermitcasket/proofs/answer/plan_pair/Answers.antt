@@ -1,0 +1,25 @@
+use mathlib.Core.Path.{sym}
+use native.Mathlib.Omega.{arith}
+use lib.ListN.{replicate}
+use lib.Seq.{length-take-le}
+use Rattle.hermitcasket.proofs.PlanLaws.{pair-roles, pair-few, pair_parts, pair-refused}
+use borrow.Author.Rules.{rules}
+use Rattle.hermitcasket.proofs.answer.plan_pair.Goals as goal
+
+pub slice_bounds-judge_pair-end : goal.slice_bounds-judge_pair-end
+slice_bounds-judge_pair-end c = sym (length-take-le _ (replicate 8 0) (omega arith))
+
+pub note_roles-requires : goal.note_roles-requires
+note_roles-requires c = record { low_roles = pair-roles _ c.requires.variables_bound _ _ _ _ c.judge_pair-judged.ensures c.in-Done.is; into_value = c.requires.into_value }
+
+pub overflow_mul-result : goal.overflow_mul-result
+overflow_mul-result c = omega (arith, pair-few _ c.requires.variables_bound _ _ _ _ c.judge_pair-judged.ensures c.in-Done.is)
+
+pub overflow_add-result-in-Done : goal.overflow_add-result-in-Done
+overflow_add-result-in-Done c = omega (arith, pair-few _ c.requires.variables_bound _ _ _ _ c.judge_pair-judged.ensures c.in-Done.is)
+
+pub returns-in-Done : goal.returns-in-Done
+returns-in-Done c = pair_parts _ c.requires.variables_bound _ _ _ _ c.judge_pair-judged.ensures c.in-Done.is _ _ c.note_roles.ensures
+
+pub returns-in-Refused : goal.returns-in-Refused
+returns-in-Refused c = pair-refused _ c.requires.variables_bound _ _ _ _ c.judge_pair-judged.ensures _ c.in-Refused.is _ _ _ c.answer_refused.ensures

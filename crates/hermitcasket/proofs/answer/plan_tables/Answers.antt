@@ -1,0 +1,9 @@
+use Rattle.hermitcasket.proofs.PlanLaws.{planned-fill, planned-show}
+use borrow.Author.Rules.{rules}
+use Rattle.hermitcasket.proofs.answer.plan_tables.Goals as goal
+
+pub returns-in-Fill : goal.returns-in-Fill
+returns-in-Fill c = search planned-fill
+
+pub returns-in-Show : goal.returns-in-Show
+returns-in-Show c = search planned-show

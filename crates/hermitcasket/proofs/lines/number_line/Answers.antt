@@ -1,0 +1,24 @@
+use Prim.Native.Nat.{◌+◌, ◌≤◌}
+use lib.ListN.{length}
+use native.Mathlib.Omega.{arith}
+use Rattle.hermitcasket.proofs.LineLaws.{number-unkeyed, key-within, value_line, value-within, none-line}
+use borrow.Author.Rules.{rules}
+use Rattle.hermitcasket.proofs.lines.number_line.Goals as goal
+
+pub returns-then-not-starts_with : goal.returns-then-not-starts_with
+returns-then-not-starts_with c = search number-unkeyed
+
+pub behind-digits-requires : goal.behind-digits-requires
+behind-digits-requires c = search key-within
+
+pub overflow_add-result : goal.overflow_add-result
+overflow_add-result c =
+    let s = c.before.before.before.before.before.before.before.before.before in
+    let h : length s.args.key.now + c.in-Value.n ≤ length s.args.rest.now = search value-within in
+    omega (arith, s.well-formed)
+
+pub returns-in-Value : goal.returns-in-Value
+returns-in-Value c = search value_line
+
+pub returns : goal.returns
+returns c = search none-line

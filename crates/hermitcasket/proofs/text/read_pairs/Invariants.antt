@@ -1,0 +1,14 @@
+use Prim.Native.Nat.{◌-◌}
+use mathlib.Core.Path.{◌≡◌, refl}
+use native.Mathlib.Omega.{arith}
+use borrow.Author.Rules.{rules}
+use lib.ListN.{length, length-set}
+use Rattle.hermitcasket.specs.Text.{pair_at}
+use Rattle.hermitcasket.proofs.PartLaws.{Lined, lined-none, lined-done, pairs-off, pairs-within, pairs-used, pairs-more}
+use Rattle.hermitcasket.proofs.text.read_pairs.Given as goal
+
+abbrev pub invariant-loop-i : goal.invariant-loop-i
+invariant-loop-i l = (length l.out ≡ length l.initial.out) × Lined (pair_at l.key) 2 l.count l.at l.part l.out l.rest l.i l.used
+
+abbrev pub decreases-loop-i : goal.decreases-loop-i
+decreases-loop-i l = l.count - l.i

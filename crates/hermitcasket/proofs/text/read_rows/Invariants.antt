@@ -1,0 +1,14 @@
+use Prim.Native.Nat.{◌+◌, ◌-◌, ◌≤◌}
+use mathlib.Core.Path.{◌≡◌, refl}
+use native.Mathlib.Omega.{arith}
+use borrow.Author.Rules.{rules}
+use lib.ListN.{length, length-set}
+use Rattle.hermitcasket.specs.Text.{row_at}
+use Rattle.hermitcasket.proofs.PartLaws.{Lined, lined-none, lined-done, rows-off, rows-within, rows-used, rows_more}
+use Rattle.hermitcasket.proofs.text.read_rows.Given as goal
+
+abbrev pub invariant-loop-i : goal.invariant-loop-i
+invariant-loop-i l = (length l.out ≡ length l.initial.out) × Lined row_at 3 l.count l.at l.part l.out l.rest l.i l.used
+
+abbrev pub decreases-loop-i : goal.decreases-loop-i
+decreases-loop-i l = l.count - l.i
