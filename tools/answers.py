@@ -179,6 +179,8 @@ class Fn:
             return "c.ranges", 1
         if head in ("well-formed", "well_formed"):
             return "c.well_formed", 1
+        if head == "type-inv":
+            return "c.type_inv", 1
         return self.of_step(place, ups, fields, chain)
 
     def of_requires(self, fields):

@@ -13,9 +13,8 @@ behind-digits-requires c = search key-within
 
 pub overflow_add-result : goal.overflow_add-result
 overflow_add-result c =
-    let s = c.before.before.before.before.before.before.before.before.before in
-    let h : length s.args.key.now + c.in-Value.n ≤ length s.args.rest.now = search value-within in
-    omega (arith, s.well-formed)
+    let h : length c.args.key.now + c.in-Value.n ≤ length c.args.rest.now = search value-within in
+    omega (arith, c.well_formed)
 
 pub returns-in-Value : goal.returns-in-Value
 returns-in-Value c = search value_line

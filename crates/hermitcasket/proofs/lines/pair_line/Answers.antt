@@ -22,15 +22,13 @@ returns-in_default-second c = search second_none
 
 pub overflow_add-result : goal.overflow_add-result
 overflow_add-result c =
-    let s = c.before.before.before.before.before.before.before.before.before.before.before.before.before.before in
-    let h : length s.args.key.now + c.in-Value.n + c.in-Value-second.l ≤ length s.args.rest.now = search second-within in
-    omega (arith, s.well-formed)
+    let h : length c.args.key.now + c.in-Value.n + c.in-Value-second.l ≤ length c.args.rest.now = search second-within in
+    omega (arith, c.well_formed)
 
 pub overflow_add-result-2 : goal.overflow_add-result-2
 overflow_add-result-2 c =
-    let s = c.before.before.before.before.before.before.before.before.before.before.before.before.before.before in
-    let h : length s.args.key.now + c.in-Value.n + c.in-Value-second.l ≤ length s.args.rest.now = search second-within in
-    omega (arith, s.well-formed)
+    let h : length c.args.key.now + c.in-Value.n + c.in-Value-second.l ≤ length c.args.rest.now = search second-within in
+    omega (arith, c.well_formed)
 
 pub returns : goal.returns
 returns c = search two-line

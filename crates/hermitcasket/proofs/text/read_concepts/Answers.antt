@@ -19,9 +19,8 @@ read_rows-lines-requires c = record { part_bound = search lines-room; count_in_b
 
 pub overflow_add-result : goal.overflow_add-result
 overflow_add-result c =
-    let s = c.before.before.before.before.before.before.before.before.before.before.before.before.before.before.before in
-    let h : c.in-Through.n + c.in-Upto.m ≤ length s.args.rest.now = search lines-used in
-    omega (arith, s.well-formed)
+    let h : c.in-Through.n + c.in-Upto.m ≤ length c.args.rest.now = search lines-used in
+    omega (arith, c.well_formed)
 
 pub returns-in-Upto : goal.returns-in-Upto
 returns-in-Upto c = search section-through

@@ -24,9 +24,8 @@ behind-next-requires c = search rows-within
 
 pub overflow_add-used : goal.overflow_add-used
 overflow_add-used c =
-    let s = c.before.before.before.before.before.before.before.before.before in
-    let h : c.loop-i.used + c.in-Row.n ≤ length s.args.part.now = search rows-used in
-    omega (arith, s.requires)
+    let h : c.loop-i.used + c.in-Row.n ≤ length c.args.part.now = search rows-used in
+    omega (arith, c.requires)
 
 pub loop-i-preserved : goal.loop-i-preserved
 loop-i-preserved c = (simp length-set c.loop-i.invariant.0, search rows_more)

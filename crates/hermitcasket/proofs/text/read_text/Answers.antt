@@ -29,10 +29,9 @@ overflow_cast-variables c = omega (arith, counts-fit _ c.if-text-gt8192.false _ 
 
 pub read_tables-requires : goal.read_tables-requires
 read_tables-requires c =
-    let s = c.before.before.before.before.before.before.before.before.before.before.before.before.before.before.before.before.before.before.before.before.before.before.before in
     let room = tables-room _ c.if-text-gt8192.false _ c.read_count-counted.ensures _ _ c.in-Through.is _ c.behind-rest.ensures _ _ c.read_roles-above.ensures _ _ c.in-Through-above.is _ c.behind-tables.ensures in
     let few = roles-fit _ c.if-text-gt8192.false _ c.read_count-counted.ensures _ _ c.in-Through.is _ c.behind-rest.ensures _ _ c.read_roles-above.ensures _ _ c.in-Through-above.is in
-    let counts = counts-fit _ c.if-text-gt8192.false _ c.read_count-counted.ensures _ _ c.in-Through.is in record { rest_bound = room; variables_bound = counts.0; pairs_bound = few.0; in_bounds = omega (arith, s.requires); in_bounds_2 = omega (arith, s.requires); in_bounds_3 = omega (arith, s.requires) }
+    let counts = counts-fit _ c.if-text-gt8192.false _ c.read_count-counted.ensures _ _ c.in-Through.is in record { rest_bound = room; variables_bound = counts.0; pairs_bound = few.0; in_bounds = omega (arith, c.requires); in_bounds_2 = omega (arith, c.requires); in_bounds_3 = omega (arith, c.requires) }
 
 pub returns : goal.returns
 returns c = record { text_value = read-on _ c.if-text-gt8192.false _ c.read_count-counted.ensures _ _ c.in-Through.is _ c.behind-rest.ensures _ _ c.read_roles-above.ensures _ _ c.in-Through-above.is _ c.behind-tables.ensures _ _ _ _ c.read_tables.ensures; read_fits = c.read_tables.ensures.fits }

@@ -30,7 +30,7 @@ pub put_card-requires : goal.put_card-requires
 put_card-requires c = card-room _ (replicate 576 0) _ (replicate 192 0) _ (length-replicate {A = ℕ} 576 0) (length-replicate {A = ℕ} 192 0) c.read_catalogue-read.result c.read_catalogue-read.ensures _ _ c.in-Tables.is c.args.out.now c.requires
 
 pub put_refused-requires : goal.put_refused-requires
-put_refused-requires c = refused-room c.code_of-code.result c.args.out.now (omega (arith, c.code_of-code.type-inv)) (omega (arith, c.code_of-code.type-inv)) c.requires
+put_refused-requires c = refused-room c.code_of-code.result c.args.out.now (omega (arith, c.code_of-code.type_inv)) (omega (arith, c.code_of-code.type_inv)) c.requires
 
 pub returns-in-Tables : goal.returns-in-Tables
 returns-in-Tables c = carded _ (replicate 576 0) _ (replicate 192 0) _ (length-replicate {A = ℕ} 576 0) (length-replicate {A = ℕ} 192 0) c.read_catalogue-read.result c.read_catalogue-read.ensures _ _ c.in-Tables.is _ _ _ c.put_card.ensures
