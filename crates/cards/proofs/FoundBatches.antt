@@ -1,6 +1,6 @@
 -- The batch of card H's questions twice: each table is that card, and what the first leaves over reaches the second.
-use Prim.Native.Nat.{ℕ, ◌^◌, ◌-◌, ◌≤◌}
-use mathlib.Core.Path.{◌≡◌, refl, sym, ap, ap₂, ◌∙◌, subst}
+use Prim.Native.Nat.{ℕ, ◌^◌, ◌-◌}
+use mathlib.Core.Path.{◌≡◌, ap, ◌∙◌, subst}
 use mathlib.Core.List.{List, [], ◌∷◌}
 use native.Mathlib.Omega.{arith}
 use lib.Dec.{lit<}

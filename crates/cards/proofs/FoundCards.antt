@@ -3,12 +3,11 @@ use Prim.Native.Nat.{ℕ, zero, suc, ◌<◌, ◌≤◌}
 use mathlib.Core.Path.{◌≡◌, refl, sym, subst}
 use mathlib.Core.List.Memᴰ
 use mathlib.Core.List.{List, [], ◌∷◌}
-use mathlib.Core.Bool.{Bool, true, false, true≢false}
+use mathlib.Core.Bool.{true, false, true≢false}
 use mathlib.Core.Logic.{inl, inr, ⊎_elim, ◌↔◌}
 use native.Mathlib.Omega.{arith}
 use native.Mathlib.Decide.{ℕ_discrete}
-use lib.Dec.{eqb, ltb, lit<}
-use borrow.Author.Tests.{eqb-true}
+use lib.Dec.{ltb, lit<}
 use lib.ListN.{length}
 use Rattle.subsumption.specs.declared.refusal.Outcome.{Outcome}
 use Rattle.subsumption.specs.declared.refusal.Outcome.TheVariants.{Done}
@@ -35,7 +34,7 @@ use Rattle.groups.specs.Group.{holds, Chain, Joined, InGroup}
 use Rattle.groups.proofs.FindLaws.{first-among-same}
 use Rattle.cards.specs.Samples.{Holds, card, I, J, not_below, no_filling, filling, entries, house, looped, copied, narrowed, questions, cards, free}
 use Rattle.cards.specs.Found.{tells, fills, Always, opposed, grouped, Found, FoundWithin, FoundCounted, FoundGroup}
-use Rattle.cards.proofs.SampleLaws.{all_below, built, mark_at, lines, some, round, rounds, closed_test, same_list, all_in, before, all_lists, assignments, bools_agree, earlier_test, is_done, is-done, solved_by, refuted, on_ids, marks, misses, says_test, test-says, card_test, test-holds}
+use Rattle.cards.proofs.SampleLaws.{all_below, built, mark_at, lines, some, round, rounds, closed_test, same_list, all_in, before, all_lists, assignments, bools_agree, earlier_test, is_done, is-done, solved_by, refuted, on_ids, marks, misses, says_test, test-says, card_test}
 use Rattle.cards.proofs.SampleCards.{every-card}
 use Rattle.cards.proofs.SampleCount.{card-h, unrestricted, sample-count}
 use Rattle.cards.proofs.AmongLaws.{heeds_test, asked_test, out_test, first_test, first_passes, none_test, none_passes}

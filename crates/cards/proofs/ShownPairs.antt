@@ -8,11 +8,11 @@ use lib.Dec.{lit<}
 use lib.ListN.{length}
 use Rattle.subsumption.specs.declared.refusal.Refusal.TheVariants.{NoCountermodel}
 use Rattle.subsumption.specs.declared.refusal.Outcome.{Outcome}
-use Rattle.subsumption.specs.declared.refusal.Outcome.TheVariants.{Done, Refused}
+use Rattle.subsumption.specs.declared.refusal.Outcome.TheVariants.{Refused}
 use Rattle.subsumption.specs.Refusal.{reply_with, or_else, refuse_if}
 use Rattle.countermodel.specs.Rows.{rows_of}
 use Rattle.countermodel.specs.Countermodel.{shown_rows}
-use Rattle.countermodel.specs.Show.{holding_fault, showing_fault, shown_in, Shows}
+use Rattle.countermodel.specs.Show.{holding_fault, showing_fault, shown_in}
 use Rattle.cards.specs.Samples.{Holds, card, A, always_below, house, questions, entries, cards}
 use Rattle.cards.specs.Shown.{NothingShown}
 use Rattle.cards.proofs.SampleCards.{every-card}

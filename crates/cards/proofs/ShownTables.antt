@@ -1,9 +1,8 @@
 -- A written or updated table has just the marks that the rules give for the tables of cards K and L.
-use Prim.Native.Nat.{ℕ, zero, suc, ◌+◌, ◌<◌, ◌≤◌}
-use mathlib.Core.Path.{◌≡◌, refl, sym, ap, ap₂, ◌∙◌, subst}
+use Prim.Native.Nat.{ℕ, ◌<◌, ◌≤◌}
+use mathlib.Core.Path.{◌≡◌, refl, sym, ap, ◌∙◌, subst}
 use mathlib.Core.List.{List, []}
 use mathlib.Core.Bool.{Bool, true, false, true≢false}
-use mathlib.Core.Logic.{⊎_elim}
 use native.Mathlib.Omega.{arith}
 use native.Mathlib.Decide.{ℕ_discrete}
 use lib.Dec.{lit<}
@@ -17,7 +16,7 @@ use Rattle.subsumption.specs.Atoms.{inside, occurs_to, occurs, is_atomic, in_inc
 use Rattle.subsumption.specs.Rules.{every, contains, same_name, is_top, on_picked, on_both, on_inner, on_variable, by_rule, follows}
 use Rattle.subsumption.specs.Refusal.{Reply, reply_done, reply_of, reply_with, or_else, refuse_if, first_at}
 use Rattle.subsumption.specs.Check.{unfit, limit_fault, roles_fault, malformed_row, malformed, malformed_fault, forward, forward_fault, no_concept, pairs_fault, inclusion_fault, sides_fault, atoms_fault, concept_fault, id_fault, use_fault, table_fault, assignment_fault_at, assignment_fault, buffer_fault}
-use Rattle.subsumption.specs.Table.{row_start, marked, one, counted, total, marks_in, writing_fault, TableOf, Left, Wrote}
+use Rattle.subsumption.specs.Table.{row_start, marked, marks_in, writing_fault, TableOf, Left}
 use Rattle.subsumption.proofs.Bools.{both_true, same_bool}
 use Rattle.subsumption.proofs.MarkLaws.{marks-between, marks-none}
 use Rattle.subsumption.proofs.Refusals.{done-le}
@@ -29,7 +28,7 @@ use Rattle.subsumption.proofs.RuleCompleteness.{follows-complete}
 use Rattle.matching.proofs.SubstitutionLaws.Members.{any_in}
 use Rattle.allowance.proofs.CaseLaws.{passes}
 use Rattle.incremental.specs.Told.{told_fault, told_assignment, choices}
-use Rattle.incremental.specs.Update.{updating_fault, ClosedUnder, ClosureOf, UpdatedBy, Updates}
+use Rattle.incremental.specs.Update.{updating_fault, ClosedUnder, ClosureOf, UpdatedBy}
 use Rattle.cards.specs.Samples.{looped}
 use Rattle.cards.specs.Shown.{Shown, EveryTable, EmptyTable, Updated, EveryUpdate}
 use Rattle.cards.proofs.SampleLaws.{all_below, built, mark_at, lines, some, round, rounds, rounds-sound, closed_test, closed-complete, is_done, is-done}

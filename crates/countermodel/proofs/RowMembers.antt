@@ -1,12 +1,12 @@
 -- Names and links of the interpretation that rows say, row by row.
-use Prim.Native.Nat.{ℕ, zero, suc, ◌+◌, ◌*◌, ◌<◌}
-use mathlib.Core.Path.{◌≡◌, refl, sym, ap, ◌∙◌, subst}
+use Prim.Native.Nat.{ℕ, zero, suc, ◌*◌, ◌<◌}
+use mathlib.Core.Path.{◌≡◌, refl, sym, ap, ◌∙◌}
 use mathlib.Core.List.Memᴰ
 use mathlib.Core.List.{List, Memᴰ}
 use native.Mathlib.Omega.{arith}
 use native.Mathlib.Nat.{add-zero}
 use lib.ListN.{get_or}
-use Rattle.subsumption.specs.Subsumption.{Named, Linked, Interpretation}
+use Rattle.subsumption.specs.Subsumption.{Named, Linked}
 use Rattle.countermodel.specs.Rows.{rows_of, at, named_by, linked_by, interpretation_of}
 use Rattle.countermodel.specs.Inner.Membership.{kind_at}
 use Rattle.countermodel.proofs.JoinedLaws.{joined_in, joined-out}

@@ -1,6 +1,5 @@
 // The rows of the interpretation that is shown: the names of each element, then the links of each element by each role.
 ghost use Rattle.std.specs.Prelude.{◌≡◌, ◌+◌, ◌<◌, ◌≤◌, length};
-
 ghost use Rattle.subsumption.specs.Tables.{count_of};
 ghost use Rattle.subsumption.specs.Table.{marked};
 ghost use Rattle.subsumption.specs.Inner.Roles.{LowRoles};

@@ -1,6 +1,5 @@
 // The names and the links of an element, read off the marks of the subsumption table.
 ghost use Rattle.std.specs.Prelude.{◌≡◌, false, ◌<◌, length, replicate};
-
 ghost use Rattle.subsumption.specs.Tables.{count_of};
 ghost use Rattle.subsumption.specs.Table.{marked};
 ghost use Rattle.subsumption.specs.Inner.Sizes.{roles_size, table_size};

@@ -1,6 +1,5 @@
 // The roles by which an element can have links: those that count for a row above it. Other roles are passed over.
 ghost use Rattle.std.specs.Prelude.{◌≡◌, false, ◌<◌, length, replicate};
-
 ghost use Rattle.subsumption.specs.Tables.{count_of};
 ghost use Rattle.subsumption.specs.Table.{marked};
 ghost use Rattle.subsumption.specs.Inner.Sizes.{roles_size, table_size};

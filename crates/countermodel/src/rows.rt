@@ -1,7 +1,6 @@
 // Putting rows of four numbers into a buffer. Each is written only where there is room for it, and the place behind it is answered
 // either way, so that a walk over an empty buffer counts. All rows take at most 192 × (1000 + 100 × 192) × 4 = 15,513,600 numbers.
 ghost use Rattle.std.specs.Prelude.{[], ◌∷◌, ◌+◌, ◌*◌, ◌≤◌, length};
-
 ghost use Rattle.subsumption.specs.Inner.Atoms.{marked_ids};
 ghost use Rattle.countermodel.specs.Inner.Show.{Put, row_for, rows_for};
 

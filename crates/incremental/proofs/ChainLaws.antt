@@ -1,16 +1,15 @@
 -- Which inclusions have a left side: the chains, and the ids that are none.
-use Prim.Native.Nat.{ℕ, zero, suc, ◌+◌, ◌*◌, ◌-◌, ◌/◌, ◌<◌, ◌≤◌}
-use mathlib.Core.Path.{◌≡◌, refl, ap, sym, ◌∙◌, subst}
+use Prim.Native.Nat.{ℕ, ◌+◌, ◌-◌, ◌<◌, ◌≤◌}
+use mathlib.Core.Path.{◌≡◌, ap, sym, ◌∙◌, subst}
 use mathlib.Core.List.{List}
-use mathlib.Core.Bool.{Bool, true}
-use mathlib.Core.Logic.{◌⊎◌, inl, inr, ⊎_elim}
+use mathlib.Core.Logic.{⊎_elim}
 use native.Mathlib.Omega.{arith}
 use lib.ListN.{length, get_or, set, length-set, replicate, length-replicate, get_or-replicate}
 use lib.Seq.{get_or-set_same, get_or-set_other}
 use Rattle.subsumption.specs.Tables.{pairs_of, left_of}
 use Rattle.subsumption.proofs.Bools.{eq-or-ne}
 use Rattle.square.specs.Inner.Sets.{Inserted}
-use Rattle.incremental.specs.Inner.Including.{is_in, Pairs, NextPair, ChainTo, Chain, Idle}
+use Rattle.incremental.specs.Inner.Including.{Pairs, NextPair, ChainTo, Chain, Idle}
 use Rattle.square.proofs.SetLaws.{empty-line}
 
 pub chain-none : (inclusions : List ℕ) → pairs_of inclusions ≤ 96 → ChainTo inclusions (replicate 288 96) (pairs_of inclusions)

@@ -4,8 +4,7 @@ use mathlib.Core.Path.{◌≡◌, refl, ap, sym, ◌∙◌, subst}
 use mathlib.Core.List.{List}
 use mathlib.Core.Bool.{Bool, true, false, ◌||◌}
 use native.Mathlib.Omega.{arith}
-use lib.ListN.{length}
-use Rattle.subsumption.specs.Tables.{exists_at, node, count_of, pairs_of}
+use Rattle.subsumption.specs.Tables.{count_of, pairs_of}
 use Rattle.subsumption.specs.Roles.{wider}
 use Rattle.subsumption.specs.Inner.Columns.{slack}
 use Rattle.subsumption.specs.Inner.Roles.{in_set, RoleSets}
@@ -13,8 +12,7 @@ use Rattle.subsumption.specs.Inner.Closure.{Ready}
 use Rattle.subsumption.proofs.Columns.{not-both}
 use Rattle.subsumption.proofs.Closing.{weight}
 use Rattle.square.specs.Inner.Square.{in_row, Square}
-use Rattle.incremental.specs.Inner.Lines.{StartLines, MeetLines, LinkLines, Lines}
-use Rattle.incremental.specs.Inner.Pass.{Pass}
+use Rattle.incremental.specs.Inner.Lines.{StartLines, LinkLines}
 use Rattle.incremental.specs.Inner.Including.{Pairs}
 use Rattle.incremental.specs.Inner.Rows.{RowsPass}
 use Rattle.incremental.specs.Inner.Rising.{AllRisen}

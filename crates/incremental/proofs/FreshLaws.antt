@@ -1,15 +1,15 @@
 -- If the held table was right with the older inclusions, all else the same, the updated one is the table made afresh.
-use Prim.Native.Nat.{ℕ, ◌+◌, ◌*◌, ◌/◌, ◌%◌, ◌^◌, ◌<◌, ◌≤◌}
-use mathlib.Core.Path.{◌≡◌, refl, sym, ap, ◌∙◌, subst}
+use Prim.Native.Nat.{ℕ, ◌+◌, ◌*◌, ◌/◌, ◌%◌, ◌<◌, ◌≤◌}
+use mathlib.Core.Path.{◌≡◌, sym, ap, ◌∙◌, subst}
 use mathlib.Core.List.{List, Memᴰ}
-use mathlib.Core.Bool.{Bool, true, false}
-use mathlib.Core.Logic.{◌⊎◌, inl, inr, ⊎_elim, ◌↔◌}
+use mathlib.Core.Bool.{true}
+use mathlib.Core.Logic.{⊎_elim, ◌↔◌}
 use native.Mathlib.Omega.{arith}
 use lib.ListN.{length, get_or, get_or-eq_default}
 use borrow.Author.Tests.{eqb-true, ltb-true, not-false}
 use Rattle.subsumption.specs.declared.refusal.Outcome.{Outcome}
 use Rattle.subsumption.specs.declared.refusal.Outcome.TheVariants.{Done}
-use Rattle.subsumption.specs.Tables.{Tables, count_of, pairs_of, left_of, right_of, Concept, top, name, exists, and, var, tree}
+use Rattle.subsumption.specs.Tables.{Tables, count_of, left_of, right_of, Concept, top, name, exists, and, var, tree}
 use Rattle.subsumption.specs.Atoms.{bit, atoms, chosen}
 use Rattle.subsumption.specs.Subsumption.{Interpretation, Reading, Member, Included, no_variables, assigned, Obeys, Subsumed}
 use Rattle.subsumption.specs.Refusal.{Reply}

@@ -1,9 +1,9 @@
 -- Rule 6: the inclusions of one left side, the left sides of a row, all rows.
-use Prim.Native.Nat.{ℕ, ◌+◌, ◌*◌, ◌-◌, ◌<◌, ◌≤◌}
-use mathlib.Core.Path.{◌≡◌, refl, ap, sym, ◌∙◌, subst}
+use Prim.Native.Nat.{ℕ, ◌+◌, ◌<◌, ◌≤◌}
+use mathlib.Core.Path.{◌≡◌, refl, sym, ◌∙◌, subst}
 use mathlib.Core.List.{List, [], ◌∷◌}
 use mathlib.Core.Bool.{Bool, true, false, ◌||◌}
-use mathlib.Core.Logic.{◌⊎◌, inl, inr, ⊎_elim}
+use mathlib.Core.Logic.{◌⊎◌, ⊎_elim}
 use native.Mathlib.Omega.{arith}
 use lib.ListN.{length, get_or}
 use Rattle.subsumption.specs.Tables.{pairs_of, left_of, right_of}
@@ -11,7 +11,7 @@ use Rattle.subsumption.proofs.Bools.{eq-or-ne, le-or-lt}
 use Rattle.square.specs.Inner.Square.{in_row, Square}
 use Rattle.incremental.specs.Inner.Marking.{Adds}
 use Rattle.incremental.specs.Inner.Lines.{Under, IncludeAt, IncludeLines}
-use Rattle.incremental.specs.Inner.Pass.{Within, Pass}
+use Rattle.incremental.specs.Inner.Pass.{Pass}
 use Rattle.square.specs.Inner.Sets.{Inserted}
 use Rattle.incremental.specs.Inner.Including.{is_in, Pairs, NextPair, Idle, IncludedBy, Covers, DoneRows, Covering, NextOpen, LeftQuiet, ScanQuiet, IncludePass}
 use Rattle.incremental.proofs.Passes.{pass-none, pass-as, pass-then, pass-seen}

@@ -2,13 +2,13 @@
 use Prim.Native.Nat.{ℕ, zero, suc, ◌+◌, ◌*◌, ◌-◌, ◌/◌, ◌%◌, ◌^◌, ◌<◌, ◌≤◌}
 use mathlib.Core.Path.{◌≡◌, refl, ap, sym, ◌∙◌, subst}
 use mathlib.Core.List.{List, [], ◌∷◌}
-use mathlib.Core.Bool.{Bool, true, false, ◌||◌}
+use mathlib.Core.Bool.{Bool, true, false}
 use mathlib.Core.Logic.{◌⊎◌, inl, inr, ⊎_elim}
 use native.Mathlib.Omega.{arith}
-use lib.ListN.{length, get_or, replicate, length-replicate}
+use lib.ListN.{get_or, replicate, length-replicate}
 use lib.Bits.{bit_and, bit_or}
 use lib.Count.{count_trailing_zeros}
-use Rattle.subsumption.specs.Tables.{both, exists_at, node, count_of}
+use Rattle.subsumption.specs.Tables.{exists_at, node, count_of}
 use Rattle.subsumption.specs.Atoms.{bit}
 use Rattle.subsumption.specs.Inner.Roles.{in_set}
 use Rattle.subsumption.specs.Inner.Links.{Inner}
@@ -21,7 +21,6 @@ use Rattle.incremental.specs.Inner.Marking.{in_half, Adds, InThree, Holding}
 use Rattle.incremental.specs.Inner.Lines.{LinkAt, LinkLines}
 use Rattle.square.specs.Inner.Sets.{Inserted}
 use Rattle.incremental.specs.Inner.Including.{is_in}
-use Rattle.incremental.specs.Inner.Pass.{Pass}
 use Rattle.incremental.specs.Inner.Links.{WithInner, WithRole, OuterTo, RolesTo, InnersTo, Existentials, Picked, Joins, ByRole, ByInner, LinkPass}
 use Rattle.square.proofs.BitLaws.{Lowest, lowest, no_bits}
 use Rattle.square.proofs.SetLaws.{empty-line}

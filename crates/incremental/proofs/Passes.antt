@@ -3,10 +3,9 @@ use Prim.Native.Nat.{ℕ, ◌+◌, ◌<◌, ◌≤◌}
 use mathlib.Core.Path.{◌≡◌, refl, sym, ◌∙◌, subst}
 use mathlib.Core.List.{List}
 use mathlib.Core.Bool.{Bool, true, false, ◌||◌}
-use mathlib.Core.Logic.{◌⊎◌, inl, inr, ⊎_elim}
+use mathlib.Core.Logic.{⊎_elim}
 use native.Mathlib.Omega.{arith}
 use borrow.Author.Count.{below_more}
-use Rattle.subsumption.specs.Inner.Columns.{slack}
 use Rattle.subsumption.proofs.Columns.{any-true, any_false, not-both, falls}
 use Rattle.square.specs.Inner.Square.{in_row, Square}
 use Rattle.incremental.specs.Inner.Marking.{Adds}

@@ -1,15 +1,13 @@
 -- Columns in rising order: rule 6 at one column, one column, all columns.
-use Prim.Native.Nat.{ℕ, ◌+◌, ◌*◌, ◌<◌, ◌≤◌}
-use mathlib.Core.Path.{◌≡◌, refl, sym, ap, ◌∙◌, subst}
+use Prim.Native.Nat.{ℕ, ◌+◌, ◌<◌, ◌≤◌}
+use mathlib.Core.Path.{◌≡◌, sym, ap, ◌∙◌, subst}
 use mathlib.Core.List.{List}
 use mathlib.Core.Bool.{Bool, true, false, ◌||◌}
 use native.Mathlib.Omega.{arith}
-use lib.ListN.{length}
-use Rattle.subsumption.specs.Tables.{node, count_of, pairs_of, left_of, right_of}
+use Rattle.subsumption.specs.Tables.{count_of, pairs_of, left_of, right_of}
 use Rattle.square.specs.Inner.Square.{in_row, in_column, Square}
 use Rattle.incremental.specs.Inner.Marking.{Adds}
-use Rattle.incremental.specs.Inner.Lines.{MeetAt, MeetLines, LinkAt, LinkLines, IncludeLines}
-use Rattle.incremental.specs.Inner.Pass.{Within, Pass}
+use Rattle.incremental.specs.Inner.Pass.{Pass}
 use Rattle.incremental.specs.Inner.Settling.{MeetPass}
 use Rattle.incremental.specs.Inner.Including.{Pairs}
 use Rattle.incremental.specs.Inner.Links.{LinkPass}

@@ -7,7 +7,7 @@ use mathlib.Core.Logic.{◌⊎◌, inl, inr, ⊎_elim}
 use native.Mathlib.Omega.{arith}
 use lib.ListN.{length, get_or, take, drop, length-drop}
 use lib.Seq.{get_or-drop, take_all}
-use Rattle.subsumption.specs.Tables.{Node, top_at, name_at, exists_at, and_at, var_at, node, decode, count_of}
+use Rattle.subsumption.specs.Tables.{Node, node, decode, count_of}
 use Rattle.subsumption.specs.Atoms.{bit, pick}
 use Rattle.subsumption.specs.Inner.Tables.{Rising}
 use Rattle.subsumption.specs.Inner.Columns.{Common}
@@ -18,7 +18,7 @@ use Rattle.subsumption.proofs.Nodes.{node-and, node-var}
 use Rattle.subsumption.proofs.Picks.{ChosenBelow, picked-at, at-picked}
 use Rattle.square.specs.Inner.Square.{on_line, in_row, Square}
 use Rattle.incremental.specs.Inner.Marking.{in_half, Adds, InThree}
-use Rattle.incremental.specs.Inner.Lines.{Under, InnerAt, InnerLines, MeetAt, MeetLines}
+use Rattle.incremental.specs.Inner.Lines.{Under, InnerAt, MeetAt}
 use Rattle.incremental.specs.Inner.Pass.{Within, Pass}
 use Rattle.incremental.specs.Inner.Settling.{ChosenUnder, SpreadPass, InnerPass, MeetPass}
 use Rattle.square.proofs.BitLaws.{picked-bit}

@@ -1,22 +1,21 @@
 -- Rules 1 and 2: the ids of a name, one id, all ids.
-use Prim.Native.Nat.{ℕ, zero, suc, ◌+◌, ◌*◌, ◌-◌, ◌/◌, ◌%◌, ◌^◌, ◌<◌, ◌≤◌}
+use Prim.Native.Nat.{ℕ, zero, suc, ◌+◌, ◌*◌, ◌/◌, ◌%◌, ◌<◌, ◌≤◌}
 use mathlib.Core.Path.{◌≡◌, refl, ap, sym, ◌∙◌, subst}
 use mathlib.Core.List.{List, [], ◌∷◌}
-use mathlib.Core.Bool.{Bool, true, false}
+use mathlib.Core.Bool.{Bool, true}
 use mathlib.Core.Logic.{◌⊎◌, inl, inr, ⊎_elim}
 use native.Mathlib.Omega.{arith}
-use lib.ListN.{length, get_or, replicate, length-replicate}
-use Rattle.subsumption.specs.Tables.{Node, top_at, name_at, exists_at, and_at, var_at, node, count_of}
+use lib.ListN.{get_or, replicate, length-replicate}
+use Rattle.subsumption.specs.Tables.{Node, top_at, name_at, node, count_of}
 use Rattle.subsumption.specs.Atoms.{bit}
 use Rattle.subsumption.specs.Inner.Names.{Nameable}
 use Rattle.subsumption.proofs.Bools.{eq-or-ne, le-or-lt, last-cases}
 use Rattle.subsumption.proofs.Bits.{bit-ones}
-use Rattle.subsumption.proofs.Nodes.{node-name, node-exists, node-and, node-var, node-other, name-node}
+use Rattle.subsumption.proofs.Nodes.{node-name, node-exists, node-and, node-var, name-node}
 use Rattle.square.specs.Inner.Square.{on_line, in_row, Square}
 use Rattle.incremental.specs.Inner.Marking.{in_half, Adds, InThree}
 use Rattle.incremental.specs.Inner.Lines.{StartLines}
 use Rattle.square.specs.Inner.Sets.{Inserted}
-use Rattle.incremental.specs.Inner.Pass.{Within}
 use Rattle.incremental.specs.Inner.Start.{NamesTo, StartAt, Grown, Begun, BegunAt}
 use Rattle.square.proofs.SetLaws.{empty-line}
 use Rattle.square.proofs.SetLaws.{line-three}

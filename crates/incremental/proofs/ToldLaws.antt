@@ -1,10 +1,10 @@
 -- An assignment told as pairs: it is accepted, it chooses just what is told, and how the code reads it.
-use Prim.Native.Nat.{ℕ, zero, suc, ◌+◌, ◌*◌, ◌-◌, ◌/◌, ◌%◌, ◌^◌, ◌<◌, ◌≤◌}
+use Prim.Native.Nat.{ℕ, zero, suc, ◌+◌, ◌*◌, ◌/◌, ◌%◌, ◌^◌, ◌<◌, ◌≤◌}
 use mathlib.Core.Path.{◌≡◌, refl, sym, ap, ap₂, ◌∙◌, subst}
 use mathlib.Core.List.Memᴰ
 use mathlib.Core.List.{List, [], ◌∷◌, Memᴰ}
 use mathlib.Core.Bool.{Bool, true, false, not, false≢true}
-use mathlib.Core.Logic.{◌⊎◌, inl, inr, ⊎_elim, ◌↔◌}
+use mathlib.Core.Logic.{⊎_elim, ◌↔◌}
 use native.Mathlib.Omega.{arith}
 use native.Mathlib.Nat.{pow-suc, zero-add}
 use native.Mathlib.Numerals.{add-one}
@@ -13,20 +13,20 @@ use lib.Pow.{pow-lt}
 use lib.ListN.{length, get_or, set, length-set, replicate, length-replicate, get_or-replicate}
 use lib.Seq.{get_or-set_same, get_or-set_other}
 use lib.Bits.{bit_or, or_lt}
-use borrow.Author.Tests.{eqb-true, eqb-false, eq-eqb, ne_eqb, ltb-true, lt-ltb, le-ltb, not-false}
+use borrow.Author.Tests.{eqb-true, eq-eqb, ne_eqb, ltb-true, lt-ltb, le-ltb, not-false}
 use Rattle.subsumption.specs.declared.refusal.Refusal.TheVariants.{BadAssignment}
 use Rattle.subsumption.specs.declared.refusal.Outcome.{Outcome}
 use Rattle.subsumption.specs.declared.refusal.Outcome.TheVariants.{Done, Refused}
-use Rattle.subsumption.specs.Tables.{Tables, or, both, any_below, count_of, pairs_of, left_of, right_of}
-use Rattle.subsumption.specs.Atoms.{bit, atoms, pick, chosen}
+use Rattle.subsumption.specs.Tables.{Tables, or, both, any_below, pairs_of, left_of, right_of}
+use Rattle.subsumption.specs.Atoms.{bit, atoms, chosen}
 use Rattle.subsumption.specs.Rules.{contains}
 use Rattle.subsumption.specs.Refusal.{or_else, refuse_if, first_at}
 use Rattle.subsumption.specs.Check.{assignment_fault, assignment_fault_at}
 use Rattle.subsumption.specs.Table.{one}
-use Rattle.subsumption.proofs.Bools.{or_cases, or-first, or-second, or-false, or-skip, both_true, both-intro, both-none, both-skip, any_below-intro, any_below-elim, same_bool, eq-or-ne, le-or-lt}
+use Rattle.subsumption.proofs.Bools.{or_cases, or-first, or-second, or-false, or-skip, both_true, both-none, both-skip, any_below-elim, same_bool, eq-or-ne, le-or-lt}
 use Rattle.subsumption.proofs.Bits.{bit-half, bit-or, bit-pow, bit-pow-other}
-use Rattle.subsumption.proofs.Refusals.{no-fault, both-done, done-if, refused-if, passed_first, passed-second, passed-if, passed-at}
-use Rattle.subsumption.proofs.Chosen.{pick-member, pick_intro, get_or-member, chosen-atom}
+use Rattle.subsumption.proofs.Refusals.{no-fault, both-done, done-if, passed-second, passed-at}
+use Rattle.subsumption.proofs.Chosen.{pick-member, pick_intro, get_or-member}
 use Rattle.subsumption.proofs.RuleTests.{contains-elim, contains-intro}
 use Rattle.subsumption.proofs.MarkLaws.{shifted}
 use Rattle.incremental.specs.Told.{told_fault, tells, coded, choices, told_assignment}

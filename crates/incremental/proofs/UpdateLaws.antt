@@ -1,21 +1,20 @@
 -- What an update leaves: from the closed square to the table, and the checks in their order.
-use Prim.Native.Nat.{ℕ, ◌+◌, ◌*◌, ◌<◌, ◌≤◌}
+use Prim.Native.Nat.{ℕ, ◌*◌, ◌<◌, ◌≤◌}
 use mathlib.Core.Path.{◌≡◌, refl, sym, ap, ◌∙◌, subst}
 use mathlib.Core.List.{List, Memᴰ}
-use mathlib.Core.Bool.{Bool, true, false, false≢true}
-use mathlib.Core.Logic.{◌⊎◌, inl, inr, ⊎_elim}
+use mathlib.Core.Bool.{Bool, true, false}
+use mathlib.Core.Logic.{⊎_elim}
 use native.Mathlib.Omega.{arith}
-use lib.Dec.{ltb}
 use lib.ListN.{length, get_or}
 use borrow.Author.Tests.{ltb-true, lt-ltb}
 use Rattle.subsumption.specs.declared.refusal.Refusal.{Refusal}
 use Rattle.subsumption.specs.declared.refusal.Refusal.TheVariants.{BufferTooShort}
 use Rattle.subsumption.specs.declared.refusal.Outcome.{Outcome}
 use Rattle.subsumption.specs.declared.refusal.Outcome.TheVariants.{Done, Refused}
-use Rattle.subsumption.specs.Tables.{Tables, tables, or, both, Node, top_at, name_at, exists_at, and_at, var_at, node, count_of, pairs_of}
+use Rattle.subsumption.specs.Tables.{Tables, tables, or, Node, top_at, name_at, exists_at, and_at, var_at, node, count_of, pairs_of}
 use Rattle.subsumption.specs.Atoms.{atoms, pick, chosen}
 use Rattle.subsumption.specs.Roles.{wider}
-use Rattle.subsumption.specs.Refusal.{reply_of, or_else}
+use Rattle.subsumption.specs.Refusal.{reply_of}
 use Rattle.subsumption.specs.Check.{table_fault, buffer_fault}
 use Rattle.subsumption.specs.Rules.{follows}
 use Rattle.subsumption.specs.Table.{row_start, marked}
@@ -23,12 +22,12 @@ use Rattle.subsumption.specs.Inner.Roles.{LowRoles}
 use Rattle.subsumption.specs.Inner.Settling.{choose_from}
 use Rattle.subsumption.specs.Inner.Closure.{Ready}
 use Rattle.subsumption.specs.Inner.Listing.{Accepted, Prepared, ForAccepted}
-use Rattle.subsumption.proofs.Bools.{or_cases, or-first, or-second, or-skip, both_true, both-intro, same_bool}
+use Rattle.subsumption.proofs.Bools.{or_cases, or-second, both_true, both-intro}
 use Rattle.subsumption.proofs.WellFormed.{WellFormed}
 use Rattle.subsumption.proofs.Accepted.{well_formed, table-concepts, inclusions-few, roles-low, concepts-named}
 use Rattle.subsumption.proofs.AtomLaws.{atom-known}
 use Rattle.subsumption.proofs.Chosen.{get_or-member, atoms-distinct}
-use Rattle.subsumption.proofs.Refusals.{stops, goes_on, both-done, refused-lt, done-le, is-done}
+use Rattle.subsumption.proofs.Refusals.{stops, goes_on, refused-lt, done-le}
 use Rattle.subsumption.proofs.Rules.{Rules, follows-elim, follows-rules}
 use Rattle.incremental.specs.Told.{told_fault, tells, coded, told_assignment}
 use Rattle.incremental.specs.Update.{updating_fault, ClosedUnder, Holds, ClosureOf, UpdatedBy, Updates}
@@ -36,7 +35,7 @@ use Rattle.square.specs.Inner.Square.{in_row}
 use Rattle.incremental.specs.Inner.Lines.{InnerAt, MeetAt, Lines}
 use Rattle.incremental.specs.Inner.Pass.{Within}
 use Rattle.incremental.specs.Inner.Closing.{Closed}
-use Rattle.square.specs.Inner.Loading.{known, Loaded}
+use Rattle.square.specs.Inner.Loading.{Loaded}
 use Rattle.incremental.specs.Inner.Bytes.{Stored}
 use Rattle.incremental.specs.Inner.Told.{told_fault_in, Readable, ToldChoices}
 use Rattle.incremental.proofs.ToldLaws.{told_at, pair-variable, pair-atom}

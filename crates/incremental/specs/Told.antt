@@ -1,5 +1,5 @@
 -- An assignment told as pairs (02, A.7: a filling told as pairs): a variable, and the id of an atom that is chosen for it.
-use Rattle.std.specs.Prelude.{ℕ, zero, suc, ◌+◌, ◌*◌, ◌%◌, List, [], ◌∷◌, Bool, not, eqb, ltb, length, get_or}
+use Rattle.std.specs.Prelude.{ℕ, zero, suc, ◌+◌, ◌*◌, ◌%◌, List, [], ◌∷◌, Bool, not, eqb, ltb, length}
 use Rattle.subsumption.specs.declared.refusal.Refusal.TheVariants.{BadAssignment}
 use Rattle.subsumption.specs.declared.refusal.Outcome.{Outcome}
 use Rattle.subsumption.specs.Tables.{Tables, or, both, any_below, pairs_of, left_of, right_of}

@@ -1,6 +1,5 @@
 // All the rules, in rounds until one changes nothing. Rules 1 and 2 are taken once.
 ghost use Rattle.std.specs.Prelude.{◌≡◌, ◌≤◌, length};
-
 ghost use Rattle.subsumption.specs.Tables.{count_of, pairs_of};
 ghost use Rattle.subsumption.specs.Roles.{wider};
 ghost use Rattle.subsumption.specs.Inner.Roles.{in_set, LowRoles};

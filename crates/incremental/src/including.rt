@@ -2,7 +2,6 @@
 // in all that its own left sides ask, so that these need no look: in a table that was right, few are left. The order of the rows is free,
 // smaller ones first, so that rows within a row are finished before it.
 ghost use Rattle.std.specs.Prelude.{◌≡◌, true, ℕ, ◌+◌, ◌*◌, ◌<◌, ◌≤◌, length, replicate};
-
 ghost use Rattle.subsumption.specs.Tables.{count_of};
 ghost use Rattle.square.specs.Inner.Square.{in_row, Square};
 ghost use Rattle.incremental.specs.Inner.Lines.{IncludeAt};

@@ -1,7 +1,6 @@
 // Rule 5. The existentials are noted as sets, by inner id and by role, so that for an existential all those that come below it are found
 // at once: their inner ids are below its own, and their roles count as its own.
 ghost use Rattle.std.specs.Prelude.{◌≡◌, ◌+◌, ◌*◌, ◌<◌, ◌≤◌, length, replicate};
-
 ghost use Rattle.subsumption.specs.Tables.{count_of};
 ghost use Rattle.subsumption.specs.Inner.Links.{Inner};
 ghost use Rattle.subsumption.specs.Inner.Roles.{in_set};

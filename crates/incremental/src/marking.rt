@@ -1,7 +1,6 @@
 // The square of marks, held twice: as rows, what an id is below, and as columns, what is below an id. Three words of 64 bits a line, so
 // that a line takes in another by three words. Each step answers whether it changed anything.
 ghost use Rattle.std.specs.Prelude.{◌≡◌, ◌+◌, ◌<◌, ◌≤◌, true, length};
-
 ghost use Rattle.subsumption.specs.Inner.Columns.{Absorbs};
 ghost use Rattle.square.specs.Inner.Square.{in_row, Square};
 ghost use Rattle.incremental.specs.Inner.Marking.{in_half, Base, Adds, InWord, InThree, Holding};

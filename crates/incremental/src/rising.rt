@@ -1,7 +1,6 @@
 // Rules 4, 5 and 8 at every column, in rising order: what they read of a column is at smaller ids, so that a tower of existentials is
 // climbed in one pass. A column that gained takes rule 6 at once, for the storeys above it; the rows are asked for the rest.
 ghost use Rattle.std.specs.Prelude.{◌≡◌, ◌<◌, length};
-
 ghost use Rattle.subsumption.specs.Tables.{count_of};
 ghost use Rattle.subsumption.specs.Inner.Roles.{in_set};
 ghost use Rattle.subsumption.specs.Inner.Links.{Inner};

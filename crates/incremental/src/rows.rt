@@ -1,7 +1,6 @@
 // Rules 3, 6 and 7 at every row, in the proposed order. A row is finished when it has taken in all that they ask of it; while nothing
 // changes, it stays so.
 ghost use Rattle.std.specs.Prelude.{◌≡◌, length};
-
 ghost use Rattle.subsumption.specs.Tables.{count_of};
 ghost use Rattle.subsumption.specs.Inner.Settling.{Settleable, choose_from};
 ghost use Rattle.square.specs.Inner.Square.{Square};

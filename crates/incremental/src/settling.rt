@@ -1,7 +1,6 @@
 // Rules 3, 4, 7 and 8, at the rows of "and" and of variables. Rules 3 and 7 move rows, 4 and 8 columns.
 ghost use Rattle.std.specs.Prelude.{◌≡◌, ℕ, ◌<◌, true, length};
 ghost use mathlib.Core.List.{Memᴰ};
-
 ghost use Rattle.subsumption.specs.Tables.{count_of};
 ghost use Rattle.subsumption.specs.Atoms.{pick};
 ghost use Rattle.subsumption.specs.Inner.Columns.{Known, Common};

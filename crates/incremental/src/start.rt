@@ -1,6 +1,5 @@
 // Rules 1 and 2, which ask for no mark: an id is below itself, below each id of its own name, and below each top. One walk does them all.
 ghost use Rattle.std.specs.Prelude.{◌≡◌, ◌<◌, replicate};
-
 ghost use Rattle.subsumption.specs.Tables.{count_of};
 ghost use Rattle.subsumption.specs.Inner.Names.{Nameable};
 ghost use Rattle.square.specs.Inner.Square.{Square};

@@ -1,24 +1,24 @@
 -- Counting twins once: an assignment over the list with all copies solves exactly when a corresponding one over the atoms does.
-use Prim.Native.Nat.{ℕ, zero, suc, ◌^◌, ◌<◌, ◌≤◌}
+use Prim.Native.Nat.{ℕ, ◌<◌}
 use mathlib.Core.Path.{◌≡◌, refl, sym, ap, ◌∙◌, subst}
 use mathlib.Core.List.Memᴰ
 use mathlib.Core.List.{List, Memᴰ}
-use mathlib.Core.Bool.{Bool, true, false}
+use mathlib.Core.Bool.{Bool, true}
 use mathlib.Core.Logic.{◌↔◌, ⊎_elim}
 use native.Mathlib.Omega.{arith}
 use lib.ListN.{length, get_or, get_or-eq_default}
 use Rattle.subsumption.specs.declared.refusal.Outcome.TheVariants.{Done}
 use Rattle.subsumption.specs.Tables.{Tables, both, any_below, count_of, left_of, right_of, Concept, tree}
-use Rattle.subsumption.specs.Atoms.{stands, twin, keep, atoms, bit, pick, chosen}
+use Rattle.subsumption.specs.Atoms.{stands, twin, atoms, bit, pick, chosen}
 use Rattle.subsumption.specs.Subsumption.{Interpretation, Reading, Member, no_variables}
 use Rattle.subsumption.specs.Check.{assignment_fault_at, assignment_fault}
 use Rattle.subsumption.proofs.Bools.{both_true, both-intro, any_below-intro, any_below-elim, le-or-lt}
 use Rattle.subsumption.proofs.Bits.{bit-of-zero}
-use Rattle.subsumption.proofs.Keep.{Kept, keep-member, keep-intro}
+use Rattle.subsumption.proofs.Keep.{keep-member, keep-intro}
 use Rattle.subsumption.proofs.TwinLaws.{twin-same, same-twin}
-use Rattle.subsumption.proofs.AtomLaws.{AtomOf, atom-of, atom-stands}
-use Rattle.subsumption.proofs.Chosen.{Picked, pick-member, pick_intro, get_or-member}
-use Rattle.matching.specs.Solving.{Solved, Solves}
+use Rattle.subsumption.proofs.AtomLaws.{atom-of, atom-stands}
+use Rattle.subsumption.proofs.Chosen.{pick-member, pick_intro, get_or-member}
+use Rattle.matching.specs.Solving.{Solved}
 use Rattle.matching.specs.Twins.{copies, chosen_before, FilledBefore, FilledNow, ConceptsIn, Corresponds, TwinsCountOnce}
 use Rattle.matching.proofs.SubstitutionLaws.Readings.{member-reads}
 use Rattle.matching.proofs.SubstitutionLaws.Assigning.{assignment_to, assignment_to-accepted, assignment_to-bit, assignment_to-length, accepted-length}

@@ -2,13 +2,12 @@
 use Prim.Native.Nat.{ℕ, zero, suc, ◌+◌, ◌-◌, ◌*◌, ◌<◌, ◌≤◌}
 use mathlib.Core.Path.{◌≡◌, refl, sym, ap, ◌∙◌, subst}
 use mathlib.Core.List.{List, [], ◌∷◌, ◌++◌}
-use mathlib.Core.Bool.{Bool, true, false}
+use mathlib.Core.Bool.{true}
 use native.Mathlib.Omega.{arith}
 use native.Mathlib.Numerals.{add-one}
-use lib.Dec.{eqb, ltb}
+use lib.Dec.{ltb}
 use lib.ListN.{length, get_or, take, drop, set, length-set, length-take, length-drop}
-use lib.Seq.{get_or-set_same, get_or-set_other, drop-set-add, take-set-le, take-suc-set, take-suc, get_or-drop}
-use borrow.Author.Tests.{lt-ltb, le-ltb}
+use lib.Seq.{get_or-set_same, get_or-set_other, drop-set-add, take-set-le, take-suc-set}
 use Rattle.subsumption.specs.declared.refusal.Refusal.{Refusal}
 use Rattle.subsumption.specs.declared.refusal.Refusal.TheVariants.{BadSyntax}
 use Rattle.owl.specs.declared.words.Word.{Word}
@@ -17,8 +16,8 @@ use Rattle.owl.specs.declared.frames.Reader.{Reader}
 use Rattle.owl.specs.declared.frames.Next.{Next}
 use Rattle.owl.specs.declared.frames.Next.TheVariants.{Go, Stop}
 use Rattle.owl.specs.Tokens.{opening}
-use Rattle.owl.specs.Judgement.{Kind, subclass, meet, exist, Frame, Want, item, bracket, role, State, Step, go, stop, first, opened, roled, joins, room_by, has_room, of_role, item_step, bracket_step, role_step, step_on, step}
-use Rattle.owl.specs.Inner.Frames.{kind_of, want_of, between, start_of, frame_of, frames_of, state_of, Nested, Bounds, Fits, Holds, NextOf, waiting, room_at, FirstOf, TellsRoom, Opens, Roles}
+use Rattle.owl.specs.Judgement.{exist, Frame, Want, item, State, Step, go, stop, first, opened, roled, joins, room_by, has_room, of_role, item_step, bracket_step, role_step, step_on, step}
+use Rattle.owl.specs.Inner.Frames.{kind_of, want_of, between, start_of, frame_of, frames_of, state_of, Nested, Fits, NextOf, waiting, room_at, FirstOf, TellsRoom, Opens, Roles}
 
 -- ---- parts of a list
 pub between-length : (start end : ℕ) (l : List ℕ) → end ≤ length l → length (between start end l) ≡ end - start

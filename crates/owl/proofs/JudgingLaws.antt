@@ -1,10 +1,10 @@
 -- The judgement, token by token.
-use Prim.Native.Nat.{ℕ, zero, suc, ◌+◌, ◌-◌, ◌*◌, ◌<◌, ◌≤◌}
+use Prim.Native.Nat.{ℕ, zero, suc, ◌-◌, ◌<◌, ◌≤◌}
 use mathlib.Core.Path.{◌≡◌, refl, sym, ap, ◌∙◌, subst}
 use mathlib.Core.List.{List, [], ◌∷◌}
 use mathlib.Core.Bool.{Bool, true, false, not}
 use native.Mathlib.Omega.{arith}
-use lib.Dec.{eqb, ltb}
+use lib.Dec.{ltb}
 use lib.ListN.{length, get_or, take, drop, drop_of_length-le, length-take, length-drop}
 use borrow.Author.Tests.{lt-ltb, le-ltb, eq-eqb, ne_eqb, not-true, not-false}
 use Rattle.subsumption.specs.declared.refusal.Refusal.{Refusal}
@@ -17,10 +17,10 @@ use Rattle.owl.specs.declared.frames.Next.{Next}
 use Rattle.owl.specs.declared.frames.Next.TheVariants.{Go, Stop}
 use Rattle.owl.specs.Tokens.{Token, opening, closing, word, Placed, is_space, is_bracket, bracket_of, tokens_from}
 use Rattle.owl.specs.Words.{read_word}
-use Rattle.owl.specs.Judgement.{Kind, subclass, meet, exist, Frame, Want, item, bracket, role, State, Step, go, stop, go_if, keyed, closed, has_room, begun, outside, of_role, item_step, bracket_step, role_step, step_on, step, ended, onward, run, start, judge}
+use Rattle.owl.specs.Judgement.{Kind, subclass, meet, exist, Frame, Want, item, bracket, role, State, Step, go, stop, go_if, keyed, closed, begun, outside, item_step, bracket_step, role_step, step_on, step, ended, onward, run, start, judge}
 use Rattle.owl.specs.Inner.Tokens.{Skips, Ends, token_of, token_at}
-use Rattle.owl.specs.Inner.Frames.{want_of, frames_of, frame_of, start_of, state_of, Nested, Bounds, Fits, Holds, NextOf, waiting, room_at, TellsRoom, Opens, Roles, Starts, Closes, Begins, word_step}
-use Rattle.owl.specs.Inner.Judging.{deep_next, FitsSomehow, StepsOnWord, ShutsFrame, Steps, EndsText, Judged}
+use Rattle.owl.specs.Inner.Frames.{want_of, frames_of, start_of, state_of, Fits, NextOf, waiting, TellsRoom, Opens, Roles, Starts, Closes, Begins, word_step}
+use Rattle.owl.specs.Inner.Judging.{deep_next, StepsOnWord, ShutsFrame, Steps, EndsText, Judged}
 use Rattle.owl.proofs.FrameLaws.{frames-count, top_frame, top-nested, stops, goes, waits}
 
 -- ---- a word between axioms

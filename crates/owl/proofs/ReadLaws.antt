@@ -2,10 +2,8 @@
 use Prim.Native.Nat.{ℕ, suc, ◌+◌, ◌*◌, ◌/◌, ◌<◌, ◌≤◌}
 use mathlib.Core.Path.{◌≡◌, refl, sym, ap, ◌∙◌, subst}
 use mathlib.Core.List.{List, [], ◌∷◌, ◌++◌, append_assoc}
-use mathlib.Core.Bool.{true, false}
 use native.Mathlib.Omega.{arith}
 use native.Mathlib.Numerals.{add-one}
-use lib.Dec.{ltb}
 use lib.ListN.{length, get_or, take, drop, set, length-set}
 use lib.Seq.{take-suc, take_all, drop-cons, set_at, length-take-le}
 use borrow.Author.Tests.{lt-ltb, le-ltb}
@@ -21,7 +19,7 @@ use Rattle.owl.specs.declared.frames.Next.TheVariants.{Go, Stop}
 use Rattle.owl.specs.declared.read.Catalogue.{Catalogue}
 use Rattle.owl.specs.declared.read.Catalogue.TheVariants.{Tables, Rejected}
 use Rattle.owl.specs.Judgement.{State, Step, go, stop, judge}
-use Rattle.owl.specs.Read.{CatalogueReply, refused_reply, catalogue_reply, catalogue_fault, in_front, Put, Kept, ReadsBy, reading_of, ReadsCatalogue}
+use Rattle.owl.specs.Read.{refused_reply, catalogue_reply, catalogue_fault, in_front, Put, ReadsBy, reading_of, ReadsCatalogue}
 use Rattle.owl.specs.Inner.Frames.{Fits, NextOf}
 use Rattle.owl.specs.Inner.Judging.{Judged}
 

@@ -4,15 +4,13 @@ use mathlib.Core.Path.{◌≡◌, refl, sym, ap, ◌∙◌}
 use mathlib.Core.List.{List, [], ◌∷◌, ◌++◌, append_assoc, append-nil}
 use native.Mathlib.Omega.{arith}
 use native.Mathlib.Numerals.{add-one}
-use lib.Dec.{ltb}
-use lib.ListN.{length, get_or, take, drop, set, length-append, length-set}
+use lib.ListN.{length, get_or, take, set, length-append, length-set}
 use lib.Seq.{length-take-le, drop-cons}
 use borrow.Author.Tests.{lt-ltb, le-ltb}
 use Rattle.subsumption.specs.declared.refusal.Refusal.TheVariants.{Limit}
 use Rattle.subsumption.specs.Tables.{count_of}
 use Rattle.subsumption.proofs.Lists.{take-three}
 use Rattle.owl.specs.declared.frames.Reader.{Reader}
-use Rattle.owl.specs.declared.frames.Next.{Next}
 use Rattle.owl.specs.declared.frames.Next.TheVariants.{Go, Stop}
 use Rattle.owl.specs.Judgement.{item, State, Step, go, stop, go_if, joins, closed, pair_rows, meet_rows}
 use Rattle.owl.specs.Inner.Frames.{between, frames_of, state_of, Fits, NextOf, Closes}

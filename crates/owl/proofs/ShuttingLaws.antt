@@ -1,22 +1,19 @@
 -- Closing brackets.
-use Prim.Native.Nat.{ℕ, zero, suc, ◌+◌, ◌-◌, ◌*◌, ◌<◌, ◌≤◌}
+use Prim.Native.Nat.{ℕ, ◌+◌, ◌-◌, ◌*◌, ◌<◌, ◌≤◌}
 use mathlib.Core.Path.{◌≡◌, refl, sym, ap, ◌∙◌, subst}
-use mathlib.Core.List.{List, [], ◌∷◌, ◌++◌, append-nil}
-use mathlib.Core.Bool.{Bool, true, false}
+use mathlib.Core.List.{List, [], ◌∷◌, ◌++◌}
 use native.Mathlib.Omega.{arith}
-use lib.Dec.{eqb, ltb}
-use lib.ListN.{length, get_or, take, drop, set, length-set}
+use lib.ListN.{length, get_or, take, set, length-set}
 use lib.Seq.{length-take-le}
 use borrow.Author.Tests.{lt-ltb, le-ltb, eq-eqb, ne_eqb}
-use Rattle.subsumption.specs.declared.refusal.Refusal.{Refusal}
 use Rattle.subsumption.specs.declared.refusal.Refusal.TheVariants.{BadSyntax, Limit}
 use Rattle.subsumption.specs.Tables.{count_of}
 use Rattle.owl.specs.declared.frames.Reader.{Reader}
 use Rattle.owl.specs.declared.frames.Next.{Next}
 use Rattle.owl.specs.declared.frames.Next.TheVariants.{Go, Stop}
 use Rattle.owl.specs.Tokens.{closing}
-use Rattle.owl.specs.Judgement.{Kind, subclass, meet, exist, Frame, item, State, Step, go, stop, go_if, closed, meet_rows, shut_by, shut, item_step}
-use Rattle.owl.specs.Inner.Frames.{kind_of, between, start_of, frame_of, frames_of, state_of, Nested, Bounds, Fits, NextOf, Closes, closing-frame, Shuts, ShutsAxiom, ShutsClass}
+use Rattle.owl.specs.Judgement.{Kind, subclass, meet, exist, item, State, Step, go, go_if, closed, meet_rows, shut_by, shut, item_step}
+use Rattle.owl.specs.Inner.Frames.{kind_of, between, frame_of, frames_of, state_of, Nested, Bounds, Fits, NextOf, Closes, closing-frame, ShutsAxiom, ShutsClass}
 use Rattle.owl.specs.Inner.Rows.{Paired}
 use Rattle.owl.specs.Inner.Judging.{ShutsFrame}
 use Rattle.owl.proofs.FrameLaws.{between-length, top_frame, top-nested, kind-exist, same-state, stops, goes}

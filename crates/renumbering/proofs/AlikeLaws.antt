@@ -2,13 +2,13 @@
 use Prim.Native.Nat.{ℕ, zero, suc, ◌<◌, ◌≤◌}
 use mathlib.Core.Path.{◌≡◌, refl, sym, ap, ◌∙◌, subst}
 use mathlib.Core.List.Memᴰ
-use mathlib.Core.List.{List, ◌∷◌, Memᴰ}
+use mathlib.Core.List.{List, Memᴰ}
 use mathlib.Core.Bool.{Bool, true, false, not}
 use mathlib.Core.Logic.{⊎_elim}
 use native.Mathlib.Omega.{arith}
 use lib.ListN.{length, get_or}
 use Rattle.subsumption.specs.Tables.{Tables, or, Node, top_at, name_at, exists_at, and_at, var_at, node, count_of, pairs_of, left_of, right_of, Concept, top, name, exists, and, var, tree, has_variable}
-use Rattle.subsumption.specs.Atoms.{occurs, is_atomic, in_inclusion, in_question, stands, is_lowest, is_atom, keep, atoms}
+use Rattle.subsumption.specs.Atoms.{occurs, is_atomic, in_inclusion, in_question, stands, is_lowest, is_atom, atoms}
 use Rattle.subsumption.specs.Subsumption.{Interpretation, Member, no_variables, assigned, Obeys, Subsumed}
 use Rattle.subsumption.specs.Table.{one, counted, total}
 use Rattle.subsumption.specs.Inner.Tables.{Rising}

@@ -3,7 +3,7 @@ use Prim.Native.Nat.{ℕ, ◌<◌}
 use mathlib.Core.Path.{sym}
 use mathlib.Core.List.{List}
 use native.Mathlib.Omega.{arith}
-use Rattle.subsumption.specs.Tables.{Tables, tables, count_of}
+use Rattle.subsumption.specs.Tables.{Tables, count_of}
 use Rattle.subsumption.specs.Table.{TableOf}
 use Rattle.subsumption.proofs.Bools.{same_bool}
 use Rattle.renumbering.specs.Order.{new_id}

@@ -1,6 +1,5 @@
 // Rows and pairs with their ids replaced.
 ghost use Rattle.std.specs.Prelude.{◌≡◌, ◌++◌, ◌≤◌, ◌<◌, length, drop};
-
 ghost use Rattle.subsumption.specs.Tables.{count_of, decode};
 ghost use Rattle.subsumption.specs.Check.{forward};
 ghost use Rattle.renumbering.specs.Order.{moved_ids};

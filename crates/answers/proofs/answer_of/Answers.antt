@@ -1,4 +1,3 @@
-use native.Mathlib.Omega.{arith}
 use Rattle.answers.proofs.AnswerLaws.{by-done, by_code}
 use Rattle.answers.proofs.answer_of.Goals as goal
 

@@ -1,4 +1,3 @@
-use native.Mathlib.Omega.{arith}
 use Rattle.subsumption.specs.Variables.{variables_reply}
 use Rattle.answers.proofs.AnswerLaws.{same_answer}
 use Rattle.answers.proofs.blanks.Goals as goal

@@ -1,4 +1,3 @@
-use native.Mathlib.Omega.{arith}
 use mathlib.Core.Path.{sym, ap, ◌∙◌}
 use Rattle.subsumption.specs.Decide.{decision_reply}
 use Rattle.answers.proofs.decided.Goals as goal

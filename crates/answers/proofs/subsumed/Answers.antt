@@ -1,4 +1,3 @@
-use native.Mathlib.Omega.{arith}
 use mathlib.Core.List.{[]}
 use Rattle.subsumption.specs.Tables.{tables}
 use Rattle.answers.proofs.AnswerLaws.{decides-as}

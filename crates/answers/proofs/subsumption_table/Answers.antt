@@ -1,4 +1,3 @@
-use native.Mathlib.Omega.{arith}
 use Rattle.subsumption.specs.Tables.{tables}
 use Rattle.answers.proofs.AnswerLaws.{wrote_as}
 use Rattle.answers.proofs.subsumption_table.Goals as goal

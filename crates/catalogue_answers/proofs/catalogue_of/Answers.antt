@@ -1,6 +1,4 @@
-use native.Mathlib.Omega.{arith}
 use Rattle.catalogue_answers.proofs.AnswerLaws.{counts-told, refusal-told}
-use Rattle.catalogue_answers.proofs.catalogue_of.Lts as lts
 use Rattle.catalogue_answers.proofs.catalogue_of.Goals as goal
 
 -- src/lib.rt:422:1

@@ -1,6 +1,4 @@
-use native.Mathlib.Omega.{arith}
 use Rattle.catalogue_answers.proofs.AnswerLaws.{reads_as}
-use Rattle.catalogue_answers.proofs.read_owl.Lts as lts
 use Rattle.catalogue_answers.proofs.read_owl.Goals as goal
 
 -- src/lib.rt:447:1

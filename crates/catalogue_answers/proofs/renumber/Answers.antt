@@ -1,4 +1,3 @@
-use native.Mathlib.Omega.{arith}
 use Rattle.catalogue_answers.proofs.AnswerLaws.{renumbers-as}
 use Rattle.catalogue_answers.proofs.renumber.Goals as goal
 

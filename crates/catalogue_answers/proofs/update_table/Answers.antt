@@ -1,4 +1,3 @@
-use native.Mathlib.Omega.{arith}
 use Rattle.subsumption.specs.Tables.{tables}
 use Rattle.catalogue_answers.proofs.AnswerLaws.{updates-as}
 use Rattle.catalogue_answers.proofs.update_table.Goals as goal

@@ -7,7 +7,7 @@ use native.Mathlib.Omega.{arith}
 use lib.ListN.{length, get_or, set, replicate, length-set, length-replicate, get_or-replicate, get_or-eq_default}
 use lib.Seq.{get_or-set_same, get_or-set_other}
 use Rattle.subsumption.proofs.Bools.{last-cases, eq-or-ne, le-or-lt}
-use Rattle.countermodel.specs.Rows.{rows_of, at}
+use Rattle.countermodel.specs.Rows.{rows_of}
 use Rattle.countermodel.specs.Inner.Membership.{LowRows, stretch_of, Stretches}
 
 -- the rows below p are in their ends

@@ -1,7 +1,6 @@
 // Membership of an element in a concept, and the walk over its links, which call each other. What falls is the id, plus 192 where the
 // concept holds a variable. A memo of every element and id keeps the walk from being exponential.
 ghost use Rattle.std.specs.Prelude.{◌≡◌, ◌<◌, length, set};
-
 ghost use Rattle.subsumption.specs.Tables.{count_of, exists, tree};
 ghost use Rattle.countermodel.specs.Inner.Membership.{LowRows, Stretches, Walkable, Right, noted, Remembers, Walked, IsIn, IsInAll, Bears};
 

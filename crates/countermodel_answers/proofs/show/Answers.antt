@@ -1,4 +1,3 @@
-use native.Mathlib.Omega.{arith}
 use Rattle.subsumption.specs.Tables.{tables}
 use Rattle.countermodel_answers.proofs.AnswerLaws.{shows-as}
 use Rattle.countermodel_answers.proofs.show.Goals as goal

@@ -1,4 +1,3 @@
-use native.Mathlib.Omega.{arith}
 use Rattle.subsumption.specs.Tables.{tables}
 use Rattle.derivation_answers.proofs.AnswerLaws.{derives-as}
 use Rattle.derivation_answers.proofs.derive.Goals as goal

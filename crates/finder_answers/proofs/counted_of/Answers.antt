@@ -1,4 +1,3 @@
-use native.Mathlib.Omega.{arith}
 use Rattle.finder_answers.proofs.AnswerLaws.{count-told, count-refused}
 use Rattle.finder_answers.proofs.counted_of.Goals as goal
 

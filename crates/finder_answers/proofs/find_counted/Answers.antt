@@ -1,4 +1,3 @@
-use native.Mathlib.Omega.{arith}
 use Rattle.subsumption.specs.Tables.{tables}
 use Rattle.settings.specs.Settings.{settings}
 use Rattle.finder_answers.proofs.AnswerLaws.{counted-as}

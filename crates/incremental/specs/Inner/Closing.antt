@@ -1,7 +1,7 @@
 -- Rounds of all the rules until nothing changes (src/closing.rt).
-use Rattle.std.specs.Prelude.{ℕ, ◌<◌, ◌≤◌, ◌≡◌, List, Bool, true, length}
-use Rattle.subsumption.specs.Tables.{count_of, pairs_of}
-use Rattle.square.specs.Inner.Square.{in_row, Square}
+use Rattle.std.specs.Prelude.{ℕ, List, Bool}
+use Rattle.subsumption.specs.Tables.{count_of}
+use Rattle.square.specs.Inner.Square.{in_row}
 use Rattle.incremental.specs.Inner.Lines.{MeetLines, LinkLines, Lines}
 use Rattle.incremental.specs.Inner.Rows.{RowLines}
 use Rattle.incremental.specs.Inner.Start.{Grown}

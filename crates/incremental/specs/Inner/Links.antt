@@ -1,10 +1,9 @@
 -- Rule 5 (src/links.rt): existentials by inner id and by role, unions of sets, and the lines.
-use Rattle.std.specs.Prelude.{ℕ, ◌+◌, ◌*◌, ◌<◌, ◌≤◌, ◌≡◌, List, Bool, true, ◌⊎◌, length}
+use Rattle.std.specs.Prelude.{ℕ, ◌+◌, ◌*◌, ◌<◌, ◌≡◌, List, Bool, true, ◌⊎◌, length}
 use Rattle.subsumption.specs.Tables.{exists_at, node, count_of}
 use Rattle.subsumption.specs.Atoms.{bit}
 use Rattle.subsumption.specs.Inner.Roles.{in_set}
 use Rattle.square.specs.Inner.Square.{on_line, in_row}
-use Rattle.incremental.specs.Inner.Marking.{InThree}
 use Rattle.incremental.specs.Inner.Lines.{LinkAt, LinkLines}
 use Rattle.incremental.specs.Inner.Including.{is_in}
 use Rattle.incremental.specs.Inner.Pass.{Pass}

@@ -1,8 +1,8 @@
 -- Rules 3, 6 and 7, at rows (src/rows.rt).
-use Rattle.std.specs.Prelude.{ℕ, ◌<◌, List, Bool}
-use Rattle.subsumption.specs.Tables.{node, count_of}
+use Rattle.std.specs.Prelude.{ℕ, List, Bool}
+use Rattle.subsumption.specs.Tables.{count_of}
 use Rattle.square.specs.Inner.Square.{in_row}
-use Rattle.incremental.specs.Inner.Lines.{InnerAt, InnerLines, IncludeAt, IncludeLines}
+use Rattle.incremental.specs.Inner.Lines.{InnerLines, IncludeLines}
 use Rattle.incremental.specs.Inner.Pass.{Pass}
 
 abbrev pub RowLines : List ℕ → List ℕ → (ℕ → List ℕ) → (ℕ → ℕ → Bool) → Type 0

@@ -1,5 +1,5 @@
 -- The lines at rows of "and" and of variables (src/settling.rt).
-use Rattle.std.specs.Prelude.{ℕ, ◌<◌, ◌≤◌, ◌≡◌, Bool, true, length, get_or}
+use Rattle.std.specs.Prelude.{ℕ, ◌<◌, ◌≤◌, Bool, length, get_or}
 use mathlib.Core.List.{List, Memᴰ}
 use Rattle.subsumption.specs.Tables.{node, count_of}
 use Rattle.subsumption.specs.Atoms.{pick}

@@ -1,5 +1,5 @@
 -- Rules 1 and 2 (src/start.rt): the sets of the ids of a name, and the marks that ask for none.
-use Rattle.std.specs.Prelude.{ℕ, ◌+◌, ◌*◌, ◌<◌, ◌≡◌, List, Bool, true, length}
+use Rattle.std.specs.Prelude.{ℕ, ◌*◌, ◌<◌, ◌≡◌, List, Bool, true, length}
 use Rattle.subsumption.specs.Tables.{name_at, top_at, node, count_of}
 use Rattle.square.specs.Inner.Square.{on_line, in_row, Square}
 use Rattle.incremental.specs.Inner.Lines.{StartLines}

@@ -1,15 +1,14 @@
 -- A written derivation has no more lines than the subsumption table has marks.
-use Prim.Native.Nat.{ℕ, suc, ◌+◌, ◌*◌, ◌/◌, ◌<◌, ◌≤◌}
-use mathlib.Core.Path.{◌≡◌, sym, ap, ◌∙◌, subst}
+use Prim.Native.Nat.{ℕ, suc, ◌+◌, ◌*◌, ◌<◌, ◌≤◌}
+use mathlib.Core.Path.{◌≡◌, sym, ◌∙◌}
 use mathlib.Core.List.{List}
 use mathlib.Core.Bool.{true, not}
 use native.Mathlib.Omega.{arith}
-use lib.ListN.{length, get_or, take}
+use lib.ListN.{take}
 use lib.Seq.{get_or-take, length-take-le}
 use borrow.Author.Tests.{ltb-true, not-false}
 use Rattle.subsumption.specs.declared.refusal.Outcome.TheVariants.{Done}
 use Rattle.subsumption.specs.Tables.{Tables, count_of}
-use Rattle.subsumption.specs.Subsumption.{Subsumed}
 use Rattle.subsumption.specs.Rules.{follows}
 use Rattle.subsumption.specs.Table.{marked, marks_in, TableOf}
 use Rattle.subsumption.specs.Check.{table_fault}

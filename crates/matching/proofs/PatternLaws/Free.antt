@@ -7,7 +7,7 @@ use Rattle.subsumption.specs.Tables.{Tables, top_at, name_at, var_at, node, coun
 use Rattle.subsumption.specs.Atoms.{chosen}
 use Rattle.matching.specs.Inner.Search.Problem.{FreeId}
 use Rattle.subsumption.proofs.WellFormed.{WellFormed}
-use Rattle.subsumption.proofs.Inward.{Inward, Ground, ground-inward, below-inward}
+use Rattle.subsumption.proofs.Inward.{Inward, ground-inward, below-inward}
 use Rattle.subsumption.proofs.Trees.{variable-top, variable-name, variable-var}
 use Rattle.subsumption.proofs.Chosen.{chosen-known, chosen-ground}
 

@@ -12,7 +12,7 @@ use borrow.Author.Tests.{lt-ltb, le-ltb}
 use Rattle.subsumption.specs.declared.refusal.Outcome.TheVariants.{Done}
 use Rattle.subsumption.specs.Tables.{Tables, both, any_below, Node, top_at, name_at, exists_at, and_at, var_at, node, count_of, pairs_of, left_of, right_of, Concept, tree, has_variable}
 use Rattle.subsumption.specs.Atoms.{occurs, is_atomic, in_inclusion, in_question, stands, atoms, bit, chosen}
-use Rattle.subsumption.specs.Subsumption.{Linked, Interpretation, Included, no_variables, assigned, Obeys, SubsumedBy, Subsumed}
+use Rattle.subsumption.specs.Subsumption.{Interpretation, Included, no_variables, assigned, Obeys, SubsumedBy, Subsumed}
 use Rattle.subsumption.specs.Rules.{every}
 use Rattle.subsumption.specs.Check.{table_fault, assignment_fault}
 use Rattle.subsumption.proofs.Bools.{or-first, or-second, both_true, both-intro, any_below-intro, any_below-elim, le-or-lt}

@@ -1,6 +1,5 @@
 // The eight rules of a derivation line, tested against marked pairs. Private to the crate.
 ghost use Rattle.std.specs.Prelude.{◌≡◌, ◌<◌, ◌≤◌, eqb, ltb, length, get_or};
-
 ghost use Rattle.subsumption.specs.Tables.{or, both, count_of, pairs_of, left_of, right_of};
 ghost use Rattle.subsumption.specs.Atoms.{pick};
 ghost use Rattle.subsumption.specs.Inner.Atoms.{Known};

@@ -1,6 +1,5 @@
 // Sets of ids as three words: walking through one, joining and meeting.
 ghost use Rattle.std.specs.Prelude.{◌≡◌, ℕ, ◌+◌, ◌<◌, ◌≤◌, length};
-
 ghost use Rattle.subsumption.specs.Tables.{both};
 ghost use Rattle.matching.specs.Inner.Search.Problem.{fit_at};
 ghost use Rattle.matching.specs.Inner.Search.Sets.{in_words, NextBit, NextIn, Same, Joined, Compared, PutAt};

@@ -1,6 +1,5 @@
 // The search for a pair that follows from marked pairs, with its rule and extra. Private to the crate.
 ghost use Rattle.std.specs.Prelude.{◌<◌, ◌≤◌, ◌≡◌, length};
-
 ghost use Rattle.subsumption.specs.Tables.{count_of, pairs_of};
 ghost use Rattle.subsumption.specs.Inner.Sizes.{roles_size};
 ghost use Rattle.matching.specs.Inner.Derivation.{Square};

@@ -1,4 +1,3 @@
-use native.Mathlib.Omega.{arith}
 use Rattle.matching.specs.Chosen.{chosen_reply}
 use Rattle.answers.proofs.AnswerLaws.{same_answer}
 use Rattle.matching_answers.proofs.chosen.Goals as goal

@@ -1,4 +1,3 @@
-use native.Mathlib.Omega.{arith}
 use Rattle.subsumption.specs.Tables.{tables}
 use Rattle.matching_answers.proofs.AnswerLaws.{finds-as}
 use Rattle.matching_answers.proofs.find.Goals as goal

@@ -1,4 +1,3 @@
-use native.Mathlib.Omega.{arith}
 use mathlib.Core.Path.{sym, ap, ◌∙◌}
 use Rattle.matching.specs.Find.{match_reply}
 use Rattle.matching_answers.proofs.matched.Goals as goal

@@ -1,7 +1,6 @@
 -- The state of the judgement as the code holds it (src/frames.rt): three numbers a frame (kind, role, where its members start), the
 -- members' ids of all frames one behind the other, and the tables so far in front of their buffers.
 use Rattle.std.specs.Prelude.{ℕ, zero, suc, ◌+◌, ◌-◌, ◌*◌, ◌<◌, ◌≤◌, ◌≡◌, List, [], ◌∷◌, Bool, length, get_or, take, drop}
-use Rattle.subsumption.specs.declared.refusal.Refusal.{Refusal}
 use Rattle.owl.specs.declared.words.Word.{Word}
 use Rattle.owl.specs.declared.frames.Reader.{Reader}
 use Rattle.owl.specs.declared.frames.Next.{Next}

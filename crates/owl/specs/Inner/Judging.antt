@@ -6,9 +6,9 @@ use Rattle.owl.specs.declared.words.Word.TheVariants.{AxiomKey, TopKey, AndKey, 
 use Rattle.owl.specs.declared.frames.Reader.{Reader}
 use Rattle.owl.specs.declared.frames.Next.{Next}
 use Rattle.owl.specs.declared.frames.Next.TheVariants.{Stop}
-use Rattle.owl.specs.Tokens.{Token, Placed, closing}
-use Rattle.owl.specs.Judgement.{State, Step, item_step, step, ended, judge}
-use Rattle.owl.specs.Inner.Frames.{state_of, frames_of, Fits, NextOf, word_step}
+use Rattle.owl.specs.Tokens.{Token, closing}
+use Rattle.owl.specs.Judgement.{item_step, step, ended, judge}
+use Rattle.owl.specs.Inner.Frames.{state_of, Fits, NextOf, word_step}
 
 -- a word in the innermost frame where a class would be too deep
 unfoldable pub deep_next : Word → ℕ → Next

@@ -1,5 +1,4 @@
 use mathlib.Core.Path.{sym, ◌∙◌}
-use native.Mathlib.Omega.{arith}
 use Rattle.matching.proofs.WithinLaws.{settings-known}
 use Rattle.allowance.proofs.AnswerLaws.{ids-few, settings-refuse}
 use Rattle.allowance.proofs.find.find_known.Goals as goal

@@ -1,4 +1,3 @@
-use native.Mathlib.Omega.{arith}
 use Rattle.subsumption.proofs.Accepted.{well_formed}
 use Rattle.allowance.proofs.AnswerLaws.{buffer-refuses, counted-filled, counted-spent, counted_none}
 use Rattle.allowance.proofs.find.find_set.Goals as goal

@@ -1,5 +1,4 @@
 use mathlib.Core.Bool.{true, false}
-use native.Mathlib.Omega.{arith}
 use Rattle.allowance.proofs.KeptLaws.{tried-known}
 use Rattle.allowance.proofs.kept.holds.Goals as goal
 

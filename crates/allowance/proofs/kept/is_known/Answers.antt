@@ -1,4 +1,4 @@
-use Prim.Native.Nat.{◌+◌, ◌-◌, ◌*◌}
+use Prim.Native.Nat.{◌+◌, ◌*◌}
 use native.Mathlib.Omega.{arith}
 use Rattle.matching.proofs.SearchLaws.Nogoods.{words_long}
 use mathlib.Core.Path.{◌∙◌, ap}

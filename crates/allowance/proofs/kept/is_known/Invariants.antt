@@ -1,9 +1,4 @@
-use Prim.Native.Nat.{◌+◌, ◌-◌, ◌*◌}
-use native.Mathlib.Omega.{arith}
-use Rattle.matching.proofs.SearchLaws.Nogoods.{words_long}
-use mathlib.Core.Path.{◌∙◌, ap}
-use lib.ListN.{length}
-use Rattle.allowance.proofs.KeptLaws.{recalled-at}
+use Prim.Native.Nat.{◌-◌}
 use Rattle.allowance.proofs.kept.is_known.Given as goal
 
 abbrev pub invariant-loop-i : goal.invariant-loop-i

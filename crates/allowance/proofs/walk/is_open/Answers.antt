@@ -1,8 +1,6 @@
-use borrow.Author.Tests.{not-true, not-false}
 use mathlib.Core.Path.{refl}
 use native.Mathlib.Omega.{arith}
 use Rattle.allowance.proofs.WalkLaws.{outside-shut, over-shut, fewer-shut, more-decides}
-use borrow.Author.Rules.{rules}
 use Rattle.allowance.proofs.walk.is_open.Goals as goal
 
 pub returns-then-not-is_within : goal.returns-then-not-is_within

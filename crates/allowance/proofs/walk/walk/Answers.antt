@@ -1,11 +1,9 @@
 use borrow.Author.Tests.{not-true, not-false}
-use Prim.Native.Nat.{◌-◌, ◌≤◌}
-use mathlib.Core.Path.{◌≡◌, refl, sym, ◌∙◌}
+use mathlib.Core.Path.{refl, sym, ◌∙◌}
 use native.Mathlib.Omega.{arith}
-use lib.ListN.{length, replicate}
-use Rattle.allowance.proofs.OrderLaws.{ahead}
+use lib.ListN.{replicate}
 use Rattle.allowance.proofs.KeptLaws.{kept-none}
-use Rattle.allowance.proofs.WalkLaws.{read_off, Standing, standing-none, leave-standing, leave-read, leave-less, next-has, next-standing, next-read, next-less, Goes, goes_none, goes-leave, goes-next, walked-spent, walked-found, walked_none}
+use Rattle.allowance.proofs.WalkLaws.{standing-none, leave-standing, leave-read, leave-less, next-has, next-standing, next-read, next-less, goes_none, goes-leave, goes-next, walked-spent, walked-found, walked_none}
 use Rattle.allowance.proofs.walk.walk.Goals as goal
 
 pub loop-permitted-init : goal.loop-permitted-init

@@ -1,11 +1,8 @@
-use borrow.Author.Tests.{not-true, not-false}
 use Prim.Native.Nat.{◌-◌, ◌≤◌}
-use mathlib.Core.Path.{◌≡◌, refl, sym, ◌∙◌}
-use native.Mathlib.Omega.{arith}
-use lib.ListN.{length, replicate}
+use mathlib.Core.Path.{◌≡◌}
+use lib.ListN.{length}
 use Rattle.allowance.proofs.OrderLaws.{ahead}
-use Rattle.allowance.proofs.KeptLaws.{kept-none}
-use Rattle.allowance.proofs.WalkLaws.{read_off, Standing, standing-none, leave-standing, leave-read, leave-less, next-has, next-standing, next-read, next-less, Goes, goes_none, goes-leave, goes-next, walked-spent, walked-found, walked_none}
+use Rattle.allowance.proofs.WalkLaws.{read_off, Standing, Goes}
 use Rattle.allowance.proofs.walk.walk.Given as goal
 
 abbrev pub invariant-loop-permitted : goal.invariant-loop-permitted

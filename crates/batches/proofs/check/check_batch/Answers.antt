@@ -1,12 +1,7 @@
-use Prim.Native.Nat.{◌-◌, ◌≤◌}
-use mathlib.Core.Path.{◌≡◌, sym, ◌∙◌}
+use mathlib.Core.Path.{sym, ◌∙◌}
 use native.Mathlib.Omega.{arith}
-use lib.Dec.{ltb}
-use lib.ListN.{length, get_or}
 use borrow.Author.Tests.{lt-ltb, le-ltb}
-use Rattle.subsumption.specs.declared.refusal.Refusal.TheVariants.{BadBatch}
-use Rattle.subsumption.proofs.Scans.{Scan, scan-none, scan-more, scan-found, scan-done}
-use Rattle.batches.specs.Batch.{total}
+use Rattle.subsumption.proofs.Scans.{scan-none, scan-more, scan-found, scan-done}
 use Rattle.batches.proofs.BatchLaws.{too_many, other-shares, other-sum, shaped-goes-on}
 use Rattle.batches.proofs.check.check_batch.Goals as goal
 

@@ -1,7 +1,5 @@
-use Prim.Native.Nat.{◌*◌, ◌-◌, ◌≤◌}
-use mathlib.Core.Path.{◌≡◌, sym, ap, ◌∙◌}
+use mathlib.Core.Path.{sym, ap, ◌∙◌}
 use native.Mathlib.Omega.{arith}
-use lib.ListN.{length}
 use Rattle.batches.specs.Batch.{total}
 use Rattle.batches.proofs.BatchLaws.{total-none, total-more}
 use Rattle.batches.proofs.check.sum_of.Goals as goal

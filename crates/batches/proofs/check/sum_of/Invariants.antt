@@ -1,9 +1,7 @@
 use Prim.Native.Nat.{◌*◌, ◌-◌, ◌≤◌}
-use mathlib.Core.Path.{◌≡◌, sym, ap, ◌∙◌}
-use native.Mathlib.Omega.{arith}
+use mathlib.Core.Path.{◌≡◌}
 use lib.ListN.{length}
 use Rattle.batches.specs.Batch.{total}
-use Rattle.batches.proofs.BatchLaws.{total-none, total-more}
 use Rattle.batches.proofs.check.sum_of.Given as goal
 
 abbrev pub invariant-loop-k : goal.invariant-loop-k

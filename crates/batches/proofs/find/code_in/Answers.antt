@@ -1,4 +1,3 @@
-use native.Mathlib.Omega.{arith}
 use mathlib.Core.Path.{refl}
 use Rattle.batches.proofs.FindLaws.{filled-coded, refused-coded}
 use Rattle.batches.proofs.find.code_in.Goals as goal

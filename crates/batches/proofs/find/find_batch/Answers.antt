@@ -1,4 +1,3 @@
-use native.Mathlib.Omega.{arith}
 use mathlib.Core.Path.{sym, ◌∙◌}
 use Rattle.subsumption.specs.Tables.{tables}
 use Rattle.batches.proofs.RunLaws.{batch-ran, batch-refused}

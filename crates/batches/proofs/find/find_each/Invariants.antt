@@ -1,9 +1,7 @@
 use Prim.Native.Nat.{◌-◌}
-use native.Mathlib.Omega.{arith}
 use lib.ListN.{length}
 use Rattle.subsumption.specs.Tables.{tables}
-use Rattle.batches.proofs.BatchLaws.{few-tables, same_number, share-few, ends-within}
-use Rattle.batches.proofs.RunLaws.{RanTo, ran-none, used, ran-more, ran-all}
+use Rattle.batches.proofs.RunLaws.{RanTo}
 use Rattle.batches.proofs.find.find_each.Given as goal
 
 abbrev pub invariant-loop-k : goal.invariant-loop-k

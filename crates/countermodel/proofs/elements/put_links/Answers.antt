@@ -1,10 +1,6 @@
-use Prim.Native.Nat.{◌-◌, ◌+◌, ◌*◌, ◌≤◌}
 use mathlib.Core.Path.{refl, sym}
 use native.Mathlib.Omega.{arith}
-use Rattle.subsumption.specs.Tables.{count_of}
-use Rattle.subsumption.specs.Table.{marked}
-use Rattle.countermodel.specs.Inner.Show.{links_of}
-use Rattle.countermodel.proofs.PuttingLaws.{JoinedTo, joined-none, joined-more, joined-done}
+use Rattle.countermodel.proofs.PuttingLaws.{joined-none, joined-more, joined-done}
 use Rattle.countermodel.proofs.elements.put_links.Goals as goal
 
 pub note_roles-requires : goal.note_roles-requires
@@ -20,8 +16,7 @@ pub put_links_of-end-requires : goal.put_links_of-end-requires
 put_links_of-end-requires c = record { checked = c.requires.checked; into_len = c.note_roles.ensures.long; table_len = c.requires.table_len; i_bound = (omega arith, omega (arith, c.requires.checked.layered.few, c.requires.at_bound, c.loop-i.invariant.1)) }
 
 pub loop-i-preserved : goal.loop-i-preserved
-loop-i-preserved c =
-    (
+loop-i-preserved c = (
   omega arith,
   omega (arith, c.loop-i.invariant.1, c.put_links_of-end.ensures.upper_bound),
   joined-more _ _ _ _ _ _ c.loop-i.invariant.2 _ _ (c.put_links_of-end.ensures.for_roles _ c.note_roles.ensures),

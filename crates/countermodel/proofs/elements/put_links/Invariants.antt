@@ -1,10 +1,8 @@
 use Prim.Native.Nat.{◌-◌, ◌+◌, ◌*◌, ◌≤◌}
-use mathlib.Core.Path.{refl, sym}
-use native.Mathlib.Omega.{arith}
 use Rattle.subsumption.specs.Tables.{count_of}
 use Rattle.subsumption.specs.Table.{marked}
 use Rattle.countermodel.specs.Inner.Show.{links_of}
-use Rattle.countermodel.proofs.PuttingLaws.{JoinedTo, joined-none, joined-more, joined-done}
+use Rattle.countermodel.proofs.PuttingLaws.{JoinedTo}
 use Rattle.countermodel.proofs.elements.put_links.Given as goal
 
 abbrev pub invariant-loop-i : goal.invariant-loop-i

@@ -1,4 +1,3 @@
-use mathlib.Core.Path.{refl}
 use native.Mathlib.Omega.{arith}
 use Rattle.countermodel.proofs.PuttingLaws.{links-put}
 use Rattle.countermodel.proofs.elements.put_links_by.Goals as goal

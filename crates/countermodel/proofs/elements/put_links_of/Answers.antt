@@ -1,10 +1,6 @@
-use Prim.Native.Nat.{◌-◌, ◌+◌, ◌*◌, ◌≤◌}
-use mathlib.Core.Path.{◌≡◌, refl, ◌∙◌}
+use mathlib.Core.Path.{refl}
 use native.Mathlib.Omega.{arith}
-use lib.ListN.{length}
-use Rattle.subsumption.specs.Table.{marked}
-use Rattle.countermodel.specs.Inner.Show.{ForRoles, links_by}
-use Rattle.countermodel.proofs.PuttingLaws.{JoinedTo, joined-none, joined-more, joined-skip, joined-done}
+use Rattle.countermodel.proofs.PuttingLaws.{joined-none, joined-more, joined-skip, joined-done}
 use Rattle.countermodel.proofs.UsedLaws.{no-links}
 use Rattle.countermodel.proofs.elements.put_links_of.Goals as goal
 
@@ -24,8 +20,7 @@ pub put_links_by-end-requires : goal.put_links_by-end-requires
 put_links_by-end-requires c = record { checked = c.requires.checked; into_len = c.requires.into_len; table_len = c.requires.table_len; i_bound = (c.requires.i_bound.0, omega arith, omega (arith, c.requires.i_bound.1, c.loop-s.invariant)) }
 
 pub loop-s-preserved-then-used-role : goal.loop-s-preserved-then-used-role
-loop-s-preserved-then-used-role c =
-    (
+loop-s-preserved-then-used-role c = (
   omega arith,
   omega (arith, c.loop-s.invariant, c.put_links_by-end.ensures.upper_bound),
   omega (arith, c.loop-s.invariant.2),
@@ -33,8 +28,7 @@ loop-s-preserved-then-used-role c =
 )
 
 pub loop-s-preserved : goal.loop-s-preserved
-loop-s-preserved c =
-    (
+loop-s-preserved c = (
   omega arith,
   omega (arith, c.loop-s.invariant),
   c.loop-s.invariant.2,

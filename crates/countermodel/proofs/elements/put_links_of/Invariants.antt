@@ -1,11 +1,9 @@
 use Prim.Native.Nat.{◌-◌, ◌+◌, ◌*◌, ◌≤◌}
-use mathlib.Core.Path.{◌≡◌, refl, ◌∙◌}
-use native.Mathlib.Omega.{arith}
+use mathlib.Core.Path.{◌≡◌}
 use lib.ListN.{length}
 use Rattle.subsumption.specs.Table.{marked}
 use Rattle.countermodel.specs.Inner.Show.{ForRoles, links_by}
-use Rattle.countermodel.proofs.PuttingLaws.{JoinedTo, joined-none, joined-more, joined-skip, joined-done}
-use Rattle.countermodel.proofs.UsedLaws.{no-links}
+use Rattle.countermodel.proofs.PuttingLaws.{JoinedTo}
 use Rattle.countermodel.proofs.elements.put_links_of.Given as goal
 
 abbrev pub invariant-loop-s : goal.invariant-loop-s

@@ -1,9 +1,5 @@
-use Prim.Native.Nat.{◌-◌, ◌*◌, ◌≤◌}
 use native.Mathlib.Omega.{arith}
-use Rattle.subsumption.specs.Tables.{count_of}
-use Rattle.subsumption.specs.Table.{marked}
-use Rattle.countermodel.specs.Inner.Show.{names_of}
-use Rattle.countermodel.proofs.PuttingLaws.{JoinedTo, joined-none, joined-more, joined-done}
+use Rattle.countermodel.proofs.PuttingLaws.{joined-none, joined-more, joined-done}
 use Rattle.countermodel.proofs.elements.put_names.Goals as goal
 
 pub loop-i-init : goal.loop-i-init
@@ -13,8 +9,7 @@ pub put_names_of-end-requires : goal.put_names_of-end-requires
 put_names_of-end-requires c = let few = c.requires.checked.layered.few in record { checked = c.requires.checked; table_len = c.requires.table_len; i_bound = (omega arith, omega (arith, few, c.loop-i.invariant.1)) }
 
 pub loop-i-preserved : goal.loop-i-preserved
-loop-i-preserved c =
-    (
+loop-i-preserved c = (
   omega arith,
   omega (arith, c.loop-i.invariant.1, c.put_names_of-end.ensures.upper_bound),
   joined-more _ _ _ _ _ _ c.loop-i.invariant.2 _ _ c.put_names_of-end.ensures.put,

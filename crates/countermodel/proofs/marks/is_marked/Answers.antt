@@ -1,5 +1,3 @@
-use native.Mathlib.Omega.{arith}
-use borrow.Author.Rules.{rules}
 use Rattle.countermodel.proofs.NotingLaws.{mark-read}
 use Rattle.countermodel.proofs.marks.is_marked.Goals as goal
 

@@ -1,23 +1,13 @@
-use mathlib.Core.Path.{ap}
-use mathlib.Core.Bool.{not}
-use Prim.Native.Nat.{◌-◌}
-use mathlib.Core.Path.{◌≡◌}
 use native.Mathlib.Omega.{arith}
-use lib.ListN.{length, length-set}
-use borrow.Author.Tests.{not-true, not-false}
-use Rattle.subsumption.specs.Tables.{count_of}
-use Rattle.subsumption.specs.Table.{marked}
-use Rattle.countermodel.specs.Countermodel.{leads_to}
-use Rattle.countermodel.specs.Inner.Show.{ForRoles}
-use Rattle.countermodel.proofs.NotingLaws.{NotedTo, none-length, noted-none, noted-silent, noted-unmarked, noted_more, not-linked, not_wider, linked, role-low, inner-low, links-done}
+use lib.ListN.{length-set}
+use Rattle.countermodel.proofs.NotingLaws.{none-length, noted-none, noted-silent, noted-unmarked, noted_more, not-linked, not_wider, linked, role-low, inner-low, links-done}
 use Rattle.countermodel.proofs.marks.note_links.Goals as goal
 
 pub loop-j-init : goal.loop-j-init
 loop-j-init c = (none-length _ _ c.requires.links_value, λ roles R. noted-none _ _ _ _ _ _ c.requires.links_value)
 
 pub loop-j-preserved-then-row-ne2 : goal.loop-j-preserved-then-row-ne2
-loop-j-preserved-then-row-ne2 c =
-    (
+loop-j-preserved-then-row-ne2 c = (
   c.loop-j.invariant.0,
   λ roles R. noted-silent _ _ _ _ _ _ _ (c.loop-j.invariant.1 roles R) (omega arith) (not-linked _ _ _ c.row_at-row.ensures roles _ c.if-row-ne2.true),
 )
@@ -26,8 +16,7 @@ pub counts-requires : goal.counts-requires
 counts-requires c = record { into_len = c.requires.into_len; r_bound = (role-low _ _ _ c.row_at-row.ensures c.requires.checked c.if-row-ne2.false, c.requires.i_bound.1) }
 
 pub loop-j-preserved-then-not-counts : goal.loop-j-preserved-then-not-counts
-loop-j-preserved-then-not-counts c =
-    (
+loop-j-preserved-then-not-counts c = (
   c.loop-j.invariant.0,
   λ roles R.
       noted-silent _ _ _ _ _ _ _ (c.loop-j.invariant.1 roles R) (omega arith)
@@ -41,8 +30,7 @@ pub bounds-links-to : goal.bounds-links-to
 bounds-links-to c = omega (arith, inner-low _ _ _ c.row_at-row.ensures c.requires.checked (omega arith) c.if-row-ne2.false, c.loop-j.invariant.0)
 
 pub loop-j-preserved-then-is_marked : goal.loop-j-preserved-then-is_marked
-loop-j-preserved-then-is_marked c =
-    (
+loop-j-preserved-then-is_marked c = (
   simp length-set c.loop-j.invariant.0,
   λ roles R.
       noted_more _ _ _ _ _ _ _ (c.loop-j.invariant.1 roles R) (omega arith) _ c.is_marked.ensures c.if-is_marked.true _
@@ -51,8 +39,7 @@ loop-j-preserved-then-is_marked c =
 )
 
 pub loop-j-preserved : goal.loop-j-preserved
-loop-j-preserved c =
-    (
+loop-j-preserved c = (
   c.loop-j.invariant.0,
   λ roles R. noted-unmarked _ _ _ _ _ _ _ (c.loop-j.invariant.1 roles R) (omega arith) _ c.is_marked.ensures c.if-is_marked.false,
 )

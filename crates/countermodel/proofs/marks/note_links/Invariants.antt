@@ -1,13 +1,11 @@
 use Prim.Native.Nat.{◌-◌}
 use mathlib.Core.Path.{◌≡◌}
-use native.Mathlib.Omega.{arith}
-use lib.ListN.{length, length-set}
-use borrow.Author.Tests.{not-true, not-false}
+use lib.ListN.{length}
 use Rattle.subsumption.specs.Tables.{count_of}
 use Rattle.subsumption.specs.Table.{marked}
 use Rattle.countermodel.specs.Countermodel.{leads_to}
 use Rattle.countermodel.specs.Inner.Show.{ForRoles}
-use Rattle.countermodel.proofs.NotingLaws.{NotedTo, none-length, noted-none, noted-silent, noted-unmarked, noted_more, not-linked, not_wider, linked, role-low, inner-low, links-done}
+use Rattle.countermodel.proofs.NotingLaws.{NotedTo}
 use Rattle.countermodel.proofs.marks.note_links.Given as goal
 
 abbrev pub invariant-loop-j : goal.invariant-loop-j

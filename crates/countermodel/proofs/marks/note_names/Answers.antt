@@ -1,9 +1,5 @@
-use Prim.Native.Nat.{◌-◌}
 use native.Mathlib.Omega.{arith}
-use Rattle.subsumption.specs.Tables.{count_of}
-use Rattle.subsumption.specs.Table.{marked}
-use Rattle.countermodel.specs.Countermodel.{is_named}
-use Rattle.countermodel.proofs.NotingLaws.{NotedTo, none-length, noted-none, noted-silent, noted-unmarked, noted_more, not_named, named, name-low, names-done}
+use Rattle.countermodel.proofs.NotingLaws.{none-length, noted-none, noted-silent, noted-unmarked, noted_more, not_named, named, name-low, names-done}
 use Rattle.countermodel.proofs.marks.note_names.Goals as goal
 
 pub loop-j-init : goal.loop-j-init

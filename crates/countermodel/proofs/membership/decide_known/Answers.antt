@@ -1,4 +1,3 @@
-use borrow.Author.Rules.{rules}
 use Rattle.countermodel.proofs.MemberLaws.Deciding.{few-listed, choices-refused, size-refused, rows-refused, element-refused, walk-asked, known-yes, known-no}
 use Rattle.countermodel.proofs.membership.decide_known.Goals as goal
 

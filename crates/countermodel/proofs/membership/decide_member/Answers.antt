@@ -2,7 +2,6 @@ use mathlib.Core.Path.{refl, sym}
 use native.Mathlib.Omega.{arith}
 use lib.ListN.{replicate}
 use lib.Seq.{length-take-le}
-use borrow.Author.Rules.{rules}
 use Rattle.subsumption.proofs.ListingLaws.{tables-rejected, tables-listed, tables-few}
 use Rattle.countermodel.proofs.MemberLaws.Deciding.{tables-refused, listing}
 use Rattle.countermodel.proofs.membership.decide_member.Goals as goal

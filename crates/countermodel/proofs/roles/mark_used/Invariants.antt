@@ -1,6 +1,5 @@
 use Prim.Native.Nat.{◌-◌}
-use native.Mathlib.Omega.{arith}
-use Rattle.countermodel.proofs.UsedLaws.{UsedTo, used-none, used-yes, used-no, used-done}
+use Rattle.countermodel.proofs.UsedLaws.{UsedTo}
 use Rattle.countermodel.proofs.roles.mark_used.Given as goal
 
 abbrev pub invariant-loop-r : goal.invariant-loop-r

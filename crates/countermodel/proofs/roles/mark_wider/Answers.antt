@@ -1,6 +1,5 @@
-use Prim.Native.Nat.{◌-◌}
 use native.Mathlib.Omega.{arith}
-use Rattle.countermodel.proofs.UsedLaws.{WidenedTo, widened_none, widened-yes, widened-no, widened-done}
+use Rattle.countermodel.proofs.UsedLaws.{widened_none, widened-yes, widened-no, widened-done}
 use Rattle.countermodel.proofs.roles.mark_wider.Goals as goal
 
 pub loop-s-init : goal.loop-s-init

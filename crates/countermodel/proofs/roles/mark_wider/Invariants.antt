@@ -1,6 +1,5 @@
 use Prim.Native.Nat.{◌-◌}
-use native.Mathlib.Omega.{arith}
-use Rattle.countermodel.proofs.UsedLaws.{WidenedTo, widened_none, widened-yes, widened-no, widened-done}
+use Rattle.countermodel.proofs.UsedLaws.{WidenedTo}
 use Rattle.countermodel.proofs.roles.mark_wider.Given as goal
 
 abbrev pub invariant-loop-s : goal.invariant-loop-s

@@ -1,9 +1,5 @@
-use Prim.Native.Nat.{◌-◌}
 use native.Mathlib.Omega.{arith}
-use Rattle.subsumption.specs.Tables.{count_of}
-use Rattle.subsumption.specs.Table.{marked}
-use Rattle.countermodel.specs.Inner.Show.{is_of}
-use Rattle.countermodel.proofs.NotingLaws.{NotedTo, none-length, noted-none, noted-silent, noted-unmarked, noted_more, not-of, of-role, role-low, roles-done}
+use Rattle.countermodel.proofs.NotingLaws.{none-length, noted-none, noted-silent, noted-unmarked, noted_more, not-of, of-role, role-low, roles-done}
 use Rattle.countermodel.proofs.roles.note_own.Goals as goal
 
 pub loop-j-init : goal.loop-j-init

@@ -1,4 +1,3 @@
-use native.Mathlib.Omega.{arith}
 use Rattle.countermodel.proofs.PuttingLaws.{row-name, row-link}
 use Rattle.countermodel.proofs.rows.put_mark.Goals as goal
 

@@ -1,6 +1,5 @@
-use Prim.Native.Nat.{◌-◌, ◌≤◌}
 use native.Mathlib.Omega.{arith}
-use Rattle.countermodel.proofs.PuttingLaws.{MarksTo, marks-none, marks-yes, marks-no, marks-done}
+use Rattle.countermodel.proofs.PuttingLaws.{marks-none, marks-yes, marks-no, marks-done}
 use Rattle.countermodel.proofs.rows.put_marks.Goals as goal
 
 pub loop-q-init : goal.loop-q-init

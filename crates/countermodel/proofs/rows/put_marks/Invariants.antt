@@ -1,6 +1,5 @@
 use Prim.Native.Nat.{◌-◌, ◌≤◌}
-use native.Mathlib.Omega.{arith}
-use Rattle.countermodel.proofs.PuttingLaws.{MarksTo, marks-none, marks-yes, marks-no, marks-done}
+use Rattle.countermodel.proofs.PuttingLaws.{MarksTo}
 use Rattle.countermodel.proofs.rows.put_marks.Given as goal
 
 abbrev pub invariant-loop-q : goal.invariant-loop-q

@@ -1,5 +1,4 @@
 use mathlib.Core.Path.{refl}
-use native.Mathlib.Omega.{arith}
 use lib.ListN.{replicate}
 use Rattle.subsumption.proofs.ListingLaws.{asked-rejected, asked-passed}
 use Rattle.countermodel.proofs.JudgingLaws.{judged-pair, judged-choices, judged-holds, judged-fails, marked-asks}

@@ -1,4 +1,3 @@
-use native.Mathlib.Omega.{arith}
 use Rattle.countermodel.proofs.JudgingLaws.{judged-checked, judged-roles}
 use Rattle.countermodel.proofs.ShowingLaws.{shows-refused, shows-laid}
 use Rattle.countermodel.proofs.show.show_countermodel.Goals as goal

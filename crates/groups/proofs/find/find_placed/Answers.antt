@@ -1,5 +1,3 @@
-use native.Mathlib.Omega.{arith}
-use borrow.Author.Rules.{rules}
 use Rattle.groups.proofs.FindLaws.{finds-group}
 use Rattle.groups.proofs.find.find_placed.Goals as goal
 

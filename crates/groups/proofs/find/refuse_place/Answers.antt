@@ -1,7 +1,5 @@
 use mathlib.Core.Path.{refl}
-use native.Mathlib.Omega.{arith}
 use Rattle.subsumption.proofs.Refusals.{stops, goes_on}
-use borrow.Author.Rules.{rules}
 use Rattle.groups.proofs.find.refuse_place.Goals as goal
 
 pub returns-in-Refused : goal.returns-in-Refused

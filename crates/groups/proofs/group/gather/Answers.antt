@@ -1,11 +1,7 @@
-use Prim.Native.Nat.{◌-◌}
 use mathlib.Core.Path.{sym, ap, ◌∙◌}
-use mathlib.Core.Logic.{⊎_elim}
 use native.Mathlib.Omega.{arith}
-use lib.ListN.{get_or}
-use Rattle.subsumption.specs.Tables.{pairs_of}
-use Rattle.groups.specs.Inner.Group.{set_at, belongs}
-use Rattle.groups.proofs.GroupLaws.{Gathered, gathered_none, gathered-past, gathered-more}
+use Rattle.groups.specs.Inner.Group.{belongs}
+use Rattle.groups.proofs.GroupLaws.{gathered_none, gathered-past, gathered-more}
 use Rattle.groups.proofs.group.gather.Goals as goal
 use Rattle.groups.proofs.group.gather.Goals.{then-is_among, else-is_among}
 
@@ -21,8 +17,9 @@ overflow_shl-group c = omega (arith, c.requires.questions_bound)
 pub loop-n-preserved : goal.loop-n-preserved
 loop-n-preserved c =
     elim c.if-is_among.branch [
-    | then-is_among w ↦ rw w.group-is (gathered-more _ _ _ _ c.loop-n.invariant (omega arith) (sym w.if-is_among.true ∙ c.is_among.ensures ∙ ap (belongs _) c.set_of-set.ensures))
-    | else-is_among w ↦ rw w.group-is (gathered-past _ _ _ _ c.loop-n.invariant (sym w.if-is_among.false ∙ c.is_among.ensures ∙ ap (belongs _) c.set_of-set.ensures)) ]
+      | then-is_among w ↦ rw w.group-is (gathered-more _ _ _ _ c.loop-n.invariant (omega arith) (sym w.if-is_among.true ∙ c.is_among.ensures ∙ ap (belongs _) c.set_of-set.ensures))
+      | else-is_among w ↦ rw w.group-is (gathered-past _ _ _ _ c.loop-n.invariant (sym w.if-is_among.false ∙ c.is_among.ensures ∙ ap (belongs _) c.set_of-set.ensures))
+    ]
 
 pub returns : goal.returns
 returns c n l = c.loop-n.invariant.seen n (omega arith)

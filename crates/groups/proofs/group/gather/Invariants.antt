@@ -1,11 +1,8 @@
 use Prim.Native.Nat.{◌-◌}
-use mathlib.Core.Path.{sym, ap, ◌∙◌}
-use mathlib.Core.Logic.{⊎_elim}
-use native.Mathlib.Omega.{arith}
 use lib.ListN.{get_or}
 use Rattle.subsumption.specs.Tables.{pairs_of}
-use Rattle.groups.specs.Inner.Group.{set_at, belongs}
-use Rattle.groups.proofs.GroupLaws.{Gathered, gathered_none, gathered-past, gathered-more}
+use Rattle.groups.specs.Inner.Group.{set_at}
+use Rattle.groups.proofs.GroupLaws.{Gathered}
 use Rattle.groups.proofs.group.gather.Given as goal
 
 abbrev pub invariant-loop-n : goal.invariant-loop-n

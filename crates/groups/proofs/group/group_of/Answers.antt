@@ -1,4 +1,3 @@
-use native.Mathlib.Omega.{arith}
 use mathlib.Core.Path.{refl}
 use Rattle.subsumption.proofs.Accepted.{table-concepts, concepts-layered, few-numbers, well_formed}
 use Rattle.groups.proofs.GroupLaws.{sets-known, group-set}

@@ -1,9 +1,6 @@
-use Prim.Native.Nat.{◌-◌, ◌≤◌}
 use mathlib.Core.Path.{◌≡◌}
 use native.Mathlib.Omega.{arith}
-use lib.ListN.{get_or}
-use Rattle.subsumption.specs.Tables.{pairs_of}
-use Rattle.groups.specs.Inner.Group.{set_at, sweeps}
+use Rattle.groups.specs.Inner.Group.{sweeps}
 use Rattle.groups.proofs.GroupLaws.{sweeps-next}
 use Rattle.groups.proofs.group.reach.Goals as goal
 

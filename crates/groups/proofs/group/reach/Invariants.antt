@@ -1,10 +1,8 @@
 use Prim.Native.Nat.{◌-◌, ◌≤◌}
 use mathlib.Core.Path.{◌≡◌}
-use native.Mathlib.Omega.{arith}
 use lib.ListN.{get_or}
 use Rattle.subsumption.specs.Tables.{pairs_of}
 use Rattle.groups.specs.Inner.Group.{set_at, sweeps}
-use Rattle.groups.proofs.GroupLaws.{sweeps-next}
 use Rattle.groups.proofs.group.reach.Given as goal
 
 abbrev pub invariant-loop-walk : goal.invariant-loop-walk

@@ -1,4 +1,3 @@
-use native.Mathlib.Omega.{arith}
 use Rattle.groups.proofs.GroupLaws.{left-read, right-read, set-read}
 use Rattle.groups.proofs.group.set_of.Goals as goal
 

@@ -1,10 +1,7 @@
-use Prim.Native.Nat.{◌-◌, ◌≤◌}
 use mathlib.Core.Path.{◌≡◌, refl, ◌∙◌}
-use mathlib.Core.Logic.{⊎_elim}
 use native.Mathlib.Omega.{arith}
-use lib.ListN.{get_or}
 use Rattle.subsumption.specs.Tables.{pairs_of}
-use Rattle.groups.specs.Inner.Group.{set_at, swept}
+use Rattle.groups.specs.Inner.Group.{swept}
 use Rattle.groups.proofs.GroupLaws.{swept-meeting, swept-apart}
 use Rattle.groups.proofs.group.sweep.Goals as goal
 use Rattle.groups.proofs.group.sweep.Goals.{then-reached-set-ne0, else-reached-set-ne0}
@@ -17,12 +14,12 @@ pub set_of-set-requires : goal.set_of-set-requires
 set_of-set-requires c = record { known = c.requires; m_bound = omega arith }
 
 pub loop-m-preserved : goal.loop-m-preserved
-loop-m-preserved c =
-    (
+loop-m-preserved c = (
   omega arith,
   elim c.if-reached-set-ne0.branch [
     | then-reached-set-ne0 w ↦ w.reached-is ∙ swept-meeting _ _ _ _ _ c.loop-m.invariant.1 c.set_of-set.ensures w.if-reached-set-ne0.true
-    | else-reached-set-ne0 w ↦ w.reached-is ∙ swept-apart _ _ _ _ _ c.loop-m.invariant.1 c.set_of-set.ensures w.if-reached-set-ne0.false ],
+    | else-reached-set-ne0 w ↦ w.reached-is ∙ swept-apart _ _ _ _ _ c.loop-m.invariant.1 c.set_of-set.ensures w.if-reached-set-ne0.false
+  ],
 )
 
 pub returns : goal.returns

@@ -1,11 +1,8 @@
 use Prim.Native.Nat.{◌-◌, ◌≤◌}
-use mathlib.Core.Path.{◌≡◌, refl, ◌∙◌}
-use mathlib.Core.Logic.{⊎_elim}
-use native.Mathlib.Omega.{arith}
+use mathlib.Core.Path.{◌≡◌}
 use lib.ListN.{get_or}
 use Rattle.subsumption.specs.Tables.{pairs_of}
 use Rattle.groups.specs.Inner.Group.{set_at, swept}
-use Rattle.groups.proofs.GroupLaws.{swept-meeting, swept-apart}
 use Rattle.groups.proofs.group.sweep.Given as goal
 
 abbrev pub invariant-loop-m : goal.invariant-loop-m

@@ -1,7 +1,5 @@
-use native.Mathlib.Omega.{arith}
-use Rattle.incremental.proofs.ByteLaws.{AddedTo, added-first, added_more, added-done}
-use native.Mathlib.Nat.{mod-lt}
-use Prim.Native.Nat.{◌-◌, ◌+◌, ◌*◌, ◌/◌, ◌%◌, ◌^◌}
+use Rattle.incremental.proofs.ByteLaws.{AddedTo}
+use Prim.Native.Nat.{◌-◌}
 use Rattle.incremental.proofs.bytes.add_word.Given as goal
 
 abbrev pub invariant-loop-m : goal.invariant-loop-m

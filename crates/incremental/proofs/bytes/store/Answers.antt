@@ -1,6 +1,5 @@
 use native.Mathlib.Omega.{arith}
-use Rattle.incremental.proofs.ByteLaws.{StoredTo, stored-first, stored_next, stored-done}
-use Prim.Native.Nat.{◌-◌}
+use Rattle.incremental.proofs.ByteLaws.{stored-first, stored_next, stored-done}
 use Rattle.incremental.proofs.bytes.store.Goals as goal
 
 pub loop-i-init : goal.loop-i-init

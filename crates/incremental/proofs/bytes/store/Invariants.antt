@@ -1,5 +1,4 @@
-use native.Mathlib.Omega.{arith}
-use Rattle.incremental.proofs.ByteLaws.{StoredTo, stored-first, stored_next, stored-done}
+use Rattle.incremental.proofs.ByteLaws.{StoredTo}
 use Prim.Native.Nat.{◌-◌}
 use Rattle.incremental.proofs.bytes.store.Given as goal
 

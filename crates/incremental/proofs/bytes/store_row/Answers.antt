@@ -1,9 +1,7 @@
 use native.Mathlib.Omega.{arith}
 use Rattle.incremental.proofs.ByteLaws.{stored-none, stored_more, stored_row}
 use lib.ListN.{get_or}
-use Prim.Native.Nat.{◌*◌}
 use mathlib.Core.Path.{refl, ap}
-use borrow.Author.Rules.{rules}
 use Rattle.incremental.proofs.bytes.store_row.Goals as goal
 
 pub store_word-requires-2 : goal.store_word-requires-2

@@ -1,5 +1,4 @@
 use Rattle.incremental.proofs.ByteLaws.{added_none}
-use borrow.Author.Rules.{rules}
 use Rattle.incremental.proofs.bytes.store_word.Goals as goal
 
 pub returns-then-old-word : goal.returns-then-old-word

@@ -2,7 +2,6 @@ use native.Mathlib.Omega.{arith}
 use Rattle.incremental.proofs.ClosingLaws.{ready-low, all_closed}
 use Rattle.subsumption.proofs.Linking.{ready-nameable, ready-inner}
 use mathlib.Core.Path.{refl}
-use borrow.Author.Rules.{rules}
 use Rattle.incremental.proofs.closing.close.Goals as goal
 
 pub start-requires : goal.start-requires

@@ -1,8 +1,6 @@
 use Rattle.subsumption.proofs.Settling.{ready-settleable}
 use Rattle.subsumption.proofs.Linking.{ready-inner}
 use Rattle.incremental.proofs.ClosingLaws.{ready-includable, round-pass}
-use borrow.Author.Rules.{rules}
-use Rattle.incremental.proofs.closing.round.Lts as lts
 use Rattle.incremental.proofs.closing.round.Goals as goal
 
 -- src/closing.rt:56:9

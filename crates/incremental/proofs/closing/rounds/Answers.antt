@@ -1,13 +1,6 @@
 use borrow.Author.Rules.{rules}
 use native.Mathlib.Omega.{arith}
-use Rattle.incremental.proofs.ClosingLaws.{Rounding, rounding-first, rounding-turn, rounding-less, rounding-done}
-use Rattle.subsumption.proofs.Closing.{weight}
-use Rattle.subsumption.specs.Inner.Settling.{choose_from}
-use Rattle.subsumption.specs.Inner.Roles.{in_set}
-use Rattle.subsumption.specs.Inner.Columns.{slack}
-use lib.ListN.{length}
-use mathlib.Core.Path.{◌≡◌}
-use Prim.Native.Nat.{◌+◌}
+use Rattle.incremental.proofs.ClosingLaws.{rounding-first, rounding-turn, rounding-less, rounding-done}
 use Rattle.incremental.proofs.closing.rounds.Goals as goal
 
 pub note_order-requires : goal.note_order-requires

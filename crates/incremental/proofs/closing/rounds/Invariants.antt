@@ -1,6 +1,4 @@
-use borrow.Author.Rules.{rules}
-use native.Mathlib.Omega.{arith}
-use Rattle.incremental.proofs.ClosingLaws.{Rounding, rounding-first, rounding-turn, rounding-less, rounding-done}
+use Rattle.incremental.proofs.ClosingLaws.{Rounding}
 use Rattle.subsumption.proofs.Closing.{weight}
 use Rattle.subsumption.specs.Inner.Settling.{choose_from}
 use Rattle.subsumption.specs.Inner.Roles.{in_set}

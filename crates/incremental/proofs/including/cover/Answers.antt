@@ -1,7 +1,5 @@
-use borrow.Author.Tests.{not-false}
 use mathlib.Core.Path.{sym, ◌∙◌}
 use Rattle.incremental.proofs.SetLaws.{covering-none, covering}
-use borrow.Author.Rules.{rules}
 use Rattle.incremental.proofs.including.cover.Goals as goal
 
 pub returns-then-not-has : goal.returns-then-not-has

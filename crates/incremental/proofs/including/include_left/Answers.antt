@@ -1,7 +1,6 @@
 use native.Mathlib.Omega.{arith}
-use Rattle.incremental.proofs.IncludingLaws.{LeftTo, left-first, left-more, left-done}
-use Rattle.subsumption.specs.Tables.{pairs_of}
-use Prim.Native.Nat.{◌-◌, ◌+◌, ◌*◌}
+use Rattle.incremental.proofs.IncludingLaws.{left-first, left-more, left-done}
+use Prim.Native.Nat.{◌+◌, ◌*◌}
 use Rattle.incremental.proofs.including.include_left.Goals as goal
 
 pub bounds-chain-l : goal.bounds-chain-l

@@ -1,7 +1,6 @@
-use native.Mathlib.Omega.{arith}
-use Rattle.incremental.proofs.IncludingLaws.{LeftTo, left-first, left-more, left-done}
+use Rattle.incremental.proofs.IncludingLaws.{LeftTo}
 use Rattle.subsumption.specs.Tables.{pairs_of}
-use Prim.Native.Nat.{◌-◌, ◌+◌, ◌*◌}
+use Prim.Native.Nat.{◌-◌}
 use Rattle.incremental.proofs.including.include_left.Given as goal
 
 abbrev pub invariant-loop-m : goal.invariant-loop-m

@@ -1,7 +1,6 @@
 use native.Mathlib.Omega.{arith}
 use mathlib.Core.Path.{refl}
 use Rattle.incremental.proofs.IncludingLaws.{include-row}
-use borrow.Author.Rules.{rules}
 use Rattle.incremental.proofs.including.include_row.Goals as goal
 
 pub bounds-idle-0 : goal.bounds-idle-0

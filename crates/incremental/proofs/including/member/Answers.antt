@@ -1,6 +1,5 @@
 use native.Mathlib.Omega.{arith}
 use Prim.Native.Nat.{◌+◌, ◌*◌}
-use borrow.Author.Rules.{rules}
 use Rattle.incremental.proofs.including.member.Goals as goal
 
 pub overflow_cast-inner : goal.overflow_cast-inner

@@ -1,7 +1,6 @@
 use native.Mathlib.Omega.{arith}
-use Rattle.incremental.proofs.SetLaws.{OpenTo, open-first, open_more, open-low, open-found, open_done}
-use lib.Count.{trailing_le}
-use Prim.Native.Nat.{◌-◌, ◌+◌, ◌*◌}
+use Rattle.incremental.proofs.SetLaws.{open-first, open_more, open-low, open-found, open_done}
+use Prim.Native.Nat.{◌+◌, ◌*◌}
 use Rattle.incremental.proofs.including.next_open.Goals as goal
 
 pub loop-k-init : goal.loop-k-init

@@ -1,7 +1,5 @@
-use native.Mathlib.Omega.{arith}
-use Rattle.incremental.proofs.SetLaws.{OpenTo, open-first, open_more, open-low, open-found, open_done}
-use lib.Count.{trailing_le}
-use Prim.Native.Nat.{◌-◌, ◌+◌, ◌*◌}
+use Rattle.incremental.proofs.SetLaws.{OpenTo}
+use Prim.Native.Nat.{◌-◌}
 use Rattle.incremental.proofs.including.next_open.Given as goal
 
 abbrev pub invariant-loop-k : goal.invariant-loop-k

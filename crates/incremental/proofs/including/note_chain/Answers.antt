@@ -8,7 +8,7 @@ use Rattle.incremental.proofs.ChainLaws.{chain-none, chain_more, chain-all}
 use Rattle.incremental.specs.Inner.Including.{ChainTo}
 use Rattle.subsumption.specs.Tables.{pairs_of}
 use mathlib.Core.Path.{subst, sym}
-use Prim.Native.Nat.{◌-◌, ◌≤◌, ◌*◌}
+use Prim.Native.Nat.{◌-◌}
 use Rattle.incremental.proofs.including.note_chain.Goals as goal
 
 pub loop-m-init : goal.loop-m-init

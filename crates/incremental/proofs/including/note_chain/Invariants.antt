@@ -1,14 +1,6 @@
-use Rattle.subsumption.specs.Tables.{left_of}
-use Prim.Native.Nat.{◌+◌}
-use borrow.Author.Rules.{Below-set}
-use lib.ListN.{length}
-use mathlib.Core.Path.{ap}
-use native.Mathlib.Omega.{arith}
-use Rattle.incremental.proofs.ChainLaws.{chain-none, chain_more, chain-all}
 use Rattle.incremental.specs.Inner.Including.{ChainTo}
 use Rattle.subsumption.specs.Tables.{pairs_of}
-use mathlib.Core.Path.{subst, sym}
-use Prim.Native.Nat.{◌-◌, ◌≤◌, ◌*◌}
+use Prim.Native.Nat.{◌≤◌}
 use Rattle.incremental.proofs.including.note_chain.Given as goal
 
 abbrev pub invariant-loop-m : goal.invariant-loop-m

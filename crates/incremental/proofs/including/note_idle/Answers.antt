@@ -2,8 +2,6 @@ use lib.ListN.{length}
 use mathlib.Core.Path.{ap}
 use native.Mathlib.Omega.{arith}
 use Rattle.incremental.proofs.ChainLaws.{idle-none, idle-more}
-use Rattle.incremental.specs.Inner.Including.{Idle}
-use Prim.Native.Nat.{◌-◌, ◌≤◌}
 use Rattle.incremental.proofs.including.note_idle.Goals as goal
 
 pub loop-l-init : goal.loop-l-init

@@ -1,5 +1,4 @@
 use native.Mathlib.Omega.{arith}
-use borrow.Author.Rules.{rules}
 use Rattle.incremental.proofs.including.proposed.Goals as goal
 
 pub returns-then-count-n : goal.returns-then-count-n

@@ -1,6 +1,5 @@
 use native.Mathlib.Omega.{arith}
-use Rattle.incremental.proofs.IncludingLaws.{ScanTo, scan-first, scan-more, scan-done}
-use Prim.Native.Nat.{◌-◌}
+use Rattle.incremental.proofs.IncludingLaws.{scan-first, scan-more, scan-done}
 use Rattle.incremental.proofs.including.scan_lefts.Goals as goal
 
 pub next_open-l-requires : goal.next_open-l-requires

@@ -1,5 +1,4 @@
-use native.Mathlib.Omega.{arith}
-use Rattle.incremental.proofs.IncludingLaws.{ScanTo, scan-first, scan-more, scan-done}
+use Rattle.incremental.proofs.IncludingLaws.{ScanTo}
 use Prim.Native.Nat.{◌-◌}
 use Rattle.incremental.proofs.including.scan_lefts.Given as goal
 

@@ -1,7 +1,6 @@
 use native.Mathlib.Omega.{arith}
-use Rattle.incremental.proofs.LinkLaws.{Joining, joining-first, joining-low, joining-more, joining-done}
+use Rattle.incremental.proofs.LinkLaws.{joining-first, joining-low, joining-more, joining-done}
 use Rattle.square.proofs.BitLaws.{rest-less}
-use Rattle.incremental.specs.Inner.Marking.{InThree}
 use lib.Count.{trailing_le}
 use lib.Bits.{and_le_r}
 use Prim.Native.Nat.{◌-◌}

@@ -4,7 +4,6 @@ use Rattle.subsumption.proofs.Linking.{inner-low, role-low}
 use mathlib.Core.Path.{refl}
 use mathlib.Core.Logic.{inr}
 use Prim.Native.Nat.{◌+◌, ◌*◌}
-use borrow.Author.Rules.{rules}
 use Rattle.incremental.proofs.links.link_to.Goals as goal
 
 pub returns-then-concepts-at-ne2 : goal.returns-then-concepts-at-ne2

@@ -1,11 +1,6 @@
-use native.Mathlib.Omega.{arith}
-use Rattle.incremental.proofs.LinkLaws.{existentials-none, existentials-skip, existentials-more, existentials-all}
 use Rattle.incremental.specs.Inner.Links.{Existentials}
-use Rattle.subsumption.proofs.Linking.{inner-low, role-low}
 use Rattle.subsumption.specs.Tables.{count_of}
-use lib.ListN.{length}
-use mathlib.Core.Path.{ap}
-use Prim.Native.Nat.{◌-◌, ◌≤◌, ◌*◌, ◌+◌}
+use Prim.Native.Nat.{◌-◌, ◌≤◌}
 use Rattle.incremental.proofs.links.note_existentials.Given as goal
 
 abbrev pub invariant-loop-e : goal.invariant-loop-e

@@ -1,5 +1,4 @@
 use Rattle.incremental.proofs.LinkLaws.{by-role}
-use borrow.Author.Rules.{rules}
 use Rattle.incremental.proofs.links.of_role.Goals as goal
 
 pub returns : goal.returns

@@ -1,6 +1,5 @@
 use native.Mathlib.Omega.{arith}
 use Rattle.incremental.proofs.LinkLaws.{by-inner}
-use borrow.Author.Rules.{rules}
 use Rattle.incremental.proofs.links.over.Goals as goal
 
 pub bounds-square-at : goal.bounds-square-at

@@ -1,6 +1,5 @@
 use native.Mathlib.Omega.{arith}
 use Rattle.subsumption.proofs.Columns.{absorbs}
-use borrow.Author.Rules.{rules}
 use Rattle.incremental.proofs.marking.absorb.Goals as goal
 
 pub returns : goal.returns

@@ -2,7 +2,6 @@ use native.Mathlib.Omega.{arith}
 use Rattle.incremental.proofs.MarkingLaws.{flow-adds}
 use mathlib.Core.Path.{refl}
 use mathlib.Core.Logic.{inl}
-use borrow.Author.Rules.{rules}
 use Rattle.incremental.proofs.marking.flow.Goals as goal
 
 pub take-requires : goal.take-requires

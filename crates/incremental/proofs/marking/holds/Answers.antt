@@ -1,8 +1,7 @@
-use mathlib.Core.Path.{refl, sym}
+use mathlib.Core.Path.{refl}
 use borrow.Author.Tests.{eqb-true}
 use Rattle.incremental.proofs.MarkingLaws.{holding}
 use Rattle.subsumption.proofs.Columns.{not-both}
-use borrow.Author.Rules.{rules}
 use Rattle.incremental.proofs.marking.holds.Goals as goal
 
 pub returns-then-square-at : goal.returns-then-square-at

@@ -1,6 +1,5 @@
 use native.Mathlib.Omega.{arith}
 use Rattle.incremental.proofs.MarkingLaws.{marks}
-use borrow.Author.Rules.{rules}
 use Rattle.incremental.proofs.marking.mark.Goals as goal
 
 pub absorb-a-requires : goal.absorb-a-requires

@@ -2,7 +2,6 @@ use native.Mathlib.Omega.{arith}
 use Rattle.incremental.proofs.MarkingLaws.{meet-adds}
 use mathlib.Core.Path.{refl}
 use mathlib.Core.Logic.{inr}
-use borrow.Author.Rules.{rules}
 use Rattle.incremental.proofs.marking.meet.Goals as goal
 
 pub take-requires : goal.take-requires

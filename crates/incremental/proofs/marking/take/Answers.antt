@@ -1,5 +1,4 @@
 use Rattle.incremental.proofs.MarkingLaws.{take_none, take_words}
-use borrow.Author.Rules.{rules}
 use Rattle.incremental.proofs.marking.take.Goals as goal
 
 pub returns-then-holds : goal.returns-then-holds

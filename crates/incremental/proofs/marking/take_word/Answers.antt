@@ -4,7 +4,7 @@ use native.Mathlib.Omega.{arith}
 use lib.Bits.{and_le_r, or_lt, xor_lt}
 use lib.Count.{trailing_le}
 use Rattle.square.proofs.BitLaws.{rest-less}
-use Rattle.incremental.proofs.MarkingLaws.{Taking, taking-first, taking-low, taking-more, taking-done}
+use Rattle.incremental.proofs.MarkingLaws.{taking-first, taking-low, taking-more, taking-done}
 use Rattle.incremental.proofs.marking.take_word.Goals as goal
 
 pub bounds-square-base : goal.bounds-square-base

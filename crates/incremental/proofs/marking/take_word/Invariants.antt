@@ -1,10 +1,4 @@
-use Prim.Native.Nat.{◌+◌, ◌*◌, ◌-◌}
-use mathlib.Core.Bool.{true}
-use native.Mathlib.Omega.{arith}
-use lib.Bits.{and_le_r, or_lt, xor_lt}
-use lib.Count.{trailing_le}
-use Rattle.square.proofs.BitLaws.{rest-less}
-use Rattle.incremental.proofs.MarkingLaws.{Taking, taking-first, taking-low, taking-more, taking-done}
+use Rattle.incremental.proofs.MarkingLaws.{Taking}
 use Rattle.incremental.proofs.marking.take_word.Given as goal
 
 abbrev pub invariant-loop-rest : goal.invariant-loop-rest

@@ -1,12 +1,7 @@
 use native.Mathlib.Omega.{arith}
-use borrow.Author.Rules.{rules}
 use mathlib.Core.Path.{sym, ◌∙◌}
-use borrow.Author.Tests.{not-false}
-use Prim.Native.Nat.{◌-◌, ◌+◌, ◌*◌}
-use Rattle.subsumption.specs.Tables.{pairs_of}
-use Rattle.incremental.specs.Inner.Rising.{ColumnGains}
+use Prim.Native.Nat.{◌+◌, ◌*◌}
 use Rattle.incremental.proofs.RisingLaws.{gains-first, gains-more}
-use Rattle.incremental.proofs.rising.include_column.Lts as lts
 use Rattle.incremental.proofs.rising.include_column.Goals as goal
 
 -- src/rising.rt:31:5

@@ -1,12 +1,6 @@
-use native.Mathlib.Omega.{arith}
-use borrow.Author.Rules.{rules}
-use mathlib.Core.Path.{sym, ◌∙◌}
-use borrow.Author.Tests.{not-false}
-use Prim.Native.Nat.{◌-◌, ◌+◌, ◌*◌}
+use Prim.Native.Nat.{◌-◌}
 use Rattle.subsumption.specs.Tables.{pairs_of}
 use Rattle.incremental.specs.Inner.Rising.{ColumnGains}
-use Rattle.incremental.proofs.RisingLaws.{gains-first, gains-more}
-use Rattle.incremental.proofs.rising.include_column.Lts as lts
 use Rattle.incremental.proofs.rising.include_column.Given as goal
 
 abbrev pub invariant-loop-m : goal.invariant-loop-m

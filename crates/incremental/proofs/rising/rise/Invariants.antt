@@ -1,10 +1,8 @@
-use native.Mathlib.Omega.{arith}
 use Prim.Native.Nat.{◌-◌}
 use Rattle.subsumption.specs.Tables.{count_of}
 use Rattle.subsumption.specs.Inner.Roles.{in_set}
 use Rattle.subsumption.specs.Inner.Settling.{choose_from}
-use Rattle.incremental.proofs.RisingLaws.{RisenTo, risen-first, risen-next, risen-done}
-use Rattle.incremental.proofs.rising.rise.Lts as lts
+use Rattle.incremental.proofs.RisingLaws.{RisenTo}
 use Rattle.incremental.proofs.rising.rise.Given as goal
 
 abbrev pub invariant-loop-j : goal.invariant-loop-j

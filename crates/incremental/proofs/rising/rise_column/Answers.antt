@@ -1,7 +1,4 @@
-use borrow.Author.Rules.{rules}
-use borrow.Author.Tests.{not-true, not-false}
 use Rattle.incremental.proofs.RisingLaws.{risen-none, risen-more}
-use Rattle.incremental.proofs.rising.rise_column.Lts as lts
 use Rattle.incremental.proofs.rising.rise_column.Goals as goal
 
 -- src/rising.rt:67:9

@@ -1,9 +1,7 @@
-use native.Mathlib.Omega.{arith}
 use Prim.Native.Nat.{◌-◌, ◌*◌}
-use mathlib.Core.Path.{sym, ◌∙◌}
 use Rattle.subsumption.specs.Tables.{count_of}
 use Rattle.subsumption.specs.Inner.Settling.{choose_from}
-use Rattle.incremental.proofs.RowsLaws.{RowsTo, rows-first, rows-skip, rows_more, rows-done}
+use Rattle.incremental.proofs.RowsLaws.{RowsTo}
 use Rattle.incremental.proofs.rows.close_rows.Given as goal
 
 abbrev pub invariant-loop-n : goal.invariant-loop-n

@@ -1,5 +1,3 @@
-use native.Mathlib.Omega.{arith}
-use Rattle.subsumption.proofs.Choices.{common-none, common-skip, common-more, common-more-first, common-done}
 use Rattle.subsumption.specs.Inner.Columns.{Common}
 use lib.ListN.{length}
 use Prim.Native.Nat.{◌-◌, ◌≤◌}

@@ -2,7 +2,6 @@ use native.Mathlib.Omega.{arith}
 use Rattle.incremental.proofs.SettlingLaws.{part-long, gather-adds}
 use mathlib.Core.Path.{refl}
 use mathlib.Core.Logic.{inr}
-use borrow.Author.Rules.{rules}
 use Rattle.incremental.proofs.settling.gather.Goals as goal
 
 pub slice_bounds-common-count : goal.slice_bounds-common-count

@@ -2,7 +2,6 @@ use native.Mathlib.Omega.{arith}
 use Rattle.incremental.proofs.SettlingLaws.{inner-and, inner-var, inner-none}
 use Rattle.subsumption.proofs.Settling.{settle-known, and_low, var-low}
 use Prim.Native.Nat.{◌+◌, ◌*◌}
-use borrow.Author.Rules.{rules}
 use Rattle.incremental.proofs.settling.settle_row.Goals as goal
 
 pub overflow_cast-x : goal.overflow_cast-x

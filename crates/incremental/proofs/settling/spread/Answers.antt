@@ -1,7 +1,5 @@
 use native.Mathlib.Omega.{arith}
-use Rattle.incremental.proofs.SettlingLaws.{Spreading, spreading-first, spreading-skip, spreading-turn, spreading-done}
-use lib.ListN.{length}
-use Prim.Native.Nat.{◌-◌}
+use Rattle.incremental.proofs.SettlingLaws.{spreading-first, spreading-skip, spreading-turn, spreading-done}
 use Rattle.incremental.proofs.settling.spread.Goals as goal
 
 pub loop-q-init : goal.loop-q-init

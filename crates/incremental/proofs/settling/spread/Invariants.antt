@@ -1,5 +1,4 @@
-use native.Mathlib.Omega.{arith}
-use Rattle.incremental.proofs.SettlingLaws.{Spreading, spreading-first, spreading-skip, spreading-turn, spreading-done}
+use Rattle.incremental.proofs.SettlingLaws.{Spreading}
 use lib.ListN.{length}
 use Prim.Native.Nat.{◌-◌}
 use Rattle.incremental.proofs.settling.spread.Given as goal

@@ -1,10 +1,6 @@
-use native.Mathlib.Omega.{arith}
-use Rattle.incremental.proofs.StartLaws.{names-none, names-skip, names_more, names-all, name-low}
 use Rattle.incremental.specs.Inner.Start.{NamesTo}
 use Rattle.subsumption.specs.Tables.{count_of}
-use lib.ListN.{length}
-use mathlib.Core.Path.{ap}
-use Prim.Native.Nat.{◌-◌, ◌≤◌, ◌*◌, ◌+◌}
+use Prim.Native.Nat.{◌-◌, ◌≤◌}
 use Rattle.incremental.proofs.start.note_names.Given as goal
 
 abbrev pub invariant-loop-i : goal.invariant-loop-i

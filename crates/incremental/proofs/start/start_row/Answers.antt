@@ -4,7 +4,6 @@ use Rattle.subsumption.proofs.Nodes.{node-other}
 use mathlib.Core.Path.{refl}
 use mathlib.Core.Logic.{inl, inr}
 use Prim.Native.Nat.{◌*◌, ◌+◌}
-use borrow.Author.Rules.{rules}
 use Rattle.incremental.proofs.start.start_row.Goals as goal
 
 pub mark-requires : goal.mark-requires

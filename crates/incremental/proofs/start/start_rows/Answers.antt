@@ -1,7 +1,5 @@
 use native.Mathlib.Omega.{arith}
-use Rattle.incremental.proofs.StartLaws.{BegunTo, begun_first, begun_more, begun-done}
-use Rattle.subsumption.specs.Tables.{count_of}
-use Prim.Native.Nat.{◌-◌}
+use Rattle.incremental.proofs.StartLaws.{begun_first, begun_more, begun-done}
 use Rattle.incremental.proofs.start.start_rows.Goals as goal
 
 pub loop-i-init : goal.loop-i-init

@@ -1,5 +1,4 @@
-use native.Mathlib.Omega.{arith}
-use Rattle.incremental.proofs.StartLaws.{BegunTo, begun_first, begun_more, begun-done}
+use Rattle.incremental.proofs.StartLaws.{BegunTo}
 use Rattle.subsumption.specs.Tables.{count_of}
 use Prim.Native.Nat.{◌-◌}
 use Rattle.incremental.proofs.start.start_rows.Given as goal

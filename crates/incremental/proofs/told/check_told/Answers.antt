@@ -1,12 +1,7 @@
 use native.Mathlib.Omega.{arith}
 use Rattle.incremental.proofs.ToldLaws.{told-ragged, told-even}
-use Rattle.incremental.specs.Inner.Told.{bad_pair}
-use Rattle.subsumption.proofs.Scans.{Scan, scan-none, scan-more, scan-found, scan-done}
-use Rattle.subsumption.specs.Tables.{pairs_of, left_of, right_of}
-use Rattle.subsumption.specs.declared.refusal.Refusal.TheVariants.{BadAssignment}
-use lib.ListN.{length}
-use mathlib.Core.Path.{◌≡◌, sym, ◌∙◌}
-use Prim.Native.Nat.{◌-◌, ◌%◌}
+use Rattle.subsumption.proofs.Scans.{scan-none, scan-more, scan-found, scan-done}
+use mathlib.Core.Path.{sym, ◌∙◌}
 use Rattle.incremental.proofs.told.check_told.Goals as goal
 
 pub returns-then-told-ne0 : goal.returns-then-told-ne0

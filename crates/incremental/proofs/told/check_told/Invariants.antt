@@ -1,11 +1,9 @@
-use native.Mathlib.Omega.{arith}
-use Rattle.incremental.proofs.ToldLaws.{told-ragged, told-even}
 use Rattle.incremental.specs.Inner.Told.{bad_pair}
-use Rattle.subsumption.proofs.Scans.{Scan, scan-none, scan-more, scan-found, scan-done}
+use Rattle.subsumption.proofs.Scans.{Scan}
 use Rattle.subsumption.specs.Tables.{pairs_of, left_of, right_of}
 use Rattle.subsumption.specs.declared.refusal.Refusal.TheVariants.{BadAssignment}
 use lib.ListN.{length}
-use mathlib.Core.Path.{◌≡◌, sym, ◌∙◌}
+use mathlib.Core.Path.{◌≡◌}
 use Prim.Native.Nat.{◌-◌, ◌%◌}
 use Rattle.incremental.proofs.told.check_told.Given as goal
 

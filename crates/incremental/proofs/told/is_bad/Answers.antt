@@ -1,6 +1,5 @@
 use native.Mathlib.Omega.{arith}
 use Rattle.incremental.proofs.ToldLaws.{bad-variable, bad-atom}
-use borrow.Author.Rules.{rules}
 use Rattle.incremental.proofs.told.is_bad.Goals as goal
 
 pub returns-then-variables-variable : goal.returns-then-variables-variable

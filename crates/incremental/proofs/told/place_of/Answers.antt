@@ -1,7 +1,5 @@
 use native.Mathlib.Omega.{arith}
-use Rattle.incremental.proofs.ToldLaws.{PlaceTo, place-first, place-more, place_found, place_none}
-use lib.ListN.{length}
-use Prim.Native.Nat.{◌-◌}
+use Rattle.incremental.proofs.ToldLaws.{place-first, place-more, place_found, place_none}
 use Rattle.incremental.proofs.told.place_of.Goals as goal
 
 pub loop-q-init : goal.loop-q-init

@@ -1,5 +1,4 @@
-use native.Mathlib.Omega.{arith}
-use Rattle.incremental.proofs.ToldLaws.{PlaceTo, place-first, place-more, place_found, place_none}
+use Rattle.incremental.proofs.ToldLaws.{PlaceTo}
 use lib.ListN.{length}
 use Prim.Native.Nat.{◌-◌}
 use Rattle.incremental.proofs.told.place_of.Given as goal

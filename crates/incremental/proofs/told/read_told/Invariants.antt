@@ -1,10 +1,6 @@
-use native.Mathlib.Omega.{arith}
-use Rattle.incremental.proofs.ToldLaws.{told_none, read_low, told_more, told-done}
 use Rattle.incremental.specs.Inner.Told.{ToldTo}
 use Rattle.subsumption.specs.Tables.{pairs_of}
-use lib.ListN.{length}
-use mathlib.Core.Path.{ap}
-use Prim.Native.Nat.{◌-◌, ◌*◌}
+use Prim.Native.Nat.{◌-◌}
 use Rattle.incremental.proofs.told.read_told.Given as goal
 
 abbrev pub invariant-loop-m : goal.invariant-loop-m

@@ -1,7 +1,6 @@
 use native.Mathlib.Omega.{arith}
 use Rattle.incremental.proofs.UpdateLaws.{update-told, update-room, update-done, update-few, update-pairs, update-roles, update-readable, update-ready}
 use mathlib.Core.Path.{refl}
-use borrow.Author.Rules.{rules}
 use Rattle.incremental.proofs.update.put_update.Goals as goal
 
 pub returns-in-Refused : goal.returns-in-Refused

@@ -4,7 +4,6 @@ use Rattle.subsumption.proofs.ListingLaws.{tables-rejected, tables-listed, table
 use mathlib.Core.Path.{refl, sym}
 use lib.Seq.{length-take-le}
 use lib.ListN.{replicate}
-use borrow.Author.Rules.{rules}
 use Rattle.incremental.proofs.update.update_table.Goals as goal
 
 pub slice_bounds-ids-end : goal.slice_bounds-ids-end

@@ -11,7 +11,6 @@ use lib.Seq.{get_or-set_same, get_or-set_other}
 use mir.Val.{bool_byte}
 use borrow.Author.Tests.{eqb-true, not-false}
 use Rattle.subsumption.specs.Tables.{Tables, node, decode, count_of, pairs_of, left_of, right_of}
-use Rattle.subsumption.specs.Atoms.{atoms}
 use Rattle.subsumption.specs.Check.{malformed_row, malformed, malformed_fault, concept_fault}
 use Rattle.subsumption.specs.Inner.Tables.{Rising}
 use Rattle.subsumption.specs.Inner.Atoms.{Layered, mark_at, VariableMarks}

@@ -1,5 +1,4 @@
 use Rattle.matching.proofs.ChosenLaws.Faults.{handed}
-use borrow.Author.Rules.{rules}
 use Rattle.matching.proofs.chosen.list_chosen.Goals as goal
 
 pub slice_bounds-result-end : goal.slice_bounds-result-end

@@ -5,7 +5,6 @@ use lib.ListN.{replicate}
 use Rattle.subsumption.proofs.ListingLaws.{tables-rejected, tables-listed, tables-few, prepared}
 use Rattle.subsumption.proofs.Deciding.{few-atoms}
 use Rattle.matching.proofs.ChosenLaws.Faults.{choosing-rejected, choosing-found}
-use borrow.Author.Rules.{rules}
 use Rattle.matching.proofs.chosen.put_chosen.Goals as goal
 
 pub slice_bounds-ids-end : goal.slice_bounds-ids-end

@@ -1,9 +1,8 @@
-use Prim.Native.Nat.{◌-◌}
-use mathlib.Core.Path.{◌≡◌, refl}
+use mathlib.Core.Path.{refl}
 use native.Mathlib.Omega.{arith}
-use lib.ListN.{length, length-set}
+use lib.ListN.{length-set}
 use lib.Count.{ones-le, trailing_le}
-use Rattle.matching.proofs.ChosenLaws.Picked.{pick-length, pick-few, Writing, writing-none, writing-rest, writing-known, writing_more, writing-done}
+use Rattle.matching.proofs.ChosenLaws.Picked.{pick-length, pick-few, writing-none, writing-rest, writing-known, writing_more, writing-done}
 use Rattle.matching.proofs.chosen.put_picked.Goals as goal
 
 pub overflow_cast-count : goal.overflow_cast-count
@@ -34,8 +33,7 @@ pub overflow_add-listed : goal.overflow_add-listed
 overflow_add-listed c = omega (arith, ones-le _ _ c.requires.choice_bound)
 
 pub loop-listed-preserved : goal.loop-listed-preserved
-loop-listed-preserved c =
-    (
+loop-listed-preserved c = (
   simp length-set c.loop-listed.invariant.0,
   writing_more _ _ _ _ _ _ c.loop-listed.invariant.1 (omega (arith, pick-length c.args.ids.now c.args.choice c.requires.choice_bound)) c.requires.ids_len_bound (omega (arith, pick-few c.args.ids.now c.args.choice c.requires.choice_bound)),
 )

@@ -1,9 +1,7 @@
 use Prim.Native.Nat.{◌-◌}
-use mathlib.Core.Path.{◌≡◌, refl}
-use native.Mathlib.Omega.{arith}
-use lib.ListN.{length, length-set}
-use lib.Count.{ones-le, trailing_le}
-use Rattle.matching.proofs.ChosenLaws.Picked.{pick-length, pick-few, Writing, writing-none, writing-rest, writing-known, writing_more, writing-done}
+use mathlib.Core.Path.{◌≡◌}
+use lib.ListN.{length}
+use Rattle.matching.proofs.ChosenLaws.Picked.{Writing}
 use Rattle.matching.proofs.chosen.put_picked.Given as goal
 
 abbrev pub invariant-loop-listed : goal.invariant-loop-listed

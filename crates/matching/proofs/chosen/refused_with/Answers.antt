@@ -1,4 +1,3 @@
-use borrow.Author.Rules.{rules}
 use Rattle.matching.proofs.ChosenLaws.Faults.{earlier-known, earlier-kept, earlier-other}
 use Rattle.matching.proofs.chosen.refused_with.Goals as goal
 

@@ -1,4 +1,3 @@
-use borrow.Author.Rules.{rules}
 use mathlib.Core.Path.{sym, ap, ◌∙◌}
 use Rattle.subsumption.specs.declared.refusal.Code.{Code}
 use Rattle.matching.specs.declared.chosen.Chosen.{Chosen}

@@ -6,7 +6,6 @@ use lib.Seq.{length-take-le}
 use lib.ListN.{replicate}
 use mathlib.Core.Path.{refl, sym}
 use native.Mathlib.Omega.{arith}
-use borrow.Author.Rules.{rules}
 use Rattle.matching.proofs.derivation.check_derivation.Goals as goal
 
 pub slice_bounds-ids-end : goal.slice_bounds-ids-end

@@ -4,7 +4,6 @@ use Rattle.subsumption.proofs.Deciding.{few-atoms, prepared-ready, known-fault}
 use Rattle.matching.proofs.DerivationLaws.Lines.{accepted-of, asked-stops, shape-stops, rules-stops, last-decides}
 use Rattle.subsumption.proofs.Deciding.{prepared-roles}
 use mathlib.Core.Path.{refl}
-use borrow.Author.Rules.{rules}
 use Rattle.matching.proofs.derivation.check_known.Goals as goal
 
 pub check_assignment-choices-requires : goal.check_assignment-choices-requires

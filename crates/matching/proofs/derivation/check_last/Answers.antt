@@ -1,6 +1,5 @@
 use native.Mathlib.Omega.{arith}
 use Rattle.matching.proofs.DerivationLaws.Lines.{some-lines, last-left, last-right, last-both}
-use borrow.Author.Rules.{rules}
 use Rattle.matching.proofs.derivation.check_last.Goals as goal
 
 pub overflow_sub-last : goal.overflow_sub-last

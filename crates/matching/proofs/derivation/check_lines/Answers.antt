@@ -1,11 +1,6 @@
 use native.Mathlib.Omega.{arith}
-use Prim.Native.Nat.{◌≤◌, ◌-◌}
-use mathlib.Core.Path.{◌≡◌, refl, ◌∙◌}
-use lib.ListN.{length}
-use Rattle.subsumption.specs.Tables.{count_of}
-use Rattle.matching.specs.Derivation.{lines_of}
-use Rattle.matching.specs.Inner.Derivation.{MarksOf}
-use Rattle.matching.proofs.DerivationLaws.Lines.{Passed, passed_none, passed-more, marks-more, rules-broken, rules-kept}
+use mathlib.Core.Path.{refl}
+use Rattle.matching.proofs.DerivationLaws.Lines.{passed_none, passed-more, marks-more, rules-broken, rules-kept}
 use Rattle.matching.proofs.derivation.check_lines.Goals as goal
 
 pub loop-k-init : goal.loop-k-init

@@ -2,7 +2,6 @@ use Rattle.matching.proofs.DerivationLaws.Lines.{marks-none, empty-square, empty
 use Rattle.matching.proofs.DerivationLaws.Cells.{square-small}
 use mathlib.Core.Path.{sym}
 use native.Mathlib.Omega.{arith}
-use borrow.Author.Rules.{rules}
 use Rattle.matching.proofs.derivation.check_rules.Goals as goal
 
 pub overflow_mul-size : goal.overflow_mul-size

@@ -1,6 +1,4 @@
-use native.Mathlib.Omega.{arith}
 use Rattle.matching.proofs.DerivationLaws.Lines.{line-left, line-right, line-rule}
-use borrow.Author.Rules.{rules}
 use Rattle.matching.proofs.derivation.line_follows.Goals as goal
 
 pub returns-then-count-left : goal.returns-then-count-left

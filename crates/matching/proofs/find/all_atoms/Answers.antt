@@ -1,4 +1,3 @@
-use native.Mathlib.Omega.{arith}
 use Rattle.matching.proofs.FindLaws.{full-atoms}
 use Rattle.matching.proofs.find.all_atoms.Goals as goal
 

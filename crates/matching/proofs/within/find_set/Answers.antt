@@ -1,4 +1,3 @@
-use native.Mathlib.Omega.{arith}
 use mathlib.Core.Path.{refl}
 use Rattle.subsumption.proofs.Accepted.{well_formed}
 use Rattle.matching.proofs.WithinLaws.{buffer-refuses, finds-filled, finds-nothing}

@@ -1,6 +1,5 @@
-use Prim.Native.Nat.{◌-◌}
 use native.Mathlib.Omega.{arith}
-use Rattle.matching.proofs.WithinLaws.{AskedTo, asked-none, asked-more, asked-all}
+use Rattle.matching.proofs.WithinLaws.{asked-none, asked-more, asked-all}
 use Rattle.matching.proofs.within.put_asked.Goals as goal
 
 pub loop-m-init : goal.loop-m-init

@@ -1,6 +1,5 @@
 use Prim.Native.Nat.{◌-◌}
-use native.Mathlib.Omega.{arith}
-use Rattle.matching.proofs.WithinLaws.{AskedTo, asked-none, asked-more, asked-all}
+use Rattle.matching.proofs.WithinLaws.{AskedTo}
 use Rattle.matching.proofs.within.put_asked.Given as goal
 
 abbrev pub invariant-loop-m : goal.invariant-loop-m

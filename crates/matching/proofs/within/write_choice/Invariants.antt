@@ -1,7 +1,5 @@
 use Prim.Native.Nat.{◌-◌, ◌≤◌}
-use native.Mathlib.Omega.{arith}
 use Rattle.matching.specs.Inner.Within.{Copied}
-use Rattle.matching.proofs.WithinLaws.{copied_none, copied_more, copied_all}
 use Rattle.matching.proofs.within.write_choice.Given as goal
 
 abbrev pub invariant-loop-k : goal.invariant-loop-k

@@ -4,7 +4,6 @@ use Rattle.subsumption.proofs.Deciding.{few-atoms, few-concepts}
 use native.Mathlib.Omega.{arith}
 use Rattle.subsumption.proofs.Deciding.{prepared-roles}
 use mathlib.Core.Path.{refl}
-use borrow.Author.Rules.{rules}
 use Rattle.matching.proofs.writer.derive_known.Goals as goal
 
 pub check_assignment-choices-requires : goal.check_assignment-choices-requires

@@ -1,7 +1,6 @@
 use native.Mathlib.Omega.{arith}
 use lib.ListN.{length-set}
 use Rattle.matching.proofs.WriterLaws.Lines.{put_front}
-use borrow.Author.Rules.{rules}
 use Rattle.matching.proofs.writer.put_line.Goals as goal
 
 pub bounds-rest-1 : goal.bounds-rest-1

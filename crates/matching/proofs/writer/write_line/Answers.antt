@@ -1,5 +1,4 @@
 use Rattle.matching.proofs.WriterLaws.Lines.{write-front}
-use borrow.Author.Rules.{rules}
 use Rattle.matching.proofs.writer.write_line.Goals as goal
 
 pub returns : goal.returns

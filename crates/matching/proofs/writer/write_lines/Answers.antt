@@ -1,7 +1,6 @@
 use native.Mathlib.Omega.{arith}
 use mathlib.Core.Path.{sym, ◌∙◌}
 use Rattle.matching.proofs.WriterLaws.Steps.{kept-both}
-use Rattle.matching.proofs.writer.write_lines.Lts as lts
 use Rattle.matching.proofs.writer.write_lines.Goals as goal
 
 -- src/writer.rt:227:9

@@ -1,15 +1,11 @@
-use Prim.Native.Nat.{ℕ}
-use Rattle.matching.proofs.WriterLaws.Steps.{measure-less}
-use native.Mathlib.Omega.{arith}
 use Prim.Native.Nat.{◌+◌, ◌*◌}
-use mathlib.Core.Path.{◌≡◌, refl, ◌∙◌, ap}
+use mathlib.Core.Path.{◌≡◌}
 use mathlib.Core.Bool.{false}
 use lib.ListN.{length}
 use Rattle.subsumption.specs.Tables.{count_of}
 use Rattle.matching.specs.Inner.Derivation.{seen}
 use Rattle.matching.specs.Inner.Writer.{RestKept, Written, unset}
-use Rattle.matching.proofs.DerivationLaws.Cells.{cell-small, square-small}
-use Rattle.matching.proofs.WriterLaws.Steps.{kept-none, kept_more, started, started-some, unset-less, written-room, written-more, written_last, written-other, found-line, scan-stops}
+use Rattle.matching.proofs.WriterLaws.Steps.{started}
 use Rattle.matching.proofs.writer.write_more.Given as goal
 
 abbrev pub invariant-loop-rule : goal.invariant-loop-rule

@@ -1,14 +1,7 @@
-use Prim.Native.Nat.{◌-◌}
 use native.Mathlib.Omega.{arith}
-use mathlib.Core.Path.{◌≡◌, refl, ◌∙◌}
-use mathlib.Core.Bool.{false}
-use lib.ListN.{length}
-use Rattle.subsumption.specs.Tables.{count_of}
-use Rattle.matching.specs.Inner.Derivation.{seen}
-use Rattle.matching.specs.Inner.Writer.{RestKept, Written}
+use mathlib.Core.Path.{refl, ◌∙◌}
 use Rattle.matching.proofs.DerivationLaws.Cells.{square-small}
 use Rattle.matching.proofs.WriterLaws.Steps.{kept-none, kept_more, written_none, written-room, written-more, written_last, written-other, begun-last, begun-open, tested-line}
-use Rattle.matching.proofs.writer.write_tested.Lts as lts
 use Rattle.matching.proofs.writer.write_tested.Goals as goal
 
 -- src/writer.rt:146:5

@@ -1,9 +1,7 @@
-use borrow.Author.Rules.{rules}
 use native.Mathlib.Omega.{arith}
 use lib.ListN.{length-set}
 use Rattle.numerals.proofs.DigitLaws.{digits-some}
 use Rattle.numerals.proofs.WriteLaws.{wrote-digit, wrote-digits, next-within, number-room}
-use Prim.Native.Nat.{ℕ, ◌<◌}
 use Rattle.numerals.proofs.printing.+put_number.Goals as goal
 
 pub bounds-out-at : goal.bounds-out-at

@@ -2,7 +2,6 @@ use Rattle.numerals.proofs.WriteLaws.{room-1, room-2, room-3, wrote-three}
 use mathlib.Core.List.{[], ◌∷◌}
 use Rattle.numerals.specs.Digits.{digits}
 use Rattle.numerals.specs.Printing.{number_text}
-use borrow.Author.Rules.{rules}
 use Rattle.numerals.proofs.printing.put_line.Goals as goal
 
 pub put_bytes-a-requires : goal.put_bytes-a-requires

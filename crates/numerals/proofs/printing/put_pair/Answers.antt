@@ -1,5 +1,4 @@
 use Rattle.numerals.proofs.WriteLaws.{pair-room-1, pair-room-2, pair-room-3, wrote-pair}
-use borrow.Author.Rules.{rules}
 use Rattle.numerals.proofs.printing.put_pair.Goals as goal
 
 pub put_bytes-x-requires : goal.put_bytes-x-requires

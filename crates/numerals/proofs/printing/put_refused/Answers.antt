@@ -1,6 +1,5 @@
 use Rattle.numerals.specs.Printing.{number_text, refused_line, number_key, place_key, refused_text}
 use Rattle.numerals.proofs.WriteLaws.{room-1, room-2, room-3, wrote-three}
-use borrow.Author.Rules.{rules}
 use Rattle.numerals.proofs.printing.put_refused.Goals as goal
 
 pub put_bytes-a-requires : goal.put_bytes-a-requires

@@ -1,5 +1,4 @@
 use Rattle.numerals.proofs.WriteLaws.{top-row, name-row, some-row, and-row, variable-row, other_row, row_room, wrote-row, wrote_none}
-use borrow.Author.Rules.{rules}
 use Rattle.numerals.proofs.printing.put_row.Goals as goal
 
 pub put_bytes-requires : goal.put_bytes-requires

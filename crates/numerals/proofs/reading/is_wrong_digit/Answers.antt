@@ -1,5 +1,4 @@
 use Rattle.numerals.proofs.ReadingLaws.{wrong-low, wrong-high, wrong-zero, wrong-large-after, wrong-large-first}
-use borrow.Author.Rules.{rules}
 use Rattle.numerals.proofs.reading.is_wrong_digit.Goals as goal
 
 pub returns-then-byte-lt48 : goal.returns-then-byte-lt48

@@ -1,8 +1,6 @@
 use Prim.Native.Nat.{◌-◌}
-use native.Mathlib.Omega.{arith}
 use lib.ListN.{length}
-use mathlib.Core.Path.{sym, ◌∙◌}
-use Rattle.numerals.proofs.ReadingLaws.{Counted, digit-right, counted_none, counted-end, counted-wrong, counted-more}
+use Rattle.numerals.proofs.ReadingLaws.{Counted}
 use Rattle.numerals.proofs.reading.read_run.Given as goal
 
 abbrev pub invariant-loop-n : goal.invariant-loop-n

@@ -1,7 +1,4 @@
-use Prim.Native.Nat.{◌-◌}
-use native.Mathlib.Omega.{arith}
-use lib.ListN.{length}
-use Rattle.numerals.proofs.ReadingLaws.{Agree, agree-none, agree-short, agree_differ, agree-more, agree-done}
+use Rattle.numerals.proofs.ReadingLaws.{agree-none, agree-short, agree_differ, agree-more, agree-done}
 use Rattle.numerals.proofs.reading.starts_with.Goals as goal
 
 pub loop-i-init : goal.loop-i-init

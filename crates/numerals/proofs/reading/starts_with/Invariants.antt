@@ -1,7 +1,6 @@
 use Prim.Native.Nat.{◌-◌}
-use native.Mathlib.Omega.{arith}
 use lib.ListN.{length}
-use Rattle.numerals.proofs.ReadingLaws.{Agree, agree-none, agree-short, agree_differ, agree-more, agree-done}
+use Rattle.numerals.proofs.ReadingLaws.{Agree}
 use Rattle.numerals.proofs.reading.starts_with.Given as goal
 
 abbrev pub invariant-loop-i : goal.invariant-loop-i

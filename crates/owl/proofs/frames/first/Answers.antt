@@ -1,6 +1,4 @@
-use borrow.Author.Rules.{rules}
 use Rattle.owl.proofs.FrameLaws.{first-role, first-item}
-use Rattle.owl.proofs.frames.first.Lts as lts
 use Rattle.owl.proofs.frames.first.Goals as goal
 
 pub returns-then-kind-eq-EXIST : goal.returns-then-kind-eq-EXIST

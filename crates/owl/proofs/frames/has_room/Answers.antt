@@ -1,6 +1,4 @@
 use Rattle.owl.proofs.FrameLaws.{room-axiom, room-meet, room-exist}
-use borrow.Author.Rules.{rules}
-use Rattle.owl.proofs.frames.has_room.Lts as lts
 use Rattle.owl.proofs.frames.has_room.Goals as goal
 
 pub returns-then-kind-eq-AXIOM : goal.returns-then-kind-eq-AXIOM

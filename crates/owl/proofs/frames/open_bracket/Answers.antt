@@ -1,8 +1,6 @@
 use native.Mathlib.Omega.{arith}
 use lib.ListN.{length-set}
 use Rattle.owl.proofs.FrameLaws.{opens_not, opens}
-use borrow.Author.Rules.{rules}
-use Rattle.owl.proofs.frames.open_bracket.Lts as lts
 use Rattle.owl.proofs.frames.open_bracket.Goals as goal
 
 pub returns-then-kind-ge-ITEM : goal.returns-then-kind-ge-ITEM

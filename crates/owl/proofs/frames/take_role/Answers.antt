@@ -1,7 +1,4 @@
-use native.Mathlib.Omega.{arith}
 use Rattle.owl.proofs.FrameLaws.{roles, roles-not}
-use borrow.Author.Rules.{rules}
-use Rattle.owl.proofs.frames.take_role.Lts as lts
 use Rattle.owl.proofs.frames.take_role.Goals as goal
 
 pub returns-in-RoleOf : goal.returns-in-RoleOf

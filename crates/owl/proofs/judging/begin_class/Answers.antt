@@ -1,6 +1,4 @@
 use Rattle.owl.proofs.JudgingLaws.{begins-deep, begins-not, begins-top, begins-and, begins-some, begins-name}
-use borrow.Author.Rules.{rules}
-use Rattle.owl.proofs.judging.begin_class.Lts as lts
 use Rattle.owl.proofs.judging.begin_class.Goals as goal
 
 pub returns-then-reader-gt32 : goal.returns-then-reader-gt32

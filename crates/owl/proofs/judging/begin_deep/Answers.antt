@@ -1,6 +1,4 @@
 use Rattle.owl.proofs.JudgingLaws.{deep-bad, deep-class}
-use borrow.Author.Rules.{rules}
-use Rattle.owl.proofs.judging.begin_deep.Lts as lts
 use Rattle.owl.proofs.judging.begin_deep.Goals as goal
 
 pub returns-in-AxiomKey : goal.returns-in-AxiomKey

@@ -1,6 +1,4 @@
 use Rattle.owl.proofs.JudgingLaws.{closes-due, closes-none, closes-frame}
-use borrow.Author.Rules.{rules}
-use Rattle.owl.proofs.judging.close_bracket.Lts as lts
 use Rattle.owl.proofs.judging.close_bracket.Goals as goal
 
 pub returns-then-reader-ne-ITEM : goal.returns-then-reader-ne-ITEM

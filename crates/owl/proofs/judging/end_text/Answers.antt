@@ -1,5 +1,4 @@
 use Rattle.owl.proofs.JudgingLaws.{ends_open, ends-due, ends-well}
-use Rattle.owl.proofs.judging.end_text.Lts as lts
 use Rattle.owl.proofs.judging.end_text.Goals as goal
 
 pub returns-then-reader-gt0 : goal.returns-then-reader-gt0

@@ -1,10 +1,5 @@
 use Rattle.owl.proofs.JudgingLaws.{token-some}
-use borrow.Author.Rules.{rules}
-use native.Mathlib.Omega.{arith}
-use Prim.Native.Nat.{◌-◌}
-use lib.ListN.{length}
-use Rattle.owl.proofs.JudgingLaws.{Judging, judging-none, judging-more, judging-stops, judging-done}
-use Rattle.owl.proofs.judging.judge_text.Lts as lts
+use Rattle.owl.proofs.JudgingLaws.{judging-none, judging-more, judging-stops, judging-done}
 use Rattle.owl.proofs.judging.judge_text.Goals as goal
 
 pub loop-at-init : goal.loop-at-init

@@ -1,10 +1,6 @@
-use Rattle.owl.proofs.JudgingLaws.{token-some}
-use borrow.Author.Rules.{rules}
-use native.Mathlib.Omega.{arith}
 use Prim.Native.Nat.{◌-◌}
 use lib.ListN.{length}
-use Rattle.owl.proofs.JudgingLaws.{Judging, judging-none, judging-more, judging-stops, judging-done}
-use Rattle.owl.proofs.judging.judge_text.Lts as lts
+use Rattle.owl.proofs.JudgingLaws.{Judging}
 use Rattle.owl.proofs.judging.judge_text.Given as goal
 
 abbrev pub invariant-loop-at : goal.invariant-loop-at

@@ -1,6 +1,4 @@
 use Rattle.owl.proofs.JudgingLaws.{starts, starts-not}
-use borrow.Author.Rules.{rules}
-use Rattle.owl.proofs.judging.start_axiom.Lts as lts
 use Rattle.owl.proofs.judging.start_axiom.Goals as goal
 
 pub returns-in-AxiomKey : goal.returns-in-AxiomKey

@@ -1,6 +1,4 @@
 use Rattle.owl.proofs.JudgingLaws.{token-opens, token-closes, token-words}
-use borrow.Author.Rules.{rules}
-use Rattle.owl.proofs.judging.step_token.Lts as lts
 use Rattle.owl.proofs.judging.step_token.Goals as goal
 
 pub returns-then-byte-eq40 : goal.returns-then-byte-eq40

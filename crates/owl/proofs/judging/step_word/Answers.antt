@@ -1,9 +1,5 @@
 use Rattle.owl.proofs.JudgingLaws.{role-room, frame-room}
-use native.Mathlib.Omega.{arith}
 use Rattle.owl.proofs.JudgingLaws.{word-role, word-bracket, word-outside, word-full, word-begins}
-use Rattle.owl.proofs.FrameLaws.{top-nested}
-use borrow.Author.Rules.{rules}
-use Rattle.owl.proofs.judging.step_word.Lts as lts
 use Rattle.owl.proofs.judging.step_word.Goals as goal
 
 pub take_role-requires : goal.take_role-requires

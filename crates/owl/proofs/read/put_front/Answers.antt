@@ -1,9 +1,4 @@
-use borrow.Author.Rules.{rules}
-use native.Mathlib.Omega.{arith}
-use Prim.Native.Nat.{◌-◌}
-use lib.ListN.{length}
-use Rattle.owl.proofs.ReadLaws.{Copied, copied_none, copied-room, copied_more, copied-done}
-use Rattle.owl.proofs.read.put_front.Lts as lts
+use Rattle.owl.proofs.ReadLaws.{copied_none, copied-room, copied_more, copied-done}
 use Rattle.owl.proofs.read.put_front.Goals as goal
 
 pub loop-i-init : goal.loop-i-init

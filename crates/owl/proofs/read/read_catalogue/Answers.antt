@@ -1,6 +1,4 @@
 use Rattle.owl.proofs.ReadLaws.{short-concepts, short-inclusions, long-text, reads_on}
-use borrow.Author.Rules.{rules}
-use Rattle.owl.proofs.read.read_catalogue.Lts as lts
 use Rattle.owl.proofs.read.read_catalogue.Goals as goal
 
 pub returns-then-concepts-lt-ROWS : goal.returns-then-concepts-lt-ROWS

@@ -1,7 +1,5 @@
 use native.Mathlib.Omega.{arith}
 use Rattle.owl.proofs.ReadLaws.{reads-stop, few-tables, rows-within, rows-count, rows-room, sides-within, sides-count, sides-room, reads-tables}
-use borrow.Author.Rules.{rules}
-use Rattle.owl.proofs.read.read_text.Lts as lts
 use Rattle.owl.proofs.read.read_text.Goals as goal
 
 pub overflow_mul-n : goal.overflow_mul-n

@@ -1,6 +1,4 @@
 use Rattle.owl.proofs.RowLaws.{full-row, one-row}
-use borrow.Author.Rules.{rules}
-use Rattle.owl.proofs.rows.close_row.Lts as lts
 use Rattle.owl.proofs.rows.close_row.Goals as goal
 
 pub returns-then-count-ge-CONCEPTS : goal.returns-then-count-ge-CONCEPTS

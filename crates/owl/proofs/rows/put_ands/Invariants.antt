@@ -1,8 +1,5 @@
-use borrow.Author.Rules.{rules}
-use native.Mathlib.Omega.{arith}
 use Prim.Native.Nat.{◌-◌}
-use Rattle.owl.proofs.RowLaws.{Pairing, pairing-none, pairing-room, pairing-more, pairing-done}
-use Rattle.owl.proofs.rows.put_ands.Lts as lts
+use Rattle.owl.proofs.RowLaws.{Pairing}
 use Rattle.owl.proofs.rows.put_ands.Given as goal
 
 abbrev pub invariant-loop-m : goal.invariant-loop-m

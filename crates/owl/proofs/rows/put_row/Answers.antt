@@ -1,7 +1,5 @@
 use native.Mathlib.Omega.{arith}
 use lib.ListN.{length-set}
-use borrow.Author.Rules.{rules}
-use Rattle.owl.proofs.rows.put_row.Lts as lts
 use Rattle.owl.proofs.rows.put_row.Goals as goal
 
 pub bounds-rows-at-2 : goal.bounds-rows-at-2

@@ -1,7 +1,4 @@
-use native.Mathlib.Omega.{arith}
 use Rattle.owl.proofs.ShuttingLaws.{around-bounds, around-order, around-pairs, shuts-axiom, shuts-meet, shuts-exist}
-use borrow.Author.Rules.{rules}
-use Rattle.owl.proofs.shutting.shut.Lts as lts
 use Rattle.owl.proofs.shutting.shut.Goals as goal
 
 pub shut_axiom-requires : goal.shut_axiom-requires

@@ -1,8 +1,6 @@
 use native.Mathlib.Omega.{arith}
 use lib.ListN.{length-set}
 use Rattle.owl.proofs.ShuttingLaws.{axiom-not, axiom-shut}
-use borrow.Author.Rules.{rules}
-use Rattle.owl.proofs.shutting.shut_axiom.Lts as lts
 use Rattle.owl.proofs.shutting.shut_axiom.Goals as goal
 
 pub returns-then-used-start-ne2 : goal.returns-then-used-start-ne2

@@ -1,6 +1,4 @@
 use Rattle.owl.proofs.ShuttingLaws.{exist-not, exist-shut}
-use borrow.Author.Rules.{rules}
-use Rattle.owl.proofs.shutting.shut_exist.Lts as lts
 use Rattle.owl.proofs.shutting.shut_exist.Goals as goal
 
 pub returns-then-used-start-ne1 : goal.returns-then-used-start-ne1

@@ -1,6 +1,4 @@
 use Rattle.owl.proofs.ShuttingLaws.{meet-not, meet-full, meet-shut}
-use borrow.Author.Rules.{rules}
-use Rattle.owl.proofs.shutting.shut_meet.Lts as lts
 use Rattle.owl.proofs.shutting.shut_meet.Goals as goal
 
 pub returns-then-members-lt2 : goal.returns-then-members-lt2

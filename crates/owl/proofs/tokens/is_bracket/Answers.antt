@@ -1,6 +1,4 @@
-use borrow.Author.Rules.{rules}
 use Rattle.owl.proofs.TokenLaws.{bracket-40, bracket-41}
-use Rattle.owl.proofs.tokens.is_bracket.Lts as lts
 use Rattle.owl.proofs.tokens.is_bracket.Goals as goal
 
 pub returns-then-b-eq40 : goal.returns-then-b-eq40

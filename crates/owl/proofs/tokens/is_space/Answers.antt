@@ -1,6 +1,4 @@
-use borrow.Author.Rules.{rules}
 use Rattle.owl.proofs.TokenLaws.{space-32, space-10, space-13}
-use Rattle.owl.proofs.tokens.is_space.Lts as lts
 use Rattle.owl.proofs.tokens.is_space.Goals as goal
 
 pub returns-then-b-eq32 : goal.returns-then-b-eq32

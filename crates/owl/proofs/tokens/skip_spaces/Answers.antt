@@ -1,9 +1,4 @@
-use native.Mathlib.Omega.{arith}
-use borrow.Author.Rules.{rules}
-use Prim.Native.Nat.{◌-◌}
-use lib.ListN.{length}
-use Rattle.owl.proofs.TokenLaws.{Skipping, skipping-none, skipping-more, skipping-met, skipping-end}
-use Rattle.owl.proofs.tokens.skip_spaces.Lts as lts
+use Rattle.owl.proofs.TokenLaws.{skipping-none, skipping-more, skipping-met, skipping-end}
 use Rattle.owl.proofs.tokens.skip_spaces.Goals as goal
 
 pub loop-p-init : goal.loop-p-init

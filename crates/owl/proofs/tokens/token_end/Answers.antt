@@ -1,7 +1,5 @@
 use Rattle.owl.proofs.TokenLaws.{bracket-ends}
 use mathlib.Core.Path.{sym, ◌∙◌}
-use borrow.Author.Rules.{rules}
-use Rattle.owl.proofs.tokens.token_end.Lts as lts
 use Rattle.owl.proofs.tokens.token_end.Goals as goal
 
 pub returns-then-is_bracket : goal.returns-then-is_bracket

@@ -1,9 +1,4 @@
-use native.Mathlib.Omega.{arith}
-use borrow.Author.Rules.{rules}
-use Prim.Native.Nat.{◌-◌}
-use lib.ListN.{length}
-use Rattle.owl.proofs.TokenLaws.{Wordy, wordy-one, wordy-more, ends-space, ends-bracket, ends-text}
-use Rattle.owl.proofs.tokens.word_end.Lts as lts
+use Rattle.owl.proofs.TokenLaws.{wordy-one, wordy-more, ends-space, ends-bracket, ends-text}
 use Rattle.owl.proofs.tokens.word_end.Goals as goal
 
 pub loop-p-init : goal.loop-p-init

@@ -1,9 +1,6 @@
-use native.Mathlib.Omega.{arith}
-use borrow.Author.Rules.{rules}
 use Prim.Native.Nat.{◌-◌}
 use lib.ListN.{length}
-use Rattle.owl.proofs.TokenLaws.{Wordy, wordy-one, wordy-more, ends-space, ends-bracket, ends-text}
-use Rattle.owl.proofs.tokens.word_end.Lts as lts
+use Rattle.owl.proofs.TokenLaws.{Wordy}
 use Rattle.owl.proofs.tokens.word_end.Given as goal
 
 abbrev pub invariant-loop-p : goal.invariant-loop-p

@@ -2,8 +2,6 @@ use Prim.Native.Nat.{◌+◌, ◌≤◌}
 use lib.ListN.{length}
 use native.Mathlib.Omega.{arith}
 use Rattle.owl.proofs.WordLaws.{numbered-off, key-within, run-within, numbered-empty, numbered-longer, numbered-whole}
-use borrow.Author.Rules.{rules}
-use Rattle.owl.proofs.words.is_numbered.Lts as lts
 use Rattle.owl.proofs.words.is_numbered.Goals as goal
 
 pub returns-then-not-starts_with : goal.returns-then-not-starts_with

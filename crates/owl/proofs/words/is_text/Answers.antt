@@ -1,6 +1,4 @@
 use Rattle.owl.proofs.WordLaws.{text-other, text_same}
-use borrow.Author.Rules.{rules}
-use Rattle.owl.proofs.words.is_text.Lts as lts
 use Rattle.owl.proofs.words.is_text.Goals as goal
 
 pub returns-then-word-text : goal.returns-then-word-text

@@ -1,7 +1,4 @@
-use native.Mathlib.Omega.{arith}
 use Rattle.owl.proofs.WordLaws.{name-long, reads-name, role-long, reads-role, reads_other}
-use borrow.Author.Rules.{rules}
-use Rattle.owl.proofs.words.read_numbered.Lts as lts
 use Rattle.owl.proofs.words.read_numbered.Goals as goal
 
 pub slice_bounds-read_run-count : goal.slice_bounds-read_run-count

@@ -1,7 +1,4 @@
-use native.Mathlib.Omega.{arith}
 use Rattle.owl.proofs.WordLaws.{reads-axiom, reads-top, reads-and, reads-some, reads-numbered}
-use borrow.Author.Rules.{rules}
-use Rattle.owl.proofs.words.read_word.Lts as lts
 use Rattle.owl.proofs.words.read_word.Goals as goal
 
 pub returns-then-is_text : goal.returns-then-is_text

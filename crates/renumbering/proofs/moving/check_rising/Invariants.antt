@@ -1,13 +1,10 @@
-use native.Mathlib.Omega.{arith}
-use mathlib.Core.Path.{◌∙◌}
 use Prim.Native.Nat.{◌-◌}
 use Rattle.subsumption.specs.declared.refusal.Refusal.TheVariants.{ForwardInOrder}
 use Rattle.subsumption.specs.Tables.{count_of}
 use Rattle.subsumption.specs.Check.{forward}
-use Rattle.subsumption.proofs.Scans.{Scan, scan-none, scan-more, scan-found, scan-done}
+use Rattle.subsumption.proofs.Scans.{Scan}
 use Rattle.renumbering.specs.Order.{new_id}
-use Rattle.renumbering.specs.Renumbering.{moved_node, rising_fault}
-use Rattle.renumbering.proofs.CheckLaws.{moved-forward}
+use Rattle.renumbering.specs.Renumbering.{moved_node}
 use Rattle.renumbering.proofs.moving.check_rising.Given as goal
 
 abbrev pub invariant-loop-i : goal.invariant-loop-i

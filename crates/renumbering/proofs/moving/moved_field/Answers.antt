@@ -1,5 +1,4 @@
 use Rattle.renumbering.proofs.MovingLaws.{field-moved, field-kept}
-use borrow.Author.Rules.{rules}
 use Rattle.renumbering.proofs.moving.moved_field.Goals as goal
 
 pub bounds-order-x : goal.bounds-order-x

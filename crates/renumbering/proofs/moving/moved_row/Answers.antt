@@ -1,5 +1,4 @@
 use Rattle.renumbering.proofs.MovingLaws.{first-known, second-known, row_moved}
-use borrow.Author.Rules.{rules}
 use Rattle.renumbering.proofs.moving.moved_row.Goals as goal
 
 pub moved_field-first-requires : goal.moved_field-first-requires

@@ -1,7 +1,5 @@
 use native.Mathlib.Omega.{arith}
-use lib.ListN.{length}
-use Prim.Native.Nat.{◌-◌}
-use Rattle.renumbering.proofs.MovingLaws.{IdsTo, ids-none, ids_more, ids-size, ids-done}
+use Rattle.renumbering.proofs.MovingLaws.{ids-none, ids_more, ids-size, ids-done}
 use Rattle.renumbering.proofs.moving.put_ids.Goals as goal
 
 pub loop-p-init : goal.loop-p-init

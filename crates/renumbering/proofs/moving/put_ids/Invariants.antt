@@ -1,7 +1,6 @@
-use native.Mathlib.Omega.{arith}
 use lib.ListN.{length}
 use Prim.Native.Nat.{◌-◌}
-use Rattle.renumbering.proofs.MovingLaws.{IdsTo, ids-none, ids_more, ids-size, ids-done}
+use Rattle.renumbering.proofs.MovingLaws.{IdsTo}
 use Rattle.renumbering.proofs.moving.put_ids.Given as goal
 
 abbrev pub invariant-loop-p : goal.invariant-loop-p

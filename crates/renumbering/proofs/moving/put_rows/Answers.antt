@@ -1,9 +1,7 @@
 use lib.ListN.{length-set}
 use native.Mathlib.Omega.{arith}
-use Prim.Native.Nat.{◌-◌}
-use Rattle.subsumption.specs.Tables.{count_of}
 use Rattle.renumbering.proofs.OrderLaws.{place-of}
-use Rattle.renumbering.proofs.MovingLaws.{RowsTo, rows_none, rows_step, rows-size, rows-done}
+use Rattle.renumbering.proofs.MovingLaws.{rows_none, rows_step, rows-size, rows-done}
 use Rattle.renumbering.proofs.moving.put_rows.Goals as goal
 
 pub loop-k-init : goal.loop-k-init

@@ -1,9 +1,6 @@
 use native.Mathlib.Omega.{arith}
-use lib.ListN.{length}
-use Prim.Native.Nat.{◌-◌}
-use Rattle.subsumption.specs.declared.refusal.Refusal.TheVariants.{BadOrder}
-use Rattle.subsumption.proofs.Scans.{Scan, scan-none, scan-more, scan-found, scan-done}
-use Rattle.renumbering.proofs.CheckLaws.{bad_at, SeenTo, seen_none, seen_more, bad-high, bad-again, not-bad, order-refused, order-uneven, order-passed}
+use Rattle.subsumption.proofs.Scans.{scan-none, scan-more, scan-found, scan-done}
+use Rattle.renumbering.proofs.CheckLaws.{seen_none, seen_more, bad-high, bad-again, not-bad, order-refused, order-uneven, order-passed}
 use Rattle.renumbering.proofs.order.check_order.Goals as goal
 
 pub loop-m-init : goal.loop-m-init

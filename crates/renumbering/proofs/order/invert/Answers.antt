@@ -1,7 +1,5 @@
 use native.Mathlib.Omega.{arith}
-use lib.ListN.{length}
-use Prim.Native.Nat.{◌-◌}
-use Rattle.renumbering.proofs.BackLaws.{BackTo, back_none, back_low, back_more, back_done}
+use Rattle.renumbering.proofs.BackLaws.{back_none, back_low, back_more, back_done}
 use Rattle.renumbering.proofs.order.invert.Goals as goal
 
 pub loop-i-init : goal.loop-i-init

@@ -1,7 +1,6 @@
-use native.Mathlib.Omega.{arith}
 use lib.ListN.{length}
 use Prim.Native.Nat.{◌-◌}
-use Rattle.renumbering.proofs.BackLaws.{BackTo, back_none, back_low, back_more, back_done}
+use Rattle.renumbering.proofs.BackLaws.{BackTo}
 use Rattle.renumbering.proofs.order.invert.Given as goal
 
 abbrev pub invariant-loop-i : goal.invariant-loop-i

@@ -1,7 +1,6 @@
 use native.Mathlib.Omega.{arith}
 use Rattle.subsumption.proofs.Refusals.{is-done}
 use Rattle.renumbering.proofs.OperationLaws.{accepted-few, accepted-inward, listed-long, tables-refuse, tables-pass, order-refuses, rising-refuses, concepts-short, inclusions-short, questions-short, all_pass}
-use borrow.Author.Rules.{rules}
 use Rattle.renumbering.proofs.renumber.check_renumbering.Goals as goal
 
 pub returns-in-Refused : goal.returns-in-Refused

@@ -1,6 +1,5 @@
 use mathlib.Core.Path.{refl}
 use Rattle.renumbering.proofs.OperationLaws.{accepted-few, accepted-inward, passed-tables, passed-order, passed-own, passed-few, passed-inclusions, passed-questions, concepts-room, inclusions-room, questions-room, renumber-refused, renumber-done}
-use borrow.Author.Rules.{rules}
 use Rattle.renumbering.proofs.renumber.renumber_tables.Goals as goal
 
 pub returns-in-Refused : goal.returns-in-Refused

@@ -1,7 +1,6 @@
 use Prim.Native.Nat.{◌-◌}
 use native.Mathlib.Omega.{arith}
 use Rattle.allowance.proofs.PlaceLaws.{pair-low}
-use borrow.Author.Rules.{rules}
 use Rattle.allowance.proofs.place.Place.is_taken.Goals as goal
 
 pub offset_bounds-low-p : goal.offset_bounds-low-p

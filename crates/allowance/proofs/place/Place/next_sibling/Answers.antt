@@ -1,10 +1,7 @@
-use borrow.Author.Tests.{not-true, not-false}
 use mathlib.Core.Bool.{false≢true}
-use mathlib.Core.Path.{◌≡◌, sym, ◌∙◌}
-use Prim.Native.Nat.{◌*◌, ◌≤◌}
+use mathlib.Core.Path.{sym, ◌∙◌}
 use native.Mathlib.Omega.{arith}
-use lib.ListN.{length}
-use Rattle.allowance.proofs.PlaceLaws.{Climbs, climbs-none, climbed-top, climbed-up, climbed-aside}
+use Rattle.allowance.proofs.PlaceLaws.{climbs-none, climbed-top, climbed-up, climbed-aside}
 use Rattle.allowance.proofs.place.Place.next_sibling.Goals as goal
 
 pub loop-at-init : goal.loop-at-init

@@ -1,10 +1,7 @@
-use borrow.Author.Tests.{not-true, not-false}
-use mathlib.Core.Bool.{false≢true}
-use mathlib.Core.Path.{◌≡◌, sym, ◌∙◌}
+use mathlib.Core.Path.{◌≡◌}
 use Prim.Native.Nat.{◌*◌, ◌≤◌}
-use native.Mathlib.Omega.{arith}
 use lib.ListN.{length}
-use Rattle.allowance.proofs.PlaceLaws.{Climbs, climbs-none, climbed-top, climbed-up, climbed-aside}
+use Rattle.allowance.proofs.PlaceLaws.{Climbs}
 use Rattle.allowance.proofs.place.Place.next_sibling.Given as goal
 
 abbrev pub invariant-loop-at : goal.invariant-loop-at

@@ -1,10 +1,7 @@
-use Prim.Native.Nat.{◌-◌}
 use mathlib.Core.Path.{◌∙◌, sym}
 use native.Mathlib.Omega.{arith}
-use Rattle.subsumption.specs.declared.refusal.Refusal.TheVariants.{Malformed}
-use Rattle.subsumption.proofs.Scans.{Scan, scan-none, scan-more, scan-found, scan-done}
-use Rattle.countermodel.specs.Rows.{rows_of, at}
-use Rattle.countermodel.specs.Membership.{bad_row, rows_fault}
+use Rattle.subsumption.proofs.Scans.{scan-none, scan-more, scan-found, scan-done}
+use Rattle.countermodel.specs.Membership.{rows_fault}
 use Rattle.countermodel.proofs.MemberLaws.Checks.{bad-row-at}
 use Rattle.countermodel.proofs.membership.check.check_rows.Goals as goal
 

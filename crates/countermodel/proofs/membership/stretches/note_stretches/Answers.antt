@@ -1,9 +1,7 @@
-use Prim.Native.Nat.{◌-◌}
-use mathlib.Core.Path.{◌≡◌, refl}
+use mathlib.Core.Path.{refl}
 use native.Mathlib.Omega.{arith}
-use lib.ListN.{length, length-set}
-use Rattle.countermodel.specs.Rows.{rows_of}
-use Rattle.countermodel.proofs.MemberLaws.Stretching.{Stretching, stretching-none, place-known, stretching-more, stretching-new, stretching-done}
+use lib.ListN.{length-set}
+use Rattle.countermodel.proofs.MemberLaws.Stretching.{stretching-none, place-known, stretching-more, stretching-new, stretching-done}
 use Rattle.countermodel.proofs.membership.stretches.note_stretches.Goals as goal
 
 pub loop-p-init : goal.loop-p-init

@@ -1,9 +1,8 @@
 use Prim.Native.Nat.{◌-◌}
-use mathlib.Core.Path.{◌≡◌, refl}
-use native.Mathlib.Omega.{arith}
-use lib.ListN.{length, length-set}
+use mathlib.Core.Path.{◌≡◌}
+use lib.ListN.{length}
 use Rattle.countermodel.specs.Rows.{rows_of}
-use Rattle.countermodel.proofs.MemberLaws.Stretching.{Stretching, stretching-none, place-known, stretching-more, stretching-new, stretching-done}
+use Rattle.countermodel.proofs.MemberLaws.Stretching.{Stretching}
 use Rattle.countermodel.proofs.membership.stretches.note_stretches.Given as goal
 
 abbrev pub invariant-loop-p : goal.invariant-loop-p

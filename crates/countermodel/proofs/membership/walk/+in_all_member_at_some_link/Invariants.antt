@@ -1,15 +1,10 @@
-use Prim.Native.Nat.{ℕ, ◌+◌, ◌*◌, ◌-◌, ◌<◌}
-use mathlib.Core.Path.{refl}
-use native.Mathlib.Omega.{arith}
+use Prim.Native.Nat.{◌+◌, ◌*◌, ◌-◌}
 use lib.ListN.{length, get_or}
-use borrow.Author.Rules.{rules}
-use borrow.Author.Tests.{not-true, not-false}
 use Rattle.countermodel.specs.Rows.{rows_of}
 use Rattle.countermodel.specs.Inner.Membership.{Remembers}
-use Rattle.countermodel.proofs.MemberLaws.Scanning.{Unmet, unmet-none, unmet-more}
-use Rattle.countermodel.proofs.MemberLaws.Weights.{weight, atom-falls, link-falls, first-falls, second-falls, variable-falls, link-known, first-known, second-known, choice-known}
-use Rattle.countermodel.proofs.MemberLaws.Memo.{known-yes, known-no}
-use Rattle.countermodel.proofs.MemberLaws.Walking.{in_top, in-name, in-exists, in-first, in_both, in-var, noted-walked, Leads, leads-met, leads-none, Sofar, sofar-none, sofar-skip, sofar-more, sofar-not, sofar-done}
+use Rattle.countermodel.proofs.MemberLaws.Scanning.{Unmet}
+use Rattle.countermodel.proofs.MemberLaws.Weights.{weight}
+use Rattle.countermodel.proofs.MemberLaws.Walking.{Leads, Sofar}
 use Rattle.countermodel.proofs.membership.walk.+in_all_member_at_some_link.Given as goal
 
 abbrev pub decreases-in_all : goal.decreases-in_all

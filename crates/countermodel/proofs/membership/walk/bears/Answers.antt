@@ -1,9 +1,5 @@
-use Prim.Native.Nat.{◌+◌, ◌*◌, ◌-◌}
 use native.Mathlib.Omega.{arith}
-use lib.ListN.{get_or}
-use Rattle.countermodel.specs.Rows.{rows_of}
-use Rattle.countermodel.proofs.RowMembers.{NamedAt}
-use Rattle.countermodel.proofs.MemberLaws.Scanning.{Unmet, unmet-none, unmet-more, bears-met, bears-none}
+use Rattle.countermodel.proofs.MemberLaws.Scanning.{unmet-none, unmet-more, bears-met, bears-none}
 use Rattle.countermodel.proofs.membership.walk.bears.Goals as goal
 
 pub loop-p-init : goal.loop-p-init

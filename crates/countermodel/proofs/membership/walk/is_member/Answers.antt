@@ -1,4 +1,3 @@
-use borrow.Author.Rules.{rules}
 use Rattle.countermodel.proofs.MemberLaws.Memo.{remembers-none}
 use Rattle.countermodel.proofs.membership.walk.is_member.Goals as goal
 

@@ -1,6 +1,4 @@
 use mathlib.Core.Path.{refl, sym}
-use borrow.Author.Rules.{rules}
-use Rattle.countermodel.proofs.membership.walk.note.Lts as lts
 use Rattle.countermodel.proofs.membership.walk.note.Goals as goal
 
 pub returns-then-answer : goal.returns-then-answer

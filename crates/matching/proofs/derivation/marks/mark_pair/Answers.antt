@@ -1,6 +1,5 @@
 use native.Mathlib.Omega.{arith}
 use Rattle.matching.proofs.DerivationLaws.Cells.{cell_room, cell-small}
-use borrow.Author.Rules.{rules}
 use Rattle.matching.proofs.derivation.marks.mark_pair.Goals as goal
 
 pub overflow_mul-marks : goal.overflow_mul-marks

@@ -1,10 +1,7 @@
 use native.Mathlib.Omega.{arith}
-use Prim.Native.Nat.{◌≤◌, ◌-◌}
-use mathlib.Core.Path.{◌≡◌, ◌∙◌, sym}
-use lib.ListN.{length}
-use mathlib.Core.Bool.{true}
+use mathlib.Core.Path.{◌∙◌, sym}
 use Rattle.matching.specs.Inner.Derivation.{seen}
-use Rattle.matching.proofs.DerivationLaws.Rules.{AllBelow, all_none, all-skip, all_more, marked_all, marked-not}
+use Rattle.matching.proofs.DerivationLaws.Rules.{all_none, all-skip, all_more, marked_all, marked-not}
 use Rattle.matching.proofs.derivation.rules.all_marked.Goals as goal
 
 pub loop-q-init : goal.loop-q-init

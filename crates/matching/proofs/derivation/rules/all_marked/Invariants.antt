@@ -1,10 +1,9 @@
-use native.Mathlib.Omega.{arith}
 use Prim.Native.Nat.{◌≤◌, ◌-◌}
-use mathlib.Core.Path.{◌≡◌, ◌∙◌, sym}
+use mathlib.Core.Path.{◌≡◌}
 use lib.ListN.{length}
 use mathlib.Core.Bool.{true}
 use Rattle.matching.specs.Inner.Derivation.{seen}
-use Rattle.matching.proofs.DerivationLaws.Rules.{AllBelow, all_none, all-skip, all_more, marked_all, marked-not}
+use Rattle.matching.proofs.DerivationLaws.Rules.{AllBelow}
 use Rattle.matching.proofs.derivation.rules.all_marked.Given as goal
 
 abbrev pub invariant-loop-q : goal.invariant-loop-q

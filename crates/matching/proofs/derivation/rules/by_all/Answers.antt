@@ -1,6 +1,5 @@
 use native.Mathlib.Omega.{arith}
 use Rattle.matching.proofs.DerivationLaws.Rules.{variable-none, variable-test, variable-numbered}
-use borrow.Author.Rules.{rules}
 use Rattle.matching.proofs.derivation.rules.by_all.Goals as goal
 
 pub returns-then-r-ne4 : goal.returns-then-r-ne4

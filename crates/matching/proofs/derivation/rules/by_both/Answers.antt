@@ -1,4 +1,3 @@
-use native.Mathlib.Omega.{arith}
 use Rattle.matching.proofs.DerivationLaws.Rules.{and-rising}
 use Rattle.matching.proofs.DerivationLaws.Rules.{both-kind, both_first, both-second}
 use Rattle.matching.proofs.derivation.rules.by_both.Goals as goal

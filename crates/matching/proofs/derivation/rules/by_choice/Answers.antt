@@ -1,7 +1,6 @@
 use native.Mathlib.Omega.{arith}
 use Rattle.matching.specs.Inner.Derivation.{seen}
 use Rattle.matching.proofs.DerivationLaws.Rules.{choice-none, choice-past, choice-unmarked, choice-chosen, variable-numbered}
-use borrow.Author.Rules.{rules}
 use Rattle.matching.proofs.derivation.rules.by_choice.Goals as goal
 
 pub returns-then-l-ne4 : goal.returns-then-l-ne4

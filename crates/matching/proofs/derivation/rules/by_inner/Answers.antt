@@ -1,7 +1,4 @@
-use mathlib.Core.Path.{sym, ◌∙◌}
-use native.Mathlib.Omega.{arith}
 use Rattle.matching.proofs.DerivationLaws.Rules.{inner-left, inner-right, inner-role, inner-mark, exists-rising, exists-low}
-use borrow.Author.Rules.{rules}
 use Rattle.matching.proofs.derivation.rules.by_inner.Goals as goal
 
 pub returns-then-l-ne2 : goal.returns-then-l-ne2

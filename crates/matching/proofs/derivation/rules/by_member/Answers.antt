@@ -1,4 +1,3 @@
-use native.Mathlib.Omega.{arith}
 use Rattle.matching.proofs.DerivationLaws.Rules.{and-rising}
 use Rattle.matching.proofs.DerivationLaws.Rules.{member-none, member-first, member-second, member-past}
 use Rattle.matching.proofs.derivation.rules.by_member.Goals as goal

@@ -1,6 +1,5 @@
 use Rattle.matching.proofs.DerivationLaws.Dispatch.{row-rising, row-numbered, atoms-in, inclusions-in, rule-member, rule-inclusion, rule-choice, rule-name, rule-top, rule-both, rule-inner, rule-all, rule-extra, rule-unknown}
 use Rattle.matching.proofs.DerivationLaws.Dispatch.{row_low}
-use borrow.Author.Rules.{rules}
 use Rattle.matching.proofs.derivation.rules.by_rule.Goals as goal
 
 pub row_at-l-requires : goal.row_at-l-requires

@@ -1,8 +1,7 @@
-use native.Mathlib.Omega.{arith}
 use Prim.Native.Nat.{◌≤◌, ◌-◌}
 use mathlib.Core.Path.{◌≡◌}
 use lib.ListN.{length}
-use Rattle.matching.proofs.DerivationLaws.Rules.{AllBelow, all_none, all-skip, all_more, chosen-found, chosen_none}
+use Rattle.matching.proofs.DerivationLaws.Rules.{AllBelow}
 use Rattle.matching.proofs.derivation.rules.is_chosen.Given as goal
 
 abbrev pub invariant-loop-q : goal.invariant-loop-q

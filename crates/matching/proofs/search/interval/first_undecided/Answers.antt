@@ -1,9 +1,6 @@
-use Prim.Native.Nat.{ℕ, ◌-◌, ◌<◌}
-use mathlib.Core.Path.{◌≡◌, ◌∙◌, sym}
-use mathlib.Core.Bool.{false}
+use mathlib.Core.Path.{◌∙◌, sym}
 use native.Mathlib.Omega.{arith}
 use borrow.Author.Count.{below_more}
-use Rattle.matching.specs.Inner.Search.Interval.{undecided}
 use Rattle.matching.proofs.search.interval.first_undecided.Goals as goal
 
 pub loop-p-init : goal.loop-p-init

@@ -1,6 +1,5 @@
 use mathlib.Core.Path.{refl}
 use Rattle.subsumption.specs.Atoms.{bit}
-use borrow.Author.Rules.{rules}
 use Rattle.matching.proofs.search.interval.has_bit.Goals as goal
 
 pub returns : goal.returns

@@ -1,6 +1,5 @@
 use native.Mathlib.Omega.{arith}
 use Rattle.matching.proofs.FindLaws.{ones-all, ones-room, ones-some}
-use borrow.Author.Rules.{rules}
 use Rattle.matching.proofs.search.interval.ones.Goals as goal
 
 pub returns-then-count-eq-ATOMS : goal.returns-then-count-eq-ATOMS

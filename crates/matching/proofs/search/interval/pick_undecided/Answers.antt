@@ -1,6 +1,5 @@
 use mathlib.Core.Path.{◌∙◌, sym}
 use native.Mathlib.Omega.{arith}
-use borrow.Author.Rules.{rules}
 use Rattle.matching.proofs.search.interval.pick_undecided.Goals as goal
 
 pub returns-then-is_undecided : goal.returns-then-is_undecided

@@ -1,5 +1,4 @@
 use Prim.Native.Nat.{◌-◌, ◌≤◌}
-use native.Mathlib.Omega.{arith}
 use Rattle.matching.proofs.search.lookup.count.Given as goal
 
 abbrev pub invariant-loop-q : goal.invariant-loop-q

@@ -1,5 +1,4 @@
 use Prim.Native.Nat.{◌-◌}
-use native.Mathlib.Omega.{arith}
 use Rattle.matching.proofs.search.lookup.open_pair.Given as goal
 
 abbrev pub invariant-loop-k : goal.invariant-loop-k

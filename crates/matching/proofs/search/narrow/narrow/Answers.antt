@@ -1,8 +1,4 @@
-use Prim.Native.Nat.{◌-◌}
-use mathlib.Core.Path.{◌≡◌}
-use lib.ListN.{length}
 use native.Mathlib.Omega.{arith}
-use Rattle.matching.specs.Inner.Search.Narrow.{Narrowed}
 use Rattle.matching.proofs.SearchLaws.Narrow.{narrowed_none, narrowed-more}
 use Rattle.matching.proofs.search.narrow.narrow.Goals as goal
 

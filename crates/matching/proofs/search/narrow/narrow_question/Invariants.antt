@@ -1,10 +1,7 @@
 use Prim.Native.Nat.{◌-◌}
 use mathlib.Core.Path.{◌≡◌}
 use lib.ListN.{length}
-use native.Mathlib.Omega.{arith}
-use borrow.Author.Tests.{eq-eqb}
 use Rattle.matching.specs.Inner.Search.Narrow.{Narrowed}
-use Rattle.matching.proofs.SearchLaws.Narrow.{narrowed_none, narrowed-more}
 use Rattle.matching.proofs.search.narrow.narrow_question.Given as goal
 
 abbrev pub invariant-loop-k : goal.invariant-loop-k

@@ -1,9 +1,7 @@
-use Prim.Native.Nat.{◌-◌}
-use mathlib.Core.Path.{◌≡◌, refl}
-use lib.ListN.{length}
+use mathlib.Core.Path.{refl}
 use native.Mathlib.Omega.{arith}
 use Rattle.matching.proofs.FindLaws.{all-zeros}
-use Rattle.matching.proofs.SearchLaws.Narrow.{Narrowing, narrowing_none, narrowing-keep, narrowing-less, narrowed-pair, still-taken}
+use Rattle.matching.proofs.SearchLaws.Narrow.{narrowing_none, narrowing-keep, narrowing-less, narrowed-pair, still-taken}
 use Rattle.matching.proofs.search.narrow.narrow_variable.Goals as goal
 
 pub loop-q-init : goal.loop-q-init

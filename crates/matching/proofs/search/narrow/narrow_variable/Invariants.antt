@@ -1,9 +1,7 @@
 use Prim.Native.Nat.{◌-◌}
-use mathlib.Core.Path.{◌≡◌, refl}
+use mathlib.Core.Path.{◌≡◌}
 use lib.ListN.{length}
-use native.Mathlib.Omega.{arith}
-use Rattle.matching.proofs.FindLaws.{all-zeros}
-use Rattle.matching.proofs.SearchLaws.Narrow.{Narrowing, narrowing_none, narrowing-keep, narrowing-less, narrowed-pair, still-taken}
+use Rattle.matching.proofs.SearchLaws.Narrow.{Narrowing}
 use Rattle.matching.proofs.search.narrow.narrow_variable.Given as goal
 
 abbrev pub invariant-loop-q : goal.invariant-loop-q

@@ -1,7 +1,6 @@
-use Prim.Native.Nat.{◌+◌, ◌-◌}
+use Prim.Native.Nat.{◌+◌}
 use native.Mathlib.Omega.{arith}
-use borrow.Author.Rules.{rules}
-use Rattle.matching.proofs.SearchLaws.Needs.{Wanting, wanting-none, wanting-skip, wanting-more, wanting-over}
+use Rattle.matching.proofs.SearchLaws.Needs.{wanting-none, wanting-skip, wanting-more, wanting-over}
 use Rattle.matching.proofs.search.needs.count_needs.Goals as goal
 
 pub overflow_cast-most : goal.overflow_cast-most

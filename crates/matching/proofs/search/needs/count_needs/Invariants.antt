@@ -1,7 +1,5 @@
-use Prim.Native.Nat.{◌+◌, ◌-◌}
-use native.Mathlib.Omega.{arith}
-use borrow.Author.Rules.{rules}
-use Rattle.matching.proofs.SearchLaws.Needs.{Wanting, wanting-none, wanting-skip, wanting-more, wanting-over}
+use Prim.Native.Nat.{◌-◌}
+use Rattle.matching.proofs.SearchLaws.Needs.{Wanting}
 use Rattle.matching.proofs.search.needs.count_needs.Given as goal
 
 abbrev pub invariant-loop-c : goal.invariant-loop-c

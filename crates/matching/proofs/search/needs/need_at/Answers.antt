@@ -1,7 +1,6 @@
 use mathlib.Core.Path.{refl}
 use mathlib.Core.Logic.{inl}
 use native.Mathlib.Omega.{arith}
-use borrow.Author.Rules.{rules}
 use Rattle.matching.proofs.SearchLaws.Needs.{need-found}
 use Rattle.matching.proofs.search.needs.need_at.Goals as goal
 

@@ -1,4 +1,3 @@
-use native.Mathlib.Omega.{arith}
 use Rattle.matching.proofs.SearchLaws.Needs.{kept-met}
 use Rattle.matching.proofs.search.needs.with_above.Goals as goal
 

@@ -1,7 +1,6 @@
-use Prim.Native.Nat.{◌-◌}
 use native.Mathlib.Omega.{arith}
 use mathlib.Core.Path.{refl}
-use Rattle.matching.proofs.SearchLaws.Nogoods.{Fetching, fetching-none, fetching-more, fetching-done}
+use Rattle.matching.proofs.SearchLaws.Nogoods.{fetching-none, fetching-more, fetching-done}
 use Rattle.matching.proofs.search.nogoods.fetch.Goals as goal
 
 pub loop-k-init : goal.loop-k-init

@@ -1,7 +1,5 @@
 use Prim.Native.Nat.{◌-◌}
-use native.Mathlib.Omega.{arith}
-use mathlib.Core.Path.{refl}
-use Rattle.matching.proofs.SearchLaws.Nogoods.{Fetching, fetching-none, fetching-more, fetching-done}
+use Rattle.matching.proofs.SearchLaws.Nogoods.{Fetching}
 use Rattle.matching.proofs.search.nogoods.fetch.Given as goal
 
 abbrev pub invariant-loop-k : goal.invariant-loop-k

@@ -1,6 +1,5 @@
-use Prim.Native.Nat.{◌-◌}
 use native.Mathlib.Omega.{arith}
-use Rattle.matching.proofs.SearchLaws.Nogoods.{Putting, putting-none, putting-more, putting-done}
+use Rattle.matching.proofs.SearchLaws.Nogoods.{putting-none, putting-more, putting-done}
 use Rattle.matching.proofs.search.nogoods.put.Goals as goal
 
 pub loop-k-init : goal.loop-k-init

@@ -1,6 +1,5 @@
 use Prim.Native.Nat.{◌-◌}
-use native.Mathlib.Omega.{arith}
-use Rattle.matching.proofs.SearchLaws.Nogoods.{Putting, putting-none, putting-more, putting-done}
+use Rattle.matching.proofs.SearchLaws.Nogoods.{Putting}
 use Rattle.matching.proofs.search.nogoods.put.Given as goal
 
 abbrev pub invariant-loop-k : goal.invariant-loop-k

@@ -1,10 +1,8 @@
 use native.Mathlib.Omega.{arith}
-use mathlib.Core.Path.{◌≡◌, ◌∙◌, sym, ap}
-use Prim.Native.Nat.{◌-◌}
+use mathlib.Core.Path.{◌∙◌, sym, ap}
 use lib.ListN.{length}
-use borrow.Author.Tests.{not-true, not-false}
 use Rattle.matching.proofs.SearchLaws.Interval.{open-high}
-use Rattle.matching.proofs.SearchLaws.Order.{Walking, walking_start, walking_skip, walking-witness, walking-leave, walking-take, walking-done}
+use Rattle.matching.proofs.SearchLaws.Order.{walking_start, walking_skip, walking-witness, walking-leave, walking-take, walking-done}
 use Rattle.matching.proofs.search.order.first_solution.Goals as goal
 
 pub loop-p-init : goal.loop-p-init

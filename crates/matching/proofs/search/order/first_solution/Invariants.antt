@@ -1,10 +1,7 @@
-use native.Mathlib.Omega.{arith}
-use mathlib.Core.Path.{◌≡◌, ◌∙◌, sym, ap}
+use mathlib.Core.Path.{◌≡◌}
 use Prim.Native.Nat.{◌-◌}
 use lib.ListN.{length}
-use borrow.Author.Tests.{not-true, not-false}
-use Rattle.matching.proofs.SearchLaws.Interval.{open-high}
-use Rattle.matching.proofs.SearchLaws.Order.{Walking, walking_start, walking_skip, walking-witness, walking-leave, walking-take, walking-done}
+use Rattle.matching.proofs.SearchLaws.Order.{Walking}
 use Rattle.matching.proofs.search.order.first_solution.Given as goal
 
 abbrev pub invariant-loop-p : goal.invariant-loop-p

@@ -1,6 +1,5 @@
-use Prim.Native.Nat.{◌-◌}
 use native.Mathlib.Omega.{arith}
-use Rattle.matching.proofs.SearchLaws.Pairs.{WithinTo, within_none, within_more, within_all, within-not}
+use Rattle.matching.proofs.SearchLaws.Pairs.{within_none, within_more, within_all, within-not}
 use Rattle.matching.proofs.search.pairs.is_within.Goals as goal
 
 pub loop-k-init : goal.loop-k-init

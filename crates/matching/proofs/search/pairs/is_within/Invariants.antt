@@ -1,6 +1,5 @@
 use Prim.Native.Nat.{◌-◌}
-use native.Mathlib.Omega.{arith}
-use Rattle.matching.proofs.SearchLaws.Pairs.{WithinTo, within_none, within_more, within_all, within-not}
+use Rattle.matching.proofs.SearchLaws.Pairs.{WithinTo}
 use Rattle.matching.proofs.search.pairs.is_within.Given as goal
 
 abbrev pub invariant-loop-k : goal.invariant-loop-k

@@ -1,9 +1,9 @@
-use Prim.Native.Nat.{ℕ, ◌-◌}
+use Prim.Native.Nat.{ℕ}
 use native.Mathlib.Omega.{arith}
 use lib.ListN.{get_or}
 use mathlib.Core.Path.{ap}
 use lib.Bits.{bit_or}
-use Rattle.matching.proofs.SearchLaws.Pairs.{Combined, combined-none, combined-more, joined-all}
+use Rattle.matching.proofs.SearchLaws.Pairs.{combined-none, combined-more, joined-all}
 use Rattle.matching.proofs.search.pairs.join.Goals as goal
 
 pub loop-k-init : goal.loop-k-init

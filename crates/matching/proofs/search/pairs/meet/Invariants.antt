@@ -1,9 +1,6 @@
-use Prim.Native.Nat.{ℕ, ◌-◌}
-use native.Mathlib.Omega.{arith}
-use lib.ListN.{get_or}
-use mathlib.Core.Path.{ap}
+use Prim.Native.Nat.{◌-◌}
 use lib.Bits.{bit_and}
-use Rattle.matching.proofs.SearchLaws.Pairs.{Combined, combined-none, combined-more, met_all}
+use Rattle.matching.proofs.SearchLaws.Pairs.{Combined}
 use Rattle.matching.proofs.search.pairs.meet.Given as goal
 
 abbrev pub invariant-loop-k : goal.invariant-loop-k

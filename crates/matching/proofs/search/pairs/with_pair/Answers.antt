@@ -1,5 +1,4 @@
 use Rattle.matching.proofs.SearchLaws.Choices.{taken}
-use borrow.Author.Rules.{rules}
 use Rattle.matching.proofs.search.pairs.with_pair.Goals as goal
 
 pub returns : goal.returns

@@ -1,5 +1,4 @@
 use Rattle.matching.proofs.SearchLaws.Choices.{left_out}
-use borrow.Author.Rules.{rules}
 use Rattle.matching.proofs.search.pairs.without_pair.Goals as goal
 
 pub returns : goal.returns

@@ -1,5 +1,4 @@
-use Prim.Native.Nat.{◌-◌}
-use Rattle.matching.proofs.SearchLaws.Walks.{AboveTo, above-first, above_more, above-done}
+use Rattle.matching.proofs.SearchLaws.Walks.{above-first, above_more, above-done}
 use native.Mathlib.Omega.{arith}
 use Rattle.matching.proofs.search.patterns.above_some.Goals as goal
 

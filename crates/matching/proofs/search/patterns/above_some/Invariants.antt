@@ -1,6 +1,5 @@
 use Prim.Native.Nat.{◌-◌}
-use Rattle.matching.proofs.SearchLaws.Walks.{AboveTo, above-first, above_more, above-done}
-use native.Mathlib.Omega.{arith}
+use Rattle.matching.proofs.SearchLaws.Walks.{AboveTo}
 use Rattle.matching.proofs.search.patterns.above_some.Given as goal
 
 abbrev pub invariant-loop-q : goal.invariant-loop-q

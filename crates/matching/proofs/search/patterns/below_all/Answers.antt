@@ -1,5 +1,4 @@
-use Prim.Native.Nat.{◌-◌}
-use Rattle.matching.proofs.SearchLaws.Walks.{BelowTo, below-first, below_more, below-done}
+use Rattle.matching.proofs.SearchLaws.Walks.{below-first, below_more, below-done}
 use native.Mathlib.Omega.{arith}
 use Rattle.matching.proofs.search.patterns.below_all.Goals as goal
 

@@ -1,6 +1,5 @@
 use Prim.Native.Nat.{◌-◌}
-use Rattle.matching.proofs.SearchLaws.Walks.{BelowTo, below-first, below_more, below-done}
-use native.Mathlib.Omega.{arith}
+use Rattle.matching.proofs.SearchLaws.Walks.{BelowTo}
 use Rattle.matching.proofs.search.patterns.below_all.Given as goal
 
 abbrev pub invariant-loop-q : goal.invariant-loop-q

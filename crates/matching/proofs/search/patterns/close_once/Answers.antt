@@ -1,5 +1,4 @@
-use Prim.Native.Nat.{◌-◌}
-use Rattle.matching.proofs.SearchLaws.Walks.{members-are, members-are-not, ClosingTo, closing-first, closing-join, closing-skip, closing-done}
+use Rattle.matching.proofs.SearchLaws.Walks.{members-are, members-are-not, closing-first, closing-join, closing-skip, closing-done}
 use native.Mathlib.Omega.{arith}
 use Rattle.matching.proofs.search.patterns.close_once.Goals as goal
 

@@ -1,6 +1,5 @@
 use Prim.Native.Nat.{◌-◌}
-use Rattle.matching.proofs.SearchLaws.Walks.{members-are, members-are-not, ClosingTo, closing-first, closing-join, closing-skip, closing-done}
-use native.Mathlib.Omega.{arith}
+use Rattle.matching.proofs.SearchLaws.Walks.{ClosingTo}
 use Rattle.matching.proofs.search.patterns.close_once.Given as goal
 
 abbrev pub invariant-loop-e : goal.invariant-loop-e

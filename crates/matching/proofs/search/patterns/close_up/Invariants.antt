@@ -1,7 +1,5 @@
 use Prim.Native.Nat.{◌+◌, ◌-◌}
 use Rattle.matching.specs.Inner.Search.Patterns.{Followed}
-use Rattle.matching.proofs.SearchLaws.Walks.{followed-first, followed-trans, closed-up, closing-less}
-use native.Mathlib.Omega.{arith}
 use Rattle.matching.proofs.search.patterns.close_up.Given as goal
 
 abbrev pub invariant-loop-more : goal.invariant-loop-more

@@ -1,6 +1,5 @@
 use Rattle.matching.proofs.SearchLaws.Walks.{members-top, members-and, members-out, members-other}
 use native.Mathlib.Omega.{arith}
-use borrow.Author.Rules.{rules}
 use Rattle.matching.proofs.search.patterns.has_members.Goals as goal
 
 pub returns-then-kind-eq0 : goal.returns-then-kind-eq0

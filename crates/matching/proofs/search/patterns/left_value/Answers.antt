@@ -1,6 +1,5 @@
 use Rattle.matching.proofs.SearchLaws.Patterns.{left-by-var, left-by-and, left-by-exists, valued-in}
 use native.Mathlib.Omega.{arith}
-use borrow.Author.Rules.{rules}
 use Rattle.matching.proofs.search.patterns.left_value.Goals as goal
 
 pub overflow_cast-inner : goal.overflow_cast-inner

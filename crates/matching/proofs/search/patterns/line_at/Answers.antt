@@ -1,5 +1,4 @@
 use Rattle.matching.proofs.SearchLaws.Sets.{line-right, line-left}
-use borrow.Author.Rules.{rules}
 use Rattle.matching.proofs.search.patterns.line_at.Goals as goal
 
 pub returns-then-right : goal.returns-then-right

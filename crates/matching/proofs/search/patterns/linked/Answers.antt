@@ -1,7 +1,6 @@
-use Prim.Native.Nat.{◌-◌}
 use mathlib.Core.Path.{sym, ◌∙◌}
 use Rattle.matching.proofs.SearchLaws.Sets.{line_low, fit_low}
-use Rattle.matching.proofs.SearchLaws.Walks.{LinkedTo, linked-first, linked-join, linked-skip, linked-done}
+use Rattle.matching.proofs.SearchLaws.Walks.{linked-first, linked-join, linked-skip, linked-done}
 use native.Mathlib.Omega.{arith}
 use Rattle.matching.proofs.search.patterns.linked.Goals as goal
 

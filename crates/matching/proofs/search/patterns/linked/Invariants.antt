@@ -1,8 +1,5 @@
 use Prim.Native.Nat.{◌-◌}
-use mathlib.Core.Path.{sym, ◌∙◌}
-use Rattle.matching.proofs.SearchLaws.Sets.{line_low, fit_low}
-use Rattle.matching.proofs.SearchLaws.Walks.{LinkedTo, linked-first, linked-join, linked-skip, linked-done}
-use native.Mathlib.Omega.{arith}
+use Rattle.matching.proofs.SearchLaws.Walks.{LinkedTo}
 use Rattle.matching.proofs.search.patterns.linked.Given as goal
 
 abbrev pub invariant-loop-e : goal.invariant-loop-e

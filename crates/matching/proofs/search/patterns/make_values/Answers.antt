@@ -1,8 +1,6 @@
-use Prim.Native.Nat.{◌-◌}
-use mathlib.Core.Path.{◌≡◌, refl, ◌∙◌}
+use mathlib.Core.Path.{refl, ◌∙◌}
 use mathlib.Core.Bool.{true, false}
-use lib.ListN.{length}
-use Rattle.matching.proofs.SearchLaws.Patterns.{ValuedTo, valued-first, valued-more, valued-done, valued-at, valued-in}
+use Rattle.matching.proofs.SearchLaws.Patterns.{valued-first, valued-more, valued-done, valued-at, valued-in}
 use native.Mathlib.Omega.{arith}
 use Rattle.matching.proofs.search.patterns.make_values.Goals as goal
 

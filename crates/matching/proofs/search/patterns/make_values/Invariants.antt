@@ -1,9 +1,7 @@
 use Prim.Native.Nat.{◌-◌}
-use mathlib.Core.Path.{◌≡◌, refl, ◌∙◌}
-use mathlib.Core.Bool.{true, false}
+use mathlib.Core.Path.{◌≡◌}
 use lib.ListN.{length}
-use Rattle.matching.proofs.SearchLaws.Patterns.{ValuedTo, valued-first, valued-more, valued-done, valued-at, valued-in}
-use native.Mathlib.Omega.{arith}
+use Rattle.matching.proofs.SearchLaws.Patterns.{ValuedTo}
 use Rattle.matching.proofs.search.patterns.make_values.Given as goal
 
 abbrev pub invariant-loop-j : goal.invariant-loop-j

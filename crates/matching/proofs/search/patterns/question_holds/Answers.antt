@@ -1,6 +1,5 @@
 use Rattle.matching.proofs.SearchLaws.Patterns.{tested-right, tested-left, tested-free}
 use native.Mathlib.Omega.{arith}
-use borrow.Author.Rules.{rules}
 use Rattle.matching.proofs.search.patterns.question_holds.Goals as goal
 
 pub overflow_cast-left : goal.overflow_cast-left

@@ -1,6 +1,5 @@
 use Rattle.matching.proofs.SearchLaws.Patterns.{right-by-var, right-by-and, right-by-exists}
 use native.Mathlib.Omega.{arith}
-use borrow.Author.Rules.{rules}
 use Rattle.matching.proofs.search.patterns.right_value.Goals as goal
 
 pub overflow_cast-inner : goal.overflow_cast-inner

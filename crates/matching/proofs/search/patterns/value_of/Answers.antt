@@ -1,7 +1,6 @@
 use Rattle.matching.proofs.SearchLaws.Sets.{line_low}
 use Rattle.matching.proofs.SearchLaws.Walks.{read_made, read-line}
 use native.Mathlib.Omega.{arith}
-use borrow.Author.Rules.{rules}
 use Rattle.matching.proofs.search.patterns.value_of.Goals as goal
 
 pub returns-then-problem-id-eq1 : goal.returns-then-problem-id-eq1

@@ -1,7 +1,5 @@
 use native.Mathlib.Omega.{arith}
-use Prim.Native.Nat.{◌-◌}
-use lib.ListN.{length}
-use Rattle.matching.proofs.SearchLaws.Making.Numbers.{CopiedTo, copied_none, copied_more, copied-done}
+use Rattle.matching.proofs.SearchLaws.Making.Numbers.{copied_none, copied_more, copied-done}
 use Rattle.matching.proofs.search.problem.copy_at.Goals as goal
 
 pub loop-p-init : goal.loop-p-init

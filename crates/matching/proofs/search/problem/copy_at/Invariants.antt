@@ -1,7 +1,6 @@
-use native.Mathlib.Omega.{arith}
 use Prim.Native.Nat.{◌-◌}
 use lib.ListN.{length}
-use Rattle.matching.proofs.SearchLaws.Making.Numbers.{CopiedTo, copied_none, copied_more, copied-done}
+use Rattle.matching.proofs.SearchLaws.Making.Numbers.{CopiedTo}
 use Rattle.matching.proofs.search.problem.copy_at.Given as goal
 
 abbrev pub invariant-loop-p : goal.invariant-loop-p

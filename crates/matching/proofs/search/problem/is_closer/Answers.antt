@@ -1,4 +1,3 @@
-use native.Mathlib.Omega.{arith}
 use Rattle.matching.proofs.SearchLaws.Making.Filling.{closer-held, closer-top, closer-and}
 use Rattle.matching.proofs.search.problem.is_closer.Goals as goal
 

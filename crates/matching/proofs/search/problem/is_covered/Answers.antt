@@ -1,6 +1,5 @@
 use Rattle.matching.proofs.SearchLaws.Making.Closers.{covered-and, covered_none}
 use native.Mathlib.Omega.{arith}
-use Rattle.matching.proofs.search.problem.is_covered.Lts as lts
 use Rattle.matching.proofs.search.problem.is_covered.Goals as goal
 
 pub overflow_cast-problem : goal.overflow_cast-problem

@@ -1,7 +1,5 @@
 use Rattle.matching.proofs.SearchLaws.Making.Closers.{new-kept, new-covered, new-here, new-other}
 use mathlib.Core.Path.{sym, ◌∙◌}
-use native.Mathlib.Omega.{arith}
-use Rattle.matching.proofs.search.problem.is_new.Lts as lts
 use Rattle.matching.proofs.search.problem.is_new.Goals as goal
 
 pub returns-then-has : goal.returns-then-has

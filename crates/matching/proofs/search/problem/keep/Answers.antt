@@ -1,6 +1,5 @@
 use Rattle.matching.proofs.SearchLaws.Making.Closers.{kept_and, kept-other}
 use native.Mathlib.Omega.{arith}
-use Rattle.matching.proofs.search.problem.keep.Lts as lts
 use Rattle.matching.proofs.search.problem.keep.Goals as goal
 
 pub overflow_cast-problem : goal.overflow_cast-problem

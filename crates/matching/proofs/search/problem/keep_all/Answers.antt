@@ -1,7 +1,6 @@
-use Rattle.matching.proofs.SearchLaws.Making.Closers.{KeepTo, weight, again-less, keep-first, keep-again, keep-more, keep-less, keep-done}
+use Rattle.matching.proofs.SearchLaws.Making.Closers.{again-less, keep-first, keep-again, keep-more, keep-less, keep-done}
 use mathlib.Core.Path.{◌∙◌}
 use native.Mathlib.Omega.{arith}
-use Rattle.matching.proofs.search.problem.keep_all.Lts as lts
 use Rattle.matching.proofs.search.problem.keep_all.Goals as goal
 
 pub loop-from-init : goal.loop-from-init

@@ -1,7 +1,4 @@
-use Rattle.matching.proofs.SearchLaws.Making.Closers.{KeepTo, weight, again-less, keep-first, keep-again, keep-more, keep-less, keep-done}
-use mathlib.Core.Path.{◌∙◌}
-use native.Mathlib.Omega.{arith}
-use Rattle.matching.proofs.search.problem.keep_all.Lts as lts
+use Rattle.matching.proofs.SearchLaws.Making.Closers.{KeepTo, weight}
 use Rattle.matching.proofs.search.problem.keep_all.Given as goal
 
 abbrev pub invariant-loop-from : goal.invariant-loop-from

@@ -1,4 +1,3 @@
-use native.Mathlib.Omega.{arith}
 use Rattle.matching.proofs.SearchLaws.Making.Cones.{held-comes, free_stays}
 use Rattle.matching.proofs.search.problem.mark_held.Goals as goal
 

@@ -1,7 +1,5 @@
 use Prim.Native.Nat.{◌-◌}
-use Rattle.matching.proofs.SearchLaws.Making.Closers.{NextTo, next-first, next_more, next-found, next-none}
-use native.Mathlib.Omega.{arith}
-use Rattle.matching.proofs.search.problem.next_new.Lts as lts
+use Rattle.matching.proofs.SearchLaws.Making.Closers.{NextTo}
 use Rattle.matching.proofs.search.problem.next_new.Given as goal
 
 abbrev pub invariant-loop-e : goal.invariant-loop-e

@@ -1,7 +1,5 @@
-use Prim.Native.Nat.{◌-◌}
 use mathlib.Core.Path.{◌∙◌}
-use Rattle.matching.specs.Inner.Search.Problem.{question_count}
-use Rattle.matching.proofs.SearchLaws.Making.Closers.{ClosersTo, closers-none, closers-more, closers-done}
+use Rattle.matching.proofs.SearchLaws.Making.Closers.{closers-none, closers-more, closers-done}
 use native.Mathlib.Omega.{arith}
 use Rattle.matching.proofs.search.problem.note_closers.Goals as goal
 

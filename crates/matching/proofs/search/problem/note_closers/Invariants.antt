@@ -1,8 +1,6 @@
 use Prim.Native.Nat.{◌-◌}
-use mathlib.Core.Path.{◌∙◌}
 use Rattle.matching.specs.Inner.Search.Problem.{question_count}
-use Rattle.matching.proofs.SearchLaws.Making.Closers.{ClosersTo, closers-none, closers-more, closers-done}
-use native.Mathlib.Omega.{arith}
+use Rattle.matching.proofs.SearchLaws.Making.Closers.{ClosersTo}
 use Rattle.matching.proofs.search.problem.note_closers.Given as goal
 
 abbrev pub invariant-loop-m : goal.invariant-loop-m

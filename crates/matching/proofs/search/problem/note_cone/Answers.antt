@@ -1,7 +1,7 @@
 use native.Mathlib.Omega.{arith}
 use Prim.Native.Nat.{◌+◌, ◌*◌}
 use mathlib.Core.Path.{sym, ◌∙◌}
-use Rattle.matching.proofs.SearchLaws.Making.Cones.{ConeTo, cone-start, cone-skip, cone-more, cone-done}
+use Rattle.matching.proofs.SearchLaws.Making.Cones.{cone-start, cone-skip, cone-more, cone-done}
 use Rattle.matching.proofs.search.problem.note_cone.Goals as goal
 
 pub overflow_mul-at : goal.overflow_mul-at

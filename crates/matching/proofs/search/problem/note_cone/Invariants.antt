@@ -1,7 +1,4 @@
-use native.Mathlib.Omega.{arith}
-use Prim.Native.Nat.{◌+◌, ◌*◌}
-use mathlib.Core.Path.{sym, ◌∙◌}
-use Rattle.matching.proofs.SearchLaws.Making.Cones.{ConeTo, cone-start, cone-skip, cone-more, cone-done}
+use Rattle.matching.proofs.SearchLaws.Making.Cones.{ConeTo}
 use Rattle.matching.proofs.search.problem.note_cone.Given as goal
 
 abbrev pub invariant-loop-i : goal.invariant-loop-i

@@ -1,8 +1,6 @@
-use native.Mathlib.Omega.{arith}
 use Prim.Native.Nat.{◌-◌}
 use Rattle.matching.specs.Inner.Search.Problem.{question_count}
-use mathlib.Core.Path.{◌∙◌}
-use Rattle.matching.proofs.SearchLaws.Making.Cones.{ConesTo, cones-none, cones-more, cones-done}
+use Rattle.matching.proofs.SearchLaws.Making.Cones.{ConesTo}
 use Rattle.matching.proofs.search.problem.note_cones.Given as goal
 
 abbrev pub invariant-loop-m : goal.invariant-loop-m

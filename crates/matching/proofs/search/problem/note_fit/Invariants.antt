@@ -1,9 +1,8 @@
-use native.Mathlib.Omega.{arith}
 use Prim.Native.Nat.{◌-◌, ◌≤◌}
-use mathlib.Core.Path.{sym, ◌∙◌, subst, ◌≡◌}
+use mathlib.Core.Path.{◌≡◌}
 use Rattle.matching.specs.Inner.Search.Problem.{fit_at}
 use Rattle.matching.specs.Inner.Search.Making.{fits_by, Filled}
-use Rattle.matching.proofs.SearchLaws.Making.Filling.{up_to, walk_none, walk_more, walk-skip, walk-done, fit-room}
+use Rattle.matching.proofs.SearchLaws.Making.Filling.{up_to}
 use Rattle.matching.proofs.search.problem.note_fit.Given as goal
 
 abbrev pub invariant-loop-e : goal.invariant-loop-e

@@ -1,7 +1,5 @@
-use native.Mathlib.Omega.{arith}
 use Prim.Native.Nat.{◌-◌}
-use mathlib.Core.Path.{◌∙◌}
-use Rattle.matching.proofs.SearchLaws.Making.Filling.{FitsTo, fits-none, fits-skip, fits_more, fits-done, open-held, open-other, open_free}
+use Rattle.matching.proofs.SearchLaws.Making.Filling.{FitsTo}
 use Rattle.matching.proofs.search.problem.note_fits.Given as goal
 
 abbrev pub invariant-loop-j : goal.invariant-loop-j

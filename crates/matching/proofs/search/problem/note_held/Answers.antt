@@ -1,7 +1,6 @@
 use native.Mathlib.Omega.{arith}
-use Prim.Native.Nat.{◌-◌}
 use mathlib.Core.Path.{refl}
-use Rattle.matching.proofs.SearchLaws.Making.Numbers.{HeldTo, held_none, held_more, held-done}
+use Rattle.matching.proofs.SearchLaws.Making.Numbers.{held_none, held_more, held-done}
 use Rattle.matching.proofs.search.problem.note_held.Goals as goal
 
 pub mark_variables-requires : goal.mark_variables-requires

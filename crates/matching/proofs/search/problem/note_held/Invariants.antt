@@ -1,7 +1,5 @@
-use native.Mathlib.Omega.{arith}
 use Prim.Native.Nat.{◌-◌}
-use mathlib.Core.Path.{refl}
-use Rattle.matching.proofs.SearchLaws.Making.Numbers.{HeldTo, held_none, held_more, held-done}
+use Rattle.matching.proofs.SearchLaws.Making.Numbers.{HeldTo}
 use Rattle.matching.proofs.search.problem.note_held.Given as goal
 
 abbrev pub invariant-loop-i : goal.invariant-loop-i

@@ -1,7 +1,6 @@
 use native.Mathlib.Omega.{arith}
-use Prim.Native.Nat.{◌+◌, ◌-◌, ◌*◌, ◌≤◌}
+use Prim.Native.Nat.{◌+◌, ◌*◌}
 use mathlib.Core.Path.{refl}
-use Rattle.matching.specs.Inner.Search.Making.{HintsNoted}
 use Rattle.matching.proofs.SearchLaws.Making.Numbers.{hints-none, hints-more}
 use Rattle.matching.proofs.search.problem.note_holds.Goals as goal
 

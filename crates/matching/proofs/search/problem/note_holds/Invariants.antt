@@ -1,8 +1,5 @@
-use native.Mathlib.Omega.{arith}
-use Prim.Native.Nat.{◌+◌, ◌-◌, ◌*◌, ◌≤◌}
-use mathlib.Core.Path.{refl}
+use Prim.Native.Nat.{◌-◌, ◌≤◌}
 use Rattle.matching.specs.Inner.Search.Making.{HintsNoted}
-use Rattle.matching.proofs.SearchLaws.Making.Numbers.{hints-none, hints-more}
 use Rattle.matching.proofs.search.problem.note_holds.Given as goal
 
 abbrev pub invariant-loop-m : goal.invariant-loop-m

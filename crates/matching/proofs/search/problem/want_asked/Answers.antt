@@ -1,10 +1,6 @@
-use Prim.Native.Nat.{◌-◌}
 use mathlib.Core.Path.{◌∙◌}
-use Rattle.matching.specs.Inner.Search.Problem.{cone_at}
-use Rattle.matching.specs.Inner.Search.Making.{WantsInner}
-use Rattle.matching.proofs.SearchLaws.Making.Closers.{WantTo, want-first, asked-more, asked-done}
+use Rattle.matching.proofs.SearchLaws.Making.Closers.{want-first, asked-more, asked-done}
 use native.Mathlib.Omega.{arith}
-use Rattle.matching.proofs.search.problem.want_asked.Lts as lts
 use Rattle.matching.proofs.search.problem.want_asked.Goals as goal
 
 pub bounds-problem-m : goal.bounds-problem-m

@@ -1,9 +1,5 @@
-use Prim.Native.Nat.{◌-◌}
-use mathlib.Core.Bool.{false}
-use Rattle.matching.specs.Inner.Search.Problem.{fit_at}
-use Rattle.matching.proofs.SearchLaws.Making.Closers.{WantTo, want-first, InnerIn, inner-more, inner-done}
+use Rattle.matching.proofs.SearchLaws.Making.Closers.{want-first, inner-more, inner-done}
 use native.Mathlib.Omega.{arith}
-use Rattle.matching.proofs.search.problem.want_inner.Lts as lts
 use Rattle.matching.proofs.search.problem.want_inner.Goals as goal
 
 pub next_in-e-requires : goal.next_in-e-requires

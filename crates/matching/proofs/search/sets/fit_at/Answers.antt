@@ -1,5 +1,4 @@
 use Rattle.matching.proofs.SearchLaws.Sets.{fit-right, fit-left}
-use borrow.Author.Rules.{rules}
 use Rattle.matching.proofs.search.sets.fit_at.Goals as goal
 
 pub returns-then-right : goal.returns-then-right

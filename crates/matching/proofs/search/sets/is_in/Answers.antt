@@ -1,6 +1,5 @@
 use Rattle.matching.proofs.SearchLaws.Sets.{in-first, in-second, in-third}
 use native.Mathlib.Omega.{arith}
-use borrow.Author.Rules.{rules}
 use Rattle.matching.proofs.search.sets.is_in.Goals as goal
 
 pub returns-then-c-lt64 : goal.returns-then-c-lt64

@@ -1,6 +1,5 @@
 use Rattle.matching.proofs.SearchLaws.Sets.{next-end, next-none, rest-low, next-found}
 use native.Mathlib.Omega.{arith}
-use borrow.Author.Rules.{rules}
 use Rattle.matching.proofs.search.sets.next_bit.Goals as goal
 
 pub returns-then-from-eq64 : goal.returns-then-from-eq64

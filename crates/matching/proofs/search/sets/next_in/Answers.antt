@@ -1,5 +1,4 @@
-use Prim.Native.Nat.{◌-◌}
-use Rattle.matching.proofs.SearchLaws.Sets.{WalkedTo, walked-first, walked-found, walked_more, walked-done}
+use Rattle.matching.proofs.SearchLaws.Sets.{walked-first, walked-found, walked_more, walked-done}
 use native.Mathlib.Omega.{arith}
 use Rattle.matching.proofs.search.sets.next_in.Goals as goal
 

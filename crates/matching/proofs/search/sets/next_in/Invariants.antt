@@ -1,6 +1,5 @@
 use Prim.Native.Nat.{◌-◌}
-use Rattle.matching.proofs.SearchLaws.Sets.{WalkedTo, walked-first, walked-found, walked_more, walked-done}
-use native.Mathlib.Omega.{arith}
+use Rattle.matching.proofs.SearchLaws.Sets.{WalkedTo}
 use Rattle.matching.proofs.search.sets.next_in.Given as goal
 
 abbrev pub invariant-loop-w : goal.invariant-loop-w

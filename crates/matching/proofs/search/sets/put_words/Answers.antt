@@ -1,7 +1,6 @@
 use lib.ListN.{length-set}
 use Rattle.matching.proofs.SearchLaws.Sets.{put-at}
 use native.Mathlib.Omega.{arith}
-use borrow.Author.Rules.{rules}
 use Rattle.matching.proofs.search.sets.put_words.Goals as goal
 
 pub bounds-values-at-2 : goal.bounds-values-at-2

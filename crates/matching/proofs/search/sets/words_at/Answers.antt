@@ -1,5 +1,4 @@
 use Rattle.square.proofs.SetLaws.{line-three}
-use borrow.Author.Rules.{rules}
 use Rattle.matching.proofs.search.sets.words_at.Goals as goal
 
 pub returns : goal.returns

@@ -1,6 +1,5 @@
 use native.Mathlib.Omega.{arith}
 use Rattle.matching.proofs.SearchLaws.Solve.{split-as}
-use borrow.Author.Rules.{rules}
 use Rattle.matching.proofs.search.solve.can_split.Goals as goal
 
 pub returns-then-pair-lt-PAIRS : goal.returns-then-pair-lt-PAIRS

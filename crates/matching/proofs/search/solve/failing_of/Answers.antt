@@ -1,8 +1,5 @@
-use mathlib.Core.Path.{◌≡◌}
-use lib.ListN.{length}
 use native.Mathlib.Omega.{arith}
-use Prim.Native.Nat.{◌-◌}
-use Rattle.matching.proofs.SearchLaws.Solve.{HoldTo, hold-none, hold-unasked, hold-skip, hold-more, failing-here, failing-none}
+use Rattle.matching.proofs.SearchLaws.Solve.{hold-none, hold-unasked, hold-skip, hold-more, failing-here, failing-none}
 use Rattle.matching.proofs.search.solve.failing_of.Goals as goal
 
 pub bounds-problem-897 : goal.bounds-problem-897

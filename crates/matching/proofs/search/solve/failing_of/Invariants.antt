@@ -1,8 +1,7 @@
 use mathlib.Core.Path.{◌≡◌}
 use lib.ListN.{length}
-use native.Mathlib.Omega.{arith}
 use Prim.Native.Nat.{◌-◌}
-use Rattle.matching.proofs.SearchLaws.Solve.{HoldTo, hold-none, hold-unasked, hold-skip, hold-more, failing-here, failing-none}
+use Rattle.matching.proofs.SearchLaws.Solve.{HoldTo}
 use Rattle.matching.proofs.search.solve.failing_of.Given as goal
 
 abbrev pub invariant-loop-m : goal.invariant-loop-m

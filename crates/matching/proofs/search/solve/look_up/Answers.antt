@@ -1,5 +1,4 @@
 use Rattle.matching.proofs.SearchLaws.Solve.{kept-long, recalled-known}
-use borrow.Author.Rules.{rules}
 use Rattle.matching.proofs.search.solve.look_up.Goals as goal
 
 pub returns-then-place-store : goal.returns-then-place-store

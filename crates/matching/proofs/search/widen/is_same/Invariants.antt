@@ -1,5 +1,4 @@
 use Prim.Native.Nat.{◌-◌}
-use native.Mathlib.Omega.{arith}
 use Rattle.matching.proofs.search.widen.is_same.Given as goal
 
 abbrev pub invariant-loop-k : goal.invariant-loop-k

@@ -1,11 +1,7 @@
-use borrow.Author.Tests.{not-true}
 use Prim.Native.Nat.{◌+◌, ◌-◌, ◌*◌, ◌≤◌}
 use mathlib.Core.Path.{◌≡◌}
 use lib.ListN.{length}
-use native.Mathlib.Omega.{arith}
 use Rattle.matching.specs.Inner.Search.Widen.{Mixed, StillFails}
-use Rattle.matching.proofs.SearchLaws.Pairs.{mixed-same, mixed-again}
-use Rattle.matching.proofs.SearchLaws.Widen.{still-none, still-tested}
 use Rattle.matching.proofs.search.widen.widen_runs.Given as goal
 
 abbrev pub invariant-loop-from : goal.invariant-loop-from

@@ -1,6 +1,5 @@
-use Prim.Native.Nat.{◌-◌}
 use native.Mathlib.Omega.{arith}
-use Rattle.matching.proofs.SearchLaws.Pairs.{MixedTo, mixed-none, mixed-all}
+use Rattle.matching.proofs.SearchLaws.Pairs.{mixed-none, mixed-all}
 use Rattle.matching.proofs.SearchLaws.Widen.{mixed-keep, mixed-target}
 use Rattle.matching.proofs.search.widen.with_others.Goals as goal
 

@@ -1,7 +1,5 @@
 use Prim.Native.Nat.{◌-◌}
-use native.Mathlib.Omega.{arith}
-use Rattle.matching.proofs.SearchLaws.Pairs.{MixedTo, mixed-none, mixed-all}
-use Rattle.matching.proofs.SearchLaws.Widen.{mixed-keep, mixed-target}
+use Rattle.matching.proofs.SearchLaws.Pairs.{MixedTo}
 use Rattle.matching.proofs.search.widen.with_others.Given as goal
 
 abbrev pub invariant-loop-k : goal.invariant-loop-k

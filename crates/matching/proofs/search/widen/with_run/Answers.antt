@@ -1,6 +1,5 @@
-use Prim.Native.Nat.{◌-◌}
 use native.Mathlib.Omega.{arith}
-use Rattle.matching.proofs.SearchLaws.Pairs.{MixedTo, mixed-none, mixed-more, mixed-all}
+use Rattle.matching.proofs.SearchLaws.Pairs.{mixed-none, mixed-more, mixed-all}
 use Rattle.matching.proofs.search.widen.with_run.Goals as goal
 
 pub loop-k-init : goal.loop-k-init

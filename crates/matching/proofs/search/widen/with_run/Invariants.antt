@@ -1,6 +1,5 @@
 use Prim.Native.Nat.{◌-◌}
-use native.Mathlib.Omega.{arith}
-use Rattle.matching.proofs.SearchLaws.Pairs.{MixedTo, mixed-none, mixed-more, mixed-all}
+use Rattle.matching.proofs.SearchLaws.Pairs.{MixedTo}
 use Rattle.matching.proofs.search.widen.with_run.Given as goal
 
 abbrev pub invariant-loop-k : goal.invariant-loop-k

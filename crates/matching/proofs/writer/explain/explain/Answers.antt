@@ -1,7 +1,4 @@
-use borrow.Author.Rules.{rules}
 use native.Mathlib.Omega.{arith}
-use Prim.Native.Nat.{◌≤◌, ◌-◌}
-use Rattle.matching.specs.Inner.Writer.Explain.{NoRule}
 use Rattle.matching.proofs.WriterLaws.Explain.{rule-none, rule-more, rule-done, tried-at, tried-none}
 use Rattle.matching.proofs.writer.explain.explain.Goals as goal
 

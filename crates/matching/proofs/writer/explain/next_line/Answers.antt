@@ -1,7 +1,4 @@
-use borrow.Author.Rules.{rules}
 use native.Mathlib.Omega.{arith}
-use Prim.Native.Nat.{◌-◌}
-use Rattle.matching.specs.Inner.Writer.Explain.{QuietFrom}
 use Rattle.matching.proofs.WriterLaws.Explain.{quiet_none, quiet-marked, quiet-unknown, quiet-done, positive, cell-left, cell-right, explained-new, explained-not}
 use Rattle.matching.proofs.DerivationLaws.Cells.{square-small}
 use Rattle.matching.proofs.writer.explain.next_line.Goals as goal

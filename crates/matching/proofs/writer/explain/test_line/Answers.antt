@@ -1,7 +1,4 @@
-use native.Mathlib.Omega.{arith}
 use Rattle.matching.proofs.WriterLaws.Explain.{tested-new}
-use borrow.Author.Rules.{rules}
-use Rattle.matching.proofs.writer.explain.test_line.Lts as lts
 use Rattle.matching.proofs.writer.explain.test_line.Goals as goal
 
 -- src/writer/explain.rt:170:8

@@ -1,7 +1,5 @@
-use native.Mathlib.Omega.{arith}
 use Prim.Native.Nat.{◌-◌}
 use Rattle.matching.specs.Inner.Writer.Explain.{NoExtra}
-use Rattle.matching.proofs.WriterLaws.Explain.{extra-none, extra-more, extra-found, extra-done}
 use Rattle.matching.proofs.writer.explain.try_rule.Given as goal
 
 abbrev pub invariant-loop-extra : goal.invariant-loop-extra

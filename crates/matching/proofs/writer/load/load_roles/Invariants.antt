@@ -1,9 +1,6 @@
-use native.Mathlib.Omega.{arith}
-use borrow.Author.Rules.{rules}
 use lib.ListN.{length}
 use mathlib.Core.Path.{◌≡◌}
 use Prim.Native.Nat.{◌-◌}
-use Rattle.matching.proofs.writer.load.load_roles.Lts as lts
 use Rattle.matching.proofs.writer.load.load_roles.Given as goal
 
 abbrev pub invariant-loop-s : goal.invariant-loop-s

@@ -1,9 +1,6 @@
-use native.Mathlib.Omega.{arith}
-use borrow.Author.Rules.{rules}
 use lib.ListN.{length}
 use mathlib.Core.Path.{◌≡◌}
 use Prim.Native.Nat.{◌-◌}
-use Rattle.matching.proofs.writer.propose.want_members.Lts as lts
 use Rattle.matching.proofs.writer.propose.want_members.Given as goal
 
 abbrev pub invariant-loop-w : goal.invariant-loop-w

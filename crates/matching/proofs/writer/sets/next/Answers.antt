@@ -1,8 +1,6 @@
-use borrow.Author.Rules.{rules}
-use Prim.Native.Nat.{◌+◌, ◌-◌, ◌*◌, ◌/◌, ◌^◌, ◌<◌, ◌≤◌}
+use Prim.Native.Nat.{◌/◌, ◌^◌}
 use native.Mathlib.Omega.{arith}
 use lib.Count.{trailing_le}
-use Rattle.matching.proofs.writer.sets.next.Lts as lts
 use Rattle.matching.proofs.writer.sets.next.Goals as goal
 
 -- src/writer/sets.rt:95:35

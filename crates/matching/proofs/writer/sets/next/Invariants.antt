@@ -1,8 +1,4 @@
-use borrow.Author.Rules.{rules}
-use Prim.Native.Nat.{◌+◌, ◌-◌, ◌*◌, ◌/◌, ◌^◌, ◌<◌, ◌≤◌}
-use native.Mathlib.Omega.{arith}
-use lib.Count.{trailing_le}
-use Rattle.matching.proofs.writer.sets.next.Lts as lts
+use Prim.Native.Nat.{◌+◌, ◌-◌, ◌*◌, ◌<◌, ◌≤◌}
 use Rattle.matching.proofs.writer.sets.next.Given as goal
 
 abbrev pub invariant-loop-w : goal.invariant-loop-w

@@ -1,5 +1,4 @@
 use Rattle.matching.proofs.SearchLaws.Choices.{is_open, is-shut}
-use borrow.Author.Rules.{rules}
 use Rattle.matching.proofs.search.interval.Interval.is_undecided.Goals as goal
 
 pub returns-then-has_bit : goal.returns-then-has_bit
