@@ -55,7 +55,14 @@ fn main(rt: HostRuntime) -> io::Result<()> {
         Plan::Whole(size) => rt.stdout().write_all(&out[..size]),
         Plan::Parts(count, parts) => {
             let m = count * 3;
-            write_parts(&mut rt.stdout(), &concepts[..m], &into, &table, parts, &mut out)
+            write_parts(
+                &mut rt.stdout(),
+                &concepts[..m],
+                &into,
+                &table,
+                parts,
+                &mut out,
+            )
         }
     }
 }

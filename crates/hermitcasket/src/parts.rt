@@ -1,6 +1,5 @@
 // An interpretation that is shown, part by part: its size, the names of each element, the links of each element by each role.
 ghost use Rattle.std.specs.Prelude.{◌≡◌, ◌+◌, ◌<◌, ◌≤◌, length};
-
 ghost use Rattle.subsumption.specs.Tables.{Tables, count_of};
 ghost use Rattle.subsumption.specs.Table.{marked};
 ghost use Rattle.subsumption.specs.Inner.Atoms.{marked_ids};

@@ -3,7 +3,6 @@ ghost use Rattle.std.specs.Prelude.{◌≡◌, ◌+◌, ◌*◌, ◌≤◌, leng
 ghost use Rattle.numerals.specs.Lines.{concepts_key};
 ghost use Rattle.hermitcasket.specs.Text.{read_lines, row_at, pair_at, section_at, roles_at, judge};
 ghost use Rattle.hermitcasket.specs.Inner.Text.{part_of, PartFits, Counts, Sectioned, Ends, Last, fault_of, judged_by, ReadFits, TablesRead};
-
 ghost use Rattle.subsumption.specs.Inner.Lent.{given};
 
 use crate::lines::{Number, PairLine, RowLine, behind, number_line, pair_line, row_line};

@@ -4,7 +4,6 @@ use native.Mathlib.Omega.{arith}
 use lib.ListN.{length-replicate}
 use lib.Seq.{length-take-le}
 use Rattle.hermitcasket.proofs.PlanLaws.{whole-within, parts_within, parts_held, parts_all}
-use borrow.Author.Rules.{rules}
 use Rattle.hermitcasket.proofs.main.Goals as goal
 
 pub answer-plan-requires : goal.answer-plan-requires

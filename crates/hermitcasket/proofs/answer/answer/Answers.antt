@@ -2,7 +2,6 @@ use mathlib.Core.Path.{sym}
 use native.Mathlib.Omega.{arith}
 use lib.Seq.{length-take-le}
 use Rattle.hermitcasket.proofs.PlanLaws.{read_fits, text-planned, text-refused}
-use borrow.Author.Rules.{rules}
 use Rattle.hermitcasket.proofs.answer.answer.Goals as goal
 
 pub overflow_mul-n : goal.overflow_mul-n

@@ -1,7 +1,6 @@
 use Rattle.numerals.proofs.WriteLaws.{refused-room}
 use Rattle.hermitcasket.proofs.ProgramLaws.{wrote_none, wrote-code}
 use native.Mathlib.Omega.{arith}
-use borrow.Author.Rules.{rules}
 use Rattle.hermitcasket.proofs.answer.answer_refused.Goals as goal
 
 pub returns-then-code-eq10 : goal.returns-then-code-eq10

@@ -1,7 +1,6 @@
 use Rattle.hermitcasket.proofs.ProgramLaws.{filled-sound, filled-accepted, filled-fits, filled-exact, answered-filled, answered-refused}
 use lib.ListN.{replicate}
 use native.Mathlib.Omega.{arith}
-use borrow.Author.Rules.{rules}
 use Rattle.hermitcasket.proofs.answer.answer_tables.Goals as goal
 
 pub slice_bounds-put_filled-end : goal.slice_bounds-put_filled-end

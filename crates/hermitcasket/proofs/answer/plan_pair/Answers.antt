@@ -3,7 +3,6 @@ use native.Mathlib.Omega.{arith}
 use lib.ListN.{replicate}
 use lib.Seq.{length-take-le}
 use Rattle.hermitcasket.proofs.PlanLaws.{pair-roles, pair-few, pair_parts, pair-refused}
-use borrow.Author.Rules.{rules}
 use Rattle.hermitcasket.proofs.answer.plan_pair.Goals as goal
 
 pub slice_bounds-judge_pair-end : goal.slice_bounds-judge_pair-end

@@ -1,5 +1,4 @@
 use Rattle.hermitcasket.proofs.PlanLaws.{planned-fill, planned-show}
-use borrow.Author.Rules.{rules}
 use Rattle.hermitcasket.proofs.answer.plan_tables.Goals as goal
 
 pub returns-in-Fill : goal.returns-in-Fill

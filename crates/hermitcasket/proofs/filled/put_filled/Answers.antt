@@ -5,7 +5,6 @@ use Rattle.numerals.specs.Printing.{number_text}
 use Rattle.numerals.specs.Lines.{variables_key}
 use Rattle.numerals.proofs.WriteLaws.{room-1, room-2, room-3, wrote-three}
 use Rattle.hermitcasket.specs.Printing.{filled_line, fills_text, filled_text}
-use borrow.Author.Rules.{rules}
 use Rattle.hermitcasket.proofs.filled.put_filled.Goals as goal
 
 pub put_bytes-a-requires : goal.put_bytes-a-requires

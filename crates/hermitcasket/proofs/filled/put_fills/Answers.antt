@@ -1,8 +1,7 @@
-use Prim.Native.Nat.{◌-◌, ◌≤◌}
 use native.Mathlib.Omega.{arith}
 use Rattle.subsumption.specs.Tables.{tables}
-use Rattle.numerals.proofs.PieceLaws.{Printed, printed-none}
-use Rattle.hermitcasket.proofs.FillLaws.{fills_left, fill-room, fills-more, fills-done}
+use Rattle.numerals.proofs.PieceLaws.{printed-none}
+use Rattle.hermitcasket.proofs.FillLaws.{fill-room, fills-more, fills-done}
 use Rattle.hermitcasket.proofs.filled.put_fills.Goals as goal
 
 pub loop-k-init : goal.loop-k-init

@@ -1,8 +1,7 @@
 use Prim.Native.Nat.{◌-◌, ◌≤◌}
-use native.Mathlib.Omega.{arith}
 use Rattle.subsumption.specs.Tables.{tables}
-use Rattle.numerals.proofs.PieceLaws.{Printed, printed-none}
-use Rattle.hermitcasket.proofs.FillLaws.{fills_left, fill-room, fills-more, fills-done}
+use Rattle.numerals.proofs.PieceLaws.{Printed}
+use Rattle.hermitcasket.proofs.FillLaws.{fills_left}
 use Rattle.hermitcasket.proofs.filled.put_fills.Given as goal
 
 abbrev pub invariant-loop-k : goal.invariant-loop-k

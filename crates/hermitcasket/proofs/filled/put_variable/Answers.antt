@@ -1,7 +1,6 @@
 use native.Mathlib.Omega.{arith}
 use lib.ListN.{replicate}
 use Rattle.hermitcasket.proofs.FillLaws.{chosen-room, wrote-chosen}
-use borrow.Author.Rules.{rules}
 use Rattle.hermitcasket.proofs.filled.put_variable.Goals as goal
 
 pub put_fill-requires : goal.put_fill-requires

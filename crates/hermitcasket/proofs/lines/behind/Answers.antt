@@ -1,4 +1,3 @@
-use native.Mathlib.Omega.{arith}
 use Rattle.hermitcasket.proofs.LineLaws.{rest-whole}
 use Rattle.hermitcasket.proofs.lines.behind.Goals as goal
 

@@ -2,7 +2,6 @@ use Prim.Native.Nat.{◌+◌, ◌≤◌}
 use lib.ListN.{length}
 use native.Mathlib.Omega.{arith}
 use Rattle.hermitcasket.proofs.LineLaws.{number-unkeyed, key-within, value_line, value-within, none-line}
-use borrow.Author.Rules.{rules}
 use Rattle.hermitcasket.proofs.lines.number_line.Goals as goal
 
 pub returns-then-not-starts_with : goal.returns-then-not-starts_with

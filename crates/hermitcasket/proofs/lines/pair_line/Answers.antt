@@ -2,7 +2,6 @@ use Prim.Native.Nat.{◌+◌, ◌≤◌}
 use lib.ListN.{length}
 use native.Mathlib.Omega.{arith}
 use Rattle.hermitcasket.proofs.LineLaws.{pair-unkeyed, key-within, first-none, first-within, second_none, second-within, two-line}
-use borrow.Author.Rules.{rules}
 use Rattle.hermitcasket.proofs.lines.pair_line.Goals as goal
 
 pub returns-then-not-starts_with : goal.returns-then-not-starts_with

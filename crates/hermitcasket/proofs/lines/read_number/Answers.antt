@@ -1,5 +1,4 @@
 use Rattle.hermitcasket.proofs.NumberLaws.{number-empty, number-unended, number-other, number-ended}
-use borrow.Author.Rules.{rules}
 use Rattle.hermitcasket.proofs.lines.read_number.Goals as goal
 
 pub returns-then-n-eq0 : goal.returns-then-n-eq0

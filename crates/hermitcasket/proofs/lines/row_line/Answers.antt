@@ -1,5 +1,4 @@
 use Rattle.hermitcasket.proofs.RowLaws.{row-top, row-name, row-existential, row-conjunction, row-variable, row-none}
-use borrow.Author.Rules.{rules}
 use Rattle.hermitcasket.proofs.lines.row_line.Goals as goal
 
 pub returns-then-starts_with : goal.returns-then-starts_with

@@ -2,7 +2,6 @@ use mathlib.Core.Path.{refl}
 use native.Mathlib.Omega.{arith}
 use Rattle.hermitcasket.proofs.SizeLaws.{links-short}
 use Rattle.hermitcasket.proofs.ShownLaws.{output-links}
-use borrow.Author.Rules.{rules}
 use Rattle.hermitcasket.proofs.parts.put_links.Goals as goal
 
 pub note_links-requires : goal.note_links-requires

@@ -1,5 +1,4 @@
 use Rattle.hermitcasket.proofs.MarkLines.{mark-link-room, wrote-mark-link, mark-name-room, wrote-mark-name}
-use borrow.Author.Rules.{rules}
 use Rattle.hermitcasket.proofs.parts.put_mark.Goals as goal
 
 pub put_link-requires : goal.put_link-requires

@@ -1,7 +1,5 @@
-use Prim.Native.Nat.{◌-◌}
-use native.Mathlib.Omega.{arith}
-use Rattle.numerals.proofs.PieceLaws.{Printed, printed-none}
-use Rattle.hermitcasket.proofs.MarkLines.{marks_left, marks-room, marks-set, marks-unset, marks-done}
+use Rattle.numerals.proofs.PieceLaws.{printed-none}
+use Rattle.hermitcasket.proofs.MarkLines.{marks-room, marks-set, marks-unset, marks-done}
 use Rattle.hermitcasket.proofs.parts.put_marks.Goals as goal
 
 pub loop-q-init : goal.loop-q-init

@@ -1,7 +1,6 @@
 use Prim.Native.Nat.{◌-◌}
-use native.Mathlib.Omega.{arith}
-use Rattle.numerals.proofs.PieceLaws.{Printed, printed-none}
-use Rattle.hermitcasket.proofs.MarkLines.{marks_left, marks-room, marks-set, marks-unset, marks-done}
+use Rattle.numerals.proofs.PieceLaws.{Printed}
+use Rattle.hermitcasket.proofs.MarkLines.{marks_left}
 use Rattle.hermitcasket.proofs.parts.put_marks.Given as goal
 
 abbrev pub invariant-loop-q : goal.invariant-loop-q

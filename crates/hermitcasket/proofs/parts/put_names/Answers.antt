@@ -1,6 +1,5 @@
 use native.Mathlib.Omega.{arith}
 use Rattle.hermitcasket.proofs.ShownLaws.{names-room, wrote-names}
-use borrow.Author.Rules.{rules}
 use Rattle.hermitcasket.proofs.parts.put_names.Goals as goal
 
 pub put_marks-requires : goal.put_marks-requires

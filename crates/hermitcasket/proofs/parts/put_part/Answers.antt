@@ -1,7 +1,6 @@
 use native.Mathlib.Omega.{arith}
 use Rattle.hermitcasket.proofs.SizeLaws.{things-room}
 use Rattle.hermitcasket.proofs.ShownLaws.{held-checked, part-first, part-names, part-links}
-use borrow.Author.Rules.{rules}
 use Rattle.hermitcasket.proofs.parts.put_part.Goals as goal
 
 pub put_line-requires : goal.put_line-requires

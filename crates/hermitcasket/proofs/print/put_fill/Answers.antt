@@ -2,7 +2,6 @@ use mathlib.Core.List.{[], ◌∷◌}
 use mathlib.Core.Bool.{false}
 use Rattle.numerals.proofs.WriteLaws.{room-1, room-2, room-3, wrote-three}
 use Rattle.hermitcasket.specs.Printing.{fill_key, ids_text, fill_text}
-use borrow.Author.Rules.{rules}
 use Rattle.hermitcasket.proofs.print.put_fill.Goals as goal
 
 pub put_bytes-a-requires : goal.put_bytes-a-requires

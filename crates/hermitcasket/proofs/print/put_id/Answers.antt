@@ -1,5 +1,4 @@
 use Rattle.hermitcasket.proofs.FillLaws.{comma-room, later-room, wrote-later, first-room, wrote-first}
-use borrow.Author.Rules.{rules}
 use Rattle.hermitcasket.proofs.print.put_id.Goals as goal
 
 pub put_bytes-a-requires : goal.put_bytes-a-requires

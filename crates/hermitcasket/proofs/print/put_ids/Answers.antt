@@ -1,8 +1,6 @@
-use Prim.Native.Nat.{◌-◌, ◌≤◌}
 use native.Mathlib.Omega.{arith}
-use lib.ListN.{length}
-use Rattle.numerals.proofs.PieceLaws.{Printed, printed-none, piece-room, printed-more}
-use Rattle.hermitcasket.proofs.FillLaws.{ids_left, ids_next, ids-done}
+use Rattle.numerals.proofs.PieceLaws.{printed-none, piece-room, printed-more}
+use Rattle.hermitcasket.proofs.FillLaws.{ids_next, ids-done}
 use Rattle.hermitcasket.proofs.print.put_ids.Goals as goal
 
 pub loop-i-init : goal.loop-i-init

@@ -1,8 +1,7 @@
 use Prim.Native.Nat.{◌-◌, ◌≤◌}
-use native.Mathlib.Omega.{arith}
 use lib.ListN.{length}
-use Rattle.numerals.proofs.PieceLaws.{Printed, printed-none, piece-room, printed-more}
-use Rattle.hermitcasket.proofs.FillLaws.{ids_left, ids_next, ids-done}
+use Rattle.numerals.proofs.PieceLaws.{Printed}
+use Rattle.hermitcasket.proofs.FillLaws.{ids_left}
 use Rattle.hermitcasket.proofs.print.put_ids.Given as goal
 
 abbrev pub invariant-loop-i : goal.invariant-loop-i

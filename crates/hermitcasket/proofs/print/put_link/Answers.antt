@@ -1,5 +1,4 @@
 use Rattle.hermitcasket.proofs.MarkLines.{link-room-1, link-room-2, link-room-3, wrote-link}
-use borrow.Author.Rules.{rules}
 use Rattle.hermitcasket.proofs.print.put_link.Goals as goal
 
 pub put_bytes-x-requires : goal.put_bytes-x-requires

@@ -1,5 +1,4 @@
 use Rattle.hermitcasket.proofs.ReadLaws.{fault-through, fault-faulty}
-use borrow.Author.Rules.{rules}
 use Rattle.hermitcasket.proofs.text.fault.Goals as goal
 
 pub returns-in-Through : goal.returns-in-Through

@@ -2,7 +2,6 @@ use Prim.Native.Nat.{◌+◌, ◌≤◌}
 use native.Mathlib.Omega.{arith}
 use lib.ListN.{length}
 use Rattle.hermitcasket.proofs.SectionLaws.{counted-few, counted-within, lines-room, lines-used, section-refused, section-off, section-through}
-use borrow.Author.Rules.{rules}
 use Rattle.hermitcasket.proofs.text.read_concepts.Goals as goal
 
 pub returns-in_default : goal.returns-in_default

@@ -1,5 +1,4 @@
 use Rattle.hermitcasket.proofs.SectionLaws.{count_none, count-over, count-through}
-use borrow.Author.Rules.{rules}
 use Rattle.hermitcasket.proofs.text.read_count.Goals as goal
 
 pub returns-in_default : goal.returns-in_default

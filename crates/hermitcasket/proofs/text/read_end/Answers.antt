@@ -1,5 +1,4 @@
 use Rattle.hermitcasket.proofs.SectionLaws.{end_none, end-off, end_more, end-shown}
-use borrow.Author.Rules.{rules}
 use Rattle.hermitcasket.proofs.text.read_end.Goals as goal
 
 pub returns-then-rest-eq0 : goal.returns-then-rest-eq0

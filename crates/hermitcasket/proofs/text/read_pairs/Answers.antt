@@ -1,10 +1,7 @@
-use Prim.Native.Nat.{◌-◌}
-use mathlib.Core.Path.{◌≡◌, refl}
+use mathlib.Core.Path.{refl}
 use native.Mathlib.Omega.{arith}
-use borrow.Author.Rules.{rules}
-use lib.ListN.{length, length-set}
-use Rattle.hermitcasket.specs.Text.{pair_at}
-use Rattle.hermitcasket.proofs.PartLaws.{Lined, lined-none, lined-done, pairs-off, pairs-within, pairs-used, pairs-more}
+use lib.ListN.{length-set}
+use Rattle.hermitcasket.proofs.PartLaws.{lined-none, lined-done, pairs-off, pairs-within, pairs-used, pairs-more}
 use Rattle.hermitcasket.proofs.text.read_pairs.Goals as goal
 
 pub loop-i-init : goal.loop-i-init

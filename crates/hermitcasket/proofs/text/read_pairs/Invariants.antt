@@ -1,10 +1,8 @@
 use Prim.Native.Nat.{◌-◌}
-use mathlib.Core.Path.{◌≡◌, refl}
-use native.Mathlib.Omega.{arith}
-use borrow.Author.Rules.{rules}
-use lib.ListN.{length, length-set}
+use mathlib.Core.Path.{◌≡◌}
+use lib.ListN.{length}
 use Rattle.hermitcasket.specs.Text.{pair_at}
-use Rattle.hermitcasket.proofs.PartLaws.{Lined, lined-none, lined-done, pairs-off, pairs-within, pairs-used, pairs-more}
+use Rattle.hermitcasket.proofs.PartLaws.{Lined}
 use Rattle.hermitcasket.proofs.text.read_pairs.Given as goal
 
 abbrev pub invariant-loop-i : goal.invariant-loop-i

@@ -1,6 +1,5 @@
 use native.Mathlib.Omega.{arith}
 use Rattle.hermitcasket.proofs.ReadLaws.{section-within, section-room, last-refused, last-damaged, last-asked}
-use borrow.Author.Rules.{rules}
 use Rattle.hermitcasket.proofs.text.read_questions.Goals as goal
 
 pub returns-in_default : goal.returns-in_default

@@ -1,5 +1,4 @@
 use Rattle.hermitcasket.proofs.SectionLaws.{roles-absent, roles-present}
-use borrow.Author.Rules.{rules}
 use Rattle.hermitcasket.proofs.text.read_roles.Goals as goal
 
 pub returns-then-not-starts_with : goal.returns-then-not-starts_with

@@ -1,10 +1,8 @@
-use Prim.Native.Nat.{◌+◌, ◌-◌, ◌≤◌}
-use mathlib.Core.Path.{◌≡◌, refl}
+use Prim.Native.Nat.{◌+◌, ◌≤◌}
+use mathlib.Core.Path.{refl}
 use native.Mathlib.Omega.{arith}
-use borrow.Author.Rules.{rules}
 use lib.ListN.{length, length-set}
-use Rattle.hermitcasket.specs.Text.{row_at}
-use Rattle.hermitcasket.proofs.PartLaws.{Lined, lined-none, lined-done, rows-off, rows-within, rows-used, rows_more}
+use Rattle.hermitcasket.proofs.PartLaws.{lined-none, lined-done, rows-off, rows-within, rows-used, rows_more}
 use Rattle.hermitcasket.proofs.text.read_rows.Goals as goal
 
 pub loop-i-init : goal.loop-i-init

@@ -1,10 +1,8 @@
-use Prim.Native.Nat.{◌+◌, ◌-◌, ◌≤◌}
-use mathlib.Core.Path.{◌≡◌, refl}
-use native.Mathlib.Omega.{arith}
-use borrow.Author.Rules.{rules}
-use lib.ListN.{length, length-set}
+use Prim.Native.Nat.{◌-◌}
+use mathlib.Core.Path.{◌≡◌}
+use lib.ListN.{length}
 use Rattle.hermitcasket.specs.Text.{row_at}
-use Rattle.hermitcasket.proofs.PartLaws.{Lined, lined-none, lined-done, rows-off, rows-within, rows-used, rows_more}
+use Rattle.hermitcasket.proofs.PartLaws.{Lined}
 use Rattle.hermitcasket.proofs.text.read_rows.Given as goal
 
 abbrev pub invariant-loop-i : goal.invariant-loop-i

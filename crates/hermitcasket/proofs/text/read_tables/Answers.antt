@@ -1,6 +1,5 @@
 use native.Mathlib.Omega.{arith}
 use Rattle.hermitcasket.proofs.ReadLaws.{section-fits, section-room, fault-3, fault-4, fault-5, read_all}
-use borrow.Author.Rules.{rules}
 use Rattle.hermitcasket.proofs.text.read_tables.Goals as goal
 
 pub returns-in_default : goal.returns-in_default

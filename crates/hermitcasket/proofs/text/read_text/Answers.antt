@@ -1,6 +1,5 @@
 use native.Mathlib.Omega.{arith}
 use Rattle.hermitcasket.proofs.ReadLaws.{read-long, fault-1, fault-2, counts-fit, roles-room, roles-fit, tables-room, read-on}
-use borrow.Author.Rules.{rules}
 use Rattle.hermitcasket.proofs.text.read_text.Goals as goal
 
 pub returns-then-text-gt8192 : goal.returns-then-text-gt8192

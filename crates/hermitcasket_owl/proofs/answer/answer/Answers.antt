@@ -5,7 +5,6 @@ use lib.ListN.{replicate, length-replicate}
 use lib.Seq.{length-take-le}
 use Rattle.numerals.proofs.WriteLaws.{refused-room}
 use Rattle.hermitcasket_owl.proofs.AnswerLaws.{few-entries, few-pairs, card-room, carded, carded-refused}
-use borrow.Author.Rules.{rules}
 use Rattle.hermitcasket_owl.proofs.answer.answer.Goals as goal
 
 pub overflow_mul-n : goal.overflow_mul-n

@@ -1,5 +1,4 @@
 use Rattle.hermitcasket_owl.proofs.CardLaws.{card-room-1, card-room-2, card-room-3, card-room-4, wrote-card}
-use borrow.Author.Rules.{rules}
 use Rattle.hermitcasket_owl.proofs.card.put_card.Goals as goal
 
 pub put_line-a-requires : goal.put_line-a-requires

@@ -1,5 +1,4 @@
 use Rattle.hermitcasket_owl.proofs.CardLaws.{entries-front, entries-back, wrote-entries}
-use borrow.Author.Rules.{rules}
 use Rattle.hermitcasket_owl.proofs.card.put_entries.Goals as goal
 
 pub put_line-a-requires : goal.put_line-a-requires

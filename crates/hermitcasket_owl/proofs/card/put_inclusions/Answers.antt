@@ -1,5 +1,4 @@
 use Rattle.hermitcasket_owl.proofs.CardLaws.{inclusions-front, inclusions-back, wrote-inclusions}
-use borrow.Author.Rules.{rules}
 use Rattle.hermitcasket_owl.proofs.card.put_inclusions.Goals as goal
 
 pub put_line-a-requires : goal.put_line-a-requires

@@ -1,9 +1,8 @@
-use Prim.Native.Nat.{◌+◌, ◌-◌, ◌*◌}
-use mathlib.Core.Path.{◌≡◌, refl}
+use Prim.Native.Nat.{◌+◌, ◌*◌}
+use mathlib.Core.Path.{refl}
 use native.Mathlib.Omega.{arith}
-use Rattle.subsumption.specs.Tables.{pairs_of}
-use Rattle.numerals.proofs.PieceLaws.{Printed, printed-none}
-use Rattle.hermitcasket_owl.proofs.CardLaws.{pairs_left, pair-room, pair-more, pairs-done}
+use Rattle.numerals.proofs.PieceLaws.{printed-none}
+use Rattle.hermitcasket_owl.proofs.CardLaws.{pair-room, pair-more, pairs-done}
 use Rattle.hermitcasket_owl.proofs.card.put_pairs.Goals as goal
 
 pub loop-i-init : goal.loop-i-init

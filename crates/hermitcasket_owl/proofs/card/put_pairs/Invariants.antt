@@ -1,9 +1,8 @@
-use Prim.Native.Nat.{◌+◌, ◌-◌, ◌*◌}
-use mathlib.Core.Path.{◌≡◌, refl}
-use native.Mathlib.Omega.{arith}
+use Prim.Native.Nat.{◌-◌}
+use mathlib.Core.Path.{◌≡◌}
 use Rattle.subsumption.specs.Tables.{pairs_of}
-use Rattle.numerals.proofs.PieceLaws.{Printed, printed-none}
-use Rattle.hermitcasket_owl.proofs.CardLaws.{pairs_left, pair-room, pair-more, pairs-done}
+use Rattle.numerals.proofs.PieceLaws.{Printed}
+use Rattle.hermitcasket_owl.proofs.CardLaws.{pairs_left}
 use Rattle.hermitcasket_owl.proofs.card.put_pairs.Given as goal
 
 abbrev pub invariant-loop-i : goal.invariant-loop-i

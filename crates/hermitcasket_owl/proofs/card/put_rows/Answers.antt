@@ -1,9 +1,8 @@
-use Prim.Native.Nat.{◌+◌, ◌-◌, ◌*◌}
-use mathlib.Core.Path.{◌≡◌, refl}
+use Prim.Native.Nat.{◌+◌, ◌*◌}
+use mathlib.Core.Path.{refl}
 use native.Mathlib.Omega.{arith}
-use Rattle.subsumption.specs.Tables.{count_of}
-use Rattle.numerals.proofs.PieceLaws.{Printed, printed-none}
-use Rattle.hermitcasket_owl.proofs.CardLaws.{rows_left, row_room, row_more, rows-done}
+use Rattle.numerals.proofs.PieceLaws.{printed-none}
+use Rattle.hermitcasket_owl.proofs.CardLaws.{row_room, row_more, rows-done}
 use Rattle.hermitcasket_owl.proofs.card.put_rows.Goals as goal
 
 pub loop-i-init : goal.loop-i-init

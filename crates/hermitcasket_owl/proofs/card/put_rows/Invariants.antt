@@ -1,9 +1,8 @@
-use Prim.Native.Nat.{◌+◌, ◌-◌, ◌*◌}
-use mathlib.Core.Path.{◌≡◌, refl}
-use native.Mathlib.Omega.{arith}
+use Prim.Native.Nat.{◌-◌}
+use mathlib.Core.Path.{◌≡◌}
 use Rattle.subsumption.specs.Tables.{count_of}
-use Rattle.numerals.proofs.PieceLaws.{Printed, printed-none}
-use Rattle.hermitcasket_owl.proofs.CardLaws.{rows_left, row_room, row_more, rows-done}
+use Rattle.numerals.proofs.PieceLaws.{Printed}
+use Rattle.hermitcasket_owl.proofs.CardLaws.{rows_left}
 use Rattle.hermitcasket_owl.proofs.card.put_rows.Given as goal
 
 abbrev pub invariant-loop-i : goal.invariant-loop-i
