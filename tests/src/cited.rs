@@ -183,8 +183,9 @@ pub fn paths(text: &str) -> Vec<String> {
         if root().join(&edit).is_file() {
             return Some(edit);
         }
-        // target/ comes and goes
-        let is_plain = first.starts_with(char::is_alphabetic) && first != "target";
+        // target/ and the crates' out/ come and go
+        let is_made = first == "target" || word.contains("/out/") || word.ends_with("/out");
+        let is_plain = first.starts_with(char::is_alphabetic) && !is_made;
         let is_path = is_plain && !word.contains(|c: char| c == ' ' || c == '*');
         let from = ["", "crates/"].iter().find(|from| root().join(from).join(first).is_dir())?;
         is_path.then(|| format!("{}{}", from, word))
