@@ -324,8 +324,10 @@ fn operations(of: &str) -> Vec<(String, String)> {
             }
         } else if let Some(path) = line.strip_prefix("pub use ") {
             let path = path.trim_end_matches(';');
-            let (module, name) = path.rsplit_once("::").expect("a path");
-            found.push((module.replace("::", "/"), name.to_string()));
+            let (module, names) = path.rsplit_once("::").expect("a path");
+            // one name, or several in brackets
+            let names = names.trim_start_matches('{').trim_end_matches('}').split(", ");
+            found.extend(names.map(|name| (module.replace("::", "/"), name.to_string())));
         }
     }
     found

@@ -27,8 +27,8 @@ pub struct Citation {
     pub file: String,
 }
 
-/// Files that every crate has go by their name alone.
-const OF_EVERY_CRATE: [&str; 3] = ["lib.rt", "Lib.antt", "Inner.antt"];
+/// Files that every crate, or many a function's proof, has go by their name alone.
+const OF_EVERY_CRATE: [&str; 5] = ["lib.rt", "Lib.antt", "Inner.antt", "Invariants.antt", "Answers.antt"];
 
 pub fn root() -> PathBuf {
     Path::new(env!("CARGO_MANIFEST_DIR")).join("..")

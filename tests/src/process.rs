@@ -14,7 +14,12 @@ pub fn path(program: &str) -> PathBuf {
 
 pub fn start(program: &str) -> Child {
     let path = path(program);
-    assert!(path.is_file(), "{} is missing: run rt run in crates/{} first", path.display(), program);
+    assert!(
+        path.is_file(),
+        "{} is missing: run rt run in crates/{} first",
+        path.display(),
+        program
+    );
     let mut command = Command::new(&path);
     command.stdin(Stdio::piped()).stdout(Stdio::piped()).stderr(Stdio::piped());
     command.spawn().unwrap_or_else(|error| panic!("{:?}: {}", command, error))

@@ -88,15 +88,15 @@ fn what_is_wrong_is_told() {
         ("| `hc_blanks` |", "| `hc_blank` |", "hc_blanks has no row"),
         ("| `answers::blanks` |", "| `answers::atoms` |", "hc_blanks: it passes on Some("),
         ("| `answers::blanks` |", "| `answers::blank` |", "hc_blanks: there is no answers::blank"),
-        ("`pairFault`, `variables", "`tableFault`, `variables", "no ensures has tableFault"),
-        ("| `pairFault`, `variablesOf` |", "| |", "hc_blanks: no clause"),
+        ("`pair_fault`, `variables", "`table_fault`, `variables", "no ensures has table_fault"),
+        ("| `pair_fault`, `variables_of` |", "| |", "hc_blanks: no clause"),
         (
             "| | `owl/depth-33-accepted`",
             ", `owl/depth-33-accepted` | |",
             "depth-33-accepted is not",
         ),
         ("-exchanged` | |", "-exchanged` | | `answers/blanks-other-id`,", "several places"),
-        ("`found-within`: ", "`found`: ", "cards/permitted-not-heeded changes nothing"),
+        ("`found_within`: ", "`found`: ", "cards/permitted-not-heeded changes nothing"),
         ("`YesStays`, ", "", "the sentences of A.13: the edits change"),
     ] {
         assert!(document.contains(old), "{}", old);
