@@ -278,13 +278,18 @@ pub fn clauses(text: &str) -> BTreeMap<String, String> {
     let mut clause = String::new();
     let mut goes_on = false;
     let mut open = 0;
-    let is_start = |line: &str| ["    requires", "    ensures"].iter().any(|word| line.starts_with(word));
+    let is_start =
+        |line: &str| ["    requires", "    ensures"].iter().any(|word| line.starts_with(word));
     for line in text.lines() {
         let start = line.strip_prefix("pub fn ").or_else(|| line.strip_prefix("pub extern \"C\" fn "));
         if let Some(rest) = start {
             let end = rest.find(|c: char| !is_part(c)).unwrap_or(rest.len());
             name = Some(rest[..end].to_string());
             clause.clear();
+        }
+        if line == "}" {
+            // of a function without clauses
+            name = None;
         }
         if line == "{" {
             assert!(!goes_on, "a clause without an end: {}", clause);

@@ -28,7 +28,8 @@ pub struct Citation {
 }
 
 /// Files that every crate, or many a function's proof, has go by their name alone.
-const OF_EVERY_CRATE: [&str; 5] = ["lib.rt", "Lib.antt", "Inner.antt", "Invariants.antt", "Answers.antt"];
+const OF_EVERY_CRATE: [&str; 5] =
+    ["lib.rt", "Lib.antt", "Inner.antt", "Invariants.antt", "Answers.antt"];
 
 pub fn root() -> PathBuf {
     Path::new(env!("CARGO_MANIFEST_DIR")).join("..")

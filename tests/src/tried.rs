@@ -10,8 +10,8 @@ use std::ops::Range;
 use std::path::Path;
 
 use crate::believed::{
-    clauses, crate_names, crates_dir, files, imports, items, read, resolve, said, Definitions, Name,
-    Sentence, SENTENCES,
+    clauses, crate_names, crates_dir, files, imports, items, read, resolve, said, Definitions,
+    Name, Sentence, SENTENCES,
 };
 use crate::cited::root;
 
