@@ -1,8 +1,8 @@
 /* The card of examples/sample.txt through the C interface: a filling and what it chooses, why a yes holds, and
  * a stock where a no fails. rust/examples/card.rs is the same in Rust, and prints the same lines.
  *
- *     rt staticlib capi
- *     cc -Iinclude examples/card.c target/staticlib/libcapi.a -o card && ./card
+ *     (cd crates/capi && rt lib)
+ *     cc -Iinclude examples/card.c crates/capi/out/libcapi.a -o card && ./card
  */
 #include <hermitcasket.h>
 #include <stdio.h>

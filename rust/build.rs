@@ -1,4 +1,4 @@
-//! Links the proved library: target/staticlib/libcapi.a of this repository, or the one in the folder whose whole path
+//! Links the proved library: crates/capi/out/libcapi.a of this repository, or the one in the folder whose whole path
 //! HERMITCASKET_LIBRARY has. Packages that depend on this one are told its path as DEP_CAPI_ARCHIVE.
 
 use std::env;
@@ -10,7 +10,7 @@ fn folder() -> PathBuf {
         return PathBuf::from(folder);
     }
     let package = env::var_os("CARGO_MANIFEST_DIR").expect("cargo sets CARGO_MANIFEST_DIR");
-    Path::new(&package).parent().expect("the repository").join("target").join("staticlib")
+    Path::new(&package).parent().expect("the repository").join("crates/capi/out")
 }
 
 fn main() {
@@ -18,7 +18,7 @@ fn main() {
     let archive = folder.join("libcapi.a");
     println!("cargo:rerun-if-changed={}", archive.display());
     if !archive.is_file() {
-        let wanted = "run `rt staticlib capi` first, or set HERMITCASKET_LIBRARY to the whole path of its folder";
+        let wanted = "run `rt lib` in crates/capi first, or set HERMITCASKET_LIBRARY to the whole path of its folder";
         eprintln!("{} is missing: {}", archive.display(), wanted);
         std::process::exit(1);
     }

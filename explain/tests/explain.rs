@@ -176,7 +176,7 @@ fn what_cannot_be_run_says_why() {
 /// A text is refused exactly where the program refuses it as a text, with the same number and place.
 #[test]
 fn texts_are_judged_as_the_program_judges_them() {
-    let program = root().join("target/bin/hermitcasket");
+    let program = root().join("crates/hermitcasket/out/hermitcasket");
     let text = read("examples/doubt.txt");
     let mut seen = [0, 0];
     for at in 0..text.len() {

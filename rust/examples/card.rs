@@ -1,7 +1,7 @@
 //! The card of examples/sample.txt: an assignment and what it chooses, why a yes holds, and an interpretation
 //! where a no fails. examples/card.c is the same in C, and prints the same lines.
 //!
-//!     rt staticlib capi
+//!     (cd crates/capi && rt lib)
 //!     cargo run -p hermitcasket --example card
 
 use hermitcasket::{Refusal, Tables};

@@ -30,7 +30,7 @@
 //! place, and a sentence. "None" is no error: [`Tables::find_assignment`] gives `Ok(None)` exactly when no
 //! substitution of concepts of any size for the variables makes every question hold.
 //!
-//! **Linking.** `rt staticlib capi` at the top of the repository writes the library that this crate links. The
+//! **Linking.** `rt lib` in the folder `crates/capi` of the repository writes the library that this crate links. The
 //! environment variable `HERMITCASKET_LIBRARY` has the whole path of another folder with `libcapi.a`, which is for
 //! x86-64.
 //!

@@ -38,7 +38,7 @@ pub const SENTENCES: &[Sentence] = &[
     Sentence { of: "matching", file: "TwinLaws", law: "twins-count-once" },
     Sentence { of: "cards", file: "SampleCards", law: "every-card" },
     Sentence { of: "cards", file: "FoundCards", law: "found" },
-    Sentence { of: "cards", file: "FoundCards", law: "found-within" },
+    Sentence { of: "cards", file: "FoundCards", law: "found_within" },
     Sentence { of: "cards", file: "FoundCards", law: "found-counted" },
     Sentence { of: "cards", file: "FoundCards", law: "found-group" },
     Sentence { of: "cards", file: "FoundBatches", law: "every-batch" },
@@ -47,7 +47,7 @@ pub const SENTENCES: &[Sentence] = &[
     Sentence { of: "cards", file: "ShownTables", law: "every-update" },
     Sentence { of: "cards", file: "ShownPairs", law: "nothing-shown" },
     Sentence { of: "cards", file: "JudgedCards", law: "examples" },
-    Sentence { of: "cards", file: "JudgedCards", law: "in-order" },
+    Sentence { of: "cards", file: "JudgedCards", law: "in_order" },
     Sentence { of: "cards", file: "JudgedCards", law: "derived" },
     Sentence { of: "countermodel", file: "RisingLaws", law: "shown-rising" },
     Sentence { of: "countermodel", file: "ShownChecks", law: "shown-answers" },
@@ -70,9 +70,9 @@ pub const SENTENCES: &[Sentence] = &[
     Sentence { of: "groups", file: "TogetherLaws", law: "together-first" },
     Sentence { of: "groups", file: "TogetherLaws", law: "none-exactly" },
     Sentence { of: "groups", file: "TogetherLaws", law: "filled-together" },
-    Sentence { of: "batches", file: "SentenceLaws", law: "sum-kept" },
+    Sentence { of: "batches", file: "SentenceLaws", law: "sum_kept" },
     Sentence { of: "batches", file: "SentenceLaws", law: "refused-uses-nothing" },
-    Sentence { of: "batches", file: "SentenceLaws", law: "outside-kept" },
+    Sentence { of: "batches", file: "SentenceLaws", law: "outside_kept" },
     Sentence { of: "batches", file: "SentenceLaws", law: "alone" },
     Sentence { of: "edits", file: "InclusionLaws", law: "ids-can-be-kept" },
     Sentence { of: "edits", file: "InclusionLaws", law: "yes-stays" },
@@ -161,7 +161,7 @@ pub fn files(folder: &Path, extension: &str) -> Vec<PathBuf> {
 }
 
 fn is_part(c: char) -> bool {
-    c.is_alphanumeric() || "_-·'".contains(c)
+    c.is_alphanumeric() || "_-'".contains(c)
 }
 
 /// The words of a text that may be names. Comments are left out.
@@ -178,15 +178,14 @@ fn words(text: &str) -> BTreeSet<String> {
     found
 }
 
-/// Crate and module of a path such as `Rattle·subsumption·specs.specs.Tables` or `Rattle·subsumption.specs.Tables`; nothing for
-/// other libraries and for declared types, which are those of the code.
+/// Rattle's own library, by whose side those of this repository stand below `Rattle`.
+const LIBRARY: &str = "std";
+
+/// Crate and module of a path such as `Rattle.subsumption.specs.Tables`; nothing for other libraries and for declared types, which
+/// are those of the code.
 fn spec_module(path: &str) -> Option<(String, String)> {
-    let rest = path.strip_prefix("Rattle·")?;
-    let (of, rest) = match rest.split_once("·specs.specs.") {
-        Some(parts) => parts,
-        None => rest.split_once(".specs.")?,
-    };
-    if rest.starts_with("declared.") || of.contains('·') {
+    let (of, rest) = path.strip_prefix("Rattle.")?.split_once(".specs.")?;
+    if rest.starts_with("declared.") || of.contains('.') || of == LIBRARY {
         return None;
     }
     Some((of.to_string(), rest.to_string()))
@@ -267,12 +266,20 @@ pub fn items(text: &str) -> Vec<Item> {
     found
 }
 
-/// The clauses of the functions of a file of `src/`, each on one line: all from the line of its ⌜ to that of its ⌝.
+/// What a clause says, without its name: `{ P }` of `ensures name { P }`.
+pub fn said(clause: &str) -> &str {
+    clause.find('{').map_or("", |at| &clause[at..])
+}
+
+/// The clauses of the functions of a file of `src/`, each on one line: all from its `requires` or `ensures` to the bracket that closes it.
 pub fn clauses(text: &str) -> BTreeMap<String, String> {
     let mut found = BTreeMap::new();
     let mut name = None;
     let mut clause = String::new();
     let mut goes_on = false;
+    let mut open = 0;
+    let is_start =
+        |line: &str| ["    requires", "    ensures"].iter().any(|word| line.starts_with(word));
     for line in text.lines() {
         let start = line.strip_prefix("pub fn ").or_else(|| line.strip_prefix("pub extern \"C\" fn "));
         if let Some(rest) = start {
@@ -280,14 +287,20 @@ pub fn clauses(text: &str) -> BTreeMap<String, String> {
             name = Some(rest[..end].to_string());
             clause.clear();
         }
+        if line == "}" {
+            // of a function without clauses
+            name = None;
+        }
         if line == "{" {
             assert!(!goes_on, "a clause without an end: {}", clause);
             if let Some(name) = name.take() {
                 found.insert(name, clause.clone());
             }
         }
-        if name.is_some() && (goes_on || line.contains('⌜')) {
-            goes_on = line.rfind('⌜') > line.rfind('⌝') || goes_on && !line.contains('⌝');
+        if name.is_some() && (goes_on || is_start(line)) {
+            open += line.matches('{').count();
+            open -= line.matches('}').count();
+            goes_on = open > 0;
             clause += line.trim();
             clause += if goes_on { " " } else { "\n" };
         }
@@ -316,8 +329,10 @@ fn operations(of: &str) -> Vec<(String, String)> {
             }
         } else if let Some(path) = line.strip_prefix("pub use ") {
             let path = path.trim_end_matches(';');
-            let (module, name) = path.rsplit_once("::").expect("a path");
-            found.push((module.replace("::", "/"), name.to_string()));
+            let (module, names) = path.rsplit_once("::").expect("a path");
+            // one name, or several in brackets
+            let names = names.trim_start_matches('{').trim_end_matches('}').split(", ");
+            found.extend(names.map(|name| (module.replace("::", "/"), name.to_string())));
         }
     }
     found
@@ -331,7 +346,10 @@ pub fn resolve(text: &str, imports: &Imports) -> BTreeSet<Name> {
 fn cited_in(of: &str, module: &str) -> BTreeMap<String, BTreeSet<Name>> {
     let text = read(&crates_dir().join(of).join("src").join(format!("{}.rt", module)));
     let brought = imports(&text);
-    let cited = |(function, clause): (String, String)| (function, resolve(&clause, &brought));
+    let cited = |(function, clauses): (String, String)| {
+        let clauses: Vec<&str> = clauses.lines().map(said).collect();
+        (function, resolve(&clauses.join("\n"), &brought))
+    };
     clauses(&text).into_iter().map(cited).collect()
 }
 

@@ -27,8 +27,9 @@ pub struct Citation {
     pub file: String,
 }
 
-/// Files that every crate has go by their name alone.
-const OF_EVERY_CRATE: [&str; 3] = ["lib.rt", "Lib.antt", "Inner.antt"];
+/// Files that every crate, or many a function's proof, has go by their name alone.
+const OF_EVERY_CRATE: [&str; 5] =
+    ["lib.rt", "Lib.antt", "Inner.antt", "Invariants.antt", "Answers.antt"];
 
 pub fn root() -> PathBuf {
     Path::new(env!("CARGO_MANIFEST_DIR")).join("..")
@@ -183,8 +184,9 @@ pub fn paths(text: &str) -> Vec<String> {
         if root().join(&edit).is_file() {
             return Some(edit);
         }
-        // target/ comes and goes
-        let is_plain = first.starts_with(char::is_alphabetic) && first != "target";
+        // target/ and the crates' out/ come and go
+        let is_made = first == "target" || word.contains("/out/") || word.ends_with("/out");
+        let is_plain = first.starts_with(char::is_alphabetic) && !is_made;
         let is_path = is_plain && !word.contains(|c: char| c == ' ' || c == '*');
         let from = ["", "crates/"].iter().find(|from| root().join(from).join(first).is_dir())?;
         is_path.then(|| format!("{}{}", from, word))

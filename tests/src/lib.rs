@@ -22,6 +22,7 @@ pub mod planted;
 pub mod process;
 pub mod random;
 pub mod reference;
+pub mod scratch;
 pub mod semantics;
 pub mod settings;
 pub mod settings_families;

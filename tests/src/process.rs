@@ -1,4 +1,4 @@
-//! The programs of target/bin/, run as processes.
+//! The programs, as rt builds them into the out/ of their crates, run as processes.
 
 use std::io::{self, Write};
 use std::path::{Path, PathBuf};
@@ -6,10 +6,20 @@ use std::process::{Child, Command, Stdio};
 use std::thread;
 use std::time::Duration;
 
-pub fn start(program: &str) -> Child {
+/// Where a program is, by the name of its crate.
+pub fn path(program: &str) -> PathBuf {
     let package = Path::new(env!("CARGO_MANIFEST_DIR"));
-    let path: PathBuf = package.join("../target/bin").join(program);
-    assert!(path.is_file(), "{} is missing: run rt check {} first", path.display(), program);
+    package.join(format!("../crates/{0}/out/{0}", program))
+}
+
+pub fn start(program: &str) -> Child {
+    let path = path(program);
+    assert!(
+        path.is_file(),
+        "{} is missing: run rt run in crates/{} first",
+        path.display(),
+        program
+    );
     let mut command = Command::new(&path);
     command.stdin(Stdio::piped()).stdout(Stdio::piped()).stderr(Stdio::piped());
     command.spawn().unwrap_or_else(|error| panic!("{:?}: {}", command, error))

@@ -10,8 +10,8 @@ use std::ops::Range;
 use std::path::Path;
 
 use crate::believed::{
-    clauses, crate_names, crates_dir, files, imports, items, read, resolve, Definitions, Name,
-    Sentence, SENTENCES,
+    clauses, crate_names, crates_dir, files, imports, items, read, resolve, said, Definitions,
+    Name, Sentence, SENTENCES,
 };
 use crate::cited::root;
 
@@ -117,15 +117,11 @@ impl Function {
         })
     }
 
-    /// The clauses word by word, with what each binds called alike.
+    /// The clauses word by word.
     fn clauses(&self) -> Vec<Vec<String>> {
         let plain = |clause: &str| -> Vec<String> {
             let clause = clause.replace('(', " ( ").replace(')', " ) ");
-            let words: Vec<&str> =
-                clause.split_whitespace().map(|word| word.trim_end_matches('.')).collect();
-            let bound = words.iter().position(|word| *word == "λ").map(|at| words[at + 1]);
-            let name = |word: &&str| if Some(*word) == bound { "it" } else { word }.to_string();
-            words.iter().map(name).collect()
+            clause.split_whitespace().map(str::to_string).collect()
         };
         self.contract.lines().map(plain).collect()
     }
@@ -133,7 +129,7 @@ impl Function {
     /// The definitions that its `ensures` cites.
     fn cites(&self) -> BTreeSet<Name> {
         let is_ensured = |line: &&str| line.trim_start().starts_with("ensures ");
-        let ensured: Vec<&str> = self.contract.lines().filter(is_ensured).collect();
+        let ensured: Vec<&str> = self.contract.lines().filter(is_ensured).map(said).collect();
         resolve(&ensured.join("\n"), &imports(&self.text))
     }
 

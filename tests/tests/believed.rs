@@ -2,7 +2,7 @@
 
 use std::collections::BTreeSet;
 
-use hermitcasket_tests::believed::{clauses, Definitions, Name};
+use hermitcasket_tests::believed::{clauses, said, Definitions, Name};
 
 fn list(names: &BTreeSet<&Name>) -> String {
     let rows = names.iter().map(|name| format!("  {} {}.{}", name.of, name.module, name.name));
@@ -74,9 +74,10 @@ plain = 0
 ";
 
 const USES: &str = "\
-use Rattle·x·specs.specs.Kinds.{two, inside as within, beside, counted}
-use Rattle·x.specs.Kinds.{plain}
-use Rattle·x.specs.declared.kinds.Code.{Code}
+use Rattle.std.specs.Prelude.{ℕ, ◌≡◌}
+use Rattle.x.specs.Kinds.{two, inside as within, beside, counted}
+use Rattle.x.specs.Kinds.{plain}
+use Rattle.x.specs.declared.kinds.Code.{Code}
 
 pub record Is (n : ℕ) : Type 0 where
   pub kind : two ≡ beside two
@@ -113,16 +114,22 @@ fn lines_are_counted_along_the_names() {
     assert_eq!(lines(&[("y", "Uses", "Was"), ("x", "Kinds", "plain")]), 3 + 3 + 3 + 5 + 2);
 }
 
-/// A clause runs from ⌜ to ⌝, whatever its lines begin with; what stands in a body is none.
+/// A clause runs to the bracket that closes it, whatever its lines begin with; what stands in a body is none.
 #[test]
 fn clauses_are_read_to_their_end() {
-    let code = "pub fn plain(\n    a: u8,\n)\n    requires { ⌜ Is a ⌝ }\n    ensures { λ r. ⌜ Is a\n        × (Was r)\n        \
-                (λ b. Is b) ⌝ }\n{\n    (a, ⌜ Not ⌝)\n}\n\npub extern \"C\" fn other()\n    ensures { ⌜\n        Was ⌝ }\n{\n}\n";
+    let code = "pub fn plain(\n    a: u8,\n)\n    requires { Is a }\n    ensures kept { Is (record { a = a })\n        × (Was result)\n        \
+                (λ b. Is b) }\n    ensures other {\n        Was result }\n{\n    ensures { Not }\n}\n\npub extern \"C\" fn other()\n    ensures {\n        \
+                Was }\n{\n}\n";
     let found = clauses(code);
     let due = [
-        ("other", "ensures { ⌜ Was ⌝ }\n"),
-        ("plain", "requires { ⌜ Is a ⌝ }\nensures { λ r. ⌜ Is a × (Was r) (λ b. Is b) ⌝ }\n"),
+        ("other", "ensures { Was }\n"),
+        (
+            "plain",
+            "requires { Is a }\nensures kept { Is (record { a = a }) × (Was result) (λ b. Is b) }\nensures other { Was result }\n",
+        ),
     ];
     let found: Vec<(&str, &str)> = found.iter().map(|(of, text)| (&**of, &**text)).collect();
     assert_eq!(found, due);
+    // the name of a clause is no part of what it says
+    assert_eq!(said("ensures kept { Is a }"), "{ Is a }");
 }

@@ -3,29 +3,32 @@
 use std::env;
 use std::fs;
 use std::os::unix::fs::PermissionsExt;
-use std::path::{Path, PathBuf};
+use std::path::Path;
 use std::process::Command;
+
+use hermitcasket_tests::scratch::Scratch;
 
 /// What the tools print and how they end.
 #[derive(Clone)]
 struct Tools {
+    /// The end of what rt ci prints.
     proofs: &'static str,
     proofs_end: u8,
     library_end: u8,
     tests: &'static str,
     tests_end: u8,
-    /// What the prover says of each must-fail edit.
+    /// What rt ci says of each must-fail edit before that; nothing: no line.
     edits: [&'static str; 3],
 }
 
-const PROOFS: &str = "rt: ok, 2 crates proved, 3 must-fail edits refused\n5 passed, 0 failed\n";
+const PROOFS: &str = "rt: ok; handles allowed: none; must-fail edits: 3 refused; every proof and must-fail edit was done in this run\n\
+                      5 passed, 0 failed\n";
 const TESTS: &str = "test result: ok. 4 passed; 0 failed; 0 ignored; 0 measured; 0 filtered out\n\
                      test result: ok. 3 passed; 0 failed; 0 ignored; 0 measured; 0 filtered out\n";
-const RETURNS: &str = "/w/target/must-fail/a/A/proofs/f/Proof.antt:9:2: error: `returns-2`: the two types differ\n\
-                       /w/target/must-fail/a/A/proofs/f/Proof.antt:12:5: error: `f-spec`: it has no field `args`\n";
-const LAW: &str = "note: 1 of them has no atom in common\n\
-                   /w/target/must-fail/a/B/proofs/Laws.antt:3:4: error: `every-card`: expected type `a`,\n  found `b`\n";
-const SEARCH: &str = "fn a::f: no proof: expected `f-spec` in ./proofs/f/Proof.antt; `search` does not close `returns`\n";
+const RETURNS: &str = "refused, as it must be: ./proofs/f/Answers.antt:9:2: error: `returns-then-2`: the two types differ";
+const LAW: &str = "refused, as it must be: ./proofs/Laws.antt:3:4: error: `every-card`: expected type `a`, but this has type `b`";
+const SEARCH: &str = "refused, as it must be: note: src/lib.rt:15:1: it is not proved that what the function ensures holds when it \
+                      returns (`returns`); the facts known there allow values at which this goal";
 const GOOD: Tools = Tools {
     proofs: PROOFS,
     proofs_end: 0,
@@ -40,27 +43,35 @@ fn write_tool(path: &Path, script: String) {
     fs::set_permissions(path, fs::Permissions::from_mode(0o755)).expect("a tool that runs");
 }
 
-/// A folder with tests/run, this tests/expected and the tools.
-fn folder(label: &str, expected: &str, tools: &Tools) -> PathBuf {
-    let folder = PathBuf::from(env!("CARGO_TARGET_TMPDIR")).join("gate").join(label);
-    fs::create_dir_all(folder.join("tests")).expect("a folder");
-    fs::create_dir_all(folder.join("bin")).expect("a folder");
-    for script in ["run", "facts"] {
+/// A folder with tests/run, this tests/expected, two crates and the tools.
+fn folder(label: &str, expected: &str, tools: &Tools) -> Scratch {
+    let folder = Scratch::new(&format!("gate-{}", label));
+    for part in ["tests", "bin", "kit/bin", "crates/a/must-fail", "crates/capi/out"] {
+        fs::create_dir_all(folder.join(part)).expect("a folder");
+    }
+    for script in ["run", "facts", "library"] {
         let from = Path::new(env!("CARGO_MANIFEST_DIR")).join(script);
         fs::copy(from, folder.join("tests").join(script)).expect("a script of tests/");
     }
+    fs::write(folder.join("crates.txt"), "# a: b\na:\ncapi staticlib: a of_kit\n")
+        .expect("crates.txt");
+    let mut told = String::new();
     for (edit, said) in ["A", "B", "C"].iter().zip(tools.edits) {
-        let log = folder.join("target/must-fail/a").join(edit);
-        fs::create_dir_all(&log).expect("a folder");
-        fs::write(log.join(".log"), said).expect("a log");
-        let edits = folder.join("crates/a/must-fail");
-        fs::create_dir_all(&edits).expect("a folder");
-        fs::write(edits.join(format!("{}.edit", edit)), "").expect("an edit");
+        fs::write(folder.join(format!("crates/a/must-fail/{}.edit", edit)), "").expect("an edit");
+        if !said.is_empty() {
+            told += &format!("rt: must-fail a/{}.edit: {}\n", edit, said);
+        }
     }
     fs::write(folder.join("tests/expected"), expected).expect("tests/expected");
     let rt = format!(
-        "#!/bin/sh\n[ \"$1\" = ci ] || exit {}\ncat <<'END'\n{}END\nexit {}\n",
-        tools.library_end, tools.proofs, tools.proofs_end
+        "#!/bin/sh\ncase \"$*\" in\nci) ;;\ndoc) echo '{}/kit/START-HERE.md'; exit ;;\n\
+         lib) echo \"rt lib in ${{PWD##*/}}\"; exit {} ;;\n*) exit 9 ;;\nesac\n\
+         cat <<'END'\n{}{}END\nexit {}\n",
+        folder.display(),
+        tools.library_end,
+        told,
+        tools.proofs,
+        tools.proofs_end
     );
     let cargo =
         format!("#!/bin/sh\nenv\ncat <<'END'\n{}END\nexit {}\n", tools.tests, tools.tests_end);
@@ -71,7 +82,10 @@ fn folder(label: &str, expected: &str, tools: &Tools) -> PathBuf {
 
 /// All that it prints, and whether it ends well.
 fn run(label: &str, expected: &str, tools: &Tools) -> (String, bool) {
-    let folder = folder(label, expected, tools);
+    run_in(&folder(label, expected, tools))
+}
+
+fn run_in(folder: &Path) -> (String, bool) {
     let tools = env::var("PATH").expect("a path to bash and its tools");
     let path = format!("{}:{}", folder.join("bin").display(), tools);
     let output = Command::new("bash")
@@ -112,28 +126,46 @@ fn no_variable_gets_through() {
 #[test]
 fn facts_are_told() {
     let (printed, _) = run("facts", "tests=7\nedits=3\n", &GOOD);
-    for fact in ["a/A: returns-2 of proofs/f/Proof.antt: ", "a/B: every-card of proofs/Laws.antt: ", "a/C: returns of "] {
+    for fact in [
+        "a/A: returns-then-2 of proofs/f/Answers.antt: ",
+        "a/B: every-card of proofs/Laws.antt: ",
+        "a/C: returns of src/lib.rt: ",
+    ] {
         assert!(printed.lines().any(|line| line.starts_with(fact)), "{}:\n{}", fact, printed);
     }
 }
 
-/// An edit whose first error is about form shows nothing, and the gate says so.
+/// An edit whose error is about form shows nothing, and the gate says so.
 #[test]
 fn an_edit_on_form_fails() {
     let said = [
-        "/w/target/must-fail/a/A/proofs/f/Proof.antt:9:2: error: `returns`: record `After`\n  has no field `args`\n",
-        "/w/target/must-fail/a/A/proofs/f/Proof.antt:9:2: error: `next`: module `Tie` has no `Need-next` that can be named from here\n",
-        "/w/target/must-fail/a/A/proofs/f/Proof.antt:9:2: error: `f-spec`: expected type `tie.Need-a`, but this has type `tie.Need-b`\n",
-        "/w/target/must-fail/a/A/proofs/f/Proof.antt:9:2: error: `cast-value`: the goal does not follow\n",
-        "/w/target/must-fail/a/A/proofs/f/Proof.antt:9:2: error: `add-sum`: the goal does not follow\n",
-        "/w/target/must-fail/a/A/specs/Tables.antt:9:2: error: `tables`: expected type `a`, but this has type `b`\n",
-        "/w/target/must-fail/a/A/proofs/Laws.antt:9:2: error: `every-card`: `tells` is not in scope\n",
-        "logic=not-proved\n",
+        "refused, as it must be (only because a proof file names what the edit took away, so this says little of the contract: change a \
+         value and keep the names): ./proofs/f/Answers.antt:9:2: error: `returns`: record `After` has no field `args`",
+        "refused, as it must be: ./proofs/f/Answers.antt:9:2: error: `next`: module `Goals` has no `next` that can be named from here",
+        "refused, as it must be: ./proofs/f/Proof.antt:9:2: error: `f-spec`: expected type `tie.Need-a`, but this has type `tie.Need-b`",
+        "refused, as it must be: ./proofs/f/Answers.antt:9:2: error: `overflow_cast-value`: the goal does not follow",
+        "refused, as it must be: note: src/lib.rt:9:2: it is not proved that the sum fits its type (at a range `..=n`, `n + 1`) \
+         (`overflow_add-sum`); the facts",
+        "refused, as it must be: note: src/lib.rt:9:2: it is not proved that the part ends within what it is a part of (`slice_bounds-a-end`)",
+        "refused, as it must be: note: src/lib.rt:9:2: it is not proved that the divisor is not 0 (`nonzero_rem-result`)",
+        "refused, as it must be: note: src/lib.rt:9:2: it is not proved that the subtraction does not go below 0 (at a range, that its",
+        "refused, as it must be: ./specs/Tables.antt:9:2: error: `tables`: expected type `a`, but this has type `b`",
+        "refused, as it must be: ./proofs/Laws.antt:9:2: error: `every-card`: `tells` is not in scope",
+        "refused, as it must be (only by a limit of the prover, which gave no verdict, so this says less of the contract: choose a change \
+         that it refuses sooner): ./proofs/Laws.antt:9:2: error: `every-card`: antt ran out of stack",
+        "refused, as it must be",
+        "BAD EDIT: an 'old:' text is in src/lib.rt 0 times, and not once",
+        "NOT TRIED: its check was killed, most likely for memory, so nothing is known of it: run this again",
     ];
     for (k, said) in said.into_iter().enumerate() {
         let tools = Tools { edits: [said, LAW, SEARCH], ..GOOD };
         let (printed, well) = run(&format!("form {}", k), "tests=7\nedits=3\n", &tools);
-        assert!(!well && printed.contains("tests/facts: a/A fails on form"), "{}:\n{}", said, printed);
+        assert!(
+            !well && printed.contains("tests/facts: a/A fails on form"),
+            "{}:\n{}",
+            said,
+            printed
+        );
         assert!(!last_line(&printed).ends_with(" 0 failed"), "{}", printed);
     }
 }
@@ -145,6 +177,7 @@ fn fails() {
     let filtered = "test result: ok. 7 passed; 0 failed; 0 ignored; 0 measured; 1 filtered out\n";
     let broken = "test result: FAILED. 6 passed; 1 failed; 0 ignored; 0 measured; 0 filtered out\n";
     let survived = "rt: FAILED: capi/edit\n4 passed, 1 failed\n";
+    let bad = "rt: ok; handles allowed: none; must-fail edits: 3 refused, 1 bad; every proof was done in this run\n5 passed, 0 failed\n";
     let cases = [
         ("fewer tests", "tests=8\nedits=3\n", GOOD),
         ("fewer edits", "tests=7\nedits=4\n", GOOD),
@@ -155,6 +188,8 @@ fn fails() {
         ("broken", expected, Tools { tests: broken, tests_end: 101, ..GOOD }),
         ("no tests", expected, Tools { tests: "", ..GOOD }),
         ("cargo ends badly", expected, Tools { tests_end: 101, ..GOOD }),
+        ("a bad edit", expected, Tools { proofs: bad, ..GOOD }),
+        ("an edit not told", expected, Tools { edits: ["", LAW, SEARCH], ..GOOD }),
         ("survived", expected, Tools { proofs: survived, proofs_end: 1, ..GOOD }),
         ("rt ends badly", expected, Tools { proofs_end: 2, ..GOOD }),
         ("rt says nothing", expected, Tools { proofs: "", ..GOOD }),
@@ -165,6 +200,62 @@ fn fails() {
         let sum = last_line(&printed);
         assert!(!well && sum.ends_with(" failed"), "{}:\n{}", label, printed);
         assert!(!sum.ends_with(" 0 failed"), "{}:\n{}", label, printed);
+    }
+}
+
+/// Has this stand-in of rt ci make the library of the crate `a`, and this one of the kit's compiler be there.
+fn with_libraries(folder: &Path, compiler: &str) {
+    let rt = fs::read_to_string(folder.join("bin/rt")).expect("rt");
+    let making = rt.replace("ci) ;;", "ci) sleep 0.1; mkdir -p crates/a/out/rlib/a.rlib ;;");
+    assert_ne!(rt, making);
+    write_tool(&folder.join("bin/rt"), making);
+    write_tool(
+        &folder.join("kit/bin/rattle"),
+        format!("#!/bin/sh\necho \"rattle $*\"\n{}\n", compiler),
+    );
+}
+
+/// Where rt ci left the libraries below capi, only capi is proved again, over these.
+#[test]
+fn the_library_is_built_over_what_was_proved() {
+    let folder = folder("over", "tests=7\nedits=3\n", &GOOD);
+    with_libraries(&folder, "touch out/libcapi.a");
+    let (printed, well) = run_in(&folder);
+    assert!(well, "{}", printed);
+    let words = printed
+        .lines()
+        .find(|line| line.starts_with("rattle build --crate-name capi src/lib.rt "))
+        .expect("a call");
+    let kit = folder.join("kit");
+    for due in [
+        format!("--extern std={}/rlibs/std.rlib", kit.display()),
+        format!("--extern of_kit={}/rlibs/of_kit.rlib", kit.display()),
+        "--extern a=../a/out/rlib/a.rlib".to_string(),
+        "-L dependency=../a/out/rlib".to_string(),
+        "--crate-type staticlib".to_string(),
+        "-o out/libcapi.a".to_string(),
+    ] {
+        assert!(words.contains(&due), "{}: {}", due, words);
+    }
+    assert!(
+        folder.join("crates/capi/out/libcapi.a").is_file() && !printed.contains("rt lib in"),
+        "{}",
+        printed
+    );
+}
+
+/// A library that this rt ci did not make, or over which capi is not built, is rt lib's.
+#[test]
+fn other_libraries_are_left_to_rt() {
+    let before = folder("before", "tests=7\nedits=3\n", &GOOD);
+    fs::create_dir_all(before.join("crates/a/out/rlib/a.rlib")).expect("a library");
+    with_libraries(&before, "touch out/libcapi.a");
+    let unfit = folder("unfit", "tests=7\nedits=3\n", &GOOD);
+    with_libraries(&unfit, "exit 1");
+    for (folder, is_called) in [(before, false), (unfit, true)] {
+        let (printed, well) = run_in(&folder);
+        assert!(well && printed.contains("\nrt lib in capi\n"), "{}", printed);
+        assert_eq!(printed.contains("\nrattle build "), is_called, "{}", printed);
     }
 }
 

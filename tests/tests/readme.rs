@@ -7,6 +7,7 @@ use std::process::{Command, Output};
 
 use hermitcasket_tests::capi::{self, Answer};
 use hermitcasket_tests::cited::documents;
+use hermitcasket_tests::process;
 use hermitcasket_tests::tables::Tables;
 
 fn root() -> PathBuf {
@@ -123,7 +124,7 @@ fn readme_leads_to_c() {
     let shown = blocks(section(&readme, "From C"));
     assert_eq!(run_c("readme", &shown[1]), 3);
     let commands: Vec<&str> = shown[0].lines().collect();
-    assert_eq!((commands.len(), commands[0]), (2, "rt staticlib capi"));
+    assert_eq!((commands.len(), commands[0]), (2, "(cd crates/capi && rt lib)"));
     let output = run(Command::new("bash").args(["-c", commands[1]]).current_dir(root()));
     let printed = String::from_utf8(output.stdout).expect("plain text");
     assert_eq!(printed, read("examples/card.lines"));
@@ -201,8 +202,8 @@ fn the_derivation_is_accepted() {
 
 /// What a line of the shell prints at the top folder, and its exit status.
 fn printed(line: &str, program: &str) -> (String, Option<i32>) {
-    let missing = format!("target/bin/{0} is missing: run rt check {0} first", program);
-    assert!(root().join("target/bin").join(program).is_file(), "{}", missing);
+    let missing = format!("{0} is missing: run rt run in crates/{0} first", program);
+    assert!(process::path(program).is_file(), "{}", missing);
     let output =
         Command::new("bash").args(["-c", line]).current_dir(root()).output().expect("bash");
     (String::from_utf8(output.stdout).expect("plain text"), output.status.code())
@@ -222,9 +223,12 @@ fn answer(card: &str) -> String {
     answer
 }
 
+/// The program for suppliers, as the documents call it.
+const OWL: &str = "crates/hermitcasket_owl/out/hermitcasket_owl";
+
 /// The house text of a catalogue.
 fn house_text(catalogue: &str) -> String {
-    let line = format!("target/bin/hermitcasket_owl < examples/{}", catalogue);
+    let line = format!("{} < examples/{}", OWL, catalogue);
     printed(&line, "hermitcasket_owl").0
 }
 
@@ -277,7 +281,7 @@ fn the_catalogue_is_printed_as_shown() {
     let guide = read("docs/GUIDE.md");
     let shown = blocks(section(&guide, "Catalogues from suppliers"));
     assert_eq!(shown[0], read("examples/supplier.ofn"));
-    let line = "target/bin/hermitcasket_owl < examples/supplier.ofn";
+    let line = format!("{} < examples/supplier.ofn", OWL);
     assert_eq!(shown[1].trim(), line);
     assert_eq!(house_text("supplier.ofn"), shown[2]);
     let piped = printed(&format!("{} | ./run", line), "hermitcasket");

@@ -7,6 +7,8 @@ use std::os::unix::fs::PermissionsExt;
 use std::path::{Path, PathBuf};
 use std::process::{Command, Output, Stdio};
 
+use hermitcasket_tests::scratch::Scratch;
+
 const CRATES: &str = "# what is here\nbase:\nother: base\nlink: base\nhermitcasket: link base io\n";
 
 fn write_tool(path: &Path, script: &str) {
@@ -16,29 +18,41 @@ fn write_tool(path: &Path, script: &str) {
 
 /// A folder with ./run, a list of crates, and an rt that proves nothing. It ends as the file `end` says; where that is
 /// 0 it builds a program that prints the file `answer` and what it was given.
-fn folder(label: &str, answer: &str) -> PathBuf {
-    let folder = PathBuf::from(env!("CARGO_TARGET_TMPDIR")).join("run").join(label);
-    let _ = fs::remove_dir_all(&folder);
-    for part in ["bin", "crates/base/src", "crates/link/src", "crates/other", "crates/hermitcasket"]
-    {
+fn folder(label: &str, answer: &str) -> Scratch {
+    let folder = Scratch::new(&format!("run-{}", label));
+    let parts = [
+        "bin",
+        "crates/base/src",
+        "crates/base/out/rlib",
+        "crates/link/src",
+        "crates/other/src",
+        "crates/hermitcasket",
+    ];
+    for part in parts {
         fs::create_dir_all(folder.join(part)).expect("a folder");
     }
     fs::write(folder.join("crates/base/src/lib.rt"), "").expect("a source");
-    fs::write(folder.join("crates/other/lib.rt"), "").expect("a source");
+    fs::write(folder.join("crates/other/src/lib.rt"), "").expect("a source");
     fs::write(folder.join("crates.txt"), CRATES).expect("crates.txt");
     fs::write(folder.join("answer"), answer).expect("an answer");
     fs::write(folder.join("end"), "0").expect("a status");
     let run = Path::new(env!("CARGO_MANIFEST_DIR")).join("../run");
     fs::copy(run, folder.join("run")).expect("run");
     let rt = "#!/bin/bash\n\
-              [ \"$*\" = 'check hermitcasket' ] || exit 9\n\
-              echo 'fn base::one: proved'; echo 'rt: base proved (3 s)'\n\
-              if [ \"$(cat end)\" != 0 ]; then echo 'rt: link FAILED: a fact' >&2; exit \"$(cat end)\"; fi\n\
-              echo 'rt: link proved (unchanged since it was last proved)'\n\
-              mkdir -p target/bin\n\
-              printf '#!/bin/sh\\ncat \"%s/answer\" -\\n' \"$PWD\" >target/bin/hermitcasket\n\
-              chmod 755 target/bin/hermitcasket\n\
-              echo 'rt: hermitcasket proved (5 s)'; echo 'rt: ok, 3 crates proved'\n";
+              [ \"$*\" = run ] && [ \"${PWD##*/crates/}\" = hermitcasket ] || exit 9\n\
+              top=${PWD%/crates/*}\n\
+              echo 'rt: chose --jobs 1 for base'; echo 'fn base::one: proved'\n\
+              echo 'crate base: modules loaded=0 checked=3'; echo 'logic=proved functions=1'\n\
+              end=$(cat \"$top/end\")\n\
+              if [ $end != 0 ]; then echo 'fn link::two: not proved: a fact'; echo 'logic=not-proved'; exit $end; fi\n\
+              if ! [ -e \"$top/kept\" ]; then\n\
+              echo 'library base: modules loaded=3 checked=0'; echo 'crate link: modules loaded=0 checked=2'; echo 'logic=proved functions=1'\n\
+              fi\n\
+              mkdir -p out\n\
+              printf '#!/bin/sh\\ncat \"%s/answer\" -\\n' \"$top\" >out/hermitcasket\n\
+              chmod 755 out/hermitcasket\n\
+              echo 'library link: modules loaded=3 checked=0'; echo 'crate hermitcasket: modules loaded=0 checked=5'\n\
+              echo 'logic=proved functions=3 target=x86_64'; echo 'rt: running out/hermitcasket'; out/hermitcasket\n";
     write_tool(&folder.join("bin/rt"), rt);
     folder
 }
@@ -97,24 +111,27 @@ fn it_says_how_far_it_is() {
     let lines: Vec<&str> = first.lines().collect();
     assert_eq!(lines.len(), 4, "{}", first);
     assert!(
-        lines[0]
-            .starts_with("run: the first time: proving 3 crates, eight to nine minutes at most "),
+        lines[0].starts_with("run: the first time: proving 3 crates, some ten minutes "),
         "{}",
         first
     );
     assert!(lines[0].ends_with(": base link hermitcasket"), "{}", first);
     for (line, start, end) in [
-        (lines[1], "run: 1 of 3 after ", " s: base proved (3 s); to go: link hermitcasket"),
-        (
-            lines[2],
-            "run: 2 of 3 after ",
-            " s: link proved (unchanged since it was last proved); to go: hermitcasket",
-        ),
-        (lines[3], "run: 3 of 3 after ", " s: hermitcasket proved (5 s)"),
+        (lines[1], "run: 1 of 3 after ", " s: base proved; to go: link hermitcasket"),
+        (lines[2], "run: 2 of 3 after ", " s: link proved; to go: hermitcasket"),
+        (lines[3], "run: 3 of 3 after ", " s: hermitcasket proved"),
     ] {
         assert!(line.starts_with(start) && line.ends_with(end), "{}", first);
     }
     assert_eq!(said(&run(&folder)), "", "then it is silent");
+    // rt says nothing of a library that stands as it was last proved
+    fs::write(folder.join("kept"), "").expect("a mark");
+    make_newer(folder.join("crates.txt"));
+    let again = said(&run(&folder));
+    let lines: Vec<&str> = again.lines().collect();
+    assert_eq!(lines.len(), 3, "{}", again);
+    assert!(lines[1].starts_with("run: 1 of 3 after "), "{}", again);
+    assert!(lines[2].starts_with("run: 3 of 3 after "), "{}", again);
 }
 
 fn make_newer(path: PathBuf) {
@@ -127,7 +144,8 @@ fn it_proves_again_where_a_source_is_newer() {
     for (label, source, due) in [
         ("newer", "crates/base/src/lib.rt", true),
         ("list", "crates.txt", true),
-        ("elsewhere", "crates/other/lib.rt", false),
+        ("elsewhere", "crates/other/src/lib.rt", false),
+        ("made", "crates/base/out/rlib", false),
     ] {
         let folder = folder(label, "answer=none\n");
         run(&folder);
@@ -151,7 +169,12 @@ fn what_is_not_proved_is_not_run() {
     for step in ["no program", "an old program"] {
         let output = run(&folder);
         assert_eq!((status(&output), output.stdout.len()), (3, 0), "{}: {}", step, said(&output));
-        assert!(said(&output).contains("link FAILED: a fact"), "{}: {}", step, said(&output));
+        assert!(
+            said(&output).contains("link::two: not proved: a fact"),
+            "{}: {}",
+            step,
+            said(&output)
+        );
         assert!(
             said(&output).ends_with("run: not proved, so there is no program to run\n"),
             "{}",
@@ -183,8 +206,10 @@ fn a_card_may_be_named() {
 fn an_edit_during_the_proof_is_not_lost() {
     let folder = folder("meanwhile", "answer=none\n");
     let rt = fs::read_to_string(folder.join("bin/rt")).expect("rt");
-    let edits =
-        rt.replace("mkdir -p", "[ -e edited ] || touch crates/base/src/lib.rt edited\nmkdir -p");
+    let edits = rt.replace(
+        "mkdir -p",
+        "cd $top; [ -e edited ] || touch crates/base/src/lib.rt edited; cd -\nmkdir -p",
+    );
     assert_ne!(rt, edits);
     write_tool(&folder.join("bin/rt"), &edits);
     run(&folder);

@@ -88,15 +88,15 @@ fn what_is_wrong_is_told() {
         ("| `hc_blanks` |", "| `hc_blank` |", "hc_blanks has no row"),
         ("| `answers::blanks` |", "| `answers::atoms` |", "hc_blanks: it passes on Some("),
         ("| `answers::blanks` |", "| `answers::blank` |", "hc_blanks: there is no answers::blank"),
-        ("`pairFault`, `variables", "`tableFault`, `variables", "no ensures has tableFault"),
-        ("| `pairFault`, `variablesOf` |", "| |", "hc_blanks: no clause"),
+        ("`pair_fault`, `variables", "`table_fault`, `variables", "no ensures has table_fault"),
+        ("| `pair_fault`, `variables_of` |", "| |", "hc_blanks: no clause"),
         (
             "| | `owl/depth-33-accepted`",
             ", `owl/depth-33-accepted` | |",
             "depth-33-accepted is not",
         ),
         ("-exchanged` | |", "-exchanged` | | `answers/blanks-other-id`,", "several places"),
-        ("`found-within`: ", "`found`: ", "cards/permitted-not-heeded changes nothing"),
+        ("`found_within`: ", "`found`: ", "cards/permitted-not-heeded changes nothing"),
         ("`YesStays`, ", "", "the sentences of A.13: the edits change"),
     ] {
         assert!(document.contains(old), "{}", old);
@@ -108,32 +108,31 @@ fn what_is_wrong_is_told() {
 /// A contract is compared by its words and by what they mean; an export does nothing but pass on.
 #[test]
 fn contracts_are_compared() {
-    let brought = "ghost use Rattle·x.specs.F.{Is};\n";
+    let brought = "ghost use Rattle.x.specs.F.{Is};\n";
     let code = |brought: &str, clause: &str, body: &str| {
         let text =
             format!("{}\npub fn f(a: u8) -> u8\n    {}\n{{\n{}\n}}\n", brought, clause, body);
         Function::new("x", "src/lib.rt", &text, "f").expect("a function")
     };
-    let plain = code(brought, "ensures { λ r. ⌜ Is a r ⌝ }", "    y::g(a)");
+    let plain = code(brought, "ensures { Is a result }", "    y::g(a)");
     assert_eq!(plain.passes_on(), Some("y::g"));
     for (clause, body, passed) in [
-        ("ensures { λ  s. ⌜ Is a s ⌝ }", "    y::g(a, b)", Some("y::g")),
-        ("ensures { λ  s. ⌜ Is a\n        s ⌝ }", "    y::g(a)", Some("y::g")),
-        ("ensures { λ r. ⌜ Is a r\n        × Is r r ⌝ }", "    y::g(a)", Some("y::g")),
-        ("ensures { λ r. ⌜ Is a a ⌝ }", "    y::g(z::h(a))", None),
-        ("requires { ⌜ Is a a ⌝ }\n    ensures { λ r. ⌜ Is a r ⌝ }", "    y::g(1 + a)", None),
+        ("ensures {  Is a result }", "    y::g(a, b)", Some("y::g")),
+        ("ensures {  Is a\n        result }", "    y::g(a)", Some("y::g")),
+        ("ensures { Is a result\n        × Is result result }", "    y::g(a)", Some("y::g")),
+        ("ensures { Is a a }", "    y::g(z::h(a))", None),
+        ("requires { Is a a }\n    ensures { Is a result }", "    y::g(1 + a)", None),
         (
-            "ensures { λ r. ⌜ Is a r ⌝ }\n    ensures { λ r. ⌜ Is r a ⌝ }",
+            "ensures one { Is a result }\n    ensures two { Is result a }",
             "    let b = y::g(a);\n    b",
             None,
         ),
     ] {
         let other = code(brought, clause, body);
-        assert_eq!(plain.promises_as(&other), clause.contains("λ  s"), "{}", clause);
+        assert_eq!(plain.promises_as(&other), clause.contains("{  "), "{}", clause);
         assert_eq!(other.passes_on(), passed, "{}", body);
     }
-    let elsewhere =
-        code("ghost use Rattle·x.specs.G.{Is};\n", "ensures { λ r. ⌜ Is a r ⌝ }", "    a");
+    let elsewhere = code("ghost use Rattle.x.specs.G.{Is};\n", "ensures { Is a result }", "    a");
     assert!(!plain.promises_as(&elsewhere));
     assert_eq!(elsewhere.passes_on(), None);
 }
