@@ -86,6 +86,26 @@ fn every_named_path_is_there() {
     assert!(count >= 320, "{} paths: the reader of documents is broken", count);
 }
 
+/// In THEORY.md every law, whose name has a hyphen, is cited with its file.
+#[test]
+fn the_argument_gives_every_law_its_file() {
+    let text = fs::read_to_string(root().join("docs/THEORY.md")).expect("the argument");
+    let (mut count, mut faults) = (0, Vec::new());
+    for piece in pieces(&text) {
+        let given: Vec<String> =
+            citations(&piece).into_iter().map(|citation| citation.name).collect();
+        let laws = piece.split('`').skip(1).step_by(2);
+        for law in laws.filter(|word| word.contains('-') && !word.contains('/')) {
+            count += 1;
+            if !given.contains(&law.to_string()) {
+                faults.push(format!("  {}", law));
+            }
+        }
+    }
+    assert!(faults.is_empty(), "laws without a file:\n{}", faults.join("\n"));
+    assert!(count >= 20, "{} laws", count);
+}
+
 /// In CONTRACTS.md the tables of the scope's sentences and of the theory cite every name with its file.
 #[test]
 fn the_contracts_give_every_name_its_file() {
