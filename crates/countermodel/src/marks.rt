@@ -6,6 +6,7 @@ ghost use Rattle.subsumption.specs.Inner.Sizes.{roles_size, table_size};
 ghost use Rattle.countermodel.specs.Inner.Show.{Checked, ForRoles, NamesOf, LinksOf};
 
 use subsumption::helpers::{counts, row_at};
+use subsumption::kinds::{EXISTENTIAL, NAME};
 use subsumption::limits::ROW_BYTES;
 
 // The concept i is below the concept j.
@@ -31,7 +32,7 @@ pub fn note_names(concepts: &[u16], table: &[u8], i: usize, names: &mut [bool])
         let row = row_at(concepts, j);
         let above = j;
         j += 1;
-        if row.kind != 1 {
+        if row.kind != NAME {
             continue;
         }
         if is_marked(table, i, above) {
@@ -62,7 +63,7 @@ pub fn note_links(
         let row = row_at(concepts, j);
         let above = j;
         j += 1;
-        if row.kind != 2 {
+        if row.kind != EXISTENTIAL {
             continue;
         }
         if !counts(into, row.a as usize, role) {

@@ -8,6 +8,7 @@ ghost use Rattle.countermodel.specs.Inner.Show.{Checked, RolesOf, Widened, UsedR
 use crate::limits::ROLES;
 use crate::marks::is_marked;
 use subsumption::helpers::{counts, row_at};
+use subsumption::kinds::EXISTENTIAL;
 
 // Notes the roles of the existentials that the element i is below.
 pub fn note_own(concepts: &[u16], table: &[u8], i: usize, own: &mut [bool])
@@ -23,7 +24,7 @@ pub fn note_own(concepts: &[u16], table: &[u8], i: usize, own: &mut [bool])
         let row = row_at(concepts, j);
         let above = j;
         j += 1;
-        if row.kind != 2 {
+        if row.kind != EXISTENTIAL {
             continue;
         }
         if is_marked(table, i, above) {

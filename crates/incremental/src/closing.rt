@@ -18,12 +18,12 @@ use crate::rising::rise;
 use crate::rows::close_rows;
 use crate::start::start;
 use subsumption::helpers::note_roles;
-use subsumption::limits::{CONCEPTS, ROLE_WORDS, WORDS};
+use subsumption::limits::{CONCEPTS, INCLUSIONS, ROLE_WORDS, WORDS};
 
 const NO_PAIR: u16 = 96;
 
 // For each id and for each inclusion, a number.
-const CHAIN: usize = 288;
+const CHAIN: usize = CONCEPTS + INCLUSIONS;
 
 fn round(
     concepts: &[u16],

@@ -9,6 +9,7 @@ ghost use Rattle.incremental.specs.Inner.Including.{Pairs, ChainTo, Chain, Idle,
 
 use crate::marking::{flow, holds};
 use square::helpers::{has, insert};
+use subsumption::kinds::CONJUNCTION;
 use subsumption::limits::CONCEPTS;
 
 const NO_PAIR: u16 = 96;
@@ -233,7 +234,7 @@ pub fn member(concepts: &[u16], i: usize, which: usize) -> usize
     ensures { result < count_of concepts.now }
 {
     let at = i * 3;
-    if concepts[at] != 3 {
+    if concepts[at] != CONJUNCTION {
         return i;
     }
     let inner = concepts[at + which] as usize;

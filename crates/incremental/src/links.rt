@@ -11,9 +11,11 @@ ghost use Rattle.incremental.specs.Inner.Links.{Existentials, Joins, ByRole, ByI
 
 use crate::marking::{holds, take};
 use square::helpers::{COLUMNS, insert};
+use subsumption::kinds::EXISTENTIAL;
+use subsumption::limits::CONCEPTS;
 
 // Of the roles, the words: three a role, and lines to 128.
-pub const ROLE_LINES: usize = 384;
+pub const ROLE_LINES: usize = CONCEPTS * 2;
 
 // Notes the existentials: those of each inner id, all inner ids, those of each role.
 pub fn note_existentials(concepts: &[u16], outer: &mut [u64], inners: &mut [u64], roles: &mut [u64])
@@ -29,7 +31,7 @@ pub fn note_existentials(concepts: &[u16], outer: &mut [u64], inners: &mut [u64]
         let id = e;
         let at = e * 3;
         e += 1;
-        if concepts[at] != 2 {
+        if concepts[at] != EXISTENTIAL {
             continue;
         }
         let role = concepts[at + 1] as usize;
@@ -130,7 +132,7 @@ pub fn link_to(
     ensures { LinkPass concepts.now (in_set into.now) f square.old square.new result }
 {
     let at = f * 3;
-    if concepts[at] != 2 {
+    if concepts[at] != EXISTENTIAL {
         return false;
     }
     let role = concepts[at + 1] as usize;

@@ -11,6 +11,7 @@ ghost use Rattle.incremental.specs.Inner.Settling.{SpreadPass, InnerPass, MeetPa
 
 use crate::marking::{flow, meet, take};
 use square::helpers::COLUMNS;
+use subsumption::kinds::{CONJUNCTION, VARIABLE};
 
 const ALL: u64 = 18446744073709551615;
 
@@ -105,13 +106,13 @@ pub fn settle_row(
     let at = i * 3;
     let kind = concepts[at];
     let x = concepts[at + 1] as usize;
-    if kind == 3 {
+    if kind == CONJUNCTION {
         let y = concepts[at + 2] as usize;
         let a = flow(square, x, i);
         let b = flow(square, y, i);
         return a | b;
     }
-    if kind != 4 {
+    if kind != VARIABLE {
         return false;
     }
     let choice = choices[x];
@@ -134,11 +135,11 @@ pub fn settle_column(
     let at = j * 3;
     let kind = concepts[at];
     let x = concepts[at + 1] as usize;
-    if kind == 3 {
+    if kind == CONJUNCTION {
         let y = concepts[at + 2] as usize;
         return meet(square, x, y, j);
     }
-    if kind != 4 {
+    if kind != VARIABLE {
         return false;
     }
     let choice = choices[x];

@@ -7,6 +7,7 @@ ghost use Rattle.incremental.specs.Inner.Start.{NamesTo, Begun, BegunAt};
 
 use crate::marking::{ROWS, mark, take};
 use square::helpers::{COLUMNS, insert};
+use subsumption::kinds::{CONJUNCTION, EXISTENTIAL, NAME, VARIABLE};
 
 const ALL: u64 = 18446744073709551615;
 
@@ -24,7 +25,7 @@ fn note_names(concepts: &[u16], names: &mut [u64])
         let id = i;
         let at = i * 3;
         i += 1;
-        if concepts[at] != 1 {
+        if concepts[at] != NAME {
             continue;
         }
         let name = concepts[at + 1] as usize;
@@ -41,7 +42,7 @@ fn start_row(concepts: &[u16], names: &[u64], square: &mut [u64], i: usize)
 {
     mark(square, ROWS, i, i);
     let kind = concepts[i * 3];
-    if kind == 1 {
+    if kind == NAME {
         let at = concepts[i * 3 + 1] as usize * 3;
         let first = names[at];
         let second = names[at + 1];
@@ -49,13 +50,13 @@ fn start_row(concepts: &[u16], names: &[u64], square: &mut [u64], i: usize)
         take(square, ROWS, i, first, second, third);
         return;
     }
-    if kind == 2 {
+    if kind == EXISTENTIAL {
         return;
     }
-    if kind == 3 {
+    if kind == CONJUNCTION {
         return;
     }
-    if kind == 4 {
+    if kind == VARIABLE {
         return;
     }
     take(square, COLUMNS, i, ALL, ALL, ALL);

@@ -21,11 +21,7 @@ fn place_of(atoms: &[u16], id: u16) -> usize
 fn is_bad(atoms: &[u16], variables: u16, variable: u16, id: u16) -> bool
     ensures { result ≡ bad_pair atoms.now variables variable id }
 {
-    if variables <= variable {
-        return true;
-    }
-    let place = place_of(atoms, id);
-    place == atoms.len()
+    variables <= variable || place_of(atoms, id) == atoms.len()
 }
 
 // Check 9: a ragged list first, then the first bad pair.

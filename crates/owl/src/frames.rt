@@ -65,10 +65,7 @@ pub fn has_room(frames: &[u16], reader: Reader) -> bool
     if kind == AXIOM {
         return members < 2;
     }
-    if kind == MEET {
-        return true;
-    }
-    members < 1
+    kind == MEET || members < 1
 }
 
 // What comes first in a bracket of that kind.

@@ -18,10 +18,7 @@ fn is_space(b: u8) -> bool
 fn is_bracket(b: u8) -> bool
     ensures { result ≡ is_bracket b }
 {
-    if b == 40 {
-        return true;
-    }
-    b == 41
+    b == 40 || b == 41
 }
 
 // The first place from `at` on that is no space, or the end of the text.

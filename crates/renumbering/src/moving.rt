@@ -8,6 +8,7 @@ ghost use Rattle.renumbering.specs.Inner.Order.{Arranges, LeadsBack};
 ghost use Rattle.renumbering.specs.Inner.Moving.{Known, Inward, moved_parts, IdsBelow};
 
 use subsumption::helpers::row_at;
+use subsumption::kinds::{CONJUNCTION, EXISTENTIAL};
 use subsumption::refusal::{Outcome, Refusal};
 
 // A field of a row: an inner id is replaced.
@@ -37,8 +38,8 @@ fn moved_row(concepts: &[u16], order: &[u16], i: usize) -> Moved
 {
     let row = row_at(concepts, i);
     let kind = row.kind;
-    let first = moved_field(order, kind == 3, row.a);
-    let second = moved_field(order, (kind == 2) | (kind == 3), row.b);
+    let first = moved_field(order, kind == CONJUNCTION, row.a);
+    let second = moved_field(order, (kind == EXISTENTIAL) | (kind == CONJUNCTION), row.b);
     Moved {
         kind,
         first,
@@ -50,14 +51,11 @@ fn moved_row(concepts: &[u16], order: &[u16], i: usize) -> Moved
 fn is_forward(own: u16, kind: u16, first: u16, second: u16) -> bool
     ensures { result ≡ forward own (decode kind first second) }
 {
-    if kind == 2 {
+    if kind == EXISTENTIAL {
         return own <= second;
     }
-    if kind == 3 {
-        if own <= first {
-            return true;
-        }
-        return own <= second;
+    if kind == CONJUNCTION {
+        return own <= first || own <= second;
     }
     false
 }

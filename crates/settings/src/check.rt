@@ -13,10 +13,7 @@ fn is_faulty(permitted: &[u64], largest: &[u16], k: usize, atoms: usize) -> bool
     requires k_in_bounds { (k < length permitted.now) × (k < length largest.now) }
     ensures { result ≡ faulty_at atoms (lent_settings permitted largest) k }
 {
-    if is_past(permitted[k], atoms) {
-        return true;
-    }
-    largest[k] as usize > ATOMS
+    is_past(permitted[k], atoms) || largest[k] as usize > ATOMS
 }
 
 // Check 19, given the number of atoms.

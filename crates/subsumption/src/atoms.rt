@@ -6,6 +6,7 @@ ghost use Rattle.subsumption.specs.Atoms.{inside, is_atomic};
 ghost use Rattle.subsumption.specs.Inner.Tables.{Rising};
 ghost use Rattle.subsumption.specs.Inner.Atoms.{Layered, Known, mark_at, held_by, VariableMarks, VariableSets, MarkedBy, on_side, on_ground_right, Spread, Narrowed, StandingMarks, AtomMarks, marked_ids, in_front};
 
+use crate::kinds::{CONJUNCTION, EXISTENTIAL, NAME, VARIABLE};
 use crate::limits::CONCEPTS;
 use crate::tables::{pair_at, row_at};
 use crate::twins::{keep_lowest, note_twins};
@@ -14,16 +15,16 @@ fn holds_variable(marks: &[bool], kind: u16, a: u16, b: u16) -> bool
     requires { Rising (length marks.now) (decode kind a b) }
     ensures { result ≡ held_by (mark_at marks.now) (decode kind a b) }
 {
-    if kind == 2 {
+    if kind == EXISTENTIAL {
         return marks[b as usize];
     }
-    if kind == 3 {
+    if kind == CONJUNCTION {
         if marks[a as usize] {
             return true;
         }
         return marks[b as usize];
     }
-    kind == 4
+    kind == VARIABLE
 }
 
 // Which ids hold a variable.
@@ -85,11 +86,11 @@ fn mark_inner(marks: &mut [bool], kind: u16, a: u16, b: u16)
     requires marks_len { length marks.old ≡ 192 }
     ensures { MarkedBy (λ q. inside (λ j. eqb q j) (decode kind a b)) marks.old marks.new }
 {
-    if kind == 2 {
+    if kind == EXISTENTIAL {
         marks[b as usize] = true;
         return;
     }
-    if kind == 3 {
+    if kind == CONJUNCTION {
         marks[a as usize] = true;
         marks[b as usize] = true;
         return;
@@ -115,10 +116,7 @@ fn spread(concepts: &[u16], marks: &mut [bool])
 fn is_atomic(kind: u16, a: u16, b: u16) -> bool
     ensures { result ≡ is_atomic (decode kind a b) }
 {
-    if kind == 1 {
-        return true;
-    }
-    kind == 2
+    kind == NAME || kind == EXISTENTIAL
 }
 
 pub fn and_also(x: bool, y: bool) -> bool

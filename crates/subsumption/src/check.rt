@@ -10,6 +10,7 @@ ghost use Rattle.subsumption.specs.Inner.Check.{Used};
 ghost use Rattle.subsumption.specs.declared.refusal.Outcome.TheVariants.{Done};
 
 use crate::atoms::{and_also, count_marks, either, mark_atoms};
+use crate::kinds::{CONJUNCTION, EXISTENTIAL, NAME, TOP, VARIABLE};
 use crate::limits::{
     ATOMS, CONCEPTS, INCLUSIONS, LAST_NAME, LAST_ROLE, QUESTIONS, ROLE_PAIRS, VARIABLES,
 };
@@ -22,10 +23,7 @@ fn is_unfit(numbers: &[u16], width: usize, limit: usize) -> bool
     requires { 0 < width }
     ensures { result ≡ unfit width limit numbers.now }
 {
-    if numbers.len() % width != 0 {
-        return true;
-    }
-    limit < numbers.len() / width
+    numbers.len() % width != 0 || limit < numbers.len() / width
 }
 
 fn check_limits(
@@ -58,29 +56,20 @@ fn check_limits(
 fn is_malformed(variables: u16, kind: u16, a: u16, b: u16) -> bool
     ensures { result ≡ malformed_row variables kind a b }
 {
-    if kind == 0 {
-        if a != 0 {
-            return true;
-        }
-        return b != 0;
+    if kind == TOP {
+        return a != 0 || b != 0;
     }
-    if kind == 1 {
-        if LAST_NAME < a {
-            return true;
-        }
-        return b != 0;
+    if kind == NAME {
+        return LAST_NAME < a || b != 0;
     }
-    if kind == 2 {
+    if kind == EXISTENTIAL {
         return LAST_ROLE < a;
     }
-    if kind == 3 {
+    if kind == CONJUNCTION {
         return false;
     }
-    if kind == 4 {
-        if variables <= a {
-            return true;
-        }
-        return b != 0;
+    if kind == VARIABLE {
+        return variables <= a || b != 0;
     }
     true
 }
@@ -103,14 +92,11 @@ fn check_rows(concepts: &[u16], variables: u16) -> Outcome
 fn is_forward(i: usize, kind: u16, a: u16, b: u16) -> bool
     ensures { result ≡ forward i (decode kind a b) }
 {
-    if kind == 2 {
+    if kind == EXISTENTIAL {
         return i <= b as usize;
     }
-    if kind == 3 {
-        if i <= a as usize {
-            return true;
-        }
-        return i <= b as usize;
+    if kind == CONJUNCTION {
+        return i <= a as usize || i <= b as usize;
     }
     false
 }
@@ -133,10 +119,7 @@ fn check_inner(concepts: &[u16]) -> Outcome
 fn is_no_concept(count: usize, left: u16, right: u16) -> bool
     ensures { result ≡ no_concept count left right }
 {
-    if count <= left as usize {
-        return true;
-    }
-    count <= right as usize
+    count <= left as usize || count <= right as usize
 }
 
 // `passed` pairs are counted already.
@@ -338,10 +321,7 @@ pub fn is_past(choice: u64, atoms: usize) -> bool
     requires { atoms ≤ 64 }
     ensures { result ≡ not (ltb choice (2 ^ atoms)) }
 {
-    if atoms == ATOMS {
-        return false;
-    }
-    (choice >> atoms) != 0
+    atoms != ATOMS && (choice >> atoms) != 0
 }
 
 // Check 9, given the number of atoms.

@@ -8,6 +8,7 @@ mod closure;
 mod counting;
 mod decide;
 pub mod helpers;
+pub mod kinds;
 pub mod limits;
 mod listing;
 pub mod refusal;

@@ -18,10 +18,10 @@ pub const LAST_NAME: u16 = 999;
 pub const LAST_ROLE: u16 = 99;
 
 // Of the roles, the words: two a role.
-pub const ROLE_WORDS: usize = 200;
+pub const ROLE_WORDS: usize = (LAST_ROLE as usize + 1) * 2;
 
 // Of the subsumption table, the bytes of a row.
-pub const ROW_BYTES: usize = 24;
+pub const ROW_BYTES: usize = CONCEPTS / 8;
 
 // Of all columns, the words: three a column.
-pub const WORDS: usize = 576;
+pub const WORDS: usize = CONCEPTS * 3;

@@ -44,97 +44,38 @@ pub struct Code {
     pub place: usize,
 }
 
+// One row of the table.
+fn row(number: u16, place: usize) -> Code
+    ensures { result ≡ record { number = number; place = place } }
+{
+    Code { number, place }
+}
+
 pub fn code_of(r: Refusal) -> Code
     ensures { result ≡ code_of r }
 {
     match r {
-        Refusal::Limit(p) => Code {
-            number: 1,
-            place: p,
-        },
-        Refusal::Malformed(p) => Code {
-            number: 2,
-            place: p,
-        },
-        Refusal::ForwardId(p) => Code {
-            number: 3,
-            place: p,
-        },
-        Refusal::NoConcept(p) => Code {
-            number: 4,
-            place: p,
-        },
-        Refusal::VariableInInclusion(p) => Code {
-            number: 5,
-            place: p,
-        },
-        Refusal::VariablesOnBothSides(p) => Code {
-            number: 6,
-            place: p,
-        },
-        Refusal::TooManyAtoms => Code {
-            number: 7,
-            place: ATOMS,
-        },
-        Refusal::BufferTooShort(p) => Code {
-            number: 8,
-            place: p,
-        },
-        Refusal::BadAssignment(p) => Code {
-            number: 9,
-            place: p,
-        },
-        Refusal::NoAssignment => Code {
-            number: 10,
-            place: 0,
-        },
-        Refusal::NotSubsumed => Code {
-            number: 11,
-            place: 0,
-        },
-        Refusal::BadDerivation(p) => Code {
-            number: 12,
-            place: p,
-        },
-        Refusal::BadText(p) => Code {
-            number: 13,
-            place: p,
-        },
-        Refusal::AllowanceSpent => Code {
-            number: 14,
-            place: 0,
-        },
-        Refusal::NoCountermodel => Code {
-            number: 15,
-            place: 0,
-        },
-        Refusal::BadRole(p) => Code {
-            number: 16,
-            place: p,
-        },
-        Refusal::BadSyntax(p) => Code {
-            number: 17,
-            place: p,
-        },
-        Refusal::TooDeep(p) => Code {
-            number: 18,
-            place: p,
-        },
-        Refusal::BadSettings(p) => Code {
-            number: 19,
-            place: p,
-        },
-        Refusal::BadBatch(p) => Code {
-            number: 20,
-            place: p,
-        },
-        Refusal::BadOrder(p) => Code {
-            number: 21,
-            place: p,
-        },
-        Refusal::ForwardInOrder(p) => Code {
-            number: 22,
-            place: p,
-        },
+        Refusal::Limit(p) => row(1, p),
+        Refusal::Malformed(p) => row(2, p),
+        Refusal::ForwardId(p) => row(3, p),
+        Refusal::NoConcept(p) => row(4, p),
+        Refusal::VariableInInclusion(p) => row(5, p),
+        Refusal::VariablesOnBothSides(p) => row(6, p),
+        Refusal::TooManyAtoms => row(7, ATOMS),
+        Refusal::BufferTooShort(p) => row(8, p),
+        Refusal::BadAssignment(p) => row(9, p),
+        Refusal::NoAssignment => row(10, 0),
+        Refusal::NotSubsumed => row(11, 0),
+        Refusal::BadDerivation(p) => row(12, p),
+        Refusal::BadText(p) => row(13, p),
+        Refusal::AllowanceSpent => row(14, 0),
+        Refusal::NoCountermodel => row(15, 0),
+        Refusal::BadRole(p) => row(16, p),
+        Refusal::BadSyntax(p) => row(17, p),
+        Refusal::TooDeep(p) => row(18, p),
+        Refusal::BadSettings(p) => row(19, p),
+        Refusal::BadBatch(p) => row(20, p),
+        Refusal::BadOrder(p) => row(21, p),
+        Refusal::ForwardInOrder(p) => row(22, p),
     }
 }

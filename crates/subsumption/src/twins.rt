@@ -6,6 +6,7 @@ ghost use Rattle.subsumption.specs.Inner.Tables.{Rising};
 ghost use Rattle.subsumption.specs.Inner.Atoms.{Layered};
 ghost use Rattle.subsumption.specs.Inner.Twins.{key_of, FirstSame, Slots, LowestTwins, Lowered};
 
+use crate::kinds::{CONJUNCTION, EXISTENTIAL, NAME, VARIABLE};
 use crate::limits::CONCEPTS;
 use crate::tables::row_at;
 
@@ -24,18 +25,18 @@ fn key_of(firsts: &[u16], kind: u16, a: u16, b: u16) -> u64
     requires { Rising (length firsts.now) (decode kind a b) }
     ensures { result ≡ key_of (λ j. get_or firsts.now j 0) (decode kind a b) }
 {
-    if kind == 1 {
+    if kind == NAME {
         return packed(1, a, 0);
     }
-    if kind == 2 {
+    if kind == EXISTENTIAL {
         return packed(2, a, firsts[b as usize]);
     }
-    if kind == 3 {
+    if kind == CONJUNCTION {
         let first = firsts[a as usize];
         let second = firsts[b as usize];
         return packed(3, first, second);
     }
-    if kind == 4 {
+    if kind == VARIABLE {
         return packed(4, a, 0);
     }
     0

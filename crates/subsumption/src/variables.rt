@@ -9,6 +9,7 @@ ghost use Rattle.subsumption.specs.Inner.Tables.{Rising};
 ghost use Rattle.subsumption.specs.Inner.Atoms.{Layered, set_by, Narrow, VariableSets};
 ghost use Rattle.subsumption.specs.Inner.Listing.{Prepared};
 
+use crate::kinds::{CONJUNCTION, EXISTENTIAL, VARIABLE};
 use crate::limits::{ATOMS, CONCEPTS};
 use crate::listing::{Listed, list_asked};
 use crate::refusal::Refusal;
@@ -26,13 +27,13 @@ fn set_of(sets: &[u8], kind: u16, a: u16, b: u16) -> u8
     requires narrow { Narrow (decode kind a b) }
     ensures { result ≡ set_by (λ j. get_or sets.now j 0) (decode kind a b) }
 {
-    if kind == 2 {
+    if kind == EXISTENTIAL {
         return sets[b as usize];
     }
-    if kind == 3 {
+    if kind == CONJUNCTION {
         return sets[a as usize] | sets[b as usize];
     }
-    if kind == 4 {
+    if kind == VARIABLE {
         let k = a as usize;
         return 1 << k;
     }

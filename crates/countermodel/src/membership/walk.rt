@@ -5,6 +5,7 @@ ghost use Rattle.subsumption.specs.Tables.{count_of, exists, tree};
 ghost use Rattle.countermodel.specs.Inner.Membership.{LowRows, Stretches, Walkable, Right, noted, Remembers, Walked, IsIn, IsInAll, Bears};
 
 use crate::membership::stretches::note_stretches;
+use subsumption::kinds::{CONJUNCTION, EXISTENTIAL, NAME, VARIABLE};
 use subsumption::limits::CONCEPTS;
 
 // Both ends of an element's names and of its links.
@@ -83,15 +84,15 @@ fn member_at(
     let kind = concepts[at];
     let a = concepts[at + 1];
     let b = concepts[at + 2];
-    if kind == 1 {
+    if kind == NAME {
         let named = bears(rows, ends, element, a);
         return note(memo, cell, named);
     }
-    if kind == 2 {
+    if kind == EXISTENTIAL {
         let linked = some_link(concepts, ids, assignment, rows, ends, memo, element, a, b);
         return note(memo, cell, linked);
     }
-    if kind == 3 {
+    if kind == CONJUNCTION {
         let first = member_at(concepts, ids, assignment, rows, ends, memo, element, a);
         if !first {
             return note(memo, cell, false);
@@ -99,7 +100,7 @@ fn member_at(
         let second = member_at(concepts, ids, assignment, rows, ends, memo, element, b);
         return note(memo, cell, second);
     }
-    if kind == 4 {
+    if kind == VARIABLE {
         let choice = assignment[a as usize];
         let chosen = in_all(concepts, ids, assignment, rows, ends, memo, element, choice);
         return note(memo, cell, chosen);

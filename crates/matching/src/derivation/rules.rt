@@ -12,6 +12,7 @@ ghost use Rattle.subsumption.specs.Inner.Sizes.{roles_size};
 
 use crate::derivation::marks::{has_mark, number_at};
 use subsumption::helpers::{Row, counts, pair_at, row_at};
+use subsumption::kinds::{CONJUNCTION, EXISTENTIAL, NAME, TOP, VARIABLE};
 
 // Rule 1.
 fn by_name(left: usize, right: usize, l: Row, r: Row) -> bool
@@ -20,10 +21,10 @@ fn by_name(left: usize, right: usize, l: Row, r: Row) -> bool
     if left == right {
         return true;
     }
-    if l.kind != 1 {
+    if l.kind != NAME {
         return false;
     }
-    if r.kind != 1 {
+    if r.kind != NAME {
         return false;
     }
     l.a == r.a
@@ -33,7 +34,7 @@ fn by_name(left: usize, right: usize, l: Row, r: Row) -> bool
 fn by_top(r: Row) -> bool
     ensures { result ≡ is_top (node_of r) }
 {
-    if r.kind == 0 {
+    if r.kind == TOP {
         return true;
     }
     4 < r.kind
@@ -46,7 +47,7 @@ fn by_member(marks: &[bool], count: usize, l: Row, right: usize, extra: usize) -
     requires right_lt_count { right < count }
     ensures { result ≡ on_picked extra (λ i. seen count marks.now i right) (node_of l) }
 {
-    if l.kind != 3 {
+    if l.kind != CONJUNCTION {
         return false;
     }
     if extra == 0 {
@@ -65,7 +66,7 @@ fn by_both(marks: &[bool], count: usize, left: usize, r: Row) -> bool
     requires left_lt_count { left < count }
     ensures { result ≡ on_both (λ j. seen count marks.now left j) (node_of r) }
 {
-    if r.kind != 3 {
+    if r.kind != CONJUNCTION {
         return false;
     }
     if has_mark(marks, count, left, r.a as usize) {
@@ -84,10 +85,10 @@ fn by_inner(into: &[u64], marks: &[bool], count: usize, l: Row, r: Row) -> bool
     requires rising_2 { Rising count (node_of r) }
     ensures { result ≡ on_inner (in_set into.now) (seen count marks.now) (node_of l) (node_of r) }
 {
-    if l.kind != 2 {
+    if l.kind != EXISTENTIAL {
         return false;
     }
-    if r.kind != 2 {
+    if r.kind != EXISTENTIAL {
         return false;
     }
     if counts(into, l.a as usize, r.a as usize) {
@@ -160,7 +161,7 @@ fn by_choice(
         (λ k. both (contains extra (pick atoms.now (get_or assignment.now k 0))) (seen count marks.now extra right))
         (node_of l) }
 {
-    if l.kind != 4 {
+    if l.kind != VARIABLE {
         return false;
     }
     if count <= extra {
@@ -212,7 +213,7 @@ fn by_all(
     ensures { result ≡ on_variable
         (λ k. every (λ p. seen count marks.now left p) (pick atoms.now (get_or assignment.now k 0))) (node_of r) }
 {
-    if r.kind != 4 {
+    if r.kind != VARIABLE {
         return false;
     }
     let k = r.a as usize;

@@ -11,6 +11,7 @@ use crate::search::sets::{
     Words, fit_at, is_in, is_same, join, meet, next_bit, next_in, put_words, words_at,
 };
 use square::helpers::has;
+use subsumption::kinds::{CONJUNCTION, TOP, VARIABLE};
 
 const ALL: u64 = 18446744073709551615;
 
@@ -106,10 +107,10 @@ fn has_members(problem: &[u16], x: Words, e: usize) -> bool
     ensures { Members problem.now x e result }
 {
     let kind = problem[e * 3];
-    if kind == 0 {
+    if kind == TOP {
         return true;
     }
-    if kind == 3 {
+    if kind == CONJUNCTION {
         if is_in(x, problem[e * 3 + 1] as usize) {
             return is_in(x, problem[e * 3 + 2] as usize);
         }
@@ -160,11 +161,11 @@ fn right_value(sets: &[u64], problem: &[u16], values: &[u64], choice: [u64; 8], 
 {
     let kind = problem[j * 3];
     let inner = problem[j * 3 + 2] as usize;
-    if kind == 4 {
+    if kind == VARIABLE {
         let k = problem[j * 3 + 1] as usize;
         return below_all(sets, problem, choice[k]);
     }
-    if kind == 3 {
+    if kind == CONJUNCTION {
         let a = value_of(sets, problem, values, true, problem[j * 3 + 1] as usize);
         let b = value_of(sets, problem, values, true, inner);
         return meet(a, b);
@@ -189,11 +190,11 @@ fn left_value(
 {
     let kind = problem[j * 3];
     let inner = problem[j * 3 + 2] as usize;
-    if kind == 4 {
+    if kind == VARIABLE {
         let k = problem[j * 3 + 1] as usize;
         return above_some(sets, problem, choice[k]);
     }
-    if kind == 3 {
+    if kind == CONJUNCTION {
         let a = value_of(sets, problem, values, false, problem[j * 3 + 1] as usize);
         let b = value_of(sets, problem, values, false, inner);
         return join(a, b);

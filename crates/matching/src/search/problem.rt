@@ -24,6 +24,7 @@ use crate::limits::{
 use crate::search::sets::{Words, fit_at, is_same, join, meet, next_in, words_at};
 use square::helpers::{has, insert, load};
 use subsumption::helpers::{counts, mark_variables, note_roles};
+use subsumption::kinds::{CONJUNCTION, EXISTENTIAL, VARIABLE};
 use subsumption::limits::{CONCEPTS, ROLE_WORDS};
 use subsumption::write_table;
 
@@ -61,7 +62,7 @@ fn variables_of(problem: &[u16], sets: &[u16], i: usize) -> u16
     let kind = problem[i * 3];
     let a = problem[i * 3 + 1] as usize;
     let b = problem[i * 3 + 2] as usize;
-    if kind == 4 {
+    if kind == VARIABLE {
         if a < 8 {
             return 1 << a;
         }
@@ -73,10 +74,10 @@ fn variables_of(problem: &[u16], sets: &[u16], i: usize) -> u16
     if b >= CONCEPTS {
         return 0;
     }
-    if kind == 3 {
+    if kind == CONJUNCTION {
         return sets[a] | sets[b];
     }
-    if kind == 2 {
+    if kind == EXISTENTIAL {
         return sets[b];
     }
     0
@@ -251,12 +252,12 @@ fn mark_inside(problem: &[u16], sets: &mut [u64], at: usize, i: usize)
     ensures { Filled at (held_inside problem.now i) sets.old sets.new }
 {
     let kind = problem[i * 3];
-    if kind == 3 {
+    if kind == CONJUNCTION {
         mark_held(problem, sets, at, problem[i * 3 + 1] as usize);
         mark_held(problem, sets, at, problem[i * 3 + 2] as usize);
         return;
     }
-    if kind == 2 {
+    if kind == EXISTENTIAL {
         mark_held(problem, sets, at, problem[i * 3 + 2] as usize);
     }
 }

@@ -10,6 +10,7 @@ use crate::derivation::marks::has_mark;
 use crate::derivation::rules::by_rule;
 use crate::writer::propose::{extra_of, left_of, right_of, rule_of};
 use subsumption::helpers::row_at;
+use subsumption::kinds::VARIABLE;
 
 #[derive(Clone, Copy)]
 pub enum Extra {
@@ -45,7 +46,7 @@ fn extras(concepts: &[u16], inclusions: &[u16], rule: usize, left: usize) -> usi
     }
     if rule == 7 {
         let row = row_at(concepts, left);
-        if row.kind != 4 {
+        if row.kind != VARIABLE {
             return 0;
         }
         return concepts.len() / 3;

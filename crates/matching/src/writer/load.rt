@@ -2,6 +2,7 @@
 use crate::writer::sets::{
     ALL, FROM, MEMBERS, NAMED, NODE, OUTER, PAIR, ROLES, TO, UPPER, USED, put, store,
 };
+use subsumption::kinds::{CONJUNCTION, EXISTENTIAL, NAME, VARIABLE};
 
 pub fn load_roles(into: &[u64], work: &mut [u64]) {
     let mut s: u16 = 0;
@@ -60,16 +61,16 @@ fn load_choice(atoms: &[u16], choice: u64, work: &mut [u64], id: u16) {
 }
 
 fn load_shape(work: &mut [u64], id: u16, kind: u16, a: u16, b: u16) {
-    if kind == 1 {
+    if kind == NAME {
         put(work, NAMED, a, id);
         return;
     }
-    if kind == 2 {
+    if kind == EXISTENTIAL {
         put(work, OUTER, b, id);
         put(work, USED, 5, b);
         return;
     }
-    if kind == 3 {
+    if kind == CONJUNCTION {
         load_member(work, id, a);
         load_member(work, id, b);
     }
@@ -90,7 +91,7 @@ fn load_row(
     put(work, ALL, 0, id);
     load_shape(work, id, kind, a, b);
     let k = a as usize;
-    if kind == 4 {
+    if kind == VARIABLE {
         if k < assignment.len() {
             load_choice(atoms, assignment[k], work, id);
         }

@@ -6,6 +6,7 @@ use crate::writer::sets::{
     ABOVE, ALL, BELOW, FROM, LINES, MEMBERS, NAMED, NODE, NONE, OUTER, OVER, PAIR, QUEUE, ROLES,
     TO, UNDER, UPPER, USED, WANTED, has, is_within, next, number, put, store, word,
 };
+use subsumption::kinds::{NAME, TOP, VARIABLE};
 
 // The lines are found by: 1 names, 2 top, 3 a member on the left, 4 all members on the right, 5 inner ids, 6 and 7 an inclusion, 8 an empty
 // choice. With 4, 5 and 6 the left side is given and the right side is new; with the others it is the other way round.
@@ -187,16 +188,16 @@ fn find_lines(work: &mut [u64], left: u16, right: u16) {
 fn start_at(work: &mut [u64], right: u16) {
     push(work, 1, right, right, 0);
     let kind = number(work, NODE, right, 0);
-    if kind == 0 {
+    if kind == TOP {
         push_each(work, ALL, 0, 2, right, 0);
         return;
     }
-    if kind == 1 {
+    if kind == NAME {
         let name = number(work, NODE, right, 1);
         push_each(work, NAMED, name, 1, right, 0);
         return;
     }
-    if kind == 4 {
+    if kind == VARIABLE {
         if is_within(work, MEMBERS, right, NONE, 0) {
             push_each(work, ALL, 0, 8, right, 0);
         }

@@ -9,6 +9,7 @@ ghost use Rattle.subsumption.specs.Inner.Sizes.{columns_size, roles_size};
 
 use crate::closure::columns::{Words, take};
 use crate::closure::sets::{insert, put, union};
+use crate::kinds::EXISTENTIAL;
 
 // Notes the existentials: those of each inner id, all inner ids, those of each role.
 pub fn note_existentials(concepts: &[u16], outer: &mut [u64], inners: &mut [u64], lines: &mut [u64])
@@ -24,7 +25,7 @@ pub fn note_existentials(concepts: &[u16], outer: &mut [u64], inners: &mut [u64]
         let id = e;
         let at = e * 3;
         e += 1;
-        if concepts[at] != 2 {
+        if concepts[at] != EXISTENTIAL {
             continue;
         }
         let role = concepts[at + 1] as usize;
@@ -84,7 +85,7 @@ pub fn link_to(
     ensures { LinkPass concepts.now outer.now inners.now kinds.now
         (λ wide. LinkedTo concepts.now wide f) columns.old columns.new result }
 {
-    if concepts[f * 3] != 2 {
+    if concepts[f * 3] != EXISTENTIAL {
         return false;
     }
     let role = concepts[f * 3 + 1] as usize;

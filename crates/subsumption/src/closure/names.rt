@@ -3,16 +3,14 @@ ghost use Rattle.std.specs.Prelude.{◌≡◌, ◌+◌, ◌<◌, length};
 ghost use Rattle.subsumption.specs.Tables.{count_of};
 ghost use Rattle.subsumption.specs.Inner.Names.{Nameable, Seen, Firsts, IsNamed, FirstNamed};
 
+use crate::kinds::NAME;
 use crate::limits::NAMES;
 
 fn is_named(concepts: &[u16], k: usize, name: u16) -> bool
     requires { k < count_of concepts.now }
     ensures { IsNamed concepts.now k name result }
 {
-    if concepts[k * 3] != 1 {
-        return false;
-    }
-    concepts[k * 3 + 1] == name
+    concepts[k * 3] == NAME && concepts[k * 3 + 1] == name
 }
 
 // The first row of j's name: the one seen, or j itself.
@@ -22,7 +20,7 @@ fn first_named(concepts: &[u16], seen: &[u16], j: usize) -> usize
     requires j_bound { j < count_of concepts.now }
     ensures { FirstNamed concepts.now j result }
 {
-    if concepts[j * 3] != 1 {
+    if concepts[j * 3] != NAME {
         return j;
     }
     let name = concepts[j * 3 + 1];
@@ -40,7 +38,7 @@ fn note_seen(concepts: &[u16], j: usize, first: usize, seen: &mut [u16])
     requires first_named { FirstNamed concepts.now j first }
     ensures { Seen concepts.now (j + 1) seen.new }
 {
-    if concepts[j * 3] != 1 {
+    if concepts[j * 3] != NAME {
         return;
     }
     let name = concepts[j * 3 + 1] as usize;

@@ -7,6 +7,7 @@ ghost use Rattle.subsumption.specs.Inner.Closure.{SettlePass};
 ghost use Rattle.subsumption.specs.Inner.Sizes.{columns_size};
 
 use crate::closure::columns::{fill, flow, gather, mark, meet, spread};
+use crate::kinds::{CONJUNCTION, EXISTENTIAL, NAME, VARIABLE};
 
 // The steps at the row j that lead to itself and to smaller ids.
 pub fn descend(
@@ -27,13 +28,13 @@ pub fn descend(
     let kind = concepts[at];
     let x = concepts[at + 1] as usize;
     let own = mark(columns, j);
-    if kind == 3 {
+    if kind == CONJUNCTION {
         let y = concepts[at + 2] as usize;
         let a = flow(columns, j, x);
         let b = flow(columns, j, y);
         return own | a | b;
     }
-    if kind == 4 {
+    if kind == VARIABLE {
         let choice = assignment[x];
         let a = spread(atoms, choice, columns, j);
         return own | a;
@@ -61,20 +62,20 @@ pub fn ascend(
     let at = j * 3;
     let kind = concepts[at];
     let x = concepts[at + 1] as usize;
-    if kind == 1 {
+    if kind == NAME {
         let first = firsts[j] as usize;
         let a = flow(columns, j, first);
         let b = flow(columns, first, j);
         return a | b;
     }
-    if kind == 2 {
+    if kind == EXISTENTIAL {
         return false;
     }
-    if kind == 3 {
+    if kind == CONJUNCTION {
         let y = concepts[at + 2] as usize;
         return meet(columns, x, y, j);
     }
-    if kind == 4 {
+    if kind == VARIABLE {
         let choice = assignment[x];
         return gather(atoms, choice, columns, j);
     }

@@ -11,22 +11,22 @@ pub overflow_cast-y : goal.overflow_cast-y
 overflow_cast-y c = omega (arith, c.type_inv.concepts (c.args.j * 3 + 2))
 
 pub meet-requires : goal.meet-requires
-meet-requires c = record { square = c.requires.square; left_bound = ((and_low c.requires.settleable c.args.j c.requires.j_bound c.if-kind-eq3.true).0, (and_low c.requires.settleable c.args.j c.requires.j_bound c.if-kind-eq3.true).1, omega (arith, c.requires.settleable.few)) }
+meet-requires c = record { square = c.requires.square; left_bound = ((and_low c.requires.settleable c.args.j c.requires.j_bound c.if-kind-eq-CONJUNCTION.true).0, (and_low c.requires.settleable c.args.j c.requires.j_bound c.if-kind-eq-CONJUNCTION.true).1, omega (arith, c.requires.settleable.few)) }
 
-pub returns-then-kind-eq3 : goal.returns-then-kind-eq3
-returns-then-kind-eq3 c = meet-and _ _ _ c.requires.settleable _ c.requires.j_bound _ _ _ c.if-kind-eq3.true c.meet.ensures
+pub returns-then-kind-eq-CONJUNCTION : goal.returns-then-kind-eq-CONJUNCTION
+returns-then-kind-eq-CONJUNCTION c = meet-and _ _ _ c.requires.settleable _ c.requires.j_bound _ _ _ c.if-kind-eq-CONJUNCTION.true c.meet.ensures
 
-pub returns-then-kind-ne4 : goal.returns-then-kind-ne4
-returns-then-kind-ne4 c = meet-none _ _ _ _ c.requires.square c.if-kind-eq3.false c.if-kind-ne4.true
+pub returns-then-kind-ne-VARIABLE : goal.returns-then-kind-ne-VARIABLE
+returns-then-kind-ne-VARIABLE c = meet-none _ _ _ _ c.requires.square c.if-kind-eq-CONJUNCTION.false c.if-kind-ne-VARIABLE.true
 
 pub offset_bounds-choices-x : goal.offset_bounds-choices-x
-offset_bounds-choices-x c = omega (arith, var-low c.requires.settleable c.args.j c.requires.j_bound c.if-kind-ne4.false)
+offset_bounds-choices-x c = omega (arith, var-low c.requires.settleable c.args.j c.requires.j_bound c.if-kind-ne-VARIABLE.false)
 
 pub bounds-choices-x : goal.bounds-choices-x
-bounds-choices-x c = omega (arith, var-low c.requires.settleable c.args.j c.requires.j_bound c.if-kind-ne4.false)
+bounds-choices-x c = omega (arith, var-low c.requires.settleable c.args.j c.requires.j_bound c.if-kind-ne-VARIABLE.false)
 
 pub gather-requires : goal.gather-requires
 gather-requires c = record { square = c.requires.square; known = settle-known c.requires.settleable; to_bound = omega (arith, c.requires.settleable.few) }
 
 pub returns : goal.returns
-returns c = meet-var _ _ _ c.requires.settleable _ c.requires.j_bound _ _ _ c.if-kind-ne4.false c.gather.ensures
+returns c = meet-var _ _ _ c.requires.settleable _ c.requires.j_bound _ _ _ c.if-kind-ne-VARIABLE.false c.gather.ensures

@@ -42,61 +42,61 @@ pub member_at-bears-named-requires : goal.member_at-bears-named-requires
 member_at-bears-named-requires t c =
     record { low_rows = c.requires.walkable.low; stretches = c.requires.stretches; element_bound = c.requires.element_bound.0 }
 
-pub member_at-returns-then-kind-eq1 : goal.member_at-returns-then-kind-eq1
-member_at-returns-then-kind-eq1 t c =
-    noted-walked _ _ _ _ c.requires.walkable _ _ c.requires.element_bound.0 c.requires.element_bound.1 _ _ c.requires.remembers _ _ c.note.ensures (in-name _ _ _ _ c.requires.walkable _ _ _ c.if-kind-eq1.true c.bears-named.ensures)
+pub member_at-returns-then-kind-eq-NAME : goal.member_at-returns-then-kind-eq-NAME
+member_at-returns-then-kind-eq-NAME t c =
+    noted-walked _ _ _ _ c.requires.walkable _ _ c.requires.element_bound.0 c.requires.element_bound.1 _ _ c.requires.remembers _ _ c.note.ensures (in-name _ _ _ _ c.requires.walkable _ _ _ c.if-kind-eq-NAME.true c.bears-named.ensures)
 
 pub member_at-some_link-linked-requires : goal.member_at-some_link-linked-requires
 member_at-some_link-linked-requires t c =
-    (omega (arith, link-falls _ _ _ _ c.requires.walkable c.args.id c.if-kind-eq2.true, c.decreases), (c.requires.walkable, (c.requires.stretches, (c.requires.remembers, (c.requires.element_bound.0, link-known _ _ _ _ c.requires.walkable _ c.if-kind-eq2.true c.requires.element_bound.1)))))
+    (omega (arith, link-falls _ _ _ _ c.requires.walkable c.args.id c.if-kind-eq-EXISTENTIAL.true, c.decreases), (c.requires.walkable, (c.requires.stretches, (c.requires.remembers, (c.requires.element_bound.0, link-known _ _ _ _ c.requires.walkable _ c.if-kind-eq-EXISTENTIAL.true c.requires.element_bound.1)))))
 
-pub member_at-returns-then-kind-eq2 : goal.member_at-returns-then-kind-eq2
-member_at-returns-then-kind-eq2 t c =
-    noted-walked _ _ _ _ c.requires.walkable _ _ c.requires.element_bound.0 c.requires.element_bound.1 _ _ c.some_link-linked.ensures.remembered _ _ c.note-then-kind-eq2.ensures (in-exists _ _ _ _ c.requires.walkable _ _ _ c.if-kind-eq2.true c.some_link-linked.ensures.answered)
+pub member_at-returns-then-kind-eq-EXISTENTIAL : goal.member_at-returns-then-kind-eq-EXISTENTIAL
+member_at-returns-then-kind-eq-EXISTENTIAL t c =
+    noted-walked _ _ _ _ c.requires.walkable _ _ c.requires.element_bound.0 c.requires.element_bound.1 _ _ c.some_link-linked.ensures.remembered _ _ c.note-then-kind-eq-EXISTENTIAL.ensures (in-exists _ _ _ _ c.requires.walkable _ _ _ c.if-kind-eq-EXISTENTIAL.true c.some_link-linked.ensures.answered)
 
 pub member_at-member_at-first-requires : goal.member_at-member_at-first-requires
 member_at-member_at-first-requires t c =
-    (omega (arith, first-falls _ _ _ _ c.requires.walkable c.args.id c.if-kind-eq3.true, c.decreases), (c.requires.walkable, (c.requires.stretches, (c.requires.remembers, (c.requires.element_bound.0, first-known _ _ _ _ c.requires.walkable _ c.if-kind-eq3.true c.requires.element_bound.1)))))
+    (omega (arith, first-falls _ _ _ _ c.requires.walkable c.args.id c.if-kind-eq-CONJUNCTION.true, c.decreases), (c.requires.walkable, (c.requires.stretches, (c.requires.remembers, (c.requires.element_bound.0, first-known _ _ _ _ c.requires.walkable _ c.if-kind-eq-CONJUNCTION.true c.requires.element_bound.1)))))
 
 pub member_at-returns-then-not-first : goal.member_at-returns-then-not-first
 member_at-returns-then-not-first t c =
-    noted-walked _ _ _ _ c.requires.walkable _ _ c.requires.element_bound.0 c.requires.element_bound.1 _ _ c.member_at-first.ensures.remembered _ _ c.note-then-not-first.ensures (in-first _ _ _ _ c.requires.walkable _ _ _ c.if-kind-eq3.true c.member_at-first.ensures.answered (c.if-not-first.true))
+    noted-walked _ _ _ _ c.requires.walkable _ _ c.requires.element_bound.0 c.requires.element_bound.1 _ _ c.member_at-first.ensures.remembered _ _ c.note-then-not-first.ensures (in-first _ _ _ _ c.requires.walkable _ _ _ c.if-kind-eq-CONJUNCTION.true c.member_at-first.ensures.answered (c.if-not-first.true))
 
 pub member_at-member_at-second-requires : goal.member_at-member_at-second-requires
 member_at-member_at-second-requires t c =
-    (omega (arith, second-falls _ _ _ _ c.requires.walkable c.args.id c.if-kind-eq3.true, c.decreases), (c.requires.walkable, (c.requires.stretches, (c.member_at-first.ensures.remembered, (c.requires.element_bound.0, second-known _ _ _ _ c.requires.walkable _ c.if-kind-eq3.true c.requires.element_bound.1)))))
+    (omega (arith, second-falls _ _ _ _ c.requires.walkable c.args.id c.if-kind-eq-CONJUNCTION.true, c.decreases), (c.requires.walkable, (c.requires.stretches, (c.member_at-first.ensures.remembered, (c.requires.element_bound.0, second-known _ _ _ _ c.requires.walkable _ c.if-kind-eq-CONJUNCTION.true c.requires.element_bound.1)))))
 
-pub member_at-note-requires-then-kind-eq3 : goal.member_at-note-requires-then-kind-eq3
-member_at-note-requires-then-kind-eq3 t c =
+pub member_at-note-requires-then-kind-eq-CONJUNCTION : goal.member_at-note-requires-then-kind-eq-CONJUNCTION
+member_at-note-requires-then-kind-eq-CONJUNCTION t c =
     omega (arith, c.requires.walkable.few, c.requires.element_bound.0, c.requires.element_bound.1)
 
-pub member_at-returns-then-kind-eq3 : goal.member_at-returns-then-kind-eq3
-member_at-returns-then-kind-eq3 t c =
-    noted-walked _ _ _ _ c.requires.walkable _ _ c.requires.element_bound.0 c.requires.element_bound.1 _ _ c.member_at-second.ensures.remembered _ _ c.note-then-kind-eq3.ensures (in_both _ _ _ _ c.requires.walkable _ _ _ _ c.if-kind-eq3.true c.member_at-first.ensures.answered (c.if-not-first.false) c.member_at-second.ensures.answered)
+pub member_at-returns-then-kind-eq-CONJUNCTION : goal.member_at-returns-then-kind-eq-CONJUNCTION
+member_at-returns-then-kind-eq-CONJUNCTION t c =
+    noted-walked _ _ _ _ c.requires.walkable _ _ c.requires.element_bound.0 c.requires.element_bound.1 _ _ c.member_at-second.ensures.remembered _ _ c.note-then-kind-eq-CONJUNCTION.ensures (in_both _ _ _ _ c.requires.walkable _ _ _ _ c.if-kind-eq-CONJUNCTION.true c.member_at-first.ensures.answered (c.if-not-first.false) c.member_at-second.ensures.answered)
 
 pub member_at-overflow_cast-choice : goal.member_at-overflow_cast-choice
 member_at-overflow_cast-choice t c =
-    omega (arith, choice-known _ _ _ _ c.requires.walkable c.args.id c.if-kind-eq4.true)
+    omega (arith, choice-known _ _ _ _ c.requires.walkable c.args.id c.if-kind-eq-VARIABLE.true)
 
 pub member_at-offset_bounds-assignment-a : goal.member_at-offset_bounds-assignment-a
 member_at-offset_bounds-assignment-a t c =
-    omega (arith, choice-known _ _ _ _ c.requires.walkable c.args.id c.if-kind-eq4.true)
+    omega (arith, choice-known _ _ _ _ c.requires.walkable c.args.id c.if-kind-eq-VARIABLE.true)
 
 pub member_at-bounds-assignment-a : goal.member_at-bounds-assignment-a
 member_at-bounds-assignment-a t c =
-    omega (arith, choice-known _ _ _ _ c.requires.walkable c.args.id c.if-kind-eq4.true)
+    omega (arith, choice-known _ _ _ _ c.requires.walkable c.args.id c.if-kind-eq-VARIABLE.true)
 
 pub member_at-in_all-chosen-requires : goal.member_at-in_all-chosen-requires
 member_at-in_all-chosen-requires t c =
-    (omega (arith, variable-falls _ _ _ _ c.requires.walkable c.args.id c.if-kind-eq4.true, c.decreases), (c.requires.walkable, (c.requires.stretches, (c.requires.remembers, c.requires.element_bound.0))))
+    (omega (arith, variable-falls _ _ _ _ c.requires.walkable c.args.id c.if-kind-eq-VARIABLE.true, c.decreases), (c.requires.walkable, (c.requires.stretches, (c.requires.remembers, c.requires.element_bound.0))))
 
-pub member_at-returns-then-kind-eq4 : goal.member_at-returns-then-kind-eq4
-member_at-returns-then-kind-eq4 t c =
-    noted-walked _ _ _ _ c.requires.walkable _ _ c.requires.element_bound.0 c.requires.element_bound.1 _ _ c.in_all-chosen.ensures.remembered _ _ c.note-then-kind-eq4.ensures (in-var _ _ _ _ c.requires.walkable _ _ _ c.if-kind-eq4.true c.in_all-chosen.ensures.answered)
+pub member_at-returns-then-kind-eq-VARIABLE : goal.member_at-returns-then-kind-eq-VARIABLE
+member_at-returns-then-kind-eq-VARIABLE t c =
+    noted-walked _ _ _ _ c.requires.walkable _ _ c.requires.element_bound.0 c.requires.element_bound.1 _ _ c.in_all-chosen.ensures.remembered _ _ c.note-then-kind-eq-VARIABLE.ensures (in-var _ _ _ _ c.requires.walkable _ _ _ c.if-kind-eq-VARIABLE.true c.in_all-chosen.ensures.answered)
 
 pub member_at-returns : goal.member_at-returns
 member_at-returns t c =
-    record { answered = in_top _ _ _ _ c.requires.walkable _ _ c.if-kind-eq1.false c.if-kind-eq2.false c.if-kind-eq3.false c.if-kind-eq4.false; remembered = c.requires.remembers }
+    record { answered = in_top _ _ _ _ c.requires.walkable _ _ c.if-kind-eq-NAME.false c.if-kind-eq-EXISTENTIAL.false c.if-kind-eq-CONJUNCTION.false c.if-kind-eq-VARIABLE.false; remembered = c.requires.remembers }
 
 pub some_link-loop-p-init : goal.some_link-loop-p-init
 some_link-loop-p-init t c =

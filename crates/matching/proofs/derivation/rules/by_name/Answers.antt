@@ -4,11 +4,11 @@ use Rattle.matching.proofs.derivation.rules.by_name.Goals as goal
 pub returns-then-left-right : goal.returns-then-left-right
 returns-then-left-right c = search name-same
 
-pub returns-then-l-ne1 : goal.returns-then-l-ne1
-returns-then-l-ne1 c = search name-left
+pub returns-then-l-ne-NAME : goal.returns-then-l-ne-NAME
+returns-then-l-ne-NAME c = search name-left
 
-pub returns-then-r-ne1 : goal.returns-then-r-ne1
-returns-then-r-ne1 c = search name-right
+pub returns-then-r-ne-NAME : goal.returns-then-r-ne-NAME
+returns-then-r-ne-NAME c = search name-right
 
 pub returns : goal.returns
 returns c = search name-both

@@ -2,8 +2,8 @@ use Rattle.matching.proofs.SearchLaws.Walks.{members-top, members-and, members-o
 use native.Mathlib.Omega.{arith}
 use Rattle.matching.proofs.search.patterns.has_members.Goals as goal
 
-pub returns-then-kind-eq0 : goal.returns-then-kind-eq0
-returns-then-kind-eq0 c = members-top _ c.requires.numbers _ c.requires.e_bound _ (omega arith)
+pub returns-then-kind-eq-TOP : goal.returns-then-kind-eq-TOP
+returns-then-kind-eq-TOP c = members-top _ c.requires.numbers _ c.requires.e_bound _ (omega arith)
 
 pub overflow_cast-problem : goal.overflow_cast-problem
 overflow_cast-problem c = omega (arith, c.requires.numbers.first-low c.args.e (omega arith) (omega arith))
@@ -23,5 +23,5 @@ returns-then-is_in c = members-and _ c.requires.numbers _ c.requires.e_bound _ _
 pub returns-else-is_in : goal.returns-else-is_in
 returns-else-is_in c = members-out _ c.requires.numbers _ c.requires.e_bound _ _ (omega arith) c.is_in.ensures c.if-is_in.false
 
-pub returns-else-kind-eq3 : goal.returns-else-kind-eq3
-returns-else-kind-eq3 c = members-other _ c.requires.numbers _ c.requires.e_bound _ c.if-kind-eq0.false c.if-kind-eq3.false
+pub returns-else-kind-eq-CONJUNCTION : goal.returns-else-kind-eq-CONJUNCTION
+returns-else-kind-eq-CONJUNCTION c = members-other _ c.requires.numbers _ c.requires.e_bound _ c.if-kind-eq-TOP.false c.if-kind-eq-CONJUNCTION.false

@@ -8,31 +8,31 @@ pub overflow_cast-problem : goal.overflow_cast-problem
 overflow_cast-problem c = omega (arith, c.type_inv.problem (c.args.i * 3 + 1))
 
 pub mark_held-requires : goal.mark_held-requires
-mark_held-requires c = record { problem_len = c.requires.problem_len; at_in_bounds = c.requires.at_in_bounds; id_bound = omega (arith, first_below c.args.problem.now c.args.i c.if-kind-eq3.true c.requires.i_bound.1, c.requires.i_bound.0) }
+mark_held-requires c = record { problem_len = c.requires.problem_len; at_in_bounds = c.requires.at_in_bounds; id_bound = omega (arith, first_below c.args.problem.now c.args.i c.if-kind-eq-CONJUNCTION.true c.requires.i_bound.1, c.requires.i_bound.0) }
 
-pub overflow_cast-problem-then-kind-eq3 : goal.overflow_cast-problem-then-kind-eq3
-overflow_cast-problem-then-kind-eq3 c = omega (arith, c.type_inv.problem (c.args.i * 3 + 2))
+pub overflow_cast-problem-then-kind-eq-CONJUNCTION : goal.overflow_cast-problem-then-kind-eq-CONJUNCTION
+overflow_cast-problem-then-kind-eq-CONJUNCTION c = omega (arith, c.type_inv.problem (c.args.i * 3 + 2))
 
-pub mark_held-requires-then-kind-eq3 : goal.mark_held-requires-then-kind-eq3
-mark_held-requires-then-kind-eq3 c = record { problem_len = c.requires.problem_len; at_in_bounds = omega (arith, c.requires.at_in_bounds, c.mark_held.ensures.long); id_bound = omega (arith, second_below c.args.problem.now c.args.i c.if-kind-eq3.true c.requires.i_bound.1, c.requires.i_bound.0) }
+pub mark_held-requires-then-kind-eq-CONJUNCTION : goal.mark_held-requires-then-kind-eq-CONJUNCTION
+mark_held-requires-then-kind-eq-CONJUNCTION c = record { problem_len = c.requires.problem_len; at_in_bounds = omega (arith, c.requires.at_in_bounds, c.mark_held.ensures.long); id_bound = omega (arith, second_below c.args.problem.now c.args.i c.if-kind-eq-CONJUNCTION.true c.requires.i_bound.1, c.requires.i_bound.0) }
 
-pub shape_of-sets-then-kind-eq3 : goal.shape_of-sets-then-kind-eq3
-shape_of-sets-then-kind-eq3 c = c.mark_held-then-kind-eq3.ensures.long ∙ c.mark_held.ensures.long
+pub shape_of-sets-then-kind-eq-CONJUNCTION : goal.shape_of-sets-then-kind-eq-CONJUNCTION
+shape_of-sets-then-kind-eq-CONJUNCTION c = c.mark_held-then-kind-eq-CONJUNCTION.ensures.long ∙ c.mark_held.ensures.long
 
-pub returns-then-kind-eq3 : goal.returns-then-kind-eq3
-returns-then-kind-eq3 c = inside-and c.args.problem.now c.args.i _ _ _ _ c.if-kind-eq3.true c.mark_held.ensures c.mark_held-then-kind-eq3.ensures
+pub returns-then-kind-eq-CONJUNCTION : goal.returns-then-kind-eq-CONJUNCTION
+returns-then-kind-eq-CONJUNCTION c = inside-and c.args.problem.now c.args.i _ _ _ _ c.if-kind-eq-CONJUNCTION.true c.mark_held.ensures c.mark_held-then-kind-eq-CONJUNCTION.ensures
 
-pub overflow_cast-problem-then-kind-eq2 : goal.overflow_cast-problem-then-kind-eq2
-overflow_cast-problem-then-kind-eq2 c = omega (arith, c.type_inv.problem (c.args.i * 3 + 2))
+pub overflow_cast-problem-then-kind-eq-EXISTENTIAL : goal.overflow_cast-problem-then-kind-eq-EXISTENTIAL
+overflow_cast-problem-then-kind-eq-EXISTENTIAL c = omega (arith, c.type_inv.problem (c.args.i * 3 + 2))
 
-pub mark_held-requires-then-kind-eq2 : goal.mark_held-requires-then-kind-eq2
-mark_held-requires-then-kind-eq2 c = record { problem_len = c.requires.problem_len; at_in_bounds = c.requires.at_in_bounds; id_bound = omega (arith, inner_below c.args.problem.now c.args.i c.if-kind-eq2.true c.requires.i_bound.1, c.requires.i_bound.0) }
+pub mark_held-requires-then-kind-eq-EXISTENTIAL : goal.mark_held-requires-then-kind-eq-EXISTENTIAL
+mark_held-requires-then-kind-eq-EXISTENTIAL c = record { problem_len = c.requires.problem_len; at_in_bounds = c.requires.at_in_bounds; id_bound = omega (arith, inner_below c.args.problem.now c.args.i c.if-kind-eq-EXISTENTIAL.true c.requires.i_bound.1, c.requires.i_bound.0) }
 
 pub shape_of-sets : goal.shape_of-sets
-shape_of-sets c = c.mark_held-then-kind-eq2.ensures.long
+shape_of-sets c = c.mark_held-then-kind-eq-EXISTENTIAL.ensures.long
 
-pub returns-then-kind-eq2 : goal.returns-then-kind-eq2
-returns-then-kind-eq2 c = inside-exists c.args.problem.now c.args.i _ _ _ c.if-kind-eq2.true c.mark_held-then-kind-eq2.ensures
+pub returns-then-kind-eq-EXISTENTIAL : goal.returns-then-kind-eq-EXISTENTIAL
+returns-then-kind-eq-EXISTENTIAL c = inside-exists c.args.problem.now c.args.i _ _ _ c.if-kind-eq-EXISTENTIAL.true c.mark_held-then-kind-eq-EXISTENTIAL.ensures
 
-pub returns-else-kind-eq2 : goal.returns-else-kind-eq2
-returns-else-kind-eq2 c = inside-rest c.args.problem.now c.args.i _ _ c.if-kind-eq3.false c.if-kind-eq2.false
+pub returns-else-kind-eq-EXISTENTIAL : goal.returns-else-kind-eq-EXISTENTIAL
+returns-else-kind-eq-EXISTENTIAL c = inside-rest c.args.problem.now c.args.i _ _ c.if-kind-eq-CONJUNCTION.false c.if-kind-eq-EXISTENTIAL.false

@@ -26,8 +26,8 @@ offset_bounds-sets-b c = omega (arith, c.if-b-ge-CONCEPTS.false)
 pub bounds-sets-b : goal.bounds-sets-b
 bounds-sets-b c = omega (arith, c.if-b-ge-CONCEPTS.false, c.requires.1)
 
-pub offset_bounds-sets-b-then-kind-eq2 : goal.offset_bounds-sets-b-then-kind-eq2
-offset_bounds-sets-b-then-kind-eq2 c = omega (arith, c.if-b-ge-CONCEPTS.false)
+pub offset_bounds-sets-b-then-kind-eq-EXISTENTIAL : goal.offset_bounds-sets-b-then-kind-eq-EXISTENTIAL
+offset_bounds-sets-b-then-kind-eq-EXISTENTIAL c = omega (arith, c.if-b-ge-CONCEPTS.false)
 
-pub bounds-sets-b-then-kind-eq2 : goal.bounds-sets-b-then-kind-eq2
-bounds-sets-b-then-kind-eq2 c = omega (arith, c.if-b-ge-CONCEPTS.false, c.requires.1)
+pub bounds-sets-b-then-kind-eq-EXISTENTIAL : goal.bounds-sets-b-then-kind-eq-EXISTENTIAL
+bounds-sets-b-then-kind-eq-EXISTENTIAL c = omega (arith, c.if-b-ge-CONCEPTS.false, c.requires.1)

@@ -10,8 +10,8 @@ returns-then-rule-eq6 c = inclusion-bound _ _ _ _ c.if-rule-eq6.true c.requires.
 pub row_at-row-requires : goal.row_at-row-requires
 row_at-row-requires c = c.requires.left_bound
 
-pub returns-then-row-ne4 : goal.returns-then-row-ne4
-returns-then-row-ne4 c = variable-bound _ _ _ _ _ c.if-rule-eq7.true c.row_at-row.ensures c.if-row-ne4.true
+pub returns-then-row-ne-VARIABLE : goal.returns-then-row-ne-VARIABLE
+returns-then-row-ne-VARIABLE c = variable-bound _ _ _ _ _ c.if-rule-eq7.true c.row_at-row.ensures c.if-row-ne-VARIABLE.true
 
 pub returns-then-rule-eq7 : goal.returns-then-rule-eq7
 returns-then-rule-eq7 c = choice-bound _ _ _ _ c.if-rule-eq7.true c.requires.concepts_bound.0

@@ -16,32 +16,32 @@ flow-a-requires c = record { columns_len = omega arith; from_bound = (omega arit
 pub flow-b-requires : goal.flow-b-requires
 flow-b-requires c = record { columns_len = omega arith; from_bound = (first-low c.requires.settleable c.args.j c.requires.j_bound c.requires.firsts, omega arith) }
 
-pub returns-then-kind-eq1 : goal.returns-then-kind-eq1
-returns-then-kind-eq1 c = ascend-name _ _ _ _ c.requires.settleable c.requires.firsts _ c.requires.j_bound _ _ _ _ _ c.if-kind-eq1.true c.flow-a.ensures c.flow-b.ensures
+pub returns-then-kind-eq-NAME : goal.returns-then-kind-eq-NAME
+returns-then-kind-eq-NAME c = ascend-name _ _ _ _ c.requires.settleable c.requires.firsts _ c.requires.j_bound _ _ _ _ _ c.if-kind-eq-NAME.true c.flow-a.ensures c.flow-b.ensures
 
-pub returns-then-kind-eq2 : goal.returns-then-kind-eq2
-returns-then-kind-eq2 c = ascend-exists _ _ _ _ c.requires.settleable c.requires.firsts _ c.requires.j_bound _ c.if-kind-eq2.true
+pub returns-then-kind-eq-EXISTENTIAL : goal.returns-then-kind-eq-EXISTENTIAL
+returns-then-kind-eq-EXISTENTIAL c = ascend-exists _ _ _ _ c.requires.settleable c.requires.firsts _ c.requires.j_bound _ c.if-kind-eq-EXISTENTIAL.true
 
 pub overflow_cast-y : goal.overflow_cast-y
 overflow_cast-y c = omega (arith, c.type_inv.concepts (c.args.j * 3 + 2))
 
 pub meet-requires : goal.meet-requires
-meet-requires c = record { columns_len = omega arith; left_bound = ((and_low c.requires.settleable c.args.j c.requires.j_bound c.if-kind-eq3.true).0, (and_low c.requires.settleable c.args.j c.requires.j_bound c.if-kind-eq3.true).1, omega arith) }
+meet-requires c = record { columns_len = omega arith; left_bound = ((and_low c.requires.settleable c.args.j c.requires.j_bound c.if-kind-eq-CONJUNCTION.true).0, (and_low c.requires.settleable c.args.j c.requires.j_bound c.if-kind-eq-CONJUNCTION.true).1, omega arith) }
 
-pub returns-then-kind-eq3 : goal.returns-then-kind-eq3
-returns-then-kind-eq3 c = ascend-and _ _ _ _ c.requires.settleable c.requires.firsts _ c.requires.j_bound _ _ _ c.if-kind-eq3.true c.meet.ensures
+pub returns-then-kind-eq-CONJUNCTION : goal.returns-then-kind-eq-CONJUNCTION
+returns-then-kind-eq-CONJUNCTION c = ascend-and _ _ _ _ c.requires.settleable c.requires.firsts _ c.requires.j_bound _ _ _ c.if-kind-eq-CONJUNCTION.true c.meet.ensures
 
 pub offset_bounds-assignment-x : goal.offset_bounds-assignment-x
-offset_bounds-assignment-x c = omega (arith, var-low c.requires.settleable c.args.j c.requires.j_bound c.if-kind-eq4.true)
+offset_bounds-assignment-x c = omega (arith, var-low c.requires.settleable c.args.j c.requires.j_bound c.if-kind-eq-VARIABLE.true)
 
 pub bounds-assignment-x : goal.bounds-assignment-x
-bounds-assignment-x c = var-low c.requires.settleable c.args.j c.requires.j_bound c.if-kind-eq4.true
+bounds-assignment-x c = var-low c.requires.settleable c.args.j c.requires.j_bound c.if-kind-eq-VARIABLE.true
 
 pub gather-requires : goal.gather-requires
 gather-requires c = record { columns_len = omega arith; known = settle-known c.requires.settleable; to_bound = omega arith }
 
-pub returns-then-kind-eq4 : goal.returns-then-kind-eq4
-returns-then-kind-eq4 c = ascend-var _ _ _ _ c.requires.settleable c.requires.firsts _ c.requires.j_bound _ _ _ c.if-kind-eq4.true c.gather.ensures
+pub returns-then-kind-eq-VARIABLE : goal.returns-then-kind-eq-VARIABLE
+returns-then-kind-eq-VARIABLE c = ascend-var _ _ _ _ c.requires.settleable c.requires.firsts _ c.requires.j_bound _ _ _ c.if-kind-eq-VARIABLE.true c.gather.ensures
 
 pub returns : goal.returns
-returns c = ascend-top _ _ _ _ c.requires.settleable c.requires.firsts _ c.requires.j_bound _ _ _ (node-other _ _ c.if-kind-eq1.false c.if-kind-eq2.false c.if-kind-eq3.false c.if-kind-eq4.false) c.fill.ensures
+returns c = ascend-top _ _ _ _ c.requires.settleable c.requires.firsts _ c.requires.j_bound _ _ _ (node-other _ _ c.if-kind-eq-NAME.false c.if-kind-eq-EXISTENTIAL.false c.if-kind-eq-CONJUNCTION.false c.if-kind-eq-VARIABLE.false) c.fill.ensures
