@@ -213,7 +213,8 @@ pub fn imports(text: &str) -> Imports {
     found
 }
 
-const HEADS: &[&str] = &["abbrev pub ", "unfoldable pub ", "pub data ", "pub record "];
+const HEADS: &[&str] =
+    &["abbrev pub ", "pattern abbrev pub ", "unfoldable pub ", "pub data ", "pub record "];
 
 fn head(line: &str) -> Option<&str> {
     let line = line.trim_start();

@@ -87,6 +87,18 @@ pub fn edits() -> BTreeMap<String, Edit> {
     found
 }
 
+/// C lends slice by slice what the crates lend as one struct: the words of an export, and those of the function that it calls.
+const LENT_SINGLY: &[(&str, &str)] = &[
+    ("settings_lent_singly permitted largest", "lent_settings settings"),
+    ("lent_singly concepts inclusions questions roles variables", "lent tables"),
+];
+
+/// The lines in which an export makes those structs.
+const MADE: &[&str] = &[
+    "let tables = Tables {\n        concepts,\n        inclusions,\n        questions,\n        roles,\n        variables,\n    };",
+    "let settings = Settings { permitted, largest };",
+];
+
 /// A public function, in the text of its file.
 pub struct Function {
     of: String,
@@ -120,6 +132,8 @@ impl Function {
     /// The clauses word by word.
     fn clauses(&self) -> Vec<Vec<String>> {
         let plain = |clause: &str| -> Vec<String> {
+            let lent = |clause: String, (singly, as_one): &(&str, &str)| clause.replace(singly, as_one);
+            let clause = LENT_SINGLY.iter().fold(clause.to_string(), lent);
             let clause = clause.replace('(', " ( ").replace(')', " ) ");
             clause.split_whitespace().map(str::to_string).collect()
         };
@@ -130,7 +144,13 @@ impl Function {
     fn cites(&self) -> BTreeSet<Name> {
         let is_ensured = |line: &&str| line.trim_start().starts_with("ensures ");
         let ensured: Vec<&str> = self.contract.lines().filter(is_ensured).map(said).collect();
-        resolve(&ensured.join("\n"), &imports(&self.text))
+        let lent = |mut name: Name| {
+            let first = |words: &str| words.split(' ').next().map(str::to_string);
+            let singly = LENT_SINGLY.iter().find(|(singly, _)| first(singly).as_ref() == Some(&name.name));
+            name.name = singly.and_then(|(_, as_one)| first(as_one)).unwrap_or(name.name);
+            name
+        };
+        resolve(&ensured.join("\n"), &imports(&self.text)).into_iter().map(lent).collect()
     }
 
     /// Whether the contracts are the same, and their names mean the same.
@@ -141,7 +161,10 @@ impl Function {
 
     /// The function whose answer it passes on, if that is all it does.
     pub fn passes_on(&self) -> Option<&str> {
-        let body = self.text[self.body.clone()].trim();
+        let mut body = self.text[self.body.clone()].trim();
+        while let Some(rest) = MADE.iter().find_map(|made| body.strip_prefix(made)) {
+            body = rest.trim_start();
+        }
         let (path, arguments) = body.strip_suffix(')')?.split_once('(')?;
         let is_all = !arguments.contains(|c: char| !c.is_alphanumeric() && !"_, \n".contains(c));
         Some(path).filter(|_| is_all)

@@ -1,15 +1,14 @@
 -- What an allowance alters (02, A.4): whether it is spent, and nothing else.
+use Rattle.std.specs.Prelude.{Err, Ok}
 use Prim.Native.Nat.{ℕ, ◌<◌, ◌≤◌}
 use mathlib.Core.Path.{◌≡◌, sym, ap, ap₂, ◌∙◌, subst}
 use mathlib.Core.List.{List, ◌++◌}
 use mathlib.Core.Logic.{inl, inr, ◌↔◌}
 use native.Mathlib.Omega.{arith}
 use lib.ListN.{length, take-append-drop}
-use Rattle.subsumption.specs.declared.refusal.Outcome.{Outcome}
-use Rattle.subsumption.specs.declared.refusal.Outcome.TheVariants.{Done, Refused}
 use Rattle.subsumption.specs.declared.refusal.Refusal.TheVariants.{NoAssignment}
 use Rattle.subsumption.specs.Tables.{Tables}
-use Rattle.subsumption.specs.Refusal.{Reply, reply_done}
+use Rattle.subsumption.specs.Refusal.{Reply, reply_done, Outcome, Done}
 use Rattle.settings.specs.Settings.{Settings}
 use Rattle.matching.specs.Within.{within_fault, FirstWithin, FilledWithin}
 use Rattle.matching.proofs.EarlierLaws.{one-first}
@@ -33,18 +32,18 @@ module _ (t : Tables) (s : Settings) where
   larger-after :
       (f : Outcome) (a b : ℕ) (before after after₂ : List ℕ) (reply reply₂ : Reply) → FindsCountedAfter f t s a before after reply
       → FindsCountedAfter f t s b before after₂ reply₂ → a ≤ b → (reply.number ≡ 14 → ⊥) → (reply₂ ≡ reply) × (after₂ ≡ after)
-  larger-after (Refused r) a b before after after₂ reply reply₂ (e, k) (e₂, k₂) l n = (e₂ ∙ sym e, k₂ ∙ sym k)
-  larger-after Done a b before after after₂ reply reply₂ (inl (e, (x, c))) (inl (e₂, (x₂, c₂))) l n =
+  larger-after (Err r) a b before after after₂ reply reply₂ (e, k) (e₂, k₂) l n = (e₂ ∙ sym e, k₂ ∙ sym k)
+  larger-after (Ok tt) a b before after after₂ reply reply₂ (inl (e, (x, c))) (inl (e₂, (x₂, c₂))) l n =
       (e₂ ∙ ap reply_done (count-unique t s _ _ c₂.counted c.counted) ∙ sym e, filled-unique before after after₂ x x₂)
-  larger-after Done a b before after after₂ reply reply₂ (inl (e, (x, c))) (inr (inl (e₂, (x₂, c₂)))) l n =
+  larger-after (Ok tt) a b before after after₂ reply reply₂ (inl (e, (x, c))) (inr (inl (e₂, (x₂, c₂)))) l n =
       absurd (x₂.none _ x.first.accepted x.first.heeds x.first.solves)
-  larger-after Done a b before after after₂ reply reply₂ (inl (e, (x, c))) (inr (inr (e₂, x₂))) l n = not-over a b _ c x₂.over l
-  larger-after Done a b before after after₂ reply reply₂ (inr (inl (e, (x, c)))) (inl (e₂, (x₂, c₂))) l n =
+  larger-after (Ok tt) a b before after after₂ reply reply₂ (inl (e, (x, c))) (inr (inr (e₂, x₂))) l n = not-over a b _ c x₂.over l
+  larger-after (Ok tt) a b before after after₂ reply reply₂ (inr (inl (e, (x, c)))) (inl (e₂, (x₂, c₂))) l n =
       absurd (x.none _ x₂.first.accepted x₂.first.heeds x₂.first.solves)
-  larger-after Done a b before after after₂ reply reply₂ (inr (inl (e, (x, c)))) (inr (inl (e₂, (x₂, c₂)))) l n =
+  larger-after (Ok tt) a b before after after₂ reply reply₂ (inr (inl (e, (x, c)))) (inr (inl (e₂, (x₂, c₂)))) l n =
       (e₂ ∙ ap (reply_counted NoAssignment) (count-unique t s _ _ c₂.counted c.counted) ∙ sym e, x₂.kept ∙ sym x.kept)
-  larger-after Done a b before after after₂ reply reply₂ (inr (inl (e, (x, c)))) (inr (inr (e₂, x₂))) l n = not-over a b _ c x₂.over l
-  larger-after Done a b before after after₂ reply reply₂ (inr (inr (e, x))) y l n = absurd (n (ap (λ (z : Reply). z.number) e))
+  larger-after (Ok tt) a b before after after₂ reply reply₂ (inr (inl (e, (x, c)))) (inr (inr (e₂, x₂))) l n = not-over a b _ c x₂.over l
+  larger-after (Ok tt) a b before after after₂ reply reply₂ (inr (inr (e, x))) y l n = absurd (n (ap (λ (z : Reply). z.number) e))
 
   -- A larger allowance never alters a filling or a refusal 10, nor another refusal than 14.
   pub larger-allowance :
@@ -55,14 +54,14 @@ module _ (t : Tables) (s : Settings) where
   counted-after :
       (f : Outcome) (a : ℕ) (before after after₂ : List ℕ) (reply reply₂ : Reply) → FindsCountedAfter f t s a before after reply
       → FindsCountedAfter f t s a before after₂ reply₂ → (reply₂ ≡ reply) × (after₂ ≡ after)
-  counted-after (Refused r) a before after after₂ reply reply₂ (e, k) (e₂, k₂) = (e₂ ∙ sym e, k₂ ∙ sym k)
-  counted-after Done a before after after₂ reply reply₂ (inl (e, x)) y =
+  counted-after (Err r) a before after after₂ reply reply₂ (e, k) (e₂, k₂) = (e₂ ∙ sym e, k₂ ∙ sym k)
+  counted-after (Ok tt) a before after after₂ reply reply₂ (inl (e, x)) y =
       larger-after Done a a before after after₂ reply reply₂ (inl (e, x)) y (omega arith) (λ f. omega (arith, ap (λ (z : Reply). z.number) e))
-  counted-after Done a before after after₂ reply reply₂ (inr (inl (e, x))) y =
+  counted-after (Ok tt) a before after after₂ reply reply₂ (inr (inl (e, x))) y =
       larger-after Done a a before after after₂ reply reply₂ (inr (inl (e, x))) y (omega arith) (λ f. omega (arith, ap (λ (z : Reply). z.number) e))
-  counted-after Done a before after after₂ reply reply₂ (inr (inr (e, x))) (inl (e₂, (x₂, c₂))) = not-over a a _ c₂ x.over (omega arith)
-  counted-after Done a before after after₂ reply reply₂ (inr (inr (e, x))) (inr (inl (e₂, (x₂, c₂)))) = not-over a a _ c₂ x.over (omega arith)
-  counted-after Done a before after after₂ reply reply₂ (inr (inr (e, x))) (inr (inr (e₂, x₂))) = (e₂ ∙ sym e, x₂.kept ∙ sym x.kept)
+  counted-after (Ok tt) a before after after₂ reply reply₂ (inr (inr (e, x))) (inl (e₂, (x₂, c₂))) = not-over a a _ c₂ x.over (omega arith)
+  counted-after (Ok tt) a before after after₂ reply reply₂ (inr (inr (e, x))) (inr (inl (e₂, (x₂, c₂)))) = not-over a a _ c₂ x.over (omega arith)
+  counted-after (Ok tt) a before after after₂ reply reply₂ (inr (inr (e, x))) (inr (inr (e₂, x₂))) = (e₂ ∙ sym e, x₂.kept ∙ sym x.kept)
 
   -- The answer is decided, also where the allowance is spent.
   pub counted-unique :

@@ -1,21 +1,20 @@
 -- From the walk to the answer: what the walk is lent, what it finds, and what is written.
+use Rattle.std.specs.Prelude.{Err}
 use Prim.Native.Nat.{ℕ, ◌*◌, ◌<◌, ◌≤◌}
 use mathlib.Core.Path.{◌≡◌, refl, sym, ap, ◌∙◌, subst}
 use mathlib.Core.List.{List}
-use mathlib.Core.Bool.{Bool, true, false}
+use mathlib.Core.Bool.{Bool, false}
 use mathlib.Core.Logic.{inl, inr}
 use native.Mathlib.Omega.{arith}
 use native.Mathlib.Nat.{mul-le-mul_right}
 use lib.ListN.{length, take}
 use lib.Seq.{get_or-take, length-take-le}
-use Rattle.subsumption.specs.declared.refusal.Outcome.{Outcome}
-use Rattle.subsumption.specs.declared.refusal.Outcome.TheVariants.{Done, Refused}
 use Rattle.subsumption.specs.declared.refusal.Refusal.{Refusal}
 use Rattle.subsumption.specs.declared.refusal.Refusal.TheVariants.{BufferTooShort, NoAssignment, AllowanceSpent}
 use Rattle.subsumption.specs.Tables.{Tables}
 use Rattle.subsumption.specs.Atoms.{atoms, bit}
 use Rattle.subsumption.specs.Check.{table_fault, buffer_fault}
-use Rattle.subsumption.specs.Refusal.{Reply, reply_done, reply_refused}
+use Rattle.subsumption.specs.Refusal.{Reply, reply_done, reply_refused, Outcome, Done}
 use Rattle.subsumption.specs.Inner.Listing.{Accepted}
 use Rattle.subsumption.proofs.Refusals.{stops, goes_on, done-le, refused-lt}
 use Rattle.subsumption.proofs.Accepted.{well_formed}
@@ -31,7 +30,9 @@ use Rattle.matching.proofs.FindLaws.{all_asked}
 use Rattle.matching.proofs.SubstitutionLaws.Locality.{none-by-substitution}
 use Rattle.matching.proofs.WithinLaws.{asked-bit, written-front, written-most, heeds-all, front-copied, rest-kept}
 use Rattle.allowance.specs.Partial.{Completed}
-use Rattle.allowance.specs.Count.{CountOf, answered, unanswered}
+use Rattle.allowance.specs.declared.walk.Ending.{Ending}
+use Rattle.allowance.specs.declared.walk.Ending.TheVariants.{Found, Spent, Absent}
+use Rattle.allowance.specs.Count.{CountOf, Exceeds, answered, unanswered}
 use Rattle.allowance.specs.Find.{reply_counted, FindsCountedAfter, FindsCounted}
 use Rattle.allowance.specs.Inner.Place.{At}
 use Rattle.allowance.specs.Inner.Walk.{Lent, WalkedTo}
@@ -77,9 +78,8 @@ low-completed t permitted low high p h w =
 
 module _ (t : Tables) (s : Settings) (sets problem permitted : List ℕ) (count allowance : ℕ) (lends : Lent t s sets problem permitted count) where
   pub walked_by :
-      (found spent : Bool) (choice : List ℕ) (met : ℕ) → WalkedTo t s permitted count allowance found spent choice met
-      → WalkedBy t s allowance found spent choice met
-  walked_by true spent choice met (f, e) =
+      (ending : Ending) (met : ℕ) → WalkedTo t s permitted count allowance ending met → WalkedBy t s allowance ending met
+  walked_by (Found choice) met (f, e) =
       record {
         long = f.words.low-long;
         first =
@@ -89,22 +89,22 @@ module _ (t : Tables) (s : Settings) (sets problem permitted : List ℕ) (count 
         counted = subst (CountOf t s) (sym f.counted) (answered f.before f.s f.first);
         enough = e;
       }
-  walked_by false true choice met x = x
-  walked_by false false choice met (x, e) =
+  walked_by Spent met x = x
+  walked_by Absent met (x, e) =
       record { none = λ other a h y. none_within t s other a h y met x; counted = unanswered met x; enough = e }
 
 -- ---- the answer
 module _ (t : Tables) (s : Settings) (allowance : ℕ) (before : List ℕ) (r : Refusal) (reply : Reply) (is : reply ≡ reply_refused r) where
-  refuses : Refused r ≡ within_fault t s (length before) → FindsCounted t s allowance before before reply
+  refuses : Err r ≡ within_fault t s (length before) → FindsCounted t s allowance before before reply
   refuses e = subst (λ (f : Outcome). FindsCountedAfter f t s allowance before before reply) e (is, refl)
 
-  pub tables-refuse : Refused r ≡ table_fault t → FindsCounted t s allowance before before reply
+  pub tables-refuse : Err r ≡ table_fault t → FindsCounted t s allowance before before reply
   unfolding within_fault
-  tables-refuse e = refuses (stops (Refused r) _ _ r e refl)
+  tables-refuse e = refuses (stops (Err r) _ _ r e refl)
 
-  pub settings-refuse : table_fault t ≡ Done → Refused r ≡ settings_fault t s → FindsCounted t s allowance before before reply
+  pub settings-refuse : table_fault t ≡ Done → Err r ≡ settings_fault t s → FindsCounted t s allowance before before reply
   unfolding within_fault
-  settings-refuse h e = refuses (goes_on Done _ _ _ (sym h) refl (stops (Refused r) _ _ r e refl))
+  settings-refuse h e = refuses (goes_on Done _ _ _ (sym h) refl (stops (Err r) _ _ r e refl))
 
 pub buffer-refuses :
     (t : Tables) (s : Settings) (allowance : ℕ) (before : List ℕ) (reply : Reply) → reply ≡ reply_refused (BufferTooShort t.variables) → table_fault t ≡ Done
@@ -115,14 +115,15 @@ buffer-refuses t s allowance before reply is h g l =
     (goes_on Done _ _ _ (sym h) refl (goes_on Done _ _ _ (sym g) refl (refused-lt (length before) t.variables _ l)))
 
 module _ (t : Tables) (s : Settings) (allowance : ℕ) (before : List ℕ) (ok : table_fault t ≡ Done) (set : settings_fault t s ≡ Done) (room : t.variables ≤ length before)
-    (found spent : Bool) (choice : List ℕ) (met : ℕ) (walked : WalkedBy t s allowance found spent choice met) where
+    (met : ℕ) where
   passed : Done ≡ within_fault t s (length before)
   unfolding within_fault buffer_fault
   passed = goes_on Done _ _ Done (sym ok) refl (goes_on Done _ _ Done (sym set) refl (done-le (length before) t.variables _ room))
 
-  pub counted-filled : (after : List ℕ) → found ≡ true → Copied t.variables choice before after → FindsCounted t s allowance before after (reply_done met)
-  counted-filled after e c =
-      let f : FirstCounted t s allowance choice met = subst (λ (z : Bool). WalkedBy t s allowance z spent choice met) e walked in
+  pub counted-filled :
+      (choice after : List ℕ) → FirstCounted t s allowance choice met → Copied t.variables choice before after
+      → FindsCounted t s allowance before after (reply_done met)
+  counted-filled choice after f c =
       subst (λ (z : Outcome). FindsCountedAfter z t s allowance before after (reply_done met)) passed
       (inl (
         refl,
@@ -136,17 +137,14 @@ module _ (t : Tables) (s : Settings) (allowance : ℕ) (before : List ℕ) (ok :
         ),
       ))
 
-  pub counted-spent : found ≡ false → spent ≡ true → FindsCounted t s allowance before before (reply_counted AllowanceSpent met)
-  counted-spent e f =
-      let x : WalkedBy t s allowance false true choice met =
-      subst (λ (z : Bool). WalkedBy t s allowance false z choice met) f (subst (λ (z : Bool). WalkedBy t s allowance z spent choice met) e walked) in
+  pub counted-spent : Exceeds t s allowance × (met ≡ allowance)
+      → FindsCounted t s allowance before before (reply_counted AllowanceSpent met)
+  counted-spent x =
       subst (λ (z : Outcome). FindsCountedAfter z t s allowance before before (reply_counted AllowanceSpent met)) passed
       (inr (inr (ap (reply_counted AllowanceSpent) x.1, record { over = x.0; kept = refl })))
 
-  pub counted_none : found ≡ false → spent ≡ false → FindsCounted t s allowance before before (reply_counted NoAssignment met)
-  counted_none e f =
-      let x : NoneCounted t s allowance met =
-      subst (λ (z : Bool). WalkedBy t s allowance false z choice met) f (subst (λ (z : Bool). WalkedBy t s allowance z spent choice met) e walked) in
+  pub counted_none : NoneCounted t s allowance met → FindsCounted t s allowance before before (reply_counted NoAssignment met)
+  counted_none x =
       subst (λ (z : Outcome). FindsCountedAfter z t s allowance before before (reply_counted NoAssignment met)) passed
       (inr (inl (
         refl,

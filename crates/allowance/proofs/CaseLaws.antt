@@ -1,4 +1,5 @@
 -- What the finders' answers tell: one that has found something, and one whose checks have passed.
+use Rattle.std.specs.Prelude.{Err, Ok}
 use Prim.Native.Nat.{ℕ, ◌≤◌}
 use mathlib.Core.Path.{◌≡◌, refl, sym, ap, ◌∙◌, subst}
 use mathlib.Core.List.{List}
@@ -6,10 +7,8 @@ use mathlib.Core.Logic.{◌⊎◌, inl, inr}
 use native.Mathlib.Omega.{arith}
 use lib.ListN.{length, take}
 use Rattle.subsumption.specs.declared.refusal.Refusal.TheVariants.{NoAssignment}
-use Rattle.subsumption.specs.declared.refusal.Outcome.{Outcome}
-use Rattle.subsumption.specs.declared.refusal.Outcome.TheVariants.{Done, Refused}
 use Rattle.subsumption.specs.Tables.{Tables}
-use Rattle.subsumption.specs.Refusal.{Reply, reply_done, or_else}
+use Rattle.subsumption.specs.Refusal.{Reply, reply_done, or_else, Outcome, Done}
 use Rattle.subsumption.specs.Check.{table_fault, buffer_fault}
 use Rattle.subsumption.proofs.Refusals.{both-done, done-le}
 use Rattle.subsumption.proofs.Replies.{is_refused, not_done}
@@ -24,27 +23,27 @@ module _ (t : Tables) (before after : List ℕ) (reply : Reply) where
   found_some = go (finding_fault t (length before))
     where
       go : (o : Outcome) → FindsAfter o t before after reply → reply ≡ reply_done 0 → SomeSolves t
-      go Done (inl (e, f)) d = f.some
-      go Done (inr (e, f)) d = not_done NoAssignment 0 (sym e ∙ d)
-      go (Refused r) (e, _) d = not_done r 0 (sym e ∙ d)
+      go (Ok tt) (inl (e, f)) d = f.some
+      go (Ok tt) (inr (e, f)) d = not_done NoAssignment 0 (sym e ∙ d)
+      go (Err r) (e, _) d = not_done r 0 (sym e ∙ d)
 
   module _ (s : Settings) where
     pub filled-first : FindsWithin t s before after reply → reply ≡ reply_done 0 → FirstWithin t s (take t.variables after)
     filled-first = go (within_fault t s (length before))
       where
         go : (o : Outcome) → FindsWithinAfter o t s before after reply → reply ≡ reply_done 0 → FirstWithin t s (take t.variables after)
-        go Done (inl (e, f)) d = f.first
-        go Done (inr (e, f)) d = not_done NoAssignment 0 (sym e ∙ d)
-        go (Refused r) (e, _) d = not_done r 0 (sym e ∙ d)
+        go (Ok tt) (inl (e, f)) d = f.first
+        go (Ok tt) (inr (e, f)) d = not_done NoAssignment 0 (sym e ∙ d)
+        go (Err r) (e, _) d = not_done r 0 (sym e ∙ d)
 
     pub counted-first : (allowance : ℕ) → FindsCounted t s allowance before after reply → reply.number ≡ 0 → FirstWithin t s (take t.variables after)
     counted-first allowance = go (within_fault t s (length before))
       where
         go : (o : Outcome) → FindsCountedAfter o t s allowance before after reply → reply.number ≡ 0 → FirstWithin t s (take t.variables after)
-        go Done (inl (e, (f, _))) d = f.first
-        go Done (inr (inl (e, f))) d = absurd (omega (arith, d, ap (λ (z : Reply). z.number) e))
-        go Done (inr (inr (e, f))) d = absurd (omega (arith, d, ap (λ (z : Reply). z.number) e))
-        go (Refused r) (e, _) d = absurd (is_refused r (sym (ap (λ (z : Reply). z.number) e) ∙ d))
+        go (Ok tt) (inl (e, (f, _))) d = f.first
+        go (Ok tt) (inr (inl (e, f))) d = absurd (omega (arith, d, ap (λ (z : Reply). z.number) e))
+        go (Ok tt) (inr (inr (e, f))) d = absurd (omega (arith, d, ap (λ (z : Reply). z.number) e))
+        go (Err r) (e, _) d = absurd (is_refused r (sym (ap (λ (z : Reply). z.number) e) ∙ d))
 
 -- ---- the checks pass
 pub passes : (a b : Outcome) → a ≡ Done → b ≡ Done → or_else a b ≡ Done

@@ -1,4 +1,5 @@
 -- What passes passes with every easier choice, what fails fails with every harder one: so what is kept tells, and stays true.
+use Rattle.subsumption.specs.Refusal.{Done}
 use Prim.Native.Nat.{ℕ, ◌+◌, ◌*◌, ◌%◌, ◌<◌, ◌≤◌}
 use mathlib.Core.Path.{◌≡◌, refl, sym, ap, ◌∙◌, subst}
 use mathlib.Core.List.{List}
@@ -7,21 +8,20 @@ use mathlib.Core.Logic.{◌⊎◌, inl, inr, ⊎_elim}
 use native.Mathlib.Omega.{arith}
 use lib.ListN.{length, get_or, set, take, replicate, length-set, length-replicate, get_or-replicate}
 use lib.Seq.{get_or-set_same, get_or-set_other}
-use Rattle.subsumption.specs.declared.refusal.Outcome.TheVariants.{Done}
 use Rattle.subsumption.specs.Tables.{Tables}
 use Rattle.subsumption.specs.Check.{table_fault}
 use Rattle.subsumption.proofs.Bools.{last-cases, le-or-lt}
 use Rattle.subsumption.proofs.Accepted.{well_formed}
 use Rattle.matching.specs.Inner.Search.{Decided, Within}
 use Rattle.matching.specs.Inner.Search.Problem.{question_count}
-use Rattle.matching.specs.Inner.Search.Nogoods.{words, Put}
+use Rattle.matching.specs.Inner.Search.Nogoods.{Put}
 use Rattle.matching.specs.Inner.Search.Solve.{FailingOf}
 use Rattle.matching.proofs.SearchLaws.Monotone.{monotone, antitone, left-free}
 use Rattle.matching.proofs.SearchLaws.Fronts.{front-within}
 use Rattle.matching.proofs.SearchLaws.Nogoods.{words_are, words_same}
 use Rattle.matching.proofs.SearchLaws.Solve.{is-question}
 use Rattle.allowance.specs.Partial.{Asked}
-use Rattle.allowance.specs.Inner.Kept.{ring_at, noted, in_ring, Told, Kept, Easier, Follows, FollowsIf, Among, Recalled, Noted, Tried}
+use Rattle.allowance.specs.Inner.Kept.{ring_at, noted, in_ring, Told, Kept, Easier, Follows, FollowsIf, Recalled, Noted, Tried}
 
 -- ---- the rings
 ring-low : (right passed : Bool) → ring_at right passed ≤ 387
@@ -158,18 +158,6 @@ follows-unlike true false true choice other e w = w
 follows-unlike true true true choice other e w = absurd (true≢false e)
 follows-unlike true false false choice other e w = absurd (true≢false e)
 follows-unlike false right passed choice other e w = tt
-
-pub recalled-at :
-    (kept choice other : List ℕ) (b right passed : Bool) (ring i : ℕ) → ring ≡ ring_at right passed → i < 16 → i < get_or kept (ring + 128) 0
-    → other ≡ words kept (ring + i * 8) → FollowsIf b right passed choice other → b ≡ true → Among kept choice right passed
-recalled-at kept choice other true right passed ring i e l m o f x =
-    record {
-      place = i;
-      low = l;
-      read = subst (λ (z : ℕ). i < get_or kept (z + 128) 0) e m;
-      follows = subst (Follows right passed choice) (o ∙ ap (λ (z : ℕ). words kept (z + i * 8)) e) f;
-    }
-recalled-at kept choice other false right passed ring i e l m o f x = absurd (false≢true x)
 
 module _ (sets problem choice : List ℕ) (right : Bool) (kept : List ℕ) where
   pub tried-known : (passed b : Bool) → Recalled kept choice right passed b → b ≡ true → Tried sets problem choice right kept kept passed

@@ -1,4 +1,5 @@
 -- The walk: which partial choices are open, by the tests, and how far the order is gone through.
+use Rattle.subsumption.specs.Refusal.{Done}
 use Prim.Native.Nat.{ℕ, zero, suc, ◌+◌, ◌*◌, ◌-◌, ◌/◌, ◌%◌, ◌<◌, ◌≤◌}
 use mathlib.Core.Path.{◌≡◌, refl, sym, ap, ◌∙◌, subst}
 use mathlib.Core.List.{List, [], ◌∷◌, ◌++◌}
@@ -8,7 +9,6 @@ use native.Mathlib.Omega.{arith}
 use native.Mathlib.Nat.{mul-le-mul_right}
 use lib.ListN.{length, get_or, take, drop, replicate, length-take, get_or-replicate, get_or-eq_default}
 use lib.Seq.{get_or-take, length-take-le}
-use Rattle.subsumption.specs.declared.refusal.Outcome.TheVariants.{Done}
 use Rattle.subsumption.specs.Tables.{Tables}
 use Rattle.subsumption.specs.Atoms.{bit}
 use Rattle.subsumption.specs.Check.{table_fault, assignment_fault}
@@ -28,7 +28,8 @@ use Rattle.matching.proofs.SearchLaws.Interval.{decided-true, decided-false, low
 use Rattle.matching.proofs.SearchLaws.Fronts.{below-bits, front-known, front-takes, accepted-bits, accept}
 use Rattle.allowance.specs.Partial.{settled, pairs, Completed, Asked, Open, partials, all_partials}
 use Rattle.allowance.specs.Count.{Stretch, none, Answered, Exceeds}
-use Rattle.allowance.specs.Inner.Place.{At, Words, has_next, next_of, NextAt, NextFrom}
+use Rattle.allowance.specs.declared.walk.Ending.TheVariants.{Found, Spent, Absent}
+use Rattle.allowance.specs.Inner.Place.{At, Words, has_next, next_of, NextAt}
 use Rattle.allowance.specs.Inner.Kept.{Kept, Tried}
 use Rattle.allowance.specs.Inner.Walk.{Lent, OpenedBy, Walked}
 use Rattle.allowance.proofs.PartialLaws.{settled-rest, settled-known, completed-same, up_to, up_to-length, taken_at, read_back}
@@ -290,26 +291,34 @@ module _ (count all : ℕ) (permitted low high : List ℕ) (many : ℕ) (x : Sta
         (subst (λ (z : ℕ). ahead (all - many₁) (false ∷ read_off count low many) < ahead z (read_off count low many)) g
         (ahead-extend (all - many₁) (read_off count low many)))
 
-  module _ (found : Bool) (n : NextFrom count permitted low high many found low₁ high₁ many₁) where
-    pub next-has : found ≡ has_next (read_off count low many)
+  module _
+      (n : (s : List Bool) → Words count permitted low high s → length s ≡ many
+      → (has_next s ≡ true) × NextAt count permitted low₁ high₁ many₁ s) where
+    pub next-has : has_next (read_off count low many) ≡ true
     next-has = (n (read_off count low many) x.words long).0
 
-    module _ (e : found ≡ true) where
-      next-at : NextAt count permitted low₁ high₁ many₁ (read_off count low many)
-      next-at = (n (read_off count low many) x.words long).1 e
+    next-at : NextAt count permitted low₁ high₁ many₁ (read_off count low many)
+    next-at = (n (read_off count low many) x.words long).1
 
-      pub next-standing : Standing count all permitted low₁ high₁ many₁
-      next-standing =
-          standing_by count all permitted low₁ high₁ (next_of (read_off count low many)) many₁ next-at.words next-at.many (omega (arith, next-at.many, next-short (read_off count low many), long, x.few))
+    pub next-standing : Standing count all permitted low₁ high₁ many₁
+    next-standing =
+        standing_by count all permitted low₁ high₁ (next_of (read_off count low many)) many₁ next-at.words next-at.many
+        (omega (arith, next-at.many, next-short (read_off count low many), long, x.few))
 
-      pub next-read : read_off count low₁ many₁ ≡ next_of (read_off count low many)
-      next-read = read_same count permitted low₁ high₁ (next_of (read_off count low many)) many₁ next-at.words next-at.many
+    pub next-read : read_off count low₁ many₁ ≡ next_of (read_off count low many)
+    next-read = read_same count permitted low₁ high₁ (next_of (read_off count low many)) many₁ next-at.words next-at.many
 
-      pub next-less : ahead (all - many₁) (read_off count low₁ many₁) < ahead (all - many) (read_off count low many)
-      next-less =
-          subst (λ (z : List Bool). ahead (all - many₁) z < ahead (all - many) (read_off count low many)) (sym next-read)
-          (ahead-next (all - many) (all - many₁) (read_off count low many) (sym next-has ∙ e)
-          (omega (arith, next-at.many, next-short (read_off count low many), long, x.few)))
+    pub next-less : ahead (all - many₁) (read_off count low₁ many₁) < ahead (all - many) (read_off count low many)
+    next-less =
+        subst (λ (z : List Bool). ahead (all - many₁) z < ahead (all - many) (read_off count low many)) (sym next-read)
+        (ahead-next (all - many) (all - many₁) (read_off count low many) next-has
+        (omega (arith, next-at.many, next-short (read_off count low many), long, x.few)))
+
+pub next_none :
+    (count all : ℕ) (permitted low high : List ℕ) (many : ℕ) → Standing count all permitted low high many
+    → ((s : List Bool) → Words count permitted low high s → length s ≡ many → has_next s ≡ false)
+    → has_next (read_off count low many) ≡ false
+next_none count all permitted low high many x n = n (read_off count low many) x.words (up_to-length _ many)
 
 -- the order up to where the walk is, of it so many open, without an answer
 pub record Progress (t : Tables) (settings : Settings) (s : List Bool) (met : ℕ) : Type 0 where
@@ -411,20 +420,22 @@ module _ (sets problem permitted : List ℕ) (count all : ℕ) (low high : List 
   )
 
   module _ (allowance : ℕ) where
-    pub walked-spent : answer ≡ true → met ≡ allowance → Walked sets problem permitted count all allowance false true low met
+    pub walked-spent : answer ≡ true → met ≡ allowance → Walked sets problem permitted count all allowance Spent met
     walked-spent a m t settings lent e = (
       subst (Exceeds t settings) m (progress-spent t settings _ met (g t settings lent e).0 (decided-true _ answer (tested t settings lent e).0 a)),
       m,
     )
 
     pub walked_none :
-        answer ≡ false → met ≤ allowance → has_next (read_off count low many) ≡ false → Walked sets problem permitted count all allowance false false low met
+        answer ≡ false → met ≤ allowance → has_next (read_off count low many) ≡ false
+        → Walked sets problem permitted count all allowance Absent met
     walked_none a l h t settings lent e = (
       progress-last t settings _ met (g t settings lent e).0 lent.problem-of.passed (decided-false _ answer (tested t settings lent e).0 a) h,
       l,
     )
 
-    pub walked-found : answer ≡ true → met + 1 ≤ allowance → many ≡ all → Walked sets problem permitted count all allowance true false low (met + 1)
+    pub walked-found : answer ≡ true → met + 1 ≤ allowance → many ≡ all
+        → Walked sets problem permitted count all allowance (Found low) (met + 1)
     walked-found a l m t settings lent e = (
       record {
         high = high;

@@ -1,6 +1,6 @@
 -- Partial choices (02, A.4): what they settle, their order, and which are open.
+use Rattle.subsumption.specs.Refusal.{Done}
 use Rattle.std.specs.Prelude.{ℕ, zero, suc, ◌+◌, ◌*◌, ◌<◌, ◌≡◌, List, [], ◌∷◌, ◌++◌, Bool, true, false, cond, eqb, length}
-use Rattle.subsumption.specs.declared.refusal.Outcome.TheVariants.{Done}
 use Rattle.subsumption.specs.Tables.{Tables, pairs_of, left_of, right_of, tree, has_variable}
 use Rattle.subsumption.specs.Atoms.{atoms}
 use Rattle.subsumption.specs.Subsumption.{Subsumed}

@@ -52,14 +52,11 @@ fn is_known(kept: &[u64], choice: [u64; 8], right: bool, passed: bool) -> bool
 {
     let ring = ring_at(right, passed);
     let noted = kept[ring + NOTED];
-    let mut i: usize = 0;
-    while i < RING {
-        let at = i;
-        i += 1;
-        if at as u64 >= noted {
+    for i in 0..RING {
+        if i as u64 >= noted {
             return false;
         }
-        let other = fetch(kept, ring + at * 8);
+        let other = fetch(kept, ring + i * 8);
         if follows(choice, other, right, passed) {
             return true;
         }

@@ -31,13 +31,6 @@ fn with_bit(set: [u64; 8], p: usize, count: usize, taken: bool) -> [u64; 8]
     set
 }
 
-// What comes next, if anything does.
-#[derive(Clone, Copy)]
-pub struct Next {
-    pub found: bool,
-    pub place: Place,
-}
-
 impl Place {
     // The next pair left out.
     pub fn leave(self, count: usize) -> Place
@@ -108,13 +101,10 @@ impl Place {
     }
 
     // The next partial choice in the order that does not extend this one, if there is one.
-    pub fn next_sibling(self, permitted: [u64; 8], count: usize) -> Next
+    pub fn next_sibling(self, permitted: [u64; 8], count: usize) -> Option<Place>
         requires low_len { (length self.low ≡ 8) × (length self.high ≡ 8) }
         requires count_bound { (count ≤ 64) × (self.settled ≤ 8 * count) }
-        ensures low_len_2 { (length result.place.low ≡ 8) × (length result.place.high ≡ 8) }
-        ensures settled_bound { result.place.settled ≤ 8 * count }
-        ensures next_from { NextFrom count permitted self.low self.high self.settled result.found result.place.low
-            result.place.high result.place.settled }
+        ensures { NextFrom count permitted self.low self.high self.settled result }
     {
         let mut at = self;
         while at.settled > 0 {
@@ -122,16 +112,9 @@ impl Place {
             let parent = at.up(permitted, count);
             at = parent;
             if !taken {
-                let sibling = at.take(count);
-                return Next {
-                    found: true,
-                    place: sibling,
-                };
+                return Some(at.take(count));
             }
         }
-        Next {
-            found: false,
-            place: at,
-        }
+        None
     }
 }

@@ -11,12 +11,18 @@ use crate::place::Place;
 use matching::helpers::{ASKED, MOST, SCRATCH, is_within};
 use settings::helpers::is_few;
 
-// What was found, or that the allowance was spent, and how many open ones were met.
+// What was found, or that the allowance was spent, or that there is nothing to find.
+#[derive(Clone, Copy)]
+pub enum Ending {
+    Found([u64; 8]),
+    Spent,
+    Absent,
+}
+
+// How the walk ended, and how many open ones were met.
 #[derive(Clone, Copy)]
 pub struct Trail {
-    pub found: bool,
-    pub spent: bool,
-    pub choice: [u64; 8],
+    pub ending: Ending,
     pub met: u32,
 }
 
@@ -59,7 +65,7 @@ pub fn walk(
 ) -> Trail
     requires shaped { Shaped sets.now problem.now }
     requires permitted_len { (length permitted ≡ 8) × (count ≤ 64) × (pairs ≤ 8 * count) }
-    ensures { Walked sets.now problem.now permitted count pairs allowance result.found result.spent result.choice result.met }
+    ensures { Walked sets.now problem.now permitted count pairs allowance result.ending result.met }
 {
     let mut scratch = [0u64; SCRATCH];
     let mut kept = [0u64; KEPT];
@@ -71,22 +77,17 @@ pub fn walk(
     };
     let mut met: u32 = 0;
     loop {
-        let choice = place.low;
         if is_open(sets, problem, &mut scratch, &mut kept, permitted, place) {
             if met == allowance {
                 return Trail {
-                    found: false,
-                    spent: true,
-                    choice,
+                    ending: Ending::Spent,
                     met,
                 };
             }
             met += 1;
             if place.settled == pairs {
                 return Trail {
-                    found: true,
-                    spent: false,
-                    choice,
+                    ending: Ending::Found(place.low),
                     met,
                 };
             }
@@ -95,14 +96,12 @@ pub fn walk(
             continue;
         }
         let next = place.next_sibling(permitted, count);
-        if !next.found {
+        let Some(sibling) = next else {
             return Trail {
-                found: false,
-                spent: false,
-                choice,
+                ending: Ending::Absent,
                 met,
             };
-        }
-        place = next.place;
+        };
+        place = sibling;
     }
 }

@@ -1,18 +1,20 @@
 -- Sums, what is left over, and the check of a batch.
+use Rattle.std.specs.Prelude.{Err}
 use Prim.Native.Nat.{ℕ, zero, suc, ◌+◌, ◌-◌, ◌<◌, ◌≤◌}
 use mathlib.Core.Path.{◌≡◌, refl, sym, ap, ap₂, ◌∙◌, subst}
 use mathlib.Core.List.{List}
+use Rattle.std.specs.List.{sum}
+use Rattle.std.proofs.lemmas.List.{take_all}
+use Rattle.std.proofs.lemmas.List.Sums.{sum_by_more}
 use mathlib.Core.Bool.{false, not}
 use mathlib.Core.Logic.{⊎_elim}
 use native.Mathlib.Omega.{arith}
 use native.Mathlib.Numerals.{add-one}
 use lib.Dec.{ltb}
-use lib.ListN.{length, get_or}
+use lib.ListN.{length, get_or, take}
 use borrow.Author.Tests.{eqb-true, eq-eqb, ne_eqb, ltb-false, lt-ltb, le-ltb, not-false}
 use Rattle.subsumption.specs.declared.refusal.Refusal.TheVariants.{BadBatch}
-use Rattle.subsumption.specs.declared.refusal.Outcome.{Outcome}
-use Rattle.subsumption.specs.declared.refusal.Outcome.TheVariants.{Done, Refused}
-use Rattle.subsumption.specs.Refusal.{first_at}
+use Rattle.subsumption.specs.Refusal.{first_at, Outcome, Done}
 use Rattle.subsumption.proofs.Bools.{or-first, or-second, or-skip, or-false, last-cases}
 use Rattle.subsumption.proofs.Refusals.{stops, goes_on, refused-if, done-if, passed_first, passed-second, passed-if, passed-at}
 use Rattle.batches.specs.Batch.{total, left_after, misshapen, batch_fault}
@@ -25,6 +27,16 @@ total-none numbers = refl
 pub total-more : (numbers : List ℕ) (k : ℕ) → total numbers (k + 1) ≡ total numbers k + get_or numbers k 0
 unfolding total
 total-more numbers k = rw add-one
+
+total-take : (numbers : List ℕ) (n : ℕ) → n ≤ length numbers → total numbers n ≡ sum (take n numbers)
+unfolding total
+total-take numbers zero h = refl
+total-take numbers (suc n) h =
+    let more = rw add-one at (sum_by_more (λ x. x) numbers n 0 (omega arith)) in
+    omega (arith, total-take numbers n (omega arith), more)
+
+pub total-sum : (numbers : List ℕ) → total numbers (length numbers) ≡ sum numbers
+total-sum numbers = total-take numbers (length numbers) (omega arith) ∙ ap sum (take_all (length numbers) numbers (omega arith))
 
 pub total-le : (numbers : List ℕ) (k n : ℕ) → k ≤ n → total numbers k ≤ total numbers n
 unfolding total
@@ -54,15 +66,15 @@ left-same shares counts other (suc k) h =
 
 -- ---- the check
 module _ (lengths shares : List ℕ) (size : ℕ) where
-  pub too_many : 8 < length lengths → Refused (BadBatch 8) ≡ batch_fault lengths shares size
+  pub too_many : 8 < length lengths → Err (BadBatch 8) ≡ batch_fault lengths shares size
   unfolding batch_fault misshapen
   too_many h = stops _ _ _ _ (refused-if _ _ (or-first _ _ (lt-ltb _ _ h))) refl
 
-  pub other-shares : (length shares ≡ length lengths → ⊥) → Refused (BadBatch 8) ≡ batch_fault lengths shares size
+  pub other-shares : (length shares ≡ length lengths → ⊥) → Err (BadBatch 8) ≡ batch_fault lengths shares size
   unfolding batch_fault misshapen
   other-shares h = stops _ _ _ _ (refused-if _ _ (or-second _ _ (or-first _ _ (ap not (ne_eqb _ _ h))))) refl
 
-  pub other-sum : (total lengths (length lengths) ≡ size → ⊥) → Refused (BadBatch 8) ≡ batch_fault lengths shares size
+  pub other-sum : (total lengths (length lengths) ≡ size → ⊥) → Err (BadBatch 8) ≡ batch_fault lengths shares size
   unfolding batch_fault misshapen
   other-sum h = stops _ _ _ _ (refused-if _ _ (or-second _ _ (or-second _ _ (ap not (ne_eqb _ _ h))))) refl
 

@@ -1,4 +1,5 @@
 -- One table: settings that permit all, the stretch it has, and what its answer says of its count.
+use Rattle.std.specs.Prelude.{Err, Ok}
 use Prim.Native.Nat.{ℕ, ◌+◌, ◌-◌, ◌*◌, ◌^◌, ◌≤◌, min}
 use mathlib.Core.Path.{◌≡◌, sym, ap, ap₂, ◌∙◌, subst}
 use mathlib.Core.List.{List, ◌++◌}
@@ -7,17 +8,13 @@ use native.Mathlib.Omega.{arith}
 use lib.ListN.{length, take, drop, length-drop, replicate, length-replicate, get_or-replicate}
 use lib.Seq.{length-take-le, ext_get_or}
 use Rattle.subsumption.specs.declared.refusal.Refusal.{Refusal}
-use Rattle.subsumption.specs.declared.refusal.Outcome.{Outcome}
-use Rattle.subsumption.specs.declared.refusal.Outcome.TheVariants.{Done, Refused}
 use Rattle.subsumption.specs.declared.refusal.Code.{Code}
 use Rattle.subsumption.specs.Tables.{Tables, tables}
 use Rattle.subsumption.specs.Atoms.{atoms}
-use Rattle.subsumption.specs.Refusal.{Reply, code_of}
+use Rattle.subsumption.specs.Refusal.{Reply, code_of, Outcome, Done}
 use Rattle.subsumption.specs.Inner.Listing.{Accepted}
 use Rattle.subsumption.proofs.Accepted.{well_formed}
 use Rattle.settings.specs.Settings.{Settings, settings}
-use Rattle.matching.specs.declared.find.Match.{Match}
-use Rattle.matching.specs.declared.find.Match.TheVariants.{Filled, Rejected}
 use Rattle.matching.specs.Within.{within_fault}
 use Rattle.matching.specs.Inner.Find.{Full}
 use Rattle.matching.proofs.FindLaws.{permitted-of, largest-of}
@@ -76,10 +73,10 @@ finds-at t allowance k from to before part reply e f h x =
     }
 
 -- ---- its number and place
-pub filled-coded : (answer : Match) (code : Code) → answer ≡ Filled → code ≡ record { number = 0; place = 0 } → Coded answer code
+pub filled-coded : (answer : Outcome) (code : Code) → answer ≡ Done → code ≡ record { number = 0; place = 0 } → Coded answer code
 filled-coded answer code e f count = rw (e, f)
 
-pub refused-coded : (answer : Match) (r : Refusal) (code : Code) → answer ≡ Rejected r → code ≡ code_of r → Coded answer code
+pub refused-coded : (answer : Outcome) (r : Refusal) (code : Code) → answer ≡ Err r → code ≡ code_of r → Coded answer code
 refused-coded answer r code e f count = rw (e, f)
 
 -- ---- the answer for some questions over a catalogue, by what it goes by
@@ -97,10 +94,10 @@ answer-same t questions questions₁ allowance allowance₁ before before₁ aft
 -- ---- what an answer says of its count
 module _ (t : Tables) (s : Settings) (allowance : ℕ) (before after : List ℕ) (reply : Reply) where
   within-after : (f : Outcome) → FindsCountedAfter f t s allowance before after reply → reply.value ≤ allowance
-  within-after (Refused r) (e, k) = omega (arith, ap (λ (z : Reply). z.value) e)
-  within-after Done (inl (e, (x, c))) = c.enough
-  within-after Done (inr (inl (e, (x, c)))) = c.enough
-  within-after Done (inr (inr (e, x))) = omega (arith, ap (λ (z : Reply). z.value) e)
+  within-after (Err r) (e, k) = omega (arith, ap (λ (z : Reply). z.value) e)
+  within-after (Ok tt) (inl (e, (x, c))) = c.enough
+  within-after (Ok tt) (inr (inl (e, (x, c)))) = c.enough
+  within-after (Ok tt) (inr (inr (e, x))) = omega (arith, ap (λ (z : Reply). z.value) e)
 
   -- no more is used than the allowance
   pub count-within : FindsCounted t s allowance before after reply → reply.value ≤ allowance
@@ -109,10 +106,10 @@ module _ (t : Tables) (s : Settings) (allowance : ℕ) (before after : List ℕ)
   unused-after :
       (f : Outcome) → FindsCountedAfter f t s allowance before after reply → (reply.number ≡ 0 → ⊥) → (reply.number ≡ 10 → ⊥)
       → (reply.number ≡ 14 → ⊥) → reply.value ≡ 0
-  unused-after (Refused r) (e, k) a b c = ap (λ (z : Reply). z.value) e
-  unused-after Done (inl (e, x)) a b c = absurd (a (ap (λ (z : Reply). z.number) e))
-  unused-after Done (inr (inl (e, x))) a b c = absurd (b (ap (λ (z : Reply). z.number) e))
-  unused-after Done (inr (inr (e, x))) a b c = absurd (c (ap (λ (z : Reply). z.number) e))
+  unused-after (Err r) (e, k) a b c = ap (λ (z : Reply). z.value) e
+  unused-after (Ok tt) (inl (e, x)) a b c = absurd (a (ap (λ (z : Reply). z.number) e))
+  unused-after (Ok tt) (inr (inl (e, x))) a b c = absurd (b (ap (λ (z : Reply). z.number) e))
+  unused-after (Ok tt) (inr (inr (e, x))) a b c = absurd (c (ap (λ (z : Reply). z.number) e))
 
   -- nor anything with a refusal but 10 and 14
   pub count-unused :
@@ -121,10 +118,10 @@ module _ (t : Tables) (s : Settings) (allowance : ℕ) (before after : List ℕ)
   count-unused = unused-after (within_fault t s (length before))
 
   kept-after : (f : Outcome) → FindsCountedAfter f t s allowance before after reply → (reply.number ≡ 0 → ⊥) → after ≡ before
-  kept-after (Refused r) (e, k) a = k
-  kept-after Done (inl (e, x)) a = absurd (a (ap (λ (z : Reply). z.number) e))
-  kept-after Done (inr (inl (e, (x, c)))) a = x.kept
-  kept-after Done (inr (inr (e, x))) a = x.kept
+  kept-after (Err r) (e, k) a = k
+  kept-after (Ok tt) (inl (e, x)) a = absurd (a (ap (λ (z : Reply). z.number) e))
+  kept-after (Ok tt) (inr (inl (e, (x, c)))) a = x.kept
+  kept-after (Ok tt) (inr (inr (e, x))) a = x.kept
 
   -- with a refusal nothing is written
   pub refused-kept : FindsCounted t s allowance before after reply → (reply.number ≡ 0 → ⊥) → after ≡ before

@@ -1,4 +1,5 @@
 -- The tables in turn: what is known before table k.
+use Rattle.std.specs.Prelude.{Err}
 use Prim.Native.Nat.{ℕ, ◌+◌, ◌-◌, ◌*◌, ◌<◌, ◌≤◌}
 use mathlib.Core.Path.{◌≡◌, refl, sym, ap, ap₂, ◌∙◌, subst}
 use mathlib.Core.List.{List}
@@ -7,11 +8,9 @@ use native.Mathlib.Omega.{arith}
 use lib.ListN.{length, get_or, take, drop, set, length-set, replicate, get_or-replicate, get_or-eq_default}
 use lib.Seq.{get_or-set_same, get_or-set_other}
 use Rattle.subsumption.specs.declared.refusal.Refusal.{Refusal}
-use Rattle.subsumption.specs.declared.refusal.Outcome.{Outcome}
-use Rattle.subsumption.specs.declared.refusal.Outcome.TheVariants.{Done, Refused}
 use Rattle.subsumption.specs.declared.refusal.Code.{Code}
 use Rattle.subsumption.specs.Tables.{Tables, tables}
-use Rattle.subsumption.specs.Refusal.{Reply, reply_done, code_of}
+use Rattle.subsumption.specs.Refusal.{Reply, reply_done, code_of, Outcome, Done}
 use Rattle.subsumption.proofs.Bools.{le-or-lt, last-cases}
 use Rattle.allowance.specs.Find.{FindsCounted}
 use Rattle.batches.specs.declared.find.Batch.{Batch}
@@ -168,7 +167,7 @@ module _ (t : Tables) (lengths shares before : List ℕ) where
   batch-ran after b h = subst (λ (z : Outcome). FindsBatchAfter z t lengths shares before after b) (sym h)
 
   pub batch-refused :
-      (r : Refusal) (code : Code) → Refused r ≡ batch_fault lengths shares (length t.questions) → code ≡ code_of r
+      (r : Refusal) (code : Code) → Err r ≡ batch_fault lengths shares (length t.questions) → code ≡ code_of r
       → FindsBatch t lengths shares before before
       (record { number = code.number; place = code.place; left = 0; numbers = replicate 8 0; places = replicate 8 0; counts = replicate 8 0 })
   batch-refused r code h e =

@@ -1,10 +1,9 @@
 -- Several question tables over one catalogue (02, A.11): where they lie, what each may use, and their check.
 use Rattle.std.specs.Prelude.{ℕ, zero, suc, ◌+◌, ◌-◌, ◌*◌, ◌^◌, List, Bool, not, eqb, ltb, length, get_or, take, drop, replicate}
 use Rattle.subsumption.specs.declared.refusal.Refusal.TheVariants.{BadBatch}
-use Rattle.subsumption.specs.declared.refusal.Outcome.{Outcome}
 use Rattle.subsumption.specs.Tables.{Tables, tables, or}
 use Rattle.subsumption.specs.Atoms.{atoms}
-use Rattle.subsumption.specs.Refusal.{or_else, refuse_if, first_at}
+use Rattle.subsumption.specs.Refusal.{or_else, refuse_if, first_at, Outcome}
 use Rattle.settings.specs.Settings.{Settings, settings}
 
 -- The sum of the first n numbers.

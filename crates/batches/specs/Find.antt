@@ -1,10 +1,8 @@
 -- Finding an assignment for each of several question tables on one allowance (02, A.11).
-use Rattle.std.specs.Prelude.{ℕ, ◌*◌, ◌<◌, ◌≤◌, ◌≡◌, List, length, get_or, drop}
+use Rattle.std.specs.Prelude.{ℕ, ◌*◌, ◌<◌, ◌≤◌, ◌≡◌, List, length, get_or, drop, Err, Ok}
 use Rattle.subsumption.specs.declared.refusal.Refusal.{Refusal}
-use Rattle.subsumption.specs.declared.refusal.Outcome.{Outcome}
-use Rattle.subsumption.specs.declared.refusal.Outcome.TheVariants.{Done, Refused}
 use Rattle.subsumption.specs.Tables.{Tables}
-use Rattle.subsumption.specs.Refusal.{Reply, reply_done, code_of}
+use Rattle.subsumption.specs.Refusal.{Reply, reply_done, code_of, Outcome}
 use Rattle.allowance.specs.Find.{FindsCounted}
 use Rattle.batches.specs.declared.find.Batch.{Batch}
 use Rattle.batches.specs.Batch.{tables_of, unrestricted, stretch, left_after, amount, batch_fault}
@@ -35,8 +33,8 @@ pub record Refuses (r : Refusal) (before after : List ℕ) (b : Batch) : Type 0 
   pub kept : after ≡ before
 
 abbrev pub FindsBatchAfter : Outcome → Tables → List ℕ → List ℕ → List ℕ → List ℕ → Batch → Type 0
-FindsBatchAfter Done t lengths shares before after b = Ran t lengths shares before after b
-FindsBatchAfter (Refused r) t lengths shares before after b = Refuses r before after b
+FindsBatchAfter (Ok tt) t lengths shares before after b = Ran t lengths shares before after b
+FindsBatchAfter (Err r) t lengths shares before after b = Refuses r before after b
 
 abbrev pub FindsBatch : Tables → List ℕ → List ℕ → List ℕ → List ℕ → Batch → Type 0
 FindsBatch t lengths shares before after b =

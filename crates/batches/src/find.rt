@@ -1,7 +1,7 @@
 // Finding an assignment for each table of a batch.
+ghost use Rattle.subsumption.specs.Refusal.{Done};
 ghost use Rattle.std.specs.Prelude.{◌≡◌, ◌<◌, min, length};
 ghost use Rattle.subsumption.specs.Lent.{lent};
-ghost use Rattle.subsumption.specs.declared.refusal.Outcome.TheVariants.{Done};
 ghost use Rattle.allowance.specs.Find.{counted_reply, FindsCounted};
 ghost use Rattle.batches.specs.Batch.{unrestricted, batch_fault};
 ghost use Rattle.batches.specs.Find.{FindsBatch, Ran};
@@ -10,11 +10,11 @@ ghost use Rattle.batches.specs.Inner.Find.{FindsAt, Coded};
 use crate::check::{TABLES, check_batch};
 use allowance::Counted;
 use allowance::helpers::{find_known, refused};
-use matching::Match;
 use matching::helpers::all_atoms;
+use settings::Settings;
 use subsumption::limits::ATOMS;
-use subsumption::refusal::{Code, Outcome, code_of};
-use subsumption::{Listed, list_atoms};
+use subsumption::refusal::{Code, Refusal, code_of};
+use subsumption::{Tables, list_atoms};
 
 // number and place: of the whole, refusal 20 or 0; then what was left over, and for each table its number, place and count.
 #[repr(C)]
@@ -29,38 +29,23 @@ pub struct Batch {
 }
 
 // The second finder where every atom is permitted, and 64 of them.
-fn find_all_permitted(
-    concepts: &[u16],
-    inclusions: &[u16],
-    questions: &[u16],
-    roles: &[u16],
-    variables: u16,
-    allowance: u32,
-    out: &mut [u64],
-) -> Counted
-    ensures { FindsCounted (lent concepts inclusions questions roles variables)
-        (unrestricted (lent concepts inclusions questions roles variables)) allowance out.old out.new (counted_reply result) }
+fn find_all_permitted(tables: Tables, allowance: u32, out: &mut [u64]) -> Counted
+    ensures { FindsCounted (lent tables)
+        (unrestricted (lent tables)) allowance out.old out.new (counted_reply result) }
 {
     let mut ids = [0u16; ATOMS];
-    let listed = list_atoms(concepts, inclusions, questions, roles, variables, &mut ids);
+    let listed = list_atoms(tables, &mut ids);
     match listed {
-        Listed::Rejected(r) => refused(r),
-        Listed::Atoms(count) => {
-            let wanted = variables as usize;
+        Err(r) => refused(r),
+        Ok(count) => {
+            let wanted = tables.variables as usize;
             let all = all_atoms(count);
             let most = [64u16; 8];
-            find_known(
-                concepts,
-                inclusions,
-                questions,
-                roles,
-                variables,
-                &ids[..count],
-                &all[..wanted],
-                &most[..wanted],
-                allowance,
-                out,
-            )
+            let settings = Settings {
+                permitted: &all[..wanted],
+                largest: &most[..wanted],
+            };
+            find_known(tables, &ids[..count], settings, allowance, out)
         }
     }
 }
@@ -75,60 +60,34 @@ fn least(a: usize, b: usize) -> usize
 }
 
 // Table k on its stretch of the buffer.
-fn find_at(
-    concepts: &[u16],
-    inclusions: &[u16],
-    questions: &[u16],
-    roles: &[u16],
-    variables: u16,
-    allowance: u32,
-    k: usize,
-    out: &mut [u64],
-) -> Counted
+fn find_at(tables: Tables, allowance: u32, k: usize, out: &mut [u64]) -> Counted
     requires { k < 8 }
-    ensures { FindsAt (lent concepts inclusions questions roles variables) allowance k out.old out.new (counted_reply result) }
+    ensures { FindsAt (lent tables) allowance k out.old out.new (counted_reply result) }
 {
-    let width = variables as usize;
+    let width = tables.variables as usize;
     let size = out.len();
     let from = least(k * width, size);
     let to = least(from + width, size);
-    find_all_permitted(
-        concepts,
-        inclusions,
-        questions,
-        roles,
-        variables,
-        allowance,
-        &mut out[from..to],
-    )
+    find_all_permitted(tables, allowance, &mut out[from..to])
 }
 
 // The number and the place of an answer.
-fn code_in(answer: Match) -> Code
+fn code_in(answer: Result<(), Refusal>) -> Code
     ensures { Coded answer result }
 {
     match answer {
-        Match::Filled => Code {
+        Ok(()) => Code {
             number: 0,
             place: 0,
         },
-        Match::Rejected(r) => code_of(r),
+        Err(r) => code_of(r),
     }
 }
 
 // The tables in turn, given that their check has passed.
-fn find_each(
-    concepts: &[u16],
-    inclusions: &[u16],
-    questions: &[u16],
-    roles: &[u16],
-    variables: u16,
-    lengths: &[u16],
-    shares: &[u32],
-    out: &mut [u64],
-) -> Batch
-    requires { batch_fault lengths.now shares.now (length questions.now) ≡ Done }
-    ensures { Ran (lent concepts inclusions questions roles variables) lengths.now shares.now
+fn find_each(tables: Tables, lengths: &[u16], shares: &[u32], out: &mut [u64]) -> Batch
+    requires { batch_fault lengths.now shares.now (length tables.questions.now) ≡ Done }
+    ensures { Ran (lent tables) lengths.now shares.now
         out.old out.new result }
 {
     let mut numbers = [0u16; TABLES];
@@ -136,16 +95,14 @@ fn find_each(
     let mut counts = [0u32; TABLES];
     let mut start: usize = 0;
     let mut left: u32 = 0;
-    let mut k: usize = 0;
-    while k < lengths.len() {
+    for k in 0..lengths.len() {
         let end = start + lengths[k] as usize;
         let amount = left + shares[k];
         let counted = find_at(
-            concepts,
-            inclusions,
-            &questions[start..end],
-            roles,
-            variables,
+            Tables {
+                questions: &tables.questions[start..end],
+                ..tables
+            },
             amount,
             k,
             out,
@@ -158,7 +115,6 @@ fn find_each(
         counts[k] = count;
         left = amount - count;
         start = end;
-        k += 1;
     }
     Batch {
         number: 0,
@@ -172,22 +128,13 @@ fn find_each(
 
 // Finds the first assignment for each of up to eight question tables, which lie one after another, each on its stretch of the
 // buffer, with its share of decisions and what the ones before it left over.
-pub fn find_batch(
-    concepts: &[u16],
-    inclusions: &[u16],
-    questions: &[u16],
-    roles: &[u16],
-    variables: u16,
-    lengths: &[u16],
-    shares: &[u32],
-    out: &mut [u64],
-) -> Batch
-    ensures { FindsBatch (lent concepts inclusions questions roles variables) lengths.now shares.now
+pub fn find_batch(tables: Tables, lengths: &[u16], shares: &[u32], out: &mut [u64]) -> Batch
+    ensures { FindsBatch (lent tables) lengths.now shares.now
         out.old out.new result }
 {
-    let checked = check_batch(lengths, shares, questions.len());
+    let checked = check_batch(lengths, shares, tables.questions.len());
     match checked {
-        Outcome::Refused(r) => {
+        Err(r) => {
             let code = code_of(r);
             Batch {
                 number: code.number,
@@ -198,8 +145,6 @@ pub fn find_batch(
                 counts: [0u32; TABLES],
             }
         }
-        Outcome::Done => find_each(
-            concepts, inclusions, questions, roles, variables, lengths, shares, out,
-        ),
+        Ok(()) => find_each(tables, lengths, shares, out),
     }
 }

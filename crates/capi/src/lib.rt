@@ -2,7 +2,7 @@
 #![tactic(auto)]
 
 ghost use Rattle.std.specs.Prelude.{◌≡◌};
-ghost use Rattle.subsumption.specs.Lent.{lent};
+ghost use Rattle.subsumption.specs.Lent.{lent_singly};
 ghost use Rattle.subsumption.specs.Tables.{tree, variables_of};
 ghost use Rattle.subsumption.specs.Refusal.{reply_with, reply_of};
 ghost use Rattle.subsumption.specs.Check.{table_fault, pair_fault};
@@ -10,7 +10,7 @@ ghost use Rattle.subsumption.specs.Listing.{Lists};
 ghost use Rattle.subsumption.specs.Table.{Wrote};
 ghost use Rattle.subsumption.specs.Decide.{Decides};
 ghost use Rattle.matching.specs.Derivation.{checking_fault};
-ghost use Rattle.settings.specs.Settings.{lent_settings};
+ghost use Rattle.settings.specs.Settings.{settings_lent_singly};
 ghost use Rattle.matching.specs.Find.{Finds};
 ghost use Rattle.matching.specs.Within.{FindsWithin};
 ghost use Rattle.matching.specs.Chosen.{Chooses};
@@ -29,6 +29,8 @@ ghost use Rattle.catalogue_answers.specs.Answer.{replied_tables};
 use answers::Answer;
 use batches::Batch;
 use catalogue_answers::CatalogueAnswer;
+use settings::Settings;
+use subsumption::Tables;
 
 // Checks the tables.
 #[unsafe(no_mangle)]
@@ -39,9 +41,16 @@ pub extern "C" fn hc_check(
     roles: &[u16],
     variables: u16,
 ) -> Answer
-    ensures { replied result ≡ reply_of (table_fault (lent concepts inclusions questions roles variables)) }
+    ensures { replied result ≡ reply_of (table_fault (lent_singly concepts inclusions questions roles variables)) }
 {
-    answers::check(concepts, inclusions, questions, roles, variables)
+    let tables = Tables {
+        concepts,
+        inclusions,
+        questions,
+        roles,
+        variables,
+    };
+    answers::check(tables)
 }
 
 // Lists the atoms' ids; value: how many.
@@ -54,9 +63,16 @@ pub extern "C" fn hc_atoms(
     variables: u16,
     out: &mut [u16],
 ) -> Answer
-    ensures { Lists (lent concepts inclusions questions roles variables) out.old out.new (replied result) }
+    ensures { Lists (lent_singly concepts inclusions questions roles variables) out.old out.new (replied result) }
 {
-    answers::atoms(concepts, inclusions, questions, roles, variables, out)
+    let tables = Tables {
+        concepts,
+        inclusions,
+        questions,
+        roles,
+        variables,
+    };
+    answers::atoms(tables, out)
 }
 
 // The set of the variables in a concept; value: the set, bit k for variable k.
@@ -69,10 +85,17 @@ pub extern "C" fn hc_blanks(
     variables: u16,
     id: u16,
 ) -> Answer
-    ensures { replied result ≡ reply_with (pair_fault (lent concepts inclusions questions roles variables) id id)
-        (variables_of (tree concepts.now id)) }
+    ensures { replied result ≡ reply_with (pair_fault (lent_singly concepts inclusions questions roles variables) id id)
+        (variables_of (tree (lent_singly concepts inclusions questions roles variables).concepts id)) }
 {
-    answers::blanks(concepts, inclusions, questions, roles, variables, id)
+    let tables = Tables {
+        concepts,
+        inclusions,
+        questions,
+        roles,
+        variables,
+    };
+    answers::blanks(tables, id)
 }
 
 // Writes the subsumption table under an assignment; value: how many marks.
@@ -86,11 +109,16 @@ pub extern "C" fn hc_subsumption_table(
     assignment: &[u64],
     out: &mut [u8],
 ) -> Answer
-    ensures { Wrote (lent concepts inclusions questions roles variables) assignment.now out.old out.new (replied result) }
+    ensures { Wrote (lent_singly concepts inclusions questions roles variables) assignment.now out.old out.new (replied result) }
 {
-    answers::subsumption_table(
-        concepts, inclusions, questions, roles, variables, assignment, out,
-    )
+    let tables = Tables {
+        concepts,
+        inclusions,
+        questions,
+        roles,
+        variables,
+    };
+    answers::subsumption_table(tables, assignment, out)
 }
 
 // Decides one pair under an assignment; value: 1 or 0.
@@ -105,11 +133,16 @@ pub extern "C" fn hc_subsumed(
     left: u16,
     right: u16,
 ) -> Answer
-    ensures { Decides (lent concepts inclusions questions roles variables) assignment.now left right (replied result) }
+    ensures { Decides (lent_singly concepts inclusions questions roles variables) assignment.now left right (replied result) }
 {
-    answers::subsumed(
-        concepts, inclusions, questions, roles, variables, assignment, left, right,
-    )
+    let tables = Tables {
+        concepts,
+        inclusions,
+        questions,
+        roles,
+        variables,
+    };
+    answers::subsumed(tables, assignment, left, right)
 }
 
 // Finds the first assignment that makes every question hold; refusal 10: no substitution does.
@@ -122,9 +155,16 @@ pub extern "C" fn hc_match(
     variables: u16,
     out: &mut [u64],
 ) -> Answer
-    ensures { Finds (lent concepts inclusions questions roles variables) out.old out.new (replied result) }
+    ensures { Finds (lent_singly concepts inclusions questions roles variables) out.old out.new (replied result) }
 {
-    matching_answers::find(concepts, inclusions, questions, roles, variables, out)
+    let tables = Tables {
+        concepts,
+        inclusions,
+        questions,
+        roles,
+        variables,
+    };
+    matching_answers::find(tables, out)
 }
 
 // The same within settings; refusal 10: no assignment within them does.
@@ -139,12 +179,18 @@ pub extern "C" fn hc_match_within(
     largest: &[u16],
     out: &mut [u64],
 ) -> Answer
-    ensures { FindsWithin (lent concepts inclusions questions roles variables) (lent_settings permitted largest) out.old
+    ensures { FindsWithin (lent_singly concepts inclusions questions roles variables) (settings_lent_singly permitted largest) out.old
         out.new (replied result) }
 {
-    matching_answers::find_within(
-        concepts, inclusions, questions, roles, variables, permitted, largest, out,
-    )
+    let tables = Tables {
+        concepts,
+        inclusions,
+        questions,
+        roles,
+        variables,
+    };
+    let settings = Settings { permitted, largest };
+    matching_answers::find_within(tables, settings, out)
 }
 
 // The same on an allowance of decisions; value: their count, with 10 and 14 too; refusal 14: the count is over the allowance.
@@ -160,12 +206,18 @@ pub extern "C" fn hc_match_counted(
     allowance: u32,
     out: &mut [u64],
 ) -> Answer
-    ensures { FindsCounted (lent concepts inclusions questions roles variables) (lent_settings permitted largest) allowance
+    ensures { FindsCounted (lent_singly concepts inclusions questions roles variables) (settings_lent_singly permitted largest) allowance
         out.old out.new (replied result) }
 {
-    finder_answers::find_counted(
-        concepts, inclusions, questions, roles, variables, permitted, largest, allowance, out,
-    )
+    let tables = Tables {
+        concepts,
+        inclusions,
+        questions,
+        roles,
+        variables,
+    };
+    let settings = Settings { permitted, largest };
+    finder_answers::find_counted(tables, settings, allowance, out)
 }
 
 // The same of the group of one question, without an allowance; refusal 10: no assignment within the settings makes the group's
@@ -182,12 +234,18 @@ pub extern "C" fn hc_match_group(
     question: u16,
     out: &mut [u64],
 ) -> Answer
-    ensures { FindsGroup (lent concepts inclusions questions roles variables) (lent_settings permitted largest) question
+    ensures { FindsGroup (lent_singly concepts inclusions questions roles variables) (settings_lent_singly permitted largest) question
         out.old out.new (replied result) }
 {
-    finder_answers::find_group(
-        concepts, inclusions, questions, roles, variables, permitted, largest, question, out,
-    )
+    let tables = Tables {
+        concepts,
+        inclusions,
+        questions,
+        roles,
+        variables,
+    };
+    let settings = Settings { permitted, largest };
+    finder_answers::find_group(tables, settings, question, out)
 }
 
 // The same for each of several question tables, which lie one after another, on its share and what the ones before it left over.
@@ -202,12 +260,17 @@ pub extern "C" fn hc_match_cards(
     shares: &[u32],
     out: &mut [u64],
 ) -> Batch
-    ensures { FindsBatch (lent concepts inclusions questions roles variables) lengths.now shares.now out.old
+    ensures { FindsBatch (lent_singly concepts inclusions questions roles variables) lengths.now shares.now out.old
         out.new result }
 {
-    batches::find_batch(
-        concepts, inclusions, questions, roles, variables, lengths, shares, out,
-    )
+    let tables = Tables {
+        concepts,
+        inclusions,
+        questions,
+        roles,
+        variables,
+    };
+    batches::find_batch(tables, lengths, shares, out)
 }
 
 // Lists one variable's chosen ids; value: how many.
@@ -222,12 +285,17 @@ pub extern "C" fn hc_chosen(
     variable: u16,
     out: &mut [u16],
 ) -> Answer
-    ensures { Chooses (lent concepts inclusions questions roles variables) assignment.now variable out.old
+    ensures { Chooses (lent_singly concepts inclusions questions roles variables) assignment.now variable out.old
         out.new (replied result) }
 {
-    matching_answers::chosen(
-        concepts, inclusions, questions, roles, variables, assignment, variable, out,
-    )
+    let tables = Tables {
+        concepts,
+        inclusions,
+        questions,
+        roles,
+        variables,
+    };
+    matching_answers::chosen(tables, assignment, variable, out)
 }
 
 // Writes the derivation of one pair under an assignment; value: how many lines.
@@ -243,12 +311,17 @@ pub extern "C" fn hc_derive(
     right: u16,
     out: &mut [u16],
 ) -> Answer
-    ensures { Derives (lent concepts inclusions questions roles variables) assignment.now left right out.old
+    ensures { Derives (lent_singly concepts inclusions questions roles variables) assignment.now left right out.old
         out.new (replied result) }
 {
-    derivation_answers::derive(
-        concepts, inclusions, questions, roles, variables, assignment, left, right, out,
-    )
+    let tables = Tables {
+        concepts,
+        inclusions,
+        questions,
+        roles,
+        variables,
+    };
+    derivation_answers::derive(tables, assignment, left, right, out)
 }
 
 // Checks a derivation of one pair under an assignment.
@@ -265,11 +338,16 @@ pub extern "C" fn hc_check_derivation(
     lines: &[u16],
 ) -> Answer
     ensures { replied result ≡ reply_of
-        (checking_fault (lent concepts inclusions questions roles variables) assignment.now left right lines.now) }
+        (checking_fault (lent_singly concepts inclusions questions roles variables) assignment.now left right lines.now) }
 {
-    derivation_answers::check_derivation(
-        concepts, inclusions, questions, roles, variables, assignment, left, right, lines,
-    )
+    let tables = Tables {
+        concepts,
+        inclusions,
+        questions,
+        roles,
+        variables,
+    };
+    derivation_answers::check_derivation(tables, assignment, left, right, lines)
 }
 
 // Shows an interpretation where one pair fails under an assignment; value: how many rows. Its elements are the concepts.
@@ -285,12 +363,17 @@ pub extern "C" fn hc_show(
     right: u16,
     out: &mut [u16],
 ) -> Answer
-    ensures { Shows (lent concepts inclusions questions roles variables) assignment.now left right out.old
+    ensures { Shows (lent_singly concepts inclusions questions roles variables) assignment.now left right out.old
         out.new (replied result) }
 {
-    countermodel_answers::show(
-        concepts, inclusions, questions, roles, variables, assignment, left, right, out,
-    )
+    let tables = Tables {
+        concepts,
+        inclusions,
+        questions,
+        roles,
+        variables,
+    };
+    countermodel_answers::show(tables, assignment, left, right, out)
 }
 
 // Tells whether an element of a given interpretation is a member of a concept under an assignment; value: 1 for yes, 0 for no.
@@ -307,12 +390,17 @@ pub extern "C" fn hc_belongs(
     concept: u16,
     element: u16,
 ) -> Answer
-    ensures { DecidesMember (lent concepts inclusions questions roles variables) assignment.now size
+    ensures { DecidesMember (lent_singly concepts inclusions questions roles variables) assignment.now size
         rows.now concept element (replied result) }
 {
-    countermodel_answers::belongs(
-        concepts, inclusions, questions, roles, variables, assignment, size, rows, concept, element,
-    )
+    let tables = Tables {
+        concepts,
+        inclusions,
+        questions,
+        roles,
+        variables,
+    };
+    countermodel_answers::belongs(tables, assignment, size, rows, concept, element)
 }
 
 // Closes a held table under the rules, with the assignment told as pairs.
@@ -326,11 +414,16 @@ pub extern "C" fn hc_update_table(
     told: &[u16],
     table: &mut [u8],
 ) -> Answer
-    ensures { Updates (lent concepts inclusions questions roles variables) told.now table.old table.new (replied result) }
+    ensures { Updates (lent_singly concepts inclusions questions roles variables) told.now table.old table.new (replied result) }
 {
-    catalogue_answers::update_table(
-        concepts, inclusions, questions, roles, variables, told, table,
-    )
+    let tables = Tables {
+        concepts,
+        inclusions,
+        questions,
+        roles,
+        variables,
+    };
+    catalogue_answers::update_table(tables, told, table)
 }
 
 // Gives each concept the new id that the list says, in a second set of buffers.
@@ -346,21 +439,18 @@ pub extern "C" fn hc_renumber(
     inclusions_out: &mut [u16],
     questions_out: &mut [u16],
 ) -> Answer
-    ensures { Renumbers (lent concepts inclusions questions roles variables) order.now concepts_out.old
+    ensures { Renumbers (lent_singly concepts inclusions questions roles variables) order.now concepts_out.old
         concepts_out.new inclusions_out.old inclusions_out.new questions_out.old questions_out.new
         (replied result) }
 {
-    catalogue_answers::renumber(
+    let tables = Tables {
         concepts,
         inclusions,
         questions,
         roles,
         variables,
-        order,
-        concepts_out,
-        inclusions_out,
-        questions_out,
-    )
+    };
+    catalogue_answers::renumber(tables, order, concepts_out, inclusions_out, questions_out)
 }
 
 // Reads a catalogue in OWL functional syntax.

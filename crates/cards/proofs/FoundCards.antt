@@ -9,8 +9,6 @@ use native.Mathlib.Omega.{arith}
 use native.Mathlib.Decide.{ℕ_discrete}
 use lib.Dec.{ltb, lit<}
 use lib.ListN.{length}
-use Rattle.subsumption.specs.declared.refusal.Outcome.{Outcome}
-use Rattle.subsumption.specs.declared.refusal.Outcome.TheVariants.{Done}
 use Rattle.subsumption.specs.Tables.{Tables, tables, or, both, any_below, decode, node, shape, tree_to, tree, variables_of, has_variable, pairs_of}
 use Rattle.subsumption.specs.Roles.{wider_to, wider}
 use Rattle.subsumption.specs.Variables.{stands_in}
@@ -18,7 +16,7 @@ use Rattle.subsumption.specs.Table.{one, counted}
 use Rattle.subsumption.specs.Atoms.{inside, occurs_to, occurs, is_atomic, in_inclusion, in_question, stands, holds as holdsAtom, twin, is_lowest, is_atom, keep, atoms, bit, pick, chosen}
 use Rattle.subsumption.specs.Rules.{every, contains, same_name, is_top, on_picked, on_both, on_inner, on_variable, by_rule, follows}
 use Rattle.subsumption.specs.Subsumption.{Interpretation, Reading, assigned, SubsumedBy}
-use Rattle.subsumption.specs.Refusal.{or_else, refuse_if, first_at}
+use Rattle.subsumption.specs.Refusal.{or_else, refuse_if, first_at, Outcome, Done}
 use Rattle.subsumption.specs.Check.{unfit, limit_fault, roles_fault, malformed_row, malformed, malformed_fault, forward, forward_fault, no_concept, pairs_fault, inclusion_fault, sides_fault, atoms_fault, concept_fault, id_fault, use_fault, table_fault, assignment_fault_at, assignment_fault}
 use Rattle.subsumption.proofs.Accepted.{well_formed}
 use Rattle.subsumption.proofs.Membership.{subsumed-by-ground}

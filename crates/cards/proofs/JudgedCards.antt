@@ -1,15 +1,15 @@
 -- The checks on these tables and lines pass by computation.
+use Rattle.std.specs.Prelude.{Err}
 use Prim.Native.Nat.{ℕ}
 use mathlib.Core.Path.{◌≡◌, refl}
 use mathlib.Core.List.{[], ◌∷◌}
 use native.Mathlib.Decide.{ℕ_discrete}
 use Rattle.subsumption.specs.declared.refusal.Refusal.TheVariants.{Limit}
-use Rattle.subsumption.specs.declared.refusal.Outcome.TheVariants.{Done, Refused}
 use Rattle.subsumption.specs.Tables.{tables, or, both, any_below, decode, node, shape, tree_to, tree, variables_of, has_variable}
 use Rattle.subsumption.specs.Roles.{wider_to, wider}
 use Rattle.subsumption.specs.Atoms.{inside, occurs_to, occurs, is_atomic, in_inclusion, in_question, stands, holds, twin, is_lowest, is_atom, keep, atoms, bit, pick, chosen}
 use Rattle.subsumption.specs.Rules.{every, contains, same_name, is_top, on_picked, on_both, on_inner, on_variable, by_rule, follows}
-use Rattle.subsumption.specs.Refusal.{or_else, refuse_if, first_at}
+use Rattle.subsumption.specs.Refusal.{or_else, refuse_if, first_at, Done}
 use Rattle.subsumption.specs.Check.{unfit, limit_fault, roles_fault, malformed_row, malformed, malformed_fault, forward, forward_fault, no_concept, pairs_fault, alone_fault, inclusion_fault, sides_fault, atoms_fault, concept_fault, id_fault, use_fault, table_fault, pair_fault, assignment_fault_at, assignment_fault, buffer_fault}
 use Rattle.subsumption.specs.Table.{row_start, writing_fault}
 use Rattle.subsumption.specs.Decide.{deciding_fault}
@@ -84,6 +84,6 @@ pub asked-passes : deciding_fault (house questions) (4 ∷ []) 2 3 ≡ Done
 unfolding or both any_below decode node shape tree_to tree variables_of has_variable inside occurs_to occurs is_atomic in_inclusion in_question stands holds twin is_lowest is_atom keep atoms bit pick chosen every contains same_name is_top on_picked on_both on_inner on_variable by_rule follows or_else refuse_if first_at unfit limit_fault roles_fault wider wider_to malformed_row malformed malformed_fault forward forward_fault no_concept pairs_fault inclusion_fault sides_fault atoms_fault concept_fault id_fault use_fault table_fault assignment_fault_at assignment_fault gather entries house looped copied narrowed questions cards ℕ_discrete alone_fault pair_fault deciding_fault
 asked-passes = refl
 
-pub nine-refused : (s : Settings) (size : ℕ) → within_fault (tables [] [] [] [] 9) s size ≡ Refused (Limit 3)
+pub nine-refused : (s : Settings) (size : ℕ) → within_fault (tables [] [] [] [] 9) s size ≡ Err (Limit 3)
 unfolding or both any_below decode node shape tree_to tree variables_of has_variable inside occurs_to occurs is_atomic in_inclusion in_question stands holds twin is_lowest is_atom keep atoms bit pick chosen every contains same_name is_top on_picked on_both on_inner on_variable by_rule follows or_else refuse_if first_at unfit limit_fault roles_fault wider wider_to malformed_row malformed malformed_fault forward forward_fault no_concept pairs_fault inclusion_fault sides_fault atoms_fault concept_fault id_fault use_fault table_fault assignment_fault_at assignment_fault gather entries house looped copied narrowed questions cards within_fault
 nine-refused s size = refl

@@ -1,4 +1,6 @@
 -- A computed test of what a card says, and the law that turns it into the sentence.
+use Rattle.std.specs.Prelude.{Err, Ok}
+use Rattle.subsumption.specs.Refusal.{Outcome, Done}
 use Prim.Native.Nat.{ℕ, zero, suc, ◌^◌, ◌<◌}
 use mathlib.Core.Path.{◌≡◌, refl, sym, ap, ap₂, ◌∙◌, subst}
 use mathlib.Core.List.Memᴰ
@@ -9,8 +11,6 @@ use native.Mathlib.Omega.{arith}
 use lib.Dec.{eqb, ltb}
 use lib.ListN.{length, get_or}
 use borrow.Author.Tests.{eqb-true, ltb-true, not-true}
-use Rattle.subsumption.specs.declared.refusal.Outcome.{Outcome}
-use Rattle.subsumption.specs.declared.refusal.Outcome.TheVariants.{Done, Refused}
 use Rattle.subsumption.specs.Tables.{Tables, or, both, any_below, count_of, pairs_of, left_of, right_of}
 use Rattle.subsumption.specs.Atoms.{atoms, bit}
 use Rattle.subsumption.specs.Subsumption.{Subsumed}
@@ -217,13 +217,13 @@ test-earlier v n a b h =
 
 -- ---- what a card says
 unfoldable pub is_done : Outcome → Bool
-is_done Done = true
-is_done (Refused r) = false
+is_done (Ok tt) = true
+is_done (Err r) = false
 
 pub is-done : (o : Outcome) → is_done o ≡ true → o ≡ Done
 unfolding is_done
-is-done Done h = refl
-is-done (Refused r) h = absurd (false≢true h)
+is-done (Ok tt) h = refl
+is-done (Err r) h = absurd (false≢true h)
 
 unfoldable pub solved_by : Tables → List (List Bool) → Bool
 solved_by t marks = all_below (pairs_of t.questions) (λ m. mark_at marks (left_of t.questions m) (right_of t.questions m))

@@ -1,4 +1,5 @@
 -- Whatever marks a shown interpretation is read off, they have the pair that holds.
+use Rattle.std.specs.Prelude.{Err}
 use Prim.Native.Nat.{ℕ}
 use mathlib.Core.Path.{◌≡◌, refl, ap, ◌∙◌}
 use mathlib.Core.List.Memᴰ
@@ -7,9 +8,7 @@ use mathlib.Core.Bool.{true}
 use lib.Dec.{lit<}
 use lib.ListN.{length}
 use Rattle.subsumption.specs.declared.refusal.Refusal.TheVariants.{NoCountermodel}
-use Rattle.subsumption.specs.declared.refusal.Outcome.{Outcome}
-use Rattle.subsumption.specs.declared.refusal.Outcome.TheVariants.{Refused}
-use Rattle.subsumption.specs.Refusal.{reply_with, or_else, refuse_if}
+use Rattle.subsumption.specs.Refusal.{reply_with, or_else, refuse_if, Outcome}
 use Rattle.countermodel.specs.Rows.{rows_of}
 use Rattle.countermodel.specs.Countermodel.{shown_rows}
 use Rattle.countermodel.specs.Show.{holding_fault, showing_fault, shown_in}
@@ -36,5 +35,5 @@ nothing-shown before after told s = (
     holds : s.marks 2 3 ≡ true
     holds = (s.exactly asked-passes).complete 2 3 (lit< tt) (lit< tt) (card-a.1 (4 ∷ []) card-h.1.accepted)
 
-    stops : showing_fault (house questions) (4 ∷ []) 2 3 s.marks (length before) ≡ Refused NoCountermodel
+    stops : showing_fault (house questions) (4 ∷ []) 2 3 s.marks (length before) ≡ Err NoCountermodel
     stops = rw (asked-passes, holds) refl

@@ -8,13 +8,11 @@ use native.Mathlib.Decide.{ℕ_discrete}
 use lib.Dec.{lit<}
 use lib.ListN.{length}
 use borrow.Author.Tests.{ltb-true}
-use Rattle.subsumption.specs.declared.refusal.Outcome.{Outcome}
-use Rattle.subsumption.specs.declared.refusal.Outcome.TheVariants.{Done}
 use Rattle.subsumption.specs.Tables.{tables, or, both, any_below, decode, node, shape, tree_to, tree, variables_of, has_variable, count_of}
 use Rattle.subsumption.specs.Roles.{wider_to, wider}
 use Rattle.subsumption.specs.Atoms.{inside, occurs_to, occurs, is_atomic, in_inclusion, in_question, stands, holds, twin, is_lowest, is_atom, keep, atoms, bit, pick, chosen}
 use Rattle.subsumption.specs.Rules.{every, contains, same_name, is_top, on_picked, on_both, on_inner, on_variable, by_rule, follows}
-use Rattle.subsumption.specs.Refusal.{Reply, reply_done, reply_of, reply_with, or_else, refuse_if, first_at}
+use Rattle.subsumption.specs.Refusal.{Reply, reply_done, reply_of, reply_with, or_else, refuse_if, first_at, Outcome, Done}
 use Rattle.subsumption.specs.Check.{unfit, limit_fault, roles_fault, malformed_row, malformed, malformed_fault, forward, forward_fault, no_concept, pairs_fault, inclusion_fault, sides_fault, atoms_fault, concept_fault, id_fault, use_fault, table_fault, assignment_fault_at, assignment_fault, buffer_fault}
 use Rattle.subsumption.specs.Table.{row_start, marked, marks_in, writing_fault, TableOf, Left}
 use Rattle.subsumption.proofs.Bools.{both_true, same_bool}

@@ -2,9 +2,8 @@
 -- and for each of the eight rules a derivation that is right and one that is not. No check that is left out or comes late, and no
 -- checker that lets a rule slip, gives these.
 use Rattle.std.specs.Prelude.{ℕ, ◌≡◌, List, [], ◌∷◌}
-use Rattle.subsumption.specs.declared.refusal.Outcome.{Outcome}
 use Rattle.subsumption.specs.Tables.{Tables, tables}
-use Rattle.subsumption.specs.Refusal.{reply_of}
+use Rattle.subsumption.specs.Refusal.{reply_of, Outcome}
 use Rattle.subsumption.specs.Check.{table_fault, pair_fault, assignment_fault}
 use Rattle.subsumption.specs.Table.{writing_fault}
 use Rattle.settings.specs.Settings.{settings}

@@ -1,6 +1,6 @@
 -- The sample cards A to L (01, "Sample cards, proved") and M to O of the requests (02), as one table of sentences on the definitions.
+use Rattle.subsumption.specs.Refusal.{Done}
 use Rattle.std.specs.Prelude.{ℕ, ◌≡◌, List, [], ◌∷◌}
-use Rattle.subsumption.specs.declared.refusal.Outcome.TheVariants.{Done}
 use Rattle.subsumption.specs.Tables.{Tables, tables}
 use Rattle.subsumption.specs.Atoms.{atoms}
 use Rattle.subsumption.specs.Subsumption.{Subsumed}

@@ -12,7 +12,8 @@ ghost use Rattle.subsumption.specs.Lent.{lent};
 
 use answers::{Answer, answer_of};
 use owl::Catalogue;
-use subsumption::refusal::code_of;
+use subsumption::Tables;
+use subsumption::refusal::{Refusal, code_of};
 
 // number 0: so many entries and inclusions were read; else the refusal's number, with its place and zeros.
 #[repr(C)]
@@ -25,65 +26,47 @@ pub struct CatalogueAnswer {
 }
 
 // Closes a held table under the rules, with the assignment told as pairs.
-pub fn update_table(
-    concepts: &[u16],
-    inclusions: &[u16],
-    questions: &[u16],
-    roles: &[u16],
-    variables: u16,
-    told: &[u16],
-    table: &mut [u8],
-) -> Answer
-    ensures { Updates (lent concepts inclusions questions roles variables) told.now table.old table.new (replied result) }
+pub fn update_table(tables: Tables, told: &[u16], table: &mut [u8]) -> Answer
+    ensures { Updates (lent tables) told.now table.old table.new (replied result) }
 {
-    let updated = incremental::update_table(
-        concepts, inclusions, questions, roles, variables, told, table,
-    );
-    answer_of(updated, 0)
+    let updated = incremental::update_table(tables, told, table);
+    answer_of(updated.map(|()| 0))
 }
 
 // Gives each concept the new id that the list says, in a second set of buffers.
 pub fn renumber(
-    concepts: &[u16],
-    inclusions: &[u16],
-    questions: &[u16],
-    roles: &[u16],
-    variables: u16,
+    tables: Tables,
     order: &[u16],
     concepts_out: &mut [u16],
     inclusions_out: &mut [u16],
     questions_out: &mut [u16],
 ) -> Answer
-    ensures { Renumbers (lent concepts inclusions questions roles variables) order.now concepts_out.old
+    ensures { Renumbers (lent tables) order.now concepts_out.old
         concepts_out.new inclusions_out.old inclusions_out.new questions_out.old questions_out.new
         (replied result) }
 {
     let renumbered = renumbering::renumber_tables(
-        concepts,
-        inclusions,
-        questions,
-        roles,
-        variables,
+        tables,
         order,
         concepts_out,
         inclusions_out,
         questions_out,
     );
-    answer_of(renumbered, 0)
+    answer_of(renumbered.map(|()| 0))
 }
 
 // What was read, in the header's numbers.
-fn catalogue_of(catalogue: Catalogue) -> CatalogueAnswer
-    ensures { replied_tables result ≡ catalogue_reply catalogue }
+fn catalogue_of(read: Result<Catalogue, Refusal>) -> CatalogueAnswer
+    ensures { replied_tables result ≡ catalogue_reply read }
 {
-    match catalogue {
-        Catalogue::Tables(entries, inclusions) => CatalogueAnswer {
+    match read {
+        Ok(catalogue) => CatalogueAnswer {
             number: 0,
             place: 0,
-            entries: entries as u64,
-            inclusions: inclusions as u64,
+            entries: catalogue.concepts as u64,
+            inclusions: catalogue.inclusions as u64,
         },
-        Catalogue::Rejected(r) => {
+        Err(r) => {
             let code = code_of(r);
             let number = code.number;
             let place = code.place as u64;

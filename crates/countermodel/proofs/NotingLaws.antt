@@ -1,5 +1,5 @@
 -- Names and links of an element, noted row by row of the concept table.
-use Prim.Native.Nat.{ℕ, zero, suc, ◌+◌, ◌*◌, ◌/◌, ◌%◌, ◌^◌, ◌<◌, ◌≤◌}
+use Prim.Native.Nat.{ℕ, ◌+◌, ◌*◌, ◌/◌, ◌%◌, ◌^◌, ◌<◌, ◌≤◌}
 use mathlib.Core.Path.{◌≡◌, refl, sym, ap, ◌∙◌, subst}
 use mathlib.Core.List.{List}
 use mathlib.Core.Bool.{Bool, true, false}
@@ -10,16 +10,14 @@ use lib.Dec.{eqb}
 use lib.ListN.{length, get_or, set, length-set, replicate, length-replicate, get_or-replicate}
 use lib.Seq.{get_or-set_same, get_or-set_other}
 use borrow.Author.Tests.{eq-eqb, ne_eqb}
-use Rattle.subsumption.specs.declared.tables.Row.{Row}
-use Rattle.subsumption.specs.Tables.{both, any_below, Node, name_at, exists_at, decode, node, count_of}
+use Rattle.subsumption.specs.Tables.{both, any_below, Node, top_at, name_at, exists_at, and_at, var_at, node, count_of}
 use Rattle.subsumption.specs.Atoms.{bit}
 use Rattle.subsumption.specs.Roles.{wider}
 use Rattle.subsumption.specs.Table.{row_start, marked}
-use Rattle.subsumption.specs.Inner.Tables.{row_of}
+use Rattle.subsumption.specs.Inner.Tables.{Rising}
 use Rattle.subsumption.specs.Inner.Atoms.{mark_at}
 use Rattle.subsumption.specs.Inner.Roles.{in_set, RoleSets}
 use Rattle.subsumption.proofs.Bools.{or-first, or-skip, both-none, both-skip, both-second, eq-or-ne}
-use Rattle.subsumption.proofs.Marks.{row-node, row-rising, exists_below}
 use Rattle.countermodel.specs.Countermodel.{is_named, leads_to, bears, is_linked}
 use Rattle.countermodel.specs.Inner.Show.{Checked, NamesOf, LinksOf, is_of, RolesOf}
 
@@ -85,79 +83,63 @@ module _ (size : ℕ) (says : ℕ → Node → Bool) (concepts : List ℕ) (mark
       subst (λ (z : ℕ). NotedTo size says concepts marks i noted z) e N
 
 -- ---- what a row says
-no_name : (q k a b : ℕ) → (k ≡ 1 → ⊥) → is_named q (decode k a b) ≡ false
-unfolding is_named decode
-no_name q zero a b h = refl
-no_name q (suc zero) a b h = absurd (h refl)
-no_name q (suc (suc zero)) a b h = refl
-no_name q (suc (suc (suc zero))) a b h = refl
-no_name q (suc (suc (suc (suc zero)))) a b h = refl
-no_name q (suc (suc (suc (suc (suc k))))) a b h = refl
+no_name : (q : ℕ) (m : Node) → ((n : ℕ) → m ≡ name_at n → ⊥) → is_named q m ≡ false
+unfolding is_named
+no_name q top_at h = refl
+no_name q (name_at n) h = absurd (h n refl)
+no_name q (exists_at r x) h = refl
+no_name q (and_at x y) h = refl
+no_name q (var_at k) h = refl
 
-no-role : (q k a b : ℕ) → (k ≡ 2 → ⊥) → is_of q (decode k a b) ≡ false
-unfolding is_of decode
-no-role q zero a b h = refl
-no-role q (suc zero) a b h = refl
-no-role q (suc (suc zero)) a b h = absurd (h refl)
-no-role q (suc (suc (suc zero))) a b h = refl
-no-role q (suc (suc (suc (suc zero)))) a b h = refl
-no-role q (suc (suc (suc (suc (suc k))))) a b h = refl
+no-role : (q : ℕ) (m : Node) → ((r x : ℕ) → m ≡ exists_at r x → ⊥) → is_of q m ≡ false
+unfolding is_of
+no-role q top_at h = refl
+no-role q (name_at n) h = refl
+no-role q (exists_at r x) h = absurd (h r x refl)
+no-role q (and_at x y) h = refl
+no-role q (var_at k) h = refl
 
-no-link : (roles : List ℕ) (s q k a b : ℕ) → (k ≡ 2 → ⊥) → leads_to roles s q (decode k a b) ≡ false
-unfolding leads_to decode
-no-link roles s q zero a b h = refl
-no-link roles s q (suc zero) a b h = refl
-no-link roles s q (suc (suc zero)) a b h = absurd (h refl)
-no-link roles s q (suc (suc (suc zero))) a b h = refl
-no-link roles s q (suc (suc (suc (suc zero)))) a b h = refl
-no-link roles s q (suc (suc (suc (suc (suc k))))) a b h = refl
+no-link : (roles : List ℕ) (s q : ℕ) (m : Node) → ((r x : ℕ) → m ≡ exists_at r x → ⊥) → leads_to roles s q m ≡ false
+unfolding leads_to
+no-link roles s q top_at h = refl
+no-link roles s q (name_at n) h = refl
+no-link roles s q (exists_at r x) h = absurd (h r x refl)
+no-link roles s q (and_at x y) h = refl
+no-link roles s q (var_at k) h = refl
 
-module _ (concepts : List ℕ) (j : ℕ) (row : Row) (e : row ≡ row_of concepts j) where
-  row-name : row.kind ≡ 1 → node concepts j ≡ name_at row.a
-  unfolding decode
-  row-name h = sym (row-node concepts j row e) ∙ rw (h, decode) refl
+module _ (concepts : List ℕ) (j : ℕ) where
+  pub not_named : ((n : ℕ) → node concepts j ≡ name_at n → ⊥) → (q : ℕ) → is_named q (node concepts j) ≡ false
+  not_named h q = no_name q (node concepts j) h
 
-  row-exists : row.kind ≡ 2 → node concepts j ≡ exists_at row.a row.b
-  unfolding decode
-  row-exists h = sym (row-node concepts j row e) ∙ rw (h, decode) refl
-
-  pub not_named : (row.kind ≡ 1 → ⊥) → (q : ℕ) → is_named q (node concepts j) ≡ false
-  not_named h q = ap (is_named q) (sym (row-node concepts j row e)) ∙ no_name q row.kind row.a row.b h
-
-  pub named : row.kind ≡ 1 → (q : ℕ) → is_named q (node concepts j) ≡ eqb q row.a
+  pub named : (n : ℕ) → node concepts j ≡ name_at n → (q : ℕ) → is_named q (node concepts j) ≡ eqb q n
   unfolding is_named
-  named h q = ap (is_named q) (row-name h)
+  named n e q = ap (is_named q) e
 
-  pub name-low : Checked concepts → row.kind ≡ 1 → row.a < 1000
-  name-low C h = C.low-names j row.a (row-name h)
+  pub not-of : ((r x : ℕ) → node concepts j ≡ exists_at r x → ⊥) → (q : ℕ) → is_of q (node concepts j) ≡ false
+  not-of h q = no-role q (node concepts j) h
 
-  pub role-low : Checked concepts → row.kind ≡ 2 → row.a < 100
-  role-low C h = C.low-roles j row.a row.b (row-exists h)
-
-  pub inner-low : Checked concepts → j < count_of concepts → row.kind ≡ 2 → row.b < 192
-  inner-low C l h = omega (arith, exists_below j row.kind row.a row.b h (row-rising concepts j j row C.layered (omega arith) e), C.layered.few)
-
-  pub not-of : (row.kind ≡ 2 → ⊥) → (q : ℕ) → is_of q (node concepts j) ≡ false
-  not-of h q = ap (is_of q) (sym (row-node concepts j row e)) ∙ no-role q row.kind row.a row.b h
-
-  pub of-role : row.kind ≡ 2 → (q : ℕ) → is_of q (node concepts j) ≡ eqb q row.a
+  pub of-role : (r x : ℕ) → node concepts j ≡ exists_at r x → (q : ℕ) → is_of q (node concepts j) ≡ eqb q r
   unfolding is_of
-  of-role h q = ap (is_of q) (row-exists h)
+  of-role r x e q = ap (is_of q) e
 
-  pub not-linked : (roles : List ℕ) (s : ℕ) → (row.kind ≡ 2 → ⊥) → (q : ℕ) → leads_to roles s q (node concepts j) ≡ false
-  not-linked roles s h q = ap (leads_to roles s q) (sym (row-node concepts j row e)) ∙ no-link roles s q row.kind row.a row.b h
+  pub not-linked : (roles : List ℕ) (s : ℕ) → ((r x : ℕ) → node concepts j ≡ exists_at r x → ⊥) → (q : ℕ) → leads_to roles s q (node concepts j) ≡ false
+  not-linked roles s h q = no-link roles s q (node concepts j) h
 
-  module _ (C : Checked concepts) (h : row.kind ≡ 2) (roles into : List ℕ) (R : RoleSets roles into) (s : ℕ) (l : s < 100) (w : Bool) (ew : w ≡ in_set into row.a s) where
-    is-wider : w ≡ wider roles row.a s
-    is-wider = ew ∙ R.each row.a s (role-low C h) l
+  module _ (C : Checked concepts) (r x : ℕ) (e : node concepts j ≡ exists_at r x) where
+    pub inner-low : j < count_of concepts → x < 192
+    inner-low l = let h : x < j = subst (Rising j) e (C.layered.rising j) in omega (arith, h, C.layered.few)
 
-    pub not_wider : w ≡ false → (q : ℕ) → leads_to roles s q (node concepts j) ≡ false
-    unfolding leads_to
-    not_wider f q = ap (leads_to roles s q) (row-exists h) ∙ both-none _ _ (sym is-wider ∙ f)
+    module _ (roles into : List ℕ) (R : RoleSets roles into) (s : ℕ) (l : s < 100) (w : Bool) (ew : w ≡ in_set into r s) where
+      is-wider : w ≡ wider roles r s
+      is-wider = ew ∙ R.each r s (C.low-roles j r x e) l
 
-    pub linked : w ≡ true → (q : ℕ) → leads_to roles s q (node concepts j) ≡ eqb q row.b
-    unfolding leads_to
-    linked f q = ap (leads_to roles s q) (row-exists h) ∙ both-skip _ _ (sym is-wider ∙ f)
+      pub not_wider : w ≡ false → (q : ℕ) → leads_to roles s q (node concepts j) ≡ false
+      unfolding leads_to
+      not_wider f q = ap (leads_to roles s q) e ∙ both-none _ _ (sym is-wider ∙ f)
+
+      pub linked : w ≡ true → (q : ℕ) → leads_to roles s q (node concepts j) ≡ eqb q x
+      unfolding leads_to
+      linked f q = ap (leads_to roles s q) e ∙ both-skip _ _ (sym is-wider ∙ f)
 
 -- ---- all names, all roles, all links by a role
 module _ (concepts : List ℕ) (marks : ℕ → ℕ → Bool) (i : ℕ) (noted : List Bool) (j : ℕ) where

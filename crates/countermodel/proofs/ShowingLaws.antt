@@ -1,4 +1,5 @@
 -- Showing: the rows in front of the buffer, and what the operation answers.
+use Rattle.std.specs.Prelude.{Err, Ok}
 use Prim.Native.Nat.{ℕ, ◌+◌, ◌/◌, ◌<◌, ◌≤◌}
 use mathlib.Core.Path.{◌≡◌, refl, sym, ap, ◌∙◌}
 use mathlib.Core.List.{List, ◌++◌}
@@ -7,10 +8,8 @@ use lib.ListN.{length, drop}
 use lib.Seq.{sets-eq}
 use Rattle.subsumption.specs.declared.refusal.Refusal.{Refusal}
 use Rattle.subsumption.specs.declared.refusal.Refusal.TheVariants.{BufferTooShort}
-use Rattle.subsumption.specs.declared.refusal.Outcome.{Outcome}
-use Rattle.subsumption.specs.declared.refusal.Outcome.TheVariants.{Done, Refused}
 use Rattle.subsumption.specs.Tables.{Tables}
-use Rattle.subsumption.specs.Refusal.{Reply, reply_done, reply_refused, reply_with, or_else}
+use Rattle.subsumption.specs.Refusal.{Reply, reply_done, reply_refused, reply_with, or_else, Outcome, Done}
 use Rattle.subsumption.specs.Check.{buffer_fault}
 use Rattle.subsumption.specs.Decide.{deciding_fault}
 use Rattle.subsumption.specs.Table.{marked}
@@ -52,8 +51,8 @@ module _ (rows before none counted : List ℕ) (wanted : ℕ) (C : Put none 0 ro
 -- ---- the operation
 regroup : (a b c : Outcome) → or_else a (or_else b c) ≡ or_else (or_else a b) c
 unfolding or_else
-regroup Done b c = refl
-regroup (Refused r) b c = refl
+regroup (Ok tt) b c = refl
+regroup (Err r) b c = refl
 
 module _ (t : Tables) (assignment : List ℕ) (left right : ℕ) (before table : List ℕ) where
   in_order :
@@ -63,7 +62,7 @@ module _ (t : Tables) (assignment : List ℕ) (left right : ℕ) (before table :
   unfolding showing_fault
   in_order = regroup _ _ _
 
-  pub shows-refused : (x : Outcome) (r : Refusal) → Judged t assignment left right table x → x ≡ Refused r → Shows t assignment left right before before (reply_refused r)
+  pub shows-refused : (x : Outcome) (r : Refusal) → Judged t assignment left right table x → x ≡ Err r → Shows t assignment left right before before (reply_refused r)
   unfolding shown_in
   shows-refused x r J e =
       let f = stops x _ _ r J.judged e ∙ sym in_order in

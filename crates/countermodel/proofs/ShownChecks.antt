@@ -8,10 +8,9 @@ use native.Mathlib.Omega.{arith}
 use lib.ListN.{length}
 use borrow.Author.Tests.{lt-ltb, le-ltb, ne_eqb}
 use Rattle.subsumption.specs.declared.refusal.Refusal.TheVariants.{Malformed}
-use Rattle.subsumption.specs.declared.refusal.Outcome.TheVariants.{Done}
 use Rattle.subsumption.specs.Tables.{Tables, or, count_of}
 use Rattle.subsumption.specs.Subsumption.{Interpretation, Subsumed}
-use Rattle.subsumption.specs.Refusal.{Reply, Replies, or_else, refuse_if}
+use Rattle.subsumption.specs.Refusal.{Reply, Replies, or_else, refuse_if, Done}
 use Rattle.subsumption.specs.Check.{table_fault, assignment_fault}
 use Rattle.subsumption.specs.Decide.{Tells}
 use Rattle.subsumption.proofs.Accepted.{well_formed}

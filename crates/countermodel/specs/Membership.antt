@@ -1,10 +1,9 @@
 -- Whether an element of a given interpretation is a member of a concept (02, A.5: a thing belongs to an entry), under an assignment.
 use Rattle.std.specs.Prelude.{ℕ, zero, suc, ◌%◌, List, Bool, true, not, eqb, ltb, length}
 use Rattle.subsumption.specs.declared.refusal.Refusal.TheVariants.{Limit, Malformed, NoConcept}
-use Rattle.subsumption.specs.declared.refusal.Outcome.{Outcome}
 use Rattle.subsumption.specs.Tables.{Tables, or, count_of, tree}
 use Rattle.subsumption.specs.Subsumption.{Interpretation, Member, assigned}
-use Rattle.subsumption.specs.Refusal.{Reply, Replies, or_else, refuse_if, first_at}
+use Rattle.subsumption.specs.Refusal.{Reply, Replies, or_else, refuse_if, first_at, Outcome}
 use Rattle.subsumption.specs.Check.{table_fault, assignment_fault}
 use Rattle.countermodel.specs.Rows.{rows_of, at, interpretation_of}
 

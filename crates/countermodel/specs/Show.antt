@@ -1,12 +1,8 @@
 -- Showing an interpretation where a pair fails (02, A.5): its rows in front of the buffer, or a refusal.
-use Rattle.std.specs.Prelude.{ℕ, ◌≡◌, List, ◌++◌, Bool, length, drop}
+use Rattle.std.specs.Prelude.{ℕ, ◌≡◌, List, ◌++◌, Bool, length, drop, Err, Ok}
 use Rattle.subsumption.specs.declared.refusal.Refusal.TheVariants.{NoCountermodel}
-use Rattle.subsumption.specs.declared.refusal.Outcome.{Outcome}
-use Rattle.subsumption.specs.declared.refusal.Outcome.TheVariants.{Done, Refused}
-use Rattle.countermodel.specs.declared.show.Shown.{Shown}
-use Rattle.countermodel.specs.declared.show.Shown.TheVariants.{Rows, Rejected}
 use Rattle.subsumption.specs.Tables.{Tables, count_of}
-use Rattle.subsumption.specs.Refusal.{Reply, reply_done, reply_refused, reply_with, or_else, refuse_if}
+use Rattle.subsumption.specs.Refusal.{Reply, reply_with, or_else, refuse_if, Outcome, Done}
 use Rattle.subsumption.specs.Check.{buffer_fault}
 use Rattle.subsumption.specs.Decide.{deciding_fault}
 use Rattle.countermodel.specs.Rows.{rows_of, interpretation_of}
@@ -23,14 +19,10 @@ showing_fault t assignment left right marks size =
     (or_else (holding_fault marks left right) (buffer_fault (length (shown_rows t.concepts t.roles marks)) size))
 
 -- The value is how many rows there are; the elements are the concepts.
-abbrev pub shown_reply : Shown → Reply
-shown_reply (Rows n) = reply_done n
-shown_reply (Rejected r) = reply_refused r
-
 -- The rows stand in front; past them, and after a refusal, the buffer keeps its values.
 unfoldable pub shown_in : Outcome → List ℕ → List ℕ → List ℕ
-shown_in Done rows before = rows ++ drop (length rows) before
-shown_in (Refused r) rows before = before
+shown_in (Ok tt) rows before = rows ++ drop (length rows) before
+shown_in (Err r) rows before = before
 
 -- By marks that say exactly what is below what: 15 exactly when the pair holds, else the rows that they give, whose interpretation
 -- refutes it.

@@ -8,7 +8,7 @@ ghost use Rattle.countermodel.specs.Rows.{joined};
 ghost use Rattle.countermodel.specs.Countermodel.{shown_rows};
 ghost use Rattle.countermodel.specs.Inner.Show.{Checked, ForRoles, Put, names_of, links_by, links_of};
 
-use crate::limits::ROLES;
+use crate::limits::{ROLES, TABLE_BYTES};
 use crate::marks::{note_links, note_names};
 use crate::roles::{mark_used, note_own};
 use crate::rows::put_marks;
@@ -16,9 +16,14 @@ use subsumption::helpers::note_roles;
 use subsumption::limits::{CONCEPTS, NAMES, ROLE_WORDS};
 
 // The names of one element.
-fn put_names_of(concepts: &[u16], table: &[u8], i: usize, at: usize, out: &mut [u16]) -> usize
+fn put_names_of(
+    concepts: &[u16],
+    table: &[u8; TABLE_BYTES],
+    i: usize,
+    at: usize,
+    out: &mut [u16],
+) -> usize
     requires checked { Checked concepts.now }
-    requires table_len { length table.now ≡ table_size }
     requires i_bound { (i < count_of concepts.now) × (at ≤ 16000000) }
     ensures upper_bound { result ≤ at + 4000 }
     ensures put { Put out.old at (names_of concepts.now (marked table.now) i) result out.new }
@@ -29,19 +34,16 @@ fn put_names_of(concepts: &[u16], table: &[u8], i: usize, at: usize, out: &mut [
 }
 
 // The names of all elements, from the front of the buffer.
-fn put_names(concepts: &[u16], table: &[u8], out: &mut [u16]) -> usize
+fn put_names(concepts: &[u16], table: &[u8; TABLE_BYTES], out: &mut [u16]) -> usize
     requires checked { Checked concepts.now }
-    requires table_len { length table.now ≡ table_size }
     ensures upper_bound { result ≤ 768000 }
     ensures put { Put out.old 0 (joined (names_of concepts.now (marked table.now)) 0 (count_of concepts.now)) result
         out.new }
 {
     let count = concepts.len() / 3;
     let mut end: usize = 0;
-    let mut i: usize = 0;
-    while i < count {
+    for i in 0..count {
         end = put_names_of(concepts, table, i, end, out);
-        i += 1;
     }
     end
 }
@@ -49,16 +51,14 @@ fn put_names(concepts: &[u16], table: &[u8], out: &mut [u16]) -> usize
 // The links of one element by one role.
 fn put_links_by(
     concepts: &[u16],
-    into: &[u64],
-    table: &[u8],
+    into: &[u64; ROLE_WORDS],
+    table: &[u8; TABLE_BYTES],
     i: usize,
     role: usize,
     at: usize,
     out: &mut [u16],
 ) -> usize
     requires checked { Checked concepts.now }
-    requires into_len { length into.now ≡ roles_size }
-    requires table_len { length table.now ≡ table_size }
     requires i_bound { (i < count_of concepts.now) × (role < 100) × (at ≤ 16000000) }
     ensures upper_bound { result ≤ at + 768 }
     ensures for_roles { ForRoles into.now
@@ -80,15 +80,13 @@ fn put_links_by(
 // The links of one element by all roles.
 fn put_links_of(
     concepts: &[u16],
-    into: &[u64],
-    table: &[u8],
+    into: &[u64; ROLE_WORDS],
+    table: &[u8; TABLE_BYTES],
     i: usize,
     at: usize,
     out: &mut [u16],
 ) -> usize
     requires checked { Checked concepts.now }
-    requires into_len { length into.now ≡ roles_size }
-    requires table_len { length table.now ≡ table_size }
     requires i_bound { (i < count_of concepts.now) × (at ≤ 15600000) }
     ensures upper_bound { result ≤ at + 76800 }
     ensures for_roles { ForRoles into.now
@@ -99,22 +97,24 @@ fn put_links_of(
     let mut used = [false; ROLES];
     mark_used(into, &own, &mut used);
     let mut end = at;
-    let mut s: usize = 0;
-    while s < ROLES {
-        let role = s;
-        s += 1;
-        if used[role] {
-            end = put_links_by(concepts, into, table, i, role, end, out);
+    for s in 0..ROLES {
+        if used[s] {
+            end = put_links_by(concepts, into, table, i, s, end, out);
         }
     }
     end
 }
 
 // The links of all elements.
-fn put_links(concepts: &[u16], roles: &[u16], table: &[u8], at: usize, out: &mut [u16]) -> usize
+fn put_links(
+    concepts: &[u16],
+    roles: &[u16],
+    table: &[u8; TABLE_BYTES],
+    at: usize,
+    out: &mut [u16],
+) -> usize
     requires checked { Checked concepts.now }
     requires low_roles { LowRoles roles.now }
-    requires table_len { length table.now ≡ table_size }
     requires at_bound { at ≤ 768000 }
     ensures { Put out.old at
         (joined (links_of concepts.now roles.now (marked table.now)) 0 (count_of concepts.now)) result out.new }
@@ -123,19 +123,21 @@ fn put_links(concepts: &[u16], roles: &[u16], table: &[u8], at: usize, out: &mut
     note_roles(roles, &mut into);
     let count = concepts.len() / 3;
     let mut end = at;
-    let mut i: usize = 0;
-    while i < count {
+    for i in 0..count {
         end = put_links_of(concepts, &into, table, i, end, out);
-        i += 1;
     }
     end
 }
 
 // All rows, from the front of the buffer; answers how many numbers they take.
-pub fn put_rows(concepts: &[u16], roles: &[u16], table: &[u8], out: &mut [u16]) -> usize
+pub fn put_rows(
+    concepts: &[u16],
+    roles: &[u16],
+    table: &[u8; TABLE_BYTES],
+    out: &mut [u16],
+) -> usize
     requires checked { Checked concepts.now }
     requires low_roles { LowRoles roles.now }
-    requires table_len { length table.now ≡ table_size }
     ensures { Put out.old 0 (shown_rows concepts.now roles.now (marked table.now)) result out.new }
 {
     let end = put_names(concepts, table, out);

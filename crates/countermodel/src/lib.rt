@@ -12,4 +12,4 @@ mod rows;
 mod show;
 
 pub use membership::decide_member;
-pub use show::{Shown, show_countermodel};
+pub use show::show_countermodel;

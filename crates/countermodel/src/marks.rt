@@ -5,13 +5,12 @@ ghost use Rattle.subsumption.specs.Table.{marked};
 ghost use Rattle.subsumption.specs.Inner.Sizes.{roles_size, table_size};
 ghost use Rattle.countermodel.specs.Inner.Show.{Checked, ForRoles, NamesOf, LinksOf};
 
-use subsumption::helpers::{counts, row_at};
-use subsumption::kinds::{EXISTENTIAL, NAME};
-use subsumption::limits::ROW_BYTES;
+use crate::limits::TABLE_BYTES;
+use subsumption::helpers::{Node, counts, node_at};
+use subsumption::limits::{ROLE_WORDS, ROW_BYTES};
 
 // The concept i is below the concept j.
-pub fn is_marked(table: &[u8], i: usize, j: usize) -> bool
-    requires table_len { length table.now ≡ table_size }
+pub fn is_marked(table: &[u8; TABLE_BYTES], i: usize, j: usize) -> bool
     requires i_bound { (i < 192) × (j < 192) }
     ensures { result ≡ marked table.now i j }
 {
@@ -19,24 +18,19 @@ pub fn is_marked(table: &[u8], i: usize, j: usize) -> bool
 }
 
 // Notes which names the element i bears.
-pub fn note_names(concepts: &[u16], table: &[u8], i: usize, names: &mut [bool])
+pub fn note_names(concepts: &[u16], table: &[u8; TABLE_BYTES], i: usize, names: &mut [bool])
     requires checked { Checked concepts.now }
-    requires table_len { length table.now ≡ table_size }
     requires i_bound { i < count_of concepts.now }
     requires names_value { names.old ≡ replicate 1000 false }
     ensures { NamesOf concepts.now (marked table.now) i names.new }
 {
     let count = concepts.len() / 3;
-    let mut j: usize = 0;
-    while j < count {
-        let row = row_at(concepts, j);
-        let above = j;
-        j += 1;
-        if row.kind != NAME {
+    for j in 0..count {
+        let Node::Name(name) = node_at(concepts, j) else {
             continue;
-        }
-        if is_marked(table, i, above) {
-            names[row.a as usize] = true;
+        };
+        if is_marked(table, i, j) {
+            names[name as usize] = true;
         }
     }
 }
@@ -44,34 +38,27 @@ pub fn note_names(concepts: &[u16], table: &[u8], i: usize, names: &mut [bool])
 // Notes to which elements the element i is linked by the role.
 pub fn note_links(
     concepts: &[u16],
-    into: &[u64],
-    table: &[u8],
+    into: &[u64; ROLE_WORDS],
+    table: &[u8; TABLE_BYTES],
     i: usize,
     role: usize,
     links: &mut [bool],
 )
     requires checked { Checked concepts.now }
-    requires into_len { length into.now ≡ roles_size }
-    requires table_len { length table.now ≡ table_size }
     requires i_bound { (i < count_of concepts.now) × (role < 100) }
     requires links_value { links.old ≡ replicate 192 false }
     ensures { ForRoles into.now (λ roles. LinksOf concepts.now roles (marked table.now) i role links.new) }
 {
     let count = concepts.len() / 3;
-    let mut j: usize = 0;
-    while j < count {
-        let row = row_at(concepts, j);
-        let above = j;
-        j += 1;
-        if row.kind != EXISTENTIAL {
+    for j in 0..count {
+        let Node::Exists(narrow, to) = node_at(concepts, j) else {
+            continue;
+        };
+        if !counts(into, narrow as usize, role) {
             continue;
         }
-        if !counts(into, row.a as usize, role) {
-            continue;
-        }
-        let to = row.b as usize;
-        if is_marked(table, i, above) {
-            links[to] = true;
+        if is_marked(table, i, j) {
+            links[to as usize] = true;
         }
     }
 }

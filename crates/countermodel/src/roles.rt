@@ -5,64 +5,48 @@ ghost use Rattle.subsumption.specs.Table.{marked};
 ghost use Rattle.subsumption.specs.Inner.Sizes.{roles_size, table_size};
 ghost use Rattle.countermodel.specs.Inner.Show.{Checked, RolesOf, Widened, UsedRoles};
 
-use crate::limits::ROLES;
+use crate::limits::{ROLES, TABLE_BYTES};
 use crate::marks::is_marked;
-use subsumption::helpers::{counts, row_at};
-use subsumption::kinds::EXISTENTIAL;
+use subsumption::helpers::{Node, counts, node_at};
+use subsumption::limits::ROLE_WORDS;
 
 // Notes the roles of the existentials that the element i is below.
-pub fn note_own(concepts: &[u16], table: &[u8], i: usize, own: &mut [bool])
+pub fn note_own(concepts: &[u16], table: &[u8; TABLE_BYTES], i: usize, own: &mut [bool; ROLES])
     requires checked { Checked concepts.now }
-    requires table_len { length table.now ≡ table_size }
     requires i_bound { i < count_of concepts.now }
     requires own_value { own.old ≡ replicate 100 false }
     ensures { RolesOf concepts.now (marked table.now) i own.new }
 {
     let count = concepts.len() / 3;
-    let mut j: usize = 0;
-    while j < count {
-        let row = row_at(concepts, j);
-        let above = j;
-        j += 1;
-        if row.kind != EXISTENTIAL {
+    for j in 0..count {
+        let Node::Exists(role, _) = node_at(concepts, j) else {
             continue;
-        }
-        if is_marked(table, i, above) {
-            own[row.a as usize] = true;
+        };
+        if is_marked(table, i, j) {
+            own[role as usize] = true;
         }
     }
 }
 
 // Marks the roles that the role r counts as.
-fn mark_wider(into: &[u64], r: usize, used: &mut [bool])
-    requires into_len { length into.now ≡ roles_size }
+fn mark_wider(into: &[u64; ROLE_WORDS], r: usize, used: &mut [bool; ROLES])
     requires r_bound { r < 100 }
-    requires used_len { length used.old ≡ 100 }
     ensures { Widened into.now r used.old used.new }
 {
-    let mut s: usize = 0;
-    while s < ROLES {
-        let role = s;
-        s += 1;
-        if counts(into, r, role) {
-            used[role] = true;
+    for s in 0..ROLES {
+        if counts(into, r, s) {
+            used[s] = true;
         }
     }
 }
 
 // Marks the roles that an own role counts as.
-pub fn mark_used(into: &[u64], own: &[bool], used: &mut [bool])
-    requires into_len { length into.now ≡ roles_size }
-    requires own_len { length own.now ≡ 100 }
-    requires used_len { length used.old ≡ 100 }
+pub fn mark_used(into: &[u64; ROLE_WORDS], own: &[bool; ROLES], used: &mut [bool; ROLES])
     ensures { UsedRoles into.now own.now used.new }
 {
-    let mut r: usize = 0;
-    while r < ROLES {
-        let role = r;
-        r += 1;
-        if own[role] {
-            mark_wider(into, role, used);
+    for r in 0..ROLES {
+        if own[r] {
+            mark_wider(into, r, used);
         }
     }
 }

@@ -46,12 +46,9 @@ pub fn put_marks(
     ensures put { Put out.old at (rows_for kind element role (marked_ids marks.now count)) result out.new }
 {
     let mut end = at;
-    let mut q: usize = 0;
-    while q < count {
-        let mark = q;
-        q += 1;
-        if marks[mark] {
-            end = put_mark(kind, element, role, mark as u16, end, out);
+    for q in 0..count {
+        if marks[q] {
+            end = put_mark(kind, element, role, q as u16, end, out);
         }
     }
     end

@@ -9,50 +9,28 @@ ghost use Rattle.matching.specs.Writer.{Derives};
 ghost use Rattle.answers.specs.Answer.{replied};
 
 use answers::{Answer, answer_of};
-use matching::Derived;
-use subsumption::refusal::Outcome;
+use subsumption::Tables;
 
 // Writes the derivation of one pair under an assignment; value: how many lines.
-pub fn derive(
-    concepts: &[u16],
-    inclusions: &[u16],
-    questions: &[u16],
-    roles: &[u16],
-    variables: u16,
-    assignment: &[u64],
-    left: u16,
-    right: u16,
-    out: &mut [u16],
-) -> Answer
-    ensures { Derives (lent concepts inclusions questions roles variables) assignment.now left right
+pub fn derive(tables: Tables, assignment: &[u64], left: u16, right: u16, out: &mut [u16]) -> Answer
+    ensures { Derives (lent tables) assignment.now left right
         out.old out.new (replied result) }
 {
-    let answer = matching::derive(
-        concepts, inclusions, questions, roles, variables, assignment, left, right, out,
-    );
-    match answer {
-        Derived::Rejected(r) => answer_of(Outcome::Refused(r), 0),
-        Derived::Lines(n) => answer_of(Outcome::Done, n as u64),
-    }
+    let answer = matching::derive(tables, assignment, left, right, out);
+    answer_of(answer.map(|n| n as u64))
 }
 
 // Checks a derivation of one pair under an assignment.
 pub fn check_derivation(
-    concepts: &[u16],
-    inclusions: &[u16],
-    questions: &[u16],
-    roles: &[u16],
-    variables: u16,
+    tables: Tables,
     assignment: &[u64],
     left: u16,
     right: u16,
     lines: &[u16],
 ) -> Answer
     ensures { replied result ≡ reply_of
-        (checking_fault (lent concepts inclusions questions roles variables) assignment.now left right lines.now) }
+        (checking_fault (lent tables) assignment.now left right lines.now) }
 {
-    let judged = matching::check_derivation(
-        concepts, inclusions, questions, roles, variables, assignment, left, right, lines,
-    );
-    answer_of(judged, 0)
+    let judged = matching::check_derivation(tables, assignment, left, right, lines);
+    answer_of(judged.map(|()| 0))
 }

@@ -1,8 +1,8 @@
 -- Tables over the same concepts, roles and variables: what is subsumed with fewer inclusions still is with more.
+use Rattle.subsumption.specs.Refusal.{Done}
 use Prim.Native.Nat.{ℕ, ◌<◌}
 use mathlib.Core.Path.{◌≡◌, refl, sym, subst}
 use mathlib.Core.List.{List}
-use Rattle.subsumption.specs.declared.refusal.Outcome.TheVariants.{Done}
 use Rattle.subsumption.specs.Tables.{Tables, Node, top_at, name_at, exists_at, and_at, var_at, node, left_of, right_of, tree}
 use Rattle.subsumption.specs.Subsumption.{Interpretation, Reading, Member, Included, no_variables, assigned, Obeys, Subsumed}
 use Rattle.subsumption.specs.Check.{table_fault}

@@ -1,4 +1,5 @@
 -- What adding inclusions can move, shown.
+use Rattle.std.specs.Prelude.{Err, Ok}
 use Prim.Native.Nat.{ℕ, zero, suc, ◌<◌, ◌≤◌}
 use mathlib.Core.Path.{◌≡◌, refl, sym, ap, ◌∙◌, subst}
 use mathlib.Core.List.Memᴰ
@@ -7,13 +8,11 @@ use mathlib.Core.Bool.{Bool, true}
 use mathlib.Core.Logic.{⊎_elim}
 use native.Mathlib.Omega.{arith}
 use lib.ListN.{get_or, get_or-eq_default}
-use Rattle.subsumption.specs.declared.refusal.Outcome.{Outcome}
-use Rattle.subsumption.specs.declared.refusal.Outcome.TheVariants.{Done, Refused}
 use Rattle.subsumption.specs.Tables.{Tables}
 use Rattle.subsumption.specs.Atoms.{in_inclusion, stands, is_atom, atoms, chosen}
 use Rattle.subsumption.specs.Subsumption.{Subsumed}
 use Rattle.subsumption.specs.Rules.{contains}
-use Rattle.subsumption.specs.Refusal.{Reply, reply_done, Replies}
+use Rattle.subsumption.specs.Refusal.{Reply, reply_done, Replies, Outcome, Done}
 use Rattle.subsumption.specs.Check.{table_fault, alone_fault, pair_fault}
 use Rattle.subsumption.specs.Decide.{Tells, deciding_fault}
 use Rattle.subsumption.proofs.Bools.{or_cases, or-first, or-second, both_true, both-intro, any_below-intro, any_below-elim, le-or-lt}
@@ -124,8 +123,8 @@ yes-stays = by-inclusions _ yes-still
 
 -- ---- the answers for one pair
 told : (o : Outcome) (Right : ℕ → Type 0) (n : ℕ) (reply : Reply) → Replies o Right reply → reply ≡ reply_done n → (o ≡ Done) × Right n
-told Done Right n reply (_, h) e = (refl, subst Right (ap (λ (z : Reply). z.value) e) h)
-told (Refused r) Right n reply h e = not_done r n (sym h ∙ e)
+told (Ok tt) Right n reply (_, h) e = (refl, subst Right (ap (λ (z : Reply). z.value) e) h)
+told (Err r) Right n reply h e = not_done r n (sym h ∙ e)
 
 tells-yes : (t : Tables) (b : List ℕ) (i j n : ℕ) → Subsumed t b i j → Tells t b i j n → n ≡ 1
 tells-yes t b i j zero s h = absurd (h s)

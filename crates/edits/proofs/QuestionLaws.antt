@@ -1,10 +1,10 @@
 -- What adding questions that bring no atom can move, shown: who answers the newer questions answers the older.
+use Rattle.subsumption.specs.Refusal.{Done}
 use Prim.Native.Nat.{ℕ}
 use mathlib.Core.Path.{◌≡◌, refl, sym, subst}
 use mathlib.Core.List.{List, Memᴰ}
 use mathlib.Core.Logic.{◌⊎◌, inl, inr}
 use lib.ListN.{length, get_or, take}
-use Rattle.subsumption.specs.declared.refusal.Outcome.TheVariants.{Done}
 use Rattle.subsumption.specs.Tables.{Tables, left_of, right_of, tree}
 use Rattle.subsumption.specs.Atoms.{pick, chosen}
 use Rattle.subsumption.specs.Subsumption.{Included, Subsumed}

@@ -1,4 +1,5 @@
 -- The size of a choice is told by the chosen ids, wherever their bits stand.
+use Rattle.subsumption.specs.Refusal.{Done}
 use Prim.Native.Nat.{ℕ, zero, suc, ◌/◌, ◌^◌, ◌<◌, ◌≤◌}
 use mathlib.Core.Path.{◌≡◌, refl, sym, subst}
 use mathlib.Core.List.Memᴰ
@@ -8,7 +9,6 @@ use mathlib.Core.Logic.{⊎_elim}
 use native.Mathlib.Omega.{arith}
 use lib.Pow.{pow_mono}
 use lib.ListN.{length, get_or}
-use Rattle.subsumption.specs.declared.refusal.Outcome.TheVariants.{Done}
 use Rattle.subsumption.specs.Tables.{Tables, count_of}
 use Rattle.subsumption.specs.Atoms.{is_atom, keep, atoms, bit, pick, chosen}
 use Rattle.subsumption.specs.Check.{table_fault, assignment_fault}

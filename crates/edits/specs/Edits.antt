@@ -1,6 +1,6 @@
 -- Small edits (02, A.13): tables with more inclusions, or with more questions.
+use Rattle.subsumption.specs.Refusal.{Done}
 use Rattle.std.specs.Prelude.{◌≡◌}
-use Rattle.subsumption.specs.declared.refusal.Outcome.TheVariants.{Done}
 use Rattle.subsumption.specs.Tables.{Tables}
 use Rattle.subsumption.specs.Atoms.{atoms}
 use Rattle.subsumption.specs.Check.{table_fault}

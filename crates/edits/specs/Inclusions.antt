@@ -1,10 +1,9 @@
 -- What adding inclusions can move (02, A.13): no yes becomes a no, and a filled card stays filled.
 use Rattle.std.specs.Prelude.{ℕ, ◌<◌, ◌≤◌, ◌≡◌, List, true, length, get_or}
-use Rattle.subsumption.specs.declared.refusal.Outcome.TheVariants.{Done}
 use Rattle.subsumption.specs.Tables.{Tables}
 use Rattle.subsumption.specs.Atoms.{atoms, bit}
 use Rattle.subsumption.specs.Subsumption.{Subsumed}
-use Rattle.subsumption.specs.Refusal.{Reply, reply_done}
+use Rattle.subsumption.specs.Refusal.{Reply, reply_done, Done}
 use Rattle.subsumption.specs.Check.{assignment_fault}
 use Rattle.subsumption.specs.Decide.{Decides}
 use Rattle.settings.specs.Settings.{Settings, settings_fault}

@@ -1,9 +1,8 @@
 -- What adding questions can move that bring no atom (02, A.13): the filling stays, moves later, or is gone; a "none" stays.
 use Rattle.std.specs.Prelude.{ℕ, ◌≤◌, ◌≡◌, List, ◌⊎◌, length, take}
 use Rattle.subsumption.specs.declared.refusal.Refusal.TheVariants.{NoAssignment}
-use Rattle.subsumption.specs.declared.refusal.Outcome.TheVariants.{Done}
 use Rattle.subsumption.specs.Tables.{Tables}
-use Rattle.subsumption.specs.Refusal.{Reply, reply_done, reply_refused}
+use Rattle.subsumption.specs.Refusal.{Reply, reply_done, reply_refused, Done}
 use Rattle.settings.specs.Settings.{Settings, settings_fault}
 use Rattle.matching.specs.Solving.{Earlier}
 use Rattle.matching.specs.Find.{Finds}

@@ -10,8 +10,9 @@ ghost use Rattle.subsumption.specs.Lent.{lent};
 
 use allowance::Counted;
 use answers::Answer;
-use matching::Match;
 use matching_answers::matched;
+use settings::Settings;
+use subsumption::Tables;
 use subsumption::refusal::code_of;
 
 // What the finder with an allowance answered: the count is told with 10 and 14 too.
@@ -21,12 +22,12 @@ fn counted_of(counted: Counted) -> Answer
     let value = counted.count as u64;
     let answer = counted.answer;
     match answer {
-        Match::Filled => Answer {
+        Ok(()) => Answer {
             number: 0,
             place: 0,
             value,
         },
-        Match::Rejected(r) => {
+        Err(r) => {
             let code = code_of(r);
             let number = code.number;
             let place = code.place as u64;
@@ -41,44 +42,20 @@ fn counted_of(counted: Counted) -> Answer
 
 // Finds the first assignment within settings on an allowance of decisions; value: their count, with 10 and 14 too; refusal 14: the
 // count is over the allowance.
-pub fn find_counted(
-    concepts: &[u16],
-    inclusions: &[u16],
-    questions: &[u16],
-    roles: &[u16],
-    variables: u16,
-    permitted: &[u64],
-    largest: &[u16],
-    allowance: u32,
-    out: &mut [u64],
-) -> Answer
-    ensures { FindsCounted (lent concepts inclusions questions roles variables) (lent_settings permitted largest) allowance
+pub fn find_counted(tables: Tables, settings: Settings, allowance: u32, out: &mut [u64]) -> Answer
+    ensures { FindsCounted (lent tables) (lent_settings settings) allowance
         out.old out.new (replied result) }
 {
-    let counted = allowance::find_counted(
-        concepts, inclusions, questions, roles, variables, permitted, largest, allowance, out,
-    );
+    let counted = allowance::find_counted(tables, settings, allowance, out);
     counted_of(counted)
 }
 
 // Finds the first assignment of the group of one question, without an allowance; refusal 10: no assignment within the settings
 // makes the group's questions hold.
-pub fn find_group(
-    concepts: &[u16],
-    inclusions: &[u16],
-    questions: &[u16],
-    roles: &[u16],
-    variables: u16,
-    permitted: &[u64],
-    largest: &[u16],
-    question: u16,
-    out: &mut [u64],
-) -> Answer
-    ensures { FindsGroup (lent concepts inclusions questions roles variables) (lent_settings permitted largest) question
+pub fn find_group(tables: Tables, settings: Settings, question: u16, out: &mut [u64]) -> Answer
+    ensures { FindsGroup (lent tables) (lent_settings settings) question
         out.old out.new (replied result) }
 {
-    let answer = groups::find_group(
-        concepts, inclusions, questions, roles, variables, permitted, largest, question, out,
-    );
+    let answer = groups::find_group(tables, settings, question, out);
     matched(answer)
 }

@@ -1,4 +1,5 @@
 -- From assignments that make the asked questions hold to the answer of a group.
+use Rattle.std.specs.Prelude.{Err, Ok}
 use Prim.Native.Nat.{ℕ, ◌<◌, ◌≤◌}
 use mathlib.Core.Path.{◌≡◌, refl, sym, ap, ◌∙◌, subst}
 use mathlib.Core.List.{List}
@@ -10,13 +11,11 @@ use lib.Seq.{get_or-take}
 use borrow.Author.Tests.{eq-eqb, ne_eqb, lt-ltb, le-ltb}
 use Rattle.subsumption.specs.declared.refusal.Refusal.{Refusal}
 use Rattle.subsumption.specs.declared.refusal.Refusal.TheVariants.{NoConcept}
-use Rattle.subsumption.specs.declared.refusal.Outcome.{Outcome}
-use Rattle.subsumption.specs.declared.refusal.Outcome.TheVariants.{Done, Refused}
 use Rattle.subsumption.specs.Tables.{Tables, pairs_of}
 use Rattle.subsumption.specs.Atoms.{bit}
 use Rattle.subsumption.specs.Subsumption.{Interpretation, Reading}
 use Rattle.subsumption.specs.Check.{table_fault, concept_fault, id_fault, use_fault}
-use Rattle.subsumption.specs.Refusal.{Reply, reply_refused, or_else, refuse_if}
+use Rattle.subsumption.specs.Refusal.{Reply, reply_refused, or_else, refuse_if, Outcome, Done}
 use Rattle.subsumption.proofs.Refusals.{stops, goes_on, passed_first, passed-second, done-if}
 use Rattle.settings.specs.Settings.{Settings}
 use Rattle.matching.specs.Within.{within_fault}
@@ -93,9 +92,9 @@ module _ (t : Tables) (s : Settings) (m : ℕ) where
     group-after :
         (o : Outcome) → ((n : ℕ) → n < pairs_of t.questions → (bit group n ≡ true) ↔ InGroup t m n)
         → FindsAmongAfter o (λ n. bit group n ≡ true) t s before after reply → FindsGroupAfter o t s m before after reply
-    group-after (Refused r) same x = x
-    group-after Done same (inr (e, u)) = inr (e, unfilled-among-same t s _ _ same before after u)
-    group-after Done same (inl (e, f)) =
+    group-after (Err r) same x = x
+    group-after (Ok tt) same (inr (e, u)) = inr (e, unfilled-among-same t s _ _ same before after u)
+    group-after (Ok tt) same (inl (e, f)) =
         let filled : FilledAmong (InGroup t m) t s before after = filled-among-same t s _ _ same before after f in
         inl (
           e,
@@ -113,25 +112,25 @@ module _ (t : Tables) (s : Settings) (m : ℕ) where
         (group-after (within_fault t s (length before)) same x)
 
 -- ---- the tables or the place are refused
-more : (a b c : Outcome) (r : Refusal) → (Refused r ≡ b → Refused r ≡ c) → Refused r ≡ or_else a b → Refused r ≡ or_else a c
+more : (a b c : Outcome) (r : Refusal) → (Err r ≡ b → Err r ≡ c) → Err r ≡ or_else a b → Err r ≡ or_else a c
 unfolding or_else
-more Done b c r f h = f h
-more (Refused q) b c r f h = h
+more (Ok tt) b c r f h = f h
+more (Err q) b c r f h = h
 
 group-refuses :
     (t : Tables) (s : Settings) (m : ℕ) (before : List ℕ) (r : Refusal)
-    → Refused r ≡ or_else (concept_fault t) (or_else (place_fault t m) (or_else (id_fault t) (use_fault t))) → FindsGroup t s m before before (reply_refused r)
+    → Err r ≡ or_else (concept_fault t) (or_else (place_fault t m) (or_else (id_fault t) (use_fault t))) → FindsGroup t s m before before (reply_refused r)
 unfolding group_fault
 group-refuses t s m before r h =
     subst (λ (o : Outcome). FindsGroupAfter o t s m before before (reply_refused r))
-    (more _ _ _ r (more _ _ _ r (more _ _ _ r (λ u. stops (Refused r) _ _ r u refl))) h) (refl, refl)
+    (more _ _ _ r (more _ _ _ r (more _ _ _ r (λ u. stops (Err r) _ _ r u refl))) h) (refl, refl)
 
 module _ (t : Tables) (s : Settings) (m : ℕ) (before : List ℕ) (r : Refusal) where
   pub place-refuses :
-      pairs_of t.questions ≤ m → Refused r ≡ or_else (concept_fault t) (Refused (NoConcept 0)) → FindsGroup t s m before before (reply_refused r)
+      pairs_of t.questions ≤ m → Err r ≡ or_else (concept_fault t) (Err (NoConcept 0)) → FindsGroup t s m before before (reply_refused r)
   unfolding place_fault refuse_if or_else
   place-refuses l e = group-refuses t s m before r (rw (le-ltb m (pairs_of t.questions) l) e)
 
-  pub tables-refuse : m < pairs_of t.questions → Refused r ≡ table_fault t → FindsGroup t s m before before (reply_refused r)
+  pub tables-refuse : m < pairs_of t.questions → Err r ≡ table_fault t → FindsGroup t s m before before (reply_refused r)
   unfolding table_fault place_fault refuse_if or_else
   tables-refuse l e = group-refuses t s m before r (rw (lt-ltb m (pairs_of t.questions) l) e)

@@ -7,11 +7,9 @@ use mathlib.Core.Logic.{◌⊎◌, inl, inr, ⊎_elim, ◌↔◌}
 use native.Mathlib.Omega.{arith}
 use lib.ListN.{length, get_or, take}
 use Rattle.subsumption.specs.declared.refusal.Refusal.TheVariants.{NoAssignment}
-use Rattle.subsumption.specs.declared.refusal.Outcome.{Outcome}
-use Rattle.subsumption.specs.declared.refusal.Outcome.TheVariants.{Done}
 use Rattle.subsumption.specs.Tables.{Tables, pairs_of}
 use Rattle.subsumption.specs.Atoms.{bit}
-use Rattle.subsumption.specs.Refusal.{Reply, reply_done, reply_refused}
+use Rattle.subsumption.specs.Refusal.{Reply, reply_done, reply_refused, Outcome, Done}
 use Rattle.subsumption.specs.Check.{table_fault, assignment_fault, buffer_fault}
 use Rattle.subsumption.proofs.Bools.{le-or-lt, last-cases, same_bool}
 use Rattle.subsumption.proofs.Bits.{bit-of-zero, bit_or_left, bit_or_right, bit-or-cases}

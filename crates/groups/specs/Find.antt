@@ -1,10 +1,8 @@
 -- Finding an assignment of one group (02, A.10): the first one within the settings that makes the group's questions hold, or there is none.
-use Rattle.std.specs.Prelude.{ℕ, ◌<◌, ◌≡◌, List, not, ◌⊎◌, ltb, length, get_or}
+use Rattle.std.specs.Prelude.{ℕ, ◌<◌, ◌≡◌, List, not, ◌⊎◌, ltb, length, get_or, Err, Ok}
 use Rattle.subsumption.specs.declared.refusal.Refusal.TheVariants.{NoConcept, NoAssignment}
-use Rattle.subsumption.specs.declared.refusal.Outcome.{Outcome}
-use Rattle.subsumption.specs.declared.refusal.Outcome.TheVariants.{Done, Refused}
 use Rattle.subsumption.specs.Tables.{Tables, pairs_of}
-use Rattle.subsumption.specs.Refusal.{Reply, reply_done, reply_refused, or_else, refuse_if}
+use Rattle.subsumption.specs.Refusal.{Reply, reply_done, reply_refused, or_else, refuse_if, Outcome}
 use Rattle.subsumption.specs.Check.{concept_fault, id_fault, use_fault, buffer_fault}
 use Rattle.settings.specs.Settings.{Settings, settings_fault}
 use Rattle.matching.specs.Among.{FilledAmong, UnfilledAmong}
@@ -27,10 +25,10 @@ pub record FilledGroup (t : Tables) (s : Settings) (m : ℕ) (before after : Lis
 
 -- Where nothing is refused, either the group's first assignment is written, or none exists and the reply is refusal 10.
 abbrev pub FindsGroupAfter : Outcome → Tables → Settings → ℕ → List ℕ → List ℕ → Reply → Type 0
-FindsGroupAfter Done t s m before after reply =
+FindsGroupAfter (Ok tt) t s m before after reply =
     ((reply ≡ reply_done 0) × FilledGroup t s m before after)
     ⊎ ((reply ≡ reply_refused NoAssignment) × UnfilledAmong (InGroup t m) t s before after)
-FindsGroupAfter (Refused r) t s m before after reply = (reply ≡ reply_refused r) × (after ≡ before)
+FindsGroupAfter (Err r) t s m before after reply = (reply ≡ reply_refused r) × (after ≡ before)
 
 abbrev pub FindsGroup : Tables → Settings → ℕ → List ℕ → List ℕ → Reply → Type 0
 FindsGroup t s m before after reply = FindsGroupAfter (group_fault t s m (length before)) t s m before after reply

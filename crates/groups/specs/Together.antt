@@ -1,9 +1,8 @@
 -- The groups' assignments put together (02, A.10).
 use Rattle.std.specs.Prelude.{ℕ, zero, suc, ◌<◌, ◌≤◌, ◌≡◌, List, [], ◌∷◌, length, get_or}
 use Rattle.std.specs.Int.Bits.{bit_or}
-use Rattle.subsumption.specs.declared.refusal.Outcome.TheVariants.{Done}
 use Rattle.subsumption.specs.Tables.{Tables, pairs_of}
-use Rattle.subsumption.specs.Refusal.{Reply}
+use Rattle.subsumption.specs.Refusal.{Reply, Done}
 use Rattle.subsumption.specs.Check.{table_fault}
 use Rattle.settings.specs.Settings.{Settings, settings_fault}
 use Rattle.matching.specs.Within.{FindsWithin}

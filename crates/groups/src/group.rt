@@ -9,6 +9,7 @@ ghost use Rattle.subsumption.specs.Inner.Atoms.{Known};
 ghost use Rattle.subsumption.specs.Inner.Listing.{Accepted};
 ghost use Rattle.groups.specs.Inner.Group.{set_at, swept, reached_by, belongs, GroupSet};
 
+use subsumption::Tables;
 use subsumption::helpers::{pair_at, write_sets};
 use subsumption::limits::CONCEPTS;
 
@@ -32,13 +33,11 @@ fn sweep(sets: &[u8], questions: &[u16], from: u8) -> u8
 {
     let count = questions.len() / 2;
     let mut reached = from;
-    let mut m: usize = 0;
-    while m < count {
+    for m in 0..count {
         let set = set_of(sets, questions, m);
         if reached & set != 0 {
             reached = reached | set;
         }
-        m += 1;
     }
     reached
 }
@@ -50,11 +49,9 @@ fn reach(sets: &[u8], questions: &[u16], m: usize) -> u8
     ensures { result ≡ reached_by (λ i. get_or sets.now i 0) questions.now m }
 {
     let mut reached = set_of(sets, questions, m);
-    let mut walk: usize = 0;
-    while walk < WALKS {
+    for _ in 0..WALKS {
         let more = sweep(sets, questions, reached);
         reached = more;
-        walk += 1;
     }
     reached
 }
@@ -78,33 +75,23 @@ fn gather(sets: &[u8], questions: &[u16], reached: u8) -> u64
 {
     let count = questions.len() / 2;
     let mut group: u64 = 0;
-    let mut n: usize = 0;
-    while n < count {
+    for n in 0..count {
         let set = set_of(sets, questions, n);
         if is_among(reached, set) {
             group = group | (1 << n);
         }
-        n += 1;
     }
     group
 }
 
 // The questions of the group of question m of accepted tables, with bit n for question n.
-pub fn group_of(
-    concepts: &[u16],
-    inclusions: &[u16],
-    questions: &[u16],
-    roles: &[u16],
-    variables: u16,
-    ids: &[u16],
-    m: usize,
-) -> u64
-    requires accepted { Accepted (given concepts inclusions questions roles variables) ids.now }
-    requires m_bound { m < pairs_of questions.now }
-    ensures { GroupSet (lent concepts inclusions questions roles variables) m result }
+pub fn group_of(tables: Tables, ids: &[u16], m: usize) -> u64
+    requires accepted { Accepted (given tables) ids.now }
+    requires m_bound { m < pairs_of tables.questions.now }
+    ensures { GroupSet (lent tables) m result }
 {
     let mut sets = [0u8; CONCEPTS];
-    write_sets(concepts, &mut sets);
-    let reached = reach(&sets, questions, m);
-    gather(&sets, questions, reached)
+    write_sets(tables.concepts, &mut sets);
+    let reached = reach(&sets, tables.questions, m);
+    gather(&sets, tables.questions, reached)
 }

@@ -1,4 +1,5 @@
 -- An accepted text is a layout of the tables that it says, and they can be said.
+use Rattle.std.specs.Prelude.{Option, Some, None}
 use Prim.Native.Nat.{ℕ, zero, suc, ◌+◌, ◌*◌, ◌≤◌}
 use mathlib.Core.Path.{◌≡◌, refl, sym, ap, ◌∙◌, subst}
 use mathlib.Core.List.{List, [], ◌∷◌, ◌++◌, append_assoc, append-nil}
@@ -17,11 +18,8 @@ use Rattle.numerals.specs.Bytes.{starts}
 use Rattle.numerals.specs.Printing.{number_text, pair_text}
 use Rattle.numerals.specs.Lines.{variables_key, roles_key, wider_key, concepts_key, inclusions_key, questions_key, below_key, show_key, lines_text, row_of_numbers, pair_of_numbers}
 use Rattle.hermitcasket.specs.declared.lines.Number.{Number}
-use Rattle.hermitcasket.specs.declared.lines.Number.TheVariants.{Value, NoNumber}
 use Rattle.hermitcasket.specs.declared.lines.PairLine.{PairLine}
-use Rattle.hermitcasket.specs.declared.lines.PairLine.TheVariants.{Two, NoPair}
 use Rattle.hermitcasket.specs.declared.lines.RowLine.{RowLine}
-use Rattle.hermitcasket.specs.declared.lines.RowLine.TheVariants.{Row, NoRow}
 use Rattle.hermitcasket.specs.declared.text.Ask.{Ask}
 use Rattle.hermitcasket.specs.declared.text.Ask.TheVariants.{Fill, Show}
 use Rattle.hermitcasket.specs.Lines.{number_line, pair_line, row_line}
@@ -97,27 +95,33 @@ rows-show : (rest xs : List ℕ) (n : ℕ) → row_at rest ≡ numbers xs n → 
 unfolding row_numbers
 rows-show rest xs n e = go (row_line rest) refl
   where
-    go : (l : RowLine) → row_line rest ≡ l → Holds rest (row_of_numbers xs) n × ConceptFits xs × (length xs ≡ 3)
-    go NoRow f = absurd (let g : off ≡ numbers xs n = rw f at e in let z : ◌≡◌ {A = ℕ} 0 1 = cc in omega arith)
-    go (Row k a b m) f =
-        let g : numbers (k ∷ a ∷ b ∷ []) m ≡ numbers xs n = rw f at e in
-        let ex : k ∷ a ∷ b ∷ [] ≡ xs = cc in
-        let en : m ≡ n = cc in
-        subst (λ (z : List ℕ). Holds rest (row_of_numbers z) n × ConceptFits z × (length z ≡ 3)) ex
-        (subst (λ (z : ℕ). Holds rest (row_of_numbers (k ∷ a ∷ b ∷ [])) z) en (row_line-holds rest k a b m f), row_line-fits rest k a b m f, refl)
+    go : (l : Option RowLine) → row_line rest ≡ l → Holds rest (row_of_numbers xs) n × ConceptFits xs × (length xs ≡ 3)
+    go None f = absurd (let g : off ≡ numbers xs n = rw f at e in let z : ◌≡◌ {A = ℕ} 0 1 = cc in omega arith)
+    go (Some l) f =
+        let g : numbers (l.kind ∷ l.a ∷ l.b ∷ []) l.length ≡ numbers xs n = rw f at e in
+        let ex : l.kind ∷ l.a ∷ l.b ∷ [] ≡ xs = cc in
+        let en : l.length ≡ n = cc in
+        subst (λ (z : List ℕ). Holds rest (row_of_numbers z) n × ConceptFits z × (length z ≡ 3)) ex (
+          subst (λ (z : ℕ). Holds rest (row_of_numbers (l.kind ∷ l.a ∷ l.b ∷ [])) z) en (row_line-holds rest l.kind l.a l.b l.length f),
+          row_line-fits rest l.kind l.a l.b l.length f,
+          refl,
+        )
 
 pairs-show : (key rest xs : List ℕ) (n : ℕ) → pair_at key rest ≡ numbers xs n → Holds rest (pair_of_numbers key xs) n × PairFits xs × (length xs ≡ 2)
 unfolding pair_numbers
 pairs-show key rest xs n e = go (pair_line key rest) refl
   where
-    go : (l : PairLine) → pair_line key rest ≡ l → Holds rest (pair_of_numbers key xs) n × PairFits xs × (length xs ≡ 2)
-    go NoPair f = absurd (let g : off ≡ numbers xs n = rw f at e in let z : ◌≡◌ {A = ℕ} 0 1 = cc in omega arith)
-    go (Two a b m) f =
-        let g : numbers (a ∷ b ∷ []) m ≡ numbers xs n = rw f at e in
-        let ex : a ∷ b ∷ [] ≡ xs = cc in
-        let en : m ≡ n = cc in
-        subst (λ (z : List ℕ). Holds rest (pair_of_numbers key z) n × PairFits z × (length z ≡ 2)) ex
-        (subst (λ (z : ℕ). Holds rest (pair_of_numbers key (a ∷ b ∷ [])) z) en (pair_line-holds key rest a b m f), pair_line-small key rest a b m f, refl)
+    go : (l : Option PairLine) → pair_line key rest ≡ l → Holds rest (pair_of_numbers key xs) n × PairFits xs × (length xs ≡ 2)
+    go None f = absurd (let g : off ≡ numbers xs n = rw f at e in let z : ◌≡◌ {A = ℕ} 0 1 = cc in omega arith)
+    go (Some l) f =
+        let g : numbers (l.a ∷ l.b ∷ []) l.length ≡ numbers xs n = rw f at e in
+        let ex : l.a ∷ l.b ∷ [] ≡ xs = cc in
+        let en : l.length ≡ n = cc in
+        subst (λ (z : List ℕ). Holds rest (pair_of_numbers key z) n × PairFits z × (length z ≡ 2)) ex (
+          subst (λ (z : ℕ). Holds rest (pair_of_numbers key (l.a ∷ l.b ∷ [])) z) en (pair_line-holds key rest l.a l.b l.length f),
+          pair_line-small key rest l.a l.b l.length f,
+          refl,
+        )
 
 -- ---- counts and sections
 module _ (key : List ℕ) (limit table at : ℕ) (rest : List ℕ) (t : Tables) (ask : Ask) where
@@ -132,13 +136,20 @@ module _ (key : List ℕ) (limit table at : ℕ) (rest : List ℕ) (t : Tables) 
   unfolding count_then pick_judged
   count-read go e = pick (number_line key rest) refl
     where
-      pick : (l : Number) → number_line key rest ≡ l → Counted go
-      pick NoNumber f = not-accepted (BadText at) t ask (rw f at e)
-      pick (Value count n) f = test (ltb limit count) refl
+      pick : (l : Option Number) → number_line key rest ≡ l → Counted go
+      pick None f = not-accepted (BadText at) t ask (rw f at e)
+      pick (Some l) f = test (ltb limit l.value) refl
         where
-          test : (b : Bool) → ltb limit count ≡ b → Counted go
+          test : (b : Bool) → ltb limit l.value ≡ b → Counted go
           test true h = not-accepted (Limit table) t ask (rw (f, h) at e)
-          test false h = record { count = count; used = n; holds = number_line-holds key rest count n f; few = ltb-false limit count h; goes = rw (f, h) at e }
+          test false h =
+              record {
+                count = l.value;
+                used = l.length;
+                holds = number_line-holds key rest l.value l.length f;
+                few = ltb-false limit l.value h;
+                goes = rw (f, h) at e;
+              }
 
 part-read :
     (q : Part) (go : List ℕ → Onward) (t : Tables) (ask : Ask) → part_then q go ≡ accepted t ask
@@ -310,19 +321,20 @@ module _ (s t : Tables) (ask : Ask) (at : ℕ) where
   end_read [] e = let f : Fill ≡ ask = cc in record { line = ap ask_text f; fits = subst AskFits f tt; same = cc }
   end_read (byte ∷ rest) e = go (pair_line show_key (byte ∷ rest)) refl
     where
-      go : (l : PairLine) → pair_line show_key (byte ∷ rest) ≡ l → Ended (byte ∷ rest)
-      go NoPair f = not-accepted (BadText at) t ask (rw f at e)
-      go (Two left right n) f = test (ltb n (length (byte ∷ rest))) refl
+      go : (l : Option PairLine) → pair_line show_key (byte ∷ rest) ≡ l → Ended (byte ∷ rest)
+      go None f = not-accepted (BadText at) t ask (rw f at e)
+      go (Some l) f = test (ltb l.length (length (byte ∷ rest))) refl
         where
-          test : (b : Bool) → ltb n (length (byte ∷ rest)) ≡ b → Ended (byte ∷ rest)
-          test true h = not-accepted (BadText (at + n)) t ask (rw (f, h) at e)
+          test : (b : Bool) → ltb l.length (length (byte ∷ rest)) ≡ b → Ended (byte ∷ rest)
+          test true h = not-accepted (BadText (at + l.length)) t ask (rw (f, h) at e)
           test false h =
-              let g : accepted s (Show left right) ≡ accepted t ask = rw (f, h) at e in
-              let a : Show left right ≡ ask = cc in
-              let w = pair_line-holds show_key (byte ∷ rest) left right n f in
+              let g : accepted s (Show l.a l.b) ≡ accepted t ask = rw (f, h) at e in
+              let a : Show l.a l.b ≡ ask = cc in
+              let w = pair_line-holds show_key (byte ∷ rest) l.a l.b l.length f in
               record {
-                line = on (byte ∷ rest) _ [] n w (drop_of_length-le (byte ∷ rest) (ltb-false n _ h)) ∙ append-nil (pair_text show_key left right) ∙ ap ask_text a;
-                fits = subst AskFits a (pair_line-small show_key (byte ∷ rest) left right n f);
+                line = on (byte ∷ rest) _ [] l.length w (drop_of_length-le (byte ∷ rest) (ltb-false l.length _ h))
+                    ∙ append-nil (pair_text show_key l.a l.b) ∙ ap ask_text a;
+                fits = subst AskFits a (pair_line-small show_key (byte ∷ rest) l.a l.b l.length f);
                 same = cc;
               }
 

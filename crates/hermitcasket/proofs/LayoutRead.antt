@@ -1,4 +1,5 @@
 -- Each layout within the counts is accepted, and reading it gives the tables back.
+use Rattle.std.specs.Prelude.{None}
 use Prim.Native.Nat.{ℕ, zero, suc, ◌+◌, ◌≤◌}
 use mathlib.Core.Path.{◌≡◌, refl, sym, ap, ◌∙◌}
 use mathlib.Core.List.{List, [], ◌∷◌, ◌++◌, append_assoc, append-nil}
@@ -13,29 +14,30 @@ use Rattle.numerals.specs.Bytes.{starts}
 use Rattle.numerals.specs.Printing.{number_text, pair_text}
 use Rattle.numerals.specs.Lines.{variables_key, roles_key, wider_key, concepts_key, inclusions_key, questions_key, below_key, show_key, top_text, name_key, some_key, and_key, variable_key, row_text, lines_text, row_of_numbers, pair_of_numbers}
 use Rattle.numerals.proofs.ReadingLaws.{starts-right}
-use Rattle.hermitcasket.specs.declared.lines.Number.TheVariants.{Value, NoNumber}
-use Rattle.hermitcasket.specs.declared.lines.PairLine.TheVariants.{Two, NoPair}
-use Rattle.hermitcasket.specs.declared.lines.RowLine.TheVariants.{Row}
 use Rattle.hermitcasket.specs.declared.text.Ask.{Ask}
 use Rattle.hermitcasket.specs.declared.text.Ask.TheVariants.{Fill, Show}
-use Rattle.hermitcasket.specs.Lines.{pick_number, behind as shifted, number_line, second_of, first_of, pair_if, pair_line, top_row, one_row, two_row, or_row, row_line}
+use Rattle.hermitcasket.specs.Lines.{a_number, a_pair, a_row, pick_number, behind as shifted, number_line, second_of, first_of, pair_if, pair_line, top_row, one_row, two_row, or_row, row_line}
 use Rattle.hermitcasket.specs.Text.{roles_text, ask_text, layout, RowFits, RowsFit, ConceptFits, PairFits, AskFits, Sayable, Line, numbers, row_numbers, pair_numbers, row_at, pair_at, part, prepend, line_then, read_lines, accepted, pick_judged, Onward, count_then, part_then, section_at, roles_at, show_then, judge_end, judge_questions, judge_inclusions, judge_concepts, judge_roles, judge_lines, judge}
 use Rattle.hermitcasket.proofs.NumberLaws.{number-right}
 
 -- ---- one line
-number_line-of : (key : List ℕ) (v : ℕ) (more : List ℕ) → v ≤ 65535 → number_line key (key ++ (digits v ++ (10 ∷ more))) ≡ Value v (length key + (length (digits v) + 1))
+number_line-of : (key : List ℕ) (v : ℕ) (more : List ℕ) → v ≤ 65535
+    → number_line key (key ++ (digits v ++ (10 ∷ more))) ≡ a_number v (length key + (length (digits v) + 1))
 unfolding number_line pick_number shifted
 number_line-of key v more h = rw (starts-right key (digits v ++ (10 ∷ more)), drop-append_seam key (digits v ++ (10 ∷ more)), number-right 10 (omega arith) v more h) refl
 
-pub number_line-right : (key : List ℕ) (v : ℕ) (more : List ℕ) → v ≤ 65535 → number_line key (number_text key v ++ more) ≡ Value v (length (number_text key v))
+pub number_line-right : (key : List ℕ) (v : ℕ) (more : List ℕ) → v ≤ 65535
+    → number_line key (number_text key v ++ more) ≡ a_number v (length (number_text key v))
 unfolding number_text
 number_line-right key v more h =
     ap (number_line key) (append_assoc key (digits v ++ (10 ∷ [])) more ∙ ap (λ (z : List ℕ). key ++ z) (append_assoc (digits v) (10 ∷ []) more)) ∙ number_line-of key v more h
-    ∙ ap (λ (z : ℕ). Value v z) (sym (length-append key (digits v ++ (10 ∷ [])) ∙ ap (λ (z : ℕ). length key + z) (length-append (digits v) (10 ∷ []))))
+    ∙ ap (λ (z : ℕ). a_number v z)
+    (sym (length-append key (digits v ++ (10 ∷ [])) ∙ ap (λ (z : ℕ). length key + z) (length-append (digits v) (10 ∷ []))))
 
 pairLine-of :
     (key : List ℕ) (a b : ℕ) (more : List ℕ) → a ≤ 65535 → b ≤ 65535
-    → pair_line key (key ++ (digits a ++ (44 ∷ (digits b ++ (10 ∷ more))))) ≡ Two a b (length key + (length (digits a) + 1) + (length (digits b) + 1))
+    → pair_line key (key ++ (digits a ++ (44 ∷ (digits b ++ (10 ∷ more))))) ≡ a_pair a b
+    (length key + (length (digits a) + 1) + (length (digits b) + 1))
 unfolding pair_line pair_if first_of second_of
 pairLine-of key a b more ha hb =
     let y = digits b ++ (10 ∷ more) in
@@ -44,13 +46,14 @@ pairLine-of key a b more ha hb =
     rw (starts-right key x, drop-append_seam key x, number-right 44 (omega arith) a y ha, second, number-right 10 (omega arith) b more hb) refl
 
 pub pairLine-right :
-    (key : List ℕ) (a b : ℕ) (more : List ℕ) → a ≤ 65535 → b ≤ 65535 → pair_line key (pair_text key a b ++ more) ≡ Two a b (length (pair_text key a b))
+    (key : List ℕ) (a b : ℕ) (more : List ℕ) → a ≤ 65535 → b ≤ 65535
+    → pair_line key (pair_text key a b ++ more) ≡ a_pair a b (length (pair_text key a b))
 unfolding pair_text
 pairLine-right key a b more ha hb =
     ap (pair_line key)
     (append_assoc key (digits a ++ (44 ∷ (digits b ++ (10 ∷ [])))) more
     ∙ ap (λ (z : List ℕ). key ++ z) (append_assoc (digits a) (44 ∷ (digits b ++ (10 ∷ []))) more ∙ ap (λ (z : List ℕ). digits a ++ (44 ∷ z)) (append_assoc (digits b) (10 ∷ []) more)))
-    ∙ pairLine-of key a b more ha hb ∙ ap (λ (z : ℕ). Two a b z) sizes
+    ∙ pairLine-of key a b more ha hb ∙ ap (λ (z : ℕ). a_pair a b z) sizes
   where
     sizes : length key + (length (digits a) + 1) + (length (digits b) + 1) ≡ length (key ++ (digits a ++ (44 ∷ (digits b ++ (10 ∷ [])))))
     sizes =
@@ -61,11 +64,11 @@ pairLine-right key a b more ha hb =
           length-append (digits b) (10 ∷ []),
         )
 
-no_number : (key rest : List ℕ) → starts key rest ≡ false → number_line key rest ≡ NoNumber
+no_number : (key rest : List ℕ) → starts key rest ≡ false → number_line key rest ≡ None
 unfolding number_line pick_number
 no_number key rest h = rw h
 
-no-pair : (key rest : List ℕ) → starts key rest ≡ false → pair_line key rest ≡ NoPair
+no-pair : (key rest : List ℕ) → starts key rest ≡ false → pair_line key rest ≡ None
 unfolding pair_line pair_if
 no-pair key rest h = rw h
 
@@ -110,7 +113,8 @@ module _ (a b : ℕ) (more : List ℕ) where
   unfolding starts both number_text
   variable-4 = refl
 
-pub row_line-right : (kind a b : ℕ) (more : List ℕ) → RowFits kind a b → row_line (row_text kind a b ++ more) ≡ Row kind a b (length (row_text kind a b))
+pub row_line-right : (kind a b : ℕ) (more : List ℕ) → RowFits kind a b
+    → row_line (row_text kind a b ++ more) ≡ a_row kind a b (length (row_text kind a b))
 unfolding row_line or_row top_row one_row two_row row_text
 row_line-right zero a b more h = rw (starts-right top_text more, h.0, h.1) refl
 row_line-right (suc zero) a b more h = rw (name-1 a b more, number_line-right name_key a more h.0, h.1) refl
@@ -185,7 +189,7 @@ unfolding judge_end show_then pick_judged ask_text pair_text
 ask-right t Fill at h = refl
 ask-right t (Show left right) at h =
     let line = pair_text show_key left right in
-    let e : pair_line show_key line ≡ Two left right (length line) =
+    let e : pair_line show_key line ≡ a_pair left right (length line) =
     ap (pair_line show_key) (sym (append-nil line)) ∙ pairLine-right show_key left right [] h.0 h.1 in
     rw (e, le-ltb (length line) (length line) (omega arith)) refl
 

@@ -1,22 +1,20 @@
 -- What a line that was read shows of the text.
+use Rattle.std.specs.Prelude.{Option, Some, None}
 use Prim.Native.Nat.{ℕ, ◌+◌, ◌-◌, ◌<◌, ◌≤◌}
 use mathlib.Core.Path.{◌≡◌, refl, sym, ap, ◌∙◌}
 use mathlib.Core.List.{List, [], ◌∷◌, ◌++◌, append_assoc}
-use mathlib.Core.Bool.{Bool, true, false, not}
+use mathlib.Core.Bool.{Bool, true, false}
 use native.Mathlib.Omega.{arith}
 use native.Mathlib.Numerals.{add-one}
 use lib.ListN.{length, take, drop, length-append, length-drop}
 use lib.Seq.{take_all, drop-drop}
-use borrow.Author.Tests.{not-true, not-false}
 use Rattle.numerals.specs.Digits.{digits}
 use Rattle.numerals.specs.Bytes.{starts}
 use Rattle.numerals.specs.Reading.{run_of}
 use Rattle.numerals.proofs.ReadingLaws.{starts-front}
 use Rattle.numerals.proofs.DigitLaws.{run_ran}
 use Rattle.hermitcasket.specs.declared.lines.Number.{Number}
-use Rattle.hermitcasket.specs.declared.lines.Number.TheVariants.{Value, NoNumber}
-use Rattle.hermitcasket.specs.declared.lines.PairLine.TheVariants.{Two, NoPair}
-use Rattle.hermitcasket.specs.Lines.{pick_number, number_from, behind, number_line, second_of, first_of, pair_if, pair_line}
+use Rattle.hermitcasket.specs.Lines.{a_number, a_pair, pick_number, number_from, behind, number_line, second_of, first_of, pair_if, pair_line}
 use Rattle.hermitcasket.proofs.NumberLaws.{number-found}
 
 -- ---- the remaining text begins with so many bytes
@@ -43,7 +41,8 @@ pub rest-whole : (s : List ℕ) (k : ℕ) → take (length s - k) (drop k s) ≡
 rest-whole s k = take_all (length s - k) (drop k s) (rw length-drop (omega arith))
 
 -- ---- a number
-pub number-holds : (stop w k : ℕ) (rest : List ℕ) → stop < 48 → number_from stop 0 0 rest ≡ Value w k → Holds rest (digits w ++ (stop ∷ [])) k
+pub number-holds : (stop w k : ℕ) (rest : List ℕ) → stop < 48 → number_from stop 0 0 rest ≡ a_number w k
+    → Holds rest (digits w ++ (stop ∷ [])) k
 number-holds stop w k rest low e =
     let f = number-found stop low rest w k e in
     let r = run_of rest in
@@ -56,71 +55,80 @@ number-holds stop w k rest low e =
       size = rw length-append (omega (arith, f.size, (run_ran rest).size f.some, ap (λ (z : ℕ). length (digits z)) f.value));
     }
 
-pub number_small : (stop w k : ℕ) (rest : List ℕ) → stop < 48 → number_from stop 0 0 rest ≡ Value w k → w ≤ 65535
+pub number_small : (stop w k : ℕ) (rest : List ℕ) → stop < 48 → number_from stop 0 0 rest ≡ a_number w k → w ≤ 65535
 number_small stop w k rest low e = omega (arith, (run_ran rest).small, (number-found stop low rest w k e).value)
 
 -- ---- what the code of a line of one number shows
 module _ (key rest : List ℕ) (begins : Bool) (same : begins ≡ starts key rest) where
-  begun : not begins ≡ false → starts key rest ≡ true
-  begun h = sym same ∙ not-false begins h
+  begun : begins ≡ true → starts key rest ≡ true
+  begun h = sym same ∙ h
 
-  pub key-within : not begins ≡ false → length key ≤ length rest
+  pub key-within : begins ≡ true → length key ≤ length rest
   key-within h = holds-within rest key (length key) (starts-holds key rest (begun h))
 
-  pub number-unkeyed : not begins ≡ true → NoNumber ≡ number_line key rest
+  pub number-unkeyed : begins ≡ false → None ≡ number_line key rest
   unfolding number_line pick_number
-  number-unkeyed h = rw (sym same ∙ not-true begins h)
+  number-unkeyed h = rw (sym same ∙ h)
 
-  pub pair-unkeyed : not begins ≡ true → NoPair ≡ pair_line key rest
+  pub pair-unkeyed : begins ≡ false → None ≡ pair_line key rest
   unfolding pair_line pair_if
-  pair-unkeyed h = rw (sym same ∙ not-true begins h)
+  pair-unkeyed h = rw (sym same ∙ h)
 
-  module _ (keyed : not begins ≡ false) (digits : List ℕ) (part : digits ≡ drop (length key) rest) (found : Number) where
+  module _ (keyed : begins ≡ true) (digits : List ℕ) (part : digits ≡ drop (length key) rest) (found : Option Number) where
     here : (stop : ℕ) → found ≡ number_from stop 0 0 digits → found ≡ number_from stop 0 0 (drop (length key) rest)
     here stop e = e ∙ ap (number_from stop 0 0) part
 
-    pub value_line : (v n : ℕ) → found ≡ number_from 10 0 0 digits → found ≡ Value v n → Value v (length key + n) ≡ number_line key rest
+    pub value_line : (v : Number) → found ≡ number_from 10 0 0 digits → found ≡ Some v
+        → a_number v.value (length key + v.length) ≡ number_line key rest
     unfolding number_line pick_number behind
-    value_line v n e h = rw (begun keyed, sym (here 10 e) ∙ h)
+    value_line v e h = rw (begun keyed, sym (here 10 e) ∙ h)
 
-    digits-within : (stop v n : ℕ) → stop < 48 → found ≡ number_from stop 0 0 digits → found ≡ Value v n → n ≤ length digits
-    digits-within stop v n low e h = holds-within digits _ n (number-holds stop v n digits low (sym e ∙ h))
+    digits-within : (stop : ℕ) (v : Number) → stop < 48 → found ≡ number_from stop 0 0 digits → found ≡ Some v → v.length ≤ length digits
+    digits-within stop v low e h = holds-within digits _ v.length (number-holds stop v.value v.length digits low (sym e ∙ h))
 
-    keyed-within : (stop v n : ℕ) → stop < 48 → found ≡ number_from stop 0 0 digits → found ≡ Value v n → length key + n ≤ length rest
-    keyed-within stop v n low e h = omega (arith, digits-within stop v n low e h, ap length part, length-drop (length key) rest, key-within keyed)
+    keyed-within : (stop : ℕ) (v : Number) → stop < 48 → found ≡ number_from stop 0 0 digits → found ≡ Some v
+        → length key + v.length ≤ length rest
+    keyed-within stop v low e h = omega
+        (arith, digits-within stop v low e h, ap length part, length-drop (length key) rest, key-within keyed)
 
-    pub value-within : (v n : ℕ) → found ≡ number_from 10 0 0 digits → found ≡ Value v n → length key + n ≤ length rest
-    value-within v n e h = keyed-within 10 v n (omega arith) e h
+    pub value-within : (v : Number) → found ≡ number_from 10 0 0 digits → found ≡ Some v → length key + v.length ≤ length rest
+    value-within v e h = keyed-within 10 v (omega arith) e h
 
-    pub none-line : found ≡ number_from 10 0 0 digits → found ≡ NoNumber → NoNumber ≡ number_line key rest
+    pub none-line : found ≡ number_from 10 0 0 digits → found ≡ None → None ≡ number_line key rest
     unfolding number_line pick_number behind
     none-line e h = rw (begun keyed, sym (here 10 e) ∙ h)
 
     -- ---- of two numbers
-    pub first-none : found ≡ number_from 44 0 0 digits → found ≡ NoNumber → NoPair ≡ pair_line key rest
+    pub first-none : found ≡ number_from 44 0 0 digits → found ≡ None → None ≡ pair_line key rest
     unfolding pair_line pair_if first_of
     first-none e h = rw (begun keyed, sym (here 44 e) ∙ h)
 
-    module _ (a n : ℕ) (e : found ≡ number_from 44 0 0 digits) (h : found ≡ Value a n) where
-      pub first-within : n ≤ length digits
-      first-within = digits-within 44 a n (omega arith) e h
+    module _ (a : Number) (e : found ≡ number_from 44 0 0 digits) (h : found ≡ Some a) where
+      pub first-within : a.length ≤ length digits
+      first-within = digits-within 44 a (omega arith) e h
 
-      pub first_short : length key + n ≤ length rest
-      first_short = keyed-within 44 a n (omega arith) e h
+      pub first_short : length key + a.length ≤ length rest
+      first_short = keyed-within 44 a (omega arith) e h
 
-      module _ (more : List ℕ) (onward : more ≡ drop n digits) (second : Number) (f : second ≡ number_from 10 0 0 more) where
-        there : more ≡ drop (length key + n) rest
-        there = onward ∙ ap (drop n) part ∙ drop-drop n (length key) rest
+      module _ (more : List ℕ) (onward : more ≡ drop a.length digits) (second : Option Number) (f : second ≡ number_from 10 0 0 more) where
+        there : more ≡ drop (length key + a.length) rest
+        there = onward ∙ ap (drop a.length) part ∙ drop-drop a.length (length key) rest
 
-        pub second_none : second ≡ NoNumber → NoPair ≡ pair_line key rest
+        pub second_none : second ≡ None → None ≡ pair_line key rest
         unfolding pair_line pair_if first_of second_of
         second_none k = rw (begun keyed, sym (here 44 e) ∙ h, sym (f ∙ ap (number_from 10 0 0) there) ∙ k)
 
-        module _ (b l : ℕ) (k : second ≡ Value b l) where
-          pub second-within : length key + n + l ≤ length rest
+        module _ (b : Number) (k : second ≡ Some b) where
+          pub second-within : length key + a.length + b.length ≤ length rest
           second-within =
-              omega (arith, holds-within more _ l (number-holds 10 b l more (omega arith) (sym f ∙ k)), ap length there, length-drop (length key + n) rest, first_short)
+              omega (
+                arith,
+                holds-within more _ b.length (number-holds 10 b.value b.length more (omega arith) (sym f ∙ k)),
+                ap length there,
+                length-drop (length key + a.length) rest,
+                first_short,
+              )
 
-          pub two-line : Two a b (length key + n + l) ≡ pair_line key rest
+          pub two-line : a_pair a.value b.value (length key + a.length + b.length) ≡ pair_line key rest
           unfolding pair_line pair_if first_of second_of
           two-line = rw (begun keyed, sym (here 44 e) ∙ h, sym (f ∙ ap (number_from 10 0 0) there) ∙ k)

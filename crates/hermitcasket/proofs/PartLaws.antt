@@ -1,4 +1,5 @@
 -- Reading several lines: what is left of it after i lines.
+use Rattle.std.specs.Prelude.{Option, Some, None, Ok, Err}
 use Prim.Native.Nat.{ℕ, suc, ◌+◌, ◌-◌, ◌*◌, ◌<◌, ◌≤◌}
 use mathlib.Core.Path.{◌≡◌, refl, sym, ap, ◌∙◌}
 use mathlib.Core.List.{List, [], ◌∷◌, ◌++◌, append_assoc, append-nil}
@@ -6,15 +7,13 @@ use native.Mathlib.Omega.{arith}
 use native.Mathlib.Nat.{zero-mul}
 use lib.ListN.{length, take, drop, set, length-drop}
 use lib.Seq.{drop-drop}
+use Rattle.subsumption.specs.declared.refusal.Refusal.TheVariants.{BadText}
 use Rattle.subsumption.proofs.Lists.{take-two, take-three}
 use Rattle.hermitcasket.specs.declared.lines.PairLine.{PairLine}
-use Rattle.hermitcasket.specs.declared.lines.PairLine.TheVariants.{Two, NoPair}
 use Rattle.hermitcasket.specs.declared.lines.RowLine.{RowLine}
-use Rattle.hermitcasket.specs.declared.lines.RowLine.TheVariants.{Row, NoRow}
-use Rattle.hermitcasket.specs.declared.text.Lines.TheVariants.{Upto, Off}
 use Rattle.hermitcasket.specs.Lines.{pair_line, row_line}
-use Rattle.hermitcasket.specs.Text.{Line, numbers, off, row_numbers, pair_numbers, row_at, pair_at, Part, part, faulty, prepend, line_then, read_lines}
-use Rattle.hermitcasket.specs.Inner.Text.{part_of}
+use Rattle.hermitcasket.specs.Text.{Line, numbers, off, row_numbers, pair_numbers, row_at, pair_at, Part, part, faulty, prepend, line_then, read_lines, part_then}
+use Rattle.hermitcasket.specs.Inner.Text.{lines_then, LinesRead}
 use Rattle.hermitcasket.proofs.RightLines.{row_within, pair-within}
 
 prepend-none : (p : Part) → p ≡ prepend [] p
@@ -49,9 +48,15 @@ module _ (line : List ℕ → Line) (width count at : ℕ) (text : List ℕ) whe
   split : (i : ℕ) → i < count → count - i ≡ suc (count - (i + 1))
   split i h = omega arith
 
-  pub lined-off : (out rest : List ℕ) (i used size : ℕ) → Lined out rest i used → i < count → line rest ≡ off → read_lines line count at text ≡ part_of (Off (at + used)) at text size out
-  unfolding read_lines line_then prepend part_of
-  lined-off out rest i used size s h e = s.left ∙ ap (λ (z : ℕ). prepend (take (i * width) out) (read_lines line z (at + used) rest)) (split i h) ∙ rw e refl
+  pub lined-off :
+      (out rest : List ℕ) (i used : ℕ) → Lined out rest i used → i < count → line rest ≡ off
+      → LinesRead line width count at text (Err (BadText (at + used))) out
+  unfolding read_lines line_then prepend part_then lines_then
+  lined-off out rest i used s h e =
+      let f : read_lines line count at text ≡ faulty (at + used) =
+      s.left ∙ ap (λ (z : ℕ). prepend (take (i * width) out) (read_lines line z (at + used) rest)) (split i h) ∙ rw e refl
+      in
+      record { judged = λ go. ap (λ (p : Part). part_then p go) f; fits = tt }
 
   pub lined-more :
       (out next rest more : List ℕ) (i used n : ℕ) (xs : List ℕ) → Lined out rest i used → i < count → line rest ≡ numbers xs n → more ≡ drop n rest → n ≤ length rest
@@ -68,52 +73,57 @@ module _ (line : List ℕ → Line) (width count at : ℕ) (text : List ℕ) whe
             ∙ rw e (rw (prepend-more, f, t, m) refl);
       }
 
-  pub lined-done : (out rest : List ℕ) (i used : ℕ) → Lined out rest i used → count ≤ i → read_lines line count at text ≡ part_of (Upto used) at text (count * width) out
-  unfolding read_lines prepend part_of
+  pub lined-done : (out rest : List ℕ) (i used : ℕ) → Lined out rest i used → count ≤ i → LinesRead line width count at text (Ok used) out
+  unfolding read_lines prepend part_then lines_then
   lined-done out rest i used s h =
       let e : count - i ≡ 0 = omega arith in
       let f : i ≡ count = omega (arith, s.upto) in
+      let g : read_lines line count at text ≡ part (take (count * width) out) (at + used) (drop used text) =
       s.left ∙ ap (λ (z : ℕ). prepend (take (i * width) out) (read_lines line z (at + used) rest)) e
       ∙ rw (f, s.here) (ap (λ (z : List ℕ). part z (at + used) (drop used text)) (append-nil (take (count * width) out)))
+      in
+      record { judged = λ go. ap (λ (p : Part). part_then p go) g; fits = s.within }
 
 -- ---- rows of three numbers and pairs of two
 module _ (count at : ℕ) (text out rest : List ℕ) (i used : ℕ) (h : i < count) where
-  module _ (line : RowLine) (s : Lined row_at 3 count at text out rest i used) (e : line ≡ row_line rest) where
-    pub rows-off : line ≡ NoRow → read_lines row_at count at text ≡ part_of (Off (at + used)) at text (count * 3) out
+  module _ (line : Option RowLine) (s : Lined row_at 3 count at text out rest i used) (e : line ≡ row_line rest) where
+    pub rows-off : line ≡ None → LinesRead row_at 3 count at text (Err (BadText (at + used))) out
     unfolding row_numbers
-    rows-off f = lined-off row_at 3 count at text out rest i used (count * 3) s h (rw (sym e ∙ f) refl)
+    rows-off f = lined-off row_at 3 count at text out rest i used s h (rw (sym e ∙ f) refl)
 
-    module _ (k a b n : ℕ) (f : line ≡ Row k a b n) where
-      pub rows-within : n ≤ length rest
-      rows-within = row_within rest k a b n (sym e ∙ f)
+    module _ (l : RowLine) (f : line ≡ Some l) where
+      pub rows-within : l.length ≤ length rest
+      rows-within = row_within rest l.kind l.a l.b l.length (sym e ∙ f)
 
-      pub rows-used : used + n ≤ length text
+      pub rows-used : used + l.length ≤ length text
       rows-used = omega (arith, rows-within, ap length s.here, length-drop used text, s.within)
 
       pub rows_more :
-          (more : List ℕ) → more ≡ drop n rest → (before : List ℕ) → length out ≡ length before → count * 3 ≤ length before
-          → Lined row_at 3 count at text (set (set (set out (i * 3) k) (i * 3 + 1) a) (i * 3 + 2) b) more (i + 1) (used + n)
+          (more : List ℕ) → more ≡ drop l.length rest → (before : List ℕ) → length out ≡ length before → count * 3 ≤ length before
+          → Lined row_at 3 count at text (set (set (set out (i * 3) l.kind) (i * 3 + 1) l.a) (i * 3 + 2) l.b) more (i + 1) (used + l.length)
       unfolding row_numbers
-      rows_more more m before q l =
-          lined-more row_at 3 count at text out _ rest more i used n (k ∷ a ∷ b ∷ []) s h (rw (sym e ∙ f) refl) m rows-within
-          (take-three (i * 3) ((i + 1) * 3) k a b out (omega arith) (omega arith))
+      rows_more more m before q h3 =
+          lined-more row_at 3 count at text out _ rest more i used l.length (l.kind ∷ l.a ∷ l.b ∷ []) s h
+          (rw (sym e ∙ f) refl) m rows-within
+          (take-three (i * 3) ((i + 1) * 3) l.kind l.a l.b out (omega arith) (omega arith))
 
-  module _ (key : List ℕ) (line : PairLine) (s : Lined (pair_at key) 2 count at text out rest i used) (e : line ≡ pair_line key rest) where
-    pub pairs-off : line ≡ NoPair → read_lines (pair_at key) count at text ≡ part_of (Off (at + used)) at text (count * 2) out
+  module _ (key : List ℕ) (line : Option PairLine) (s : Lined (pair_at key) 2 count at text out rest i used)
+      (e : line ≡ pair_line key rest) where
+    pub pairs-off : line ≡ None → LinesRead (pair_at key) 2 count at text (Err (BadText (at + used))) out
     unfolding pair_numbers
-    pairs-off f = lined-off (pair_at key) 2 count at text out rest i used (count * 2) s h (rw (sym e ∙ f) refl)
+    pairs-off f = lined-off (pair_at key) 2 count at text out rest i used s h (rw (sym e ∙ f) refl)
 
-    module _ (a b n : ℕ) (f : line ≡ Two a b n) where
-      pub pairs-within : n ≤ length rest
-      pairs-within = pair-within key rest a b n (sym e ∙ f)
+    module _ (l : PairLine) (f : line ≡ Some l) where
+      pub pairs-within : l.length ≤ length rest
+      pairs-within = pair-within key rest l.a l.b l.length (sym e ∙ f)
 
-      pub pairs-used : used + n ≤ length text
+      pub pairs-used : used + l.length ≤ length text
       pairs-used = omega (arith, pairs-within, ap length s.here, length-drop used text, s.within)
 
       pub pairs-more :
-          (more : List ℕ) → more ≡ drop n rest → (before : List ℕ) → length out ≡ length before → count * 2 ≤ length before
-          → Lined (pair_at key) 2 count at text (set (set out (i * 2) a) (i * 2 + 1) b) more (i + 1) (used + n)
+          (more : List ℕ) → more ≡ drop l.length rest → (before : List ℕ) → length out ≡ length before → count * 2 ≤ length before
+          → Lined (pair_at key) 2 count at text (set (set out (i * 2) l.a) (i * 2 + 1) l.b) more (i + 1) (used + l.length)
       unfolding pair_numbers
-      pairs-more more m before q l =
-          lined-more (pair_at key) 2 count at text out _ rest more i used n (a ∷ b ∷ []) s h (rw (sym e ∙ f) refl) m pairs-within
-          (take-two (i * 2) ((i + 1) * 2) a b out (omega arith) (omega arith))
+      pairs-more more m before q h2 =
+          lined-more (pair_at key) 2 count at text out _ rest more i used l.length (l.a ∷ l.b ∷ []) s h (rw (sym e ∙ f) refl) m pairs-within
+          (take-two (i * 2) ((i + 1) * 2) l.a l.b out (omega arith) (omega arith))

@@ -1,4 +1,5 @@
 -- The plan for an asked pair, for tables and for a text, by cases.
+use Rattle.std.specs.Prelude.{Result, Ok, Err}
 use Prim.Native.Nat.{ℕ, zero, suc, ◌*◌, ◌≤◌}
 use mathlib.Core.Path.{◌≡◌, refl, sym, ap, ◌∙◌, subst}
 use mathlib.Core.List.{List, ◌∷◌}
@@ -6,10 +7,8 @@ use native.Mathlib.Omega.{arith}
 use lib.ListN.{length, take, replicate}
 use lib.Seq.{take_all, take-take, length-take-le}
 use Rattle.subsumption.specs.declared.refusal.Refusal.{Refusal}
-use Rattle.subsumption.specs.declared.refusal.Outcome.{Outcome}
-use Rattle.subsumption.specs.declared.refusal.Outcome.TheVariants.{Done, Refused}
 use Rattle.subsumption.specs.Tables.{Tables, tables, count_of}
-use Rattle.subsumption.specs.Refusal.{code_of}
+use Rattle.subsumption.specs.Refusal.{code_of, Outcome, Done}
 use Rattle.subsumption.specs.Check.{table_fault}
 use Rattle.subsumption.specs.Decide.{deciding_fault}
 use Rattle.subsumption.specs.Table.{marked}
@@ -23,8 +22,7 @@ use Rattle.numerals.specs.Printing.{Output}
 use Rattle.numerals.proofs.PieceLaws.{output}
 use Rattle.hermitcasket.specs.declared.text.Ask.{Ask}
 use Rattle.hermitcasket.specs.declared.text.Ask.TheVariants.{Fill, Show}
-use Rattle.hermitcasket.specs.declared.text.Read.{Read}
-use Rattle.hermitcasket.specs.declared.text.Read.TheVariants.{Problem, Rejected}
+use Rattle.hermitcasket.specs.declared.text.Problem.{Problem}
 use Rattle.hermitcasket.specs.declared.answer.Plan.{Plan}
 use Rattle.hermitcasket.specs.declared.answer.Plan.TheVariants.{Whole, Parts}
 use Rattle.hermitcasket.specs.Text.{Judged, accepted, judge}
@@ -48,7 +46,7 @@ module _
   unfolding shown_fault
   asked = none-chosen.judged
 
-  refused-pair : (r : Refusal) → outcome ≡ Refused r → AnsweredPair t left right (code_text (code_of r))
+  refused-pair : (r : Refusal) → outcome ≡ Err r → AnsweredPair t left right (code_text (code_of r))
   refused-pair r e =
       record {
         marks = marked table;
@@ -57,7 +55,7 @@ module _
       }
 
   pub pair-refused :
-      (r : Refusal) → outcome ≡ Refused r → (before : List ℕ) (size : ℕ) (after : List ℕ) → Wrote before 0 (code_text (code_of r)) size after
+      (r : Refusal) → outcome ≡ Err r → (before : List ℕ) (size : ℕ) (after : List ℕ) → Wrote before 0 (code_text (code_of r)) size after
       → Output (AnsweredJudged (accepted t (Show left right))) before size after
   pair-refused r e before size after w = output _ before _ size after w (refused-pair r e)
 
@@ -111,8 +109,10 @@ module _ (t : Tables) (ask : Ask) (concepts into table before after : List ℕ) 
   planned-show left right e plan p = subst (λ (z : Ask). Planned (accepted t z) plan concepts into table before after) (sym e) p
 
 -- ---- a text
-pub read_fits : (read : Read) → ReadFits read → (v c i q p : ℕ) (ask : Ask) → read ≡ Problem v c i q p ask → (v ≤ 8) × (c ≤ 192) × (i ≤ 96) × (q ≤ 32) × (p ≤ 32)
-read_fits read h v c i q p ask e = subst ReadFits e h
+pub read_fits :
+    (read : Result Problem Refusal) → ReadFits read → (p : Problem) → read ≡ Ok p
+    → (p.variables ≤ 8) × (p.concepts ≤ 192) × (p.inclusions ≤ 96) × (p.questions ≤ 32) × (p.roles ≤ 32)
+read_fits read h p e = subst ReadFits e h
 
 -- the concepts in front of a longer array
 in-front :
@@ -123,24 +123,32 @@ in-front judged n concepts into table before after (Parts count parts) h p =
     let l : count * 3 ≤ n = omega (arith, p.0, length-take-le n concepts h) in
     (omega arith, subst (λ (z : List ℕ). InParts judged z into table parts) (take-take (count * 3) n concepts l) p.1, p.2)
 
-module _ (text concepts inclusions questions roles : List ℕ) (read : Read) (judged : judge text ≡ judged_by read concepts inclusions questions roles) where
+module _ (text concepts inclusions questions roles : List ℕ) (read : Result Problem Refusal)
+    (judged : judge text ≡ judged_by read concepts inclusions questions roles) where
   pub text-refused :
-      (r : Refusal) → read ≡ Rejected r → (before : List ℕ) (size : ℕ) (after : List ℕ) → Wrote before 0 (code_text (code_of r)) size after
+      (r : Refusal) → read ≡ Err r → (before : List ℕ) (size : ℕ) (after : List ℕ) → Wrote before 0 (code_text (code_of r)) size after
       → Output (AnsweredJudged (judge text)) before size after
   unfolding judged_by
   text-refused r e before size after w =
       output _ before _ size after w
-      (subst (λ (z : Judged). AnsweredJudged z (code_text (code_of r))) (sym (judged ∙ ap (λ (z : Read). judged_by z concepts inclusions questions roles) e)) refl)
+      (subst (λ (z : Judged). AnsweredJudged z (code_text (code_of r)))
+      (sym (judged ∙ ap (λ (z : Result Problem Refusal). judged_by z concepts inclusions questions roles) e)) refl)
 
   pub text-planned :
-      (v c i q p : ℕ) (ask : Ask) → read ≡ Problem v c i q p ask → c * 3 ≤ length concepts → (into table before after : List ℕ) (plan : Plan)
-      → Planned (accepted (tables (take (c * 3) concepts) (take (i * 2) inclusions) (take (q * 2) questions) (take (p * 2) roles) v) ask) plan (take (c * 3) concepts) into table before after
+      (p : Problem) → read ≡ Ok p → p.concepts * 3 ≤ length concepts → (into table before after : List ℕ) (plan : Plan)
+      → Planned
+      (accepted
+      (tables (take (p.concepts * 3) concepts) (take (p.inclusions * 2) inclusions) (take (p.questions * 2) questions)
+      (take (p.roles * 2) roles)
+      p.variables)
+      p.ask)
+      plan (take (p.concepts * 3) concepts) into table before after
       → Planned (judge text) plan concepts into table before after
   unfolding judged_by
-  text-planned v c i q p ask e h into table before after plan o =
-      in-front (judge text) (c * 3) concepts into table before after plan h
-      (subst (λ (z : Judged). Planned z plan (take (c * 3) concepts) into table before after)
-      (sym (judged ∙ ap (λ (z : Read). judged_by z concepts inclusions questions roles) e)) o)
+  text-planned p e h into table before after plan o =
+      in-front (judge text) (p.concepts * 3) concepts into table before after plan h
+      (subst (λ (z : Judged). Planned z plan (take (p.concepts * 3) concepts) into table before after)
+      (sym (judged ∙ ap (λ (z : Result Problem Refusal). judged_by z concepts inclusions questions roles) e)) o)
 
 -- ---- what the program goes by
 module _ (judged : Judged) (plan : Plan) (concepts into table before after : List ℕ) (p : Planned judged plan concepts into table before after) where

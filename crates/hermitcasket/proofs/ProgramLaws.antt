@@ -1,4 +1,5 @@
 -- The answer for tables, by cases.
+use Rattle.std.specs.Prelude.{Err, Ok}
 use Prim.Native.Nat.{ℕ, ◌+◌, ◌≤◌}
 use mathlib.Core.Path.{◌≡◌, refl, sym, ap, ◌∙◌, subst}
 use mathlib.Core.List.{List}
@@ -10,16 +11,12 @@ use borrow.Author.Tests.{le-ltb, eq-eqb, ne_eqb}
 use Rattle.subsumption.specs.declared.refusal.Refusal.{Refusal}
 use Rattle.subsumption.specs.declared.refusal.Refusal.TheVariants.{NoAssignment}
 use Rattle.subsumption.specs.declared.refusal.Code.{Code}
-use Rattle.subsumption.specs.declared.refusal.Outcome.{Outcome}
-use Rattle.subsumption.specs.declared.refusal.Outcome.TheVariants.{Done, Refused}
 use Rattle.subsumption.specs.Tables.{Tables}
 use Rattle.subsumption.specs.Atoms.{atoms}
-use Rattle.subsumption.specs.Refusal.{code_of, or_else, refuse_if}
+use Rattle.subsumption.specs.Refusal.{code_of, or_else, refuse_if, reply_of, Outcome, Done}
 use Rattle.subsumption.specs.Check.{table_fault, assignment_fault, buffer_fault}
 use Rattle.subsumption.proofs.Replies.{same-refusal, not_done}
-use Rattle.matching.specs.declared.find.Match.{Match}
-use Rattle.matching.specs.declared.find.Match.TheVariants.{Filled, Rejected as NotFound}
-use Rattle.matching.specs.Find.{finding_fault, FilledBy, match_reply, FindsAfter, Finds}
+use Rattle.matching.specs.Find.{finding_fault, FilledBy, FindsAfter, Finds}
 use Rattle.numerals.specs.Inner.Printing.{Wrote}
 use Rattle.numerals.specs.Printing.{refused_text, Output}
 use Rattle.numerals.proofs.PieceLaws.{output}
@@ -39,53 +36,53 @@ module _ (refusal : Refusal) (code : Code) (e : code ≡ code_of refusal) (out :
 
 -- ---- tables
 module _
-    (t : Tables) (few : t.variables ≤ 8) (old new : List ℕ) (eight : length old ≡ 8) (found : Match)
-    (finds : Finds t old new (match_reply found)) where
+    (t : Tables) (few : t.variables ≤ 8) (old new : List ℕ) (eight : length old ≡ 8) (found : Outcome)
+    (finds : Finds t old new (reply_of found)) where
   same-fault : finding_fault t (length old) ≡ table_fault t
   unfolding finding_fault buffer_fault refuse_if or_else
   same-fault = rw (le-ltb (length old) t.variables (omega arith)) (go (table_fault t))
     where
       go : (o : Outcome) → or_else o Done ≡ o
-      go Done = refl
-      go (Refused r) = refl
+      go (Ok tt) = refl
+      go (Err r) = refl
 
-  said : (y : Match) → found ≡ y → (o : Outcome) → table_fault t ≡ o → FindsAfter o t old new (match_reply y)
+  said : (y : Outcome) → found ≡ y → (o : Outcome) → table_fault t ≡ o → FindsAfter o t old new (reply_of y)
   said y e o f =
-      subst (λ (z : Outcome). FindsAfter z t old new (match_reply y)) (same-fault ∙ f) (subst (λ (z : Match). Finds t old new (match_reply z)) e finds)
+      subst (λ (z : Outcome). FindsAfter z t old new (reply_of y)) (same-fault ∙ f) (subst (λ (z : Outcome). Finds t old new (reply_of z)) e finds)
 
-  filled : found ≡ Filled → (table_fault t ≡ Done) × FilledBy t old new
+  filled : found ≡ Done → (table_fault t ≡ Done) × FilledBy t old new
   filled e = go (table_fault t) refl
     where
       go : (o : Outcome) → table_fault t ≡ o → (table_fault t ≡ Done) × FilledBy t old new
-      go Done f = ⊎_elim (λ (_, b). (f, b)) (λ (g, _). not_done NoAssignment 0 (sym g)) (said Filled e Done f)
-      go (Refused r) f = not_done r 0 (sym (said Filled e (Refused r) f).0)
+      go (Ok tt) f = ⊎_elim (λ (_, b). (f, b)) (λ (g, _). not_done NoAssignment 0 (sym g)) (said Done e Done f)
+      go (Err r) f = not_done r 0 (sym (said Done e (Err r) f).0)
 
-  pub filled-sound : found ≡ Filled → table_fault t ≡ Done
+  pub filled-sound : found ≡ Done → table_fault t ≡ Done
   filled-sound e = (filled e).0
 
-  filled-by : found ≡ Filled → FilledBy t old new
+  filled-by : found ≡ Done → FilledBy t old new
   filled-by e = (filled e).1
 
-  pub filled-count : found ≡ Filled → t.variables ≤ length new
+  pub filled-count : found ≡ Done → t.variables ≤ length new
   filled-count e = omega (arith, (filled-by e).size)
 
-  pub filled-exact : found ≡ Filled → t.variables ≡ length (take t.variables new)
+  pub filled-exact : found ≡ Done → t.variables ≡ length (take t.variables new)
   filled-exact e = sym (length-take-le t.variables new (filled-count e))
 
-  pub filled-accepted : found ≡ Filled → assignment_fault t (take t.variables new) ≡ Done
+  pub filled-accepted : found ≡ Done → assignment_fault t (take t.variables new) ≡ Done
   filled-accepted e = (filled-by e).first.accepted
 
-  pub filled-fits : found ≡ Filled → (out : List ℕ) → 4096 ≤ length out → 0 + length (filled_text (atoms t) (take t.variables new)) ≤ length out
+  pub filled-fits : found ≡ Done → (out : List ℕ) → 4096 ≤ length out → 0 + length (filled_text (atoms t) (take t.variables new)) ≤ length out
   filled-fits e out h =
       filled-room t (take t.variables new) out (filled-sound e) (omega (arith, length-take-le t.variables new (filled-count e))) h
 
   module _ (before : List ℕ) (size : ℕ) (after : List ℕ) where
-    pub answered-filled : found ≡ Filled → Wrote before 0 (filled_text (atoms t) (take t.variables new)) size after → Output (AnsweredTables t (table_fault t)) before size after
+    pub answered-filled : found ≡ Done → Wrote before 0 (filled_text (atoms t) (take t.variables new)) size after → Output (AnsweredTables t (table_fault t)) before size after
     answered-filled e w =
         output _ before _ size after w
         (subst (λ (z : Outcome). AnsweredTables t z (filled_text (atoms t) (take t.variables new))) (sym (filled-sound e)) (inl (take t.variables new, (filled-by e).first, refl)))
 
-    pub answered-refused : (r : Refusal) → found ≡ NotFound r → Wrote before 0 (code_text (code_of r)) size after → Output (AnsweredTables t (table_fault t)) before size after
+    pub answered-refused : (r : Refusal) → found ≡ Err r → Wrote before 0 (code_text (code_of r)) size after → Output (AnsweredTables t (table_fault t)) before size after
     unfolding code_text pick_text
     answered-refused r e w = output _ before _ size after w (go (table_fault t) refl)
       where
@@ -93,10 +90,10 @@ module _
         none = refl
 
         go : (o : Outcome) → table_fault t ≡ o → AnsweredTables t (table_fault t) (code_text (code_of r))
-        go Done f =
+        go (Ok tt) f =
             subst (λ (z : Outcome). AnsweredTables t z (code_text (code_of r))) (sym f)
             (⊎_elim (λ (g, _). not_done r 0 g)
-            (λ (g, n). inr (n.none, ap (λ (z : Refusal). code_text (code_of z)) (same-refusal r NoAssignment g) ∙ none)) (said (NotFound r) e Done f))
-        go (Refused x) f =
+            (λ (g, n). inr (n.none, ap (λ (z : Refusal). code_text (code_of z)) (same-refusal r NoAssignment g) ∙ none)) (said (Err r) e Done f))
+        go (Err x) f =
             subst (λ (z : Outcome). AnsweredTables t z (code_text (code_of r))) (sym f)
-            (ap (λ (z : Refusal). code_text (code_of z)) (same-refusal r x (said (NotFound r) e (Refused x) f).0))
+            (ap (λ (z : Refusal). code_text (code_of z)) (same-refusal r x (said (Err r) e (Err x) f).0))

@@ -1,4 +1,5 @@
 -- How long the output can be.
+use Rattle.subsumption.specs.Refusal.{Done}
 use Prim.Native.Nat.{ℕ, zero, suc, ◌+◌, ◌*◌, ◌/◌, ◌<◌, ◌≤◌}
 use mathlib.Core.Path.{◌≡◌, refl, ap}
 use mathlib.Core.List.{List, [], ◌∷◌}
@@ -6,7 +7,6 @@ use mathlib.Core.Bool.{Bool, true, false}
 use native.Mathlib.Omega.{arith}
 use lib.ListN.{length, length-append}
 use borrow.Author.Tests.{eqb-true}
-use Rattle.subsumption.specs.declared.refusal.Outcome.TheVariants.{Done}
 use Rattle.subsumption.specs.Tables.{Tables, or, both, any_below, Node, top_at, name_at, exists_at, and_at, var_at, node, count_of}
 use Rattle.subsumption.specs.Atoms.{bit, keep, pick, is_atom, atoms}
 use Rattle.subsumption.specs.Check.{table_fault}

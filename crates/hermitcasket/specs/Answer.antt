@@ -1,11 +1,9 @@
 -- The whole program (01, "House text and the program", demand 3, and 02, A.5): what the output is for a text.
-use Rattle.std.specs.Prelude.{ℕ, ◌+◌, ◌*◌, ◌/◌, ◌%◌, ◌<◌, ◌≤◌, ◌≡◌, List, Bool, ◌⊎◌, length, get_or, take, replicate}
-use Rattle.subsumption.specs.declared.refusal.Outcome.{Outcome}
-use Rattle.subsumption.specs.declared.refusal.Outcome.TheVariants.{Done, Refused}
+use Rattle.std.specs.Prelude.{ℕ, ◌+◌, ◌*◌, ◌/◌, ◌%◌, ◌<◌, ◌≤◌, ◌≡◌, List, Bool, ◌⊎◌, length, get_or, take, replicate, Err, Ok}
 use Rattle.subsumption.specs.Tables.{Tables}
 use Rattle.subsumption.specs.Atoms.{bit, atoms}
 use Rattle.subsumption.specs.Roles.{wider}
-use Rattle.subsumption.specs.Refusal.{code_of, or_else}
+use Rattle.subsumption.specs.Refusal.{code_of, or_else, Outcome, Done}
 use Rattle.subsumption.specs.Check.{table_fault}
 use Rattle.subsumption.specs.Decide.{deciding_fault}
 use Rattle.subsumption.specs.Table.{marked}
@@ -21,10 +19,10 @@ use Rattle.hermitcasket.specs.Printing.{none_line, filled_text, code_text, shown
 
 -- Tables: the first assignment that solves, or none where no substitution solves, unless the tables are refused.
 abbrev pub AnsweredTables : Tables → Outcome → List ℕ → Type 0
-AnsweredTables t Done output =
+AnsweredTables t (Ok tt) output =
     ((assignment : List ℕ) × First t assignment × (output ≡ filled_text (atoms t) assignment))
     ⊎ (((σ : Substitution t) → SolvesBy t σ → ⊥) × (output ≡ none_line))
-AnsweredTables t (Refused r) output = output ≡ code_text (code_of r)
+AnsweredTables t (Err r) output = output ≡ code_text (code_of r)
 
 -- The empty assignment: every choice is 0.
 abbrev pub unassigned : Tables → List ℕ
@@ -35,8 +33,8 @@ unfoldable pub shown_fault : Tables → ℕ → ℕ → (ℕ → ℕ → Bool) �
 shown_fault t left right marks = or_else (deciding_fault t (unassigned t) left right) (holding_fault marks left right)
 
 abbrev pub shown_or : Outcome → List ℕ → List ℕ
-shown_or Done shown = shown
-shown_or (Refused r) shown = code_text (code_of r)
+shown_or (Ok tt) shown = shown
+shown_or (Err r) shown = code_text (code_of r)
 
 -- An asked pair: the interpretation that marks give which say exactly what is below what, unless a check refuses.
 pub record AnsweredPair (t : Tables) (left right : ℕ) (output : List ℕ) : Type 0 where

@@ -1,5 +1,5 @@
 -- The house text (01, "House text and the program"): what a right text is, and the judgement line by line.
-use Rattle.std.specs.Prelude.{ℕ, zero, suc, ◌+◌, ◌≤◌, ◌≡◌, List, [], ◌∷◌, ◌++◌, Bool, true, false, ◌⊎◌, ltb, length, get_or, take, drop}
+use Rattle.std.specs.Prelude.{ℕ, zero, suc, ◌+◌, ◌≤◌, ◌≡◌, List, [], ◌∷◌, ◌++◌, Bool, true, false, ◌⊎◌, ltb, length, get_or, take, drop, Option, Some, None}
 use Rattle.subsumption.specs.declared.refusal.Refusal.{Refusal}
 use Rattle.subsumption.specs.declared.refusal.Refusal.TheVariants.{Limit, BadText}
 use Rattle.subsumption.specs.Tables.{Tables, tables, count_of, pairs_of}
@@ -7,11 +7,8 @@ use Rattle.numerals.specs.Bytes.{starts}
 use Rattle.numerals.specs.Printing.{number_text, pair_text}
 use Rattle.numerals.specs.Lines.{variables_key, roles_key, wider_key, concepts_key, inclusions_key, questions_key, below_key, show_key, lines_text, row_of_numbers, pair_of_numbers}
 use Rattle.hermitcasket.specs.declared.lines.Number.{Number}
-use Rattle.hermitcasket.specs.declared.lines.Number.TheVariants.{Value, NoNumber}
 use Rattle.hermitcasket.specs.declared.lines.PairLine.{PairLine}
-use Rattle.hermitcasket.specs.declared.lines.PairLine.TheVariants.{Two, NoPair}
 use Rattle.hermitcasket.specs.declared.lines.RowLine.{RowLine}
-use Rattle.hermitcasket.specs.declared.lines.RowLine.TheVariants.{Row, NoRow}
 use Rattle.hermitcasket.specs.declared.text.Ask.{Ask}
 use Rattle.hermitcasket.specs.declared.text.Ask.TheVariants.{Fill, Show}
 use Rattle.hermitcasket.specs.Lines.{number_line, pair_line, row_line}
@@ -87,13 +84,13 @@ pub data Line : Type 0 where
   numbers : List ℕ → ℕ → Line
   off : Line
 
-unfoldable pub row_numbers : RowLine → Line
-row_numbers (Row kind a b n) = numbers (kind ∷ a ∷ b ∷ []) n
-row_numbers NoRow = off
+unfoldable pub row_numbers : Option RowLine → Line
+row_numbers (Some line) = numbers (line.kind ∷ line.a ∷ line.b ∷ []) line.length
+row_numbers None = off
 
-unfoldable pub pair_numbers : PairLine → Line
-pair_numbers (Two a b n) = numbers (a ∷ b ∷ []) n
-pair_numbers NoPair = off
+unfoldable pub pair_numbers : Option PairLine → Line
+pair_numbers (Some line) = numbers (line.a ∷ line.b ∷ []) line.length
+pair_numbers None = off
 
 abbrev pub row_at : List ℕ → Line
 row_at rest = row_numbers (row_line rest)
@@ -132,9 +129,10 @@ abbrev pub Onward : Type 0
 Onward = ℕ → List ℕ → Judged
 
 -- A count over its limit is refused on its line with the table's place.
-unfoldable pub count_then : ℕ → ℕ → Number → (ℕ → Onward) → Onward
-count_then limit table NoNumber go at rest = refused (BadText at)
-count_then limit table (Value count n) go at rest = pick_judged (ltb limit count) (refused (Limit table)) (go count (at + n) (drop n rest))
+unfoldable pub count_then : ℕ → ℕ → Option Number → (ℕ → Onward) → Onward
+count_then limit table None go at rest = refused (BadText at)
+count_then limit table (Some found) go at rest =
+    pick_judged (ltb limit found.value) (refused (Limit table)) (go found.value (at + found.length) (drop found.length rest))
 
 unfoldable pub part_then : Part → (List ℕ → Onward) → Judged
 part_then (part read at rest) go = go read at rest
@@ -153,9 +151,10 @@ unfoldable pub roles_at : (List ℕ → Onward) → Onward
 roles_at go at rest = pick_judged (starts roles_key rest) (section_at roles_key 32 4 (pair_at wider_key) go at rest) (go [] at rest)
 
 -- One line is left, and nothing behind it.
-unfoldable pub show_then : PairLine → Tables → Onward
-show_then NoPair t at rest = refused (BadText at)
-show_then (Two left right n) t at rest = pick_judged (ltb n (length rest)) (refused (BadText (at + n))) (accepted t (Show left right))
+unfoldable pub show_then : Option PairLine → Tables → Onward
+show_then None t at rest = refused (BadText at)
+show_then (Some line) t at rest =
+    pick_judged (ltb line.length (length rest)) (refused (BadText (at + line.length))) (accepted t (Show line.a line.b))
 
 -- The lines in order, from the last to the first: the end of the text, and what goes before it.
 unfoldable pub judge_end : Tables → Onward

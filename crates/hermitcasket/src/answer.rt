@@ -11,12 +11,14 @@ ghost use Rattle.hermitcasket.specs.Answer.{AnsweredTables, Planned};
 
 use crate::filled::put_filled;
 use crate::print::put_none;
-use crate::text::{Ask, Read, read_text};
+use crate::text::{Ask, read_text};
 use countermodel::helpers::judge_pair;
-use matching::Match;
+use countermodel::limits::TABLE_BYTES;
 use numerals::helpers::put_refused;
+use subsumption::Tables;
 use subsumption::helpers::note_roles;
-use subsumption::refusal::{Outcome, Refusal, code_of};
+use subsumption::limits::ROLE_WORDS;
+use subsumption::refusal::{Refusal, code_of};
 
 fn answer_refused(refusal: Refusal, out: &mut [u8]) -> usize
     requires { 4096 ≤ length out.old }
@@ -30,43 +32,21 @@ fn answer_refused(refusal: Refusal, out: &mut [u8]) -> usize
 }
 
 // The answer for the tables that a text says.
-fn answer_tables(
-    concepts: &[u16],
-    inclusions: &[u16],
-    questions: &[u16],
-    roles: &[u16],
-    variables: u16,
-    out: &mut [u8],
-) -> usize
-    requires variables_bound { variables ≤ 8 }
+fn answer_tables(tables: Tables, out: &mut [u8]) -> usize
+    requires variables_bound { tables.variables ≤ 8 }
     requires in_bounds { 4096 ≤ length out.old }
     ensures { Output
-        (AnsweredTables (lent concepts inclusions questions roles variables) (table_fault
-        (lent concepts inclusions questions roles variables))) out.old result out.new }
+        (AnsweredTables (lent tables) (table_fault
+        (lent tables))) out.old result out.new }
 {
     let mut assignment = [0u64; 8];
-    let found = matching::find_assignment(
-        concepts,
-        inclusions,
-        questions,
-        roles,
-        variables,
-        &mut assignment,
-    );
+    let found = matching::find_assignment(tables, &mut assignment);
     match found {
-        Match::Filled => {
-            let n = variables as usize;
-            put_filled(
-                concepts,
-                inclusions,
-                questions,
-                roles,
-                variables,
-                &assignment[..n],
-                out,
-            )
+        Ok(()) => {
+            let n = tables.variables as usize;
+            put_filled(tables, &assignment[..n], out)
         }
-        Match::Rejected(r) => answer_refused(r, out),
+        Err(r) => answer_refused(r, out),
     }
 }
 
@@ -81,74 +61,52 @@ pub enum Plan {
 
 // The plan for an asked pair of the tables that a text says: every choice is 0.
 fn plan_pair(
-    concepts: &[u16],
-    inclusions: &[u16],
-    questions: &[u16],
-    roles: &[u16],
-    variables: u16,
+    tables: Tables,
     left: u16,
     right: u16,
-    into: &mut [u64],
-    table: &mut [u8],
+    into: &mut [u64; ROLE_WORDS],
+    table: &mut [u8; TABLE_BYTES],
     out: &mut [u8],
 ) -> Plan
-    requires variables_bound { variables ≤ 8 }
+    requires variables_bound { tables.variables ≤ 8 }
     requires into_value { into.old ≡ replicate 200 0 }
-    requires table_len { length table.old ≡ 4608 }
     requires in_bounds { 4096 ≤ length out.old }
-    ensures { Planned (accepted (lent concepts inclusions questions roles variables) (Ask.Show left right)) result
-        concepts.now into.new table.new out.old out.new }
+    ensures { Planned (accepted (lent tables) (Ask.Show left right)) result
+        (lent tables).concepts into.new table.new out.old out.new }
 {
     let assignment = [0u64; 8];
-    let n = variables as usize;
-    let judged = judge_pair(
-        concepts,
-        inclusions,
-        questions,
-        roles,
-        variables,
-        &assignment[..n],
-        left,
-        right,
-        table,
-    );
+    let n = tables.variables as usize;
+    let judged = judge_pair(tables, &assignment[..n], left, right, table);
     match judged {
-        Outcome::Done => {
-            note_roles(roles, into);
-            let count = concepts.len() / 3;
+        Ok(()) => {
+            note_roles(tables.roles, into);
+            let count = tables.concepts.len() / 3;
             Plan::Parts(count, 1 + count + count * 100)
         }
-        Outcome::Refused(r) => Plan::Whole(answer_refused(r, out)),
+        Err(r) => Plan::Whole(answer_refused(r, out)),
     }
 }
 
 // The plan for the tables that a text says and what it asks.
 fn plan_tables(
-    concepts: &[u16],
-    inclusions: &[u16],
-    questions: &[u16],
-    roles: &[u16],
-    variables: u16,
+    tables: Tables,
     ask: Ask,
-    into: &mut [u64],
-    table: &mut [u8],
+    into: &mut [u64; ROLE_WORDS],
+    table: &mut [u8; TABLE_BYTES],
     out: &mut [u8],
 ) -> Plan
-    requires variables_bound { variables ≤ 8 }
+    requires variables_bound { tables.variables ≤ 8 }
     requires into_value { into.old ≡ replicate 200 0 }
-    requires table_len { length table.old ≡ 4608 }
     requires in_bounds { 4096 ≤ length out.old }
-    ensures { Planned (accepted (lent concepts inclusions questions roles variables) ask) result concepts.now into.new
+    ensures { Planned (accepted (lent tables) ask) result (lent tables).concepts into.new
         table.new out.old out.new }
 {
     match ask {
         Ask::Fill => {
-            let size = answer_tables(concepts, inclusions, questions, roles, variables, out);
+            let size = answer_tables(tables, out);
             Plan::Whole(size)
         }
-        Ask::Show(left, right) => plan_pair(
-            concepts, inclusions, questions, roles, variables, left, right, into, table, out,
-        ),
+        Ask::Show(left, right) => plan_pair(tables, left, right, into, table, out),
     }
 }
 
@@ -156,13 +114,12 @@ fn plan_tables(
 pub fn answer(
     text: &[u8],
     concepts: &mut [u16],
-    into: &mut [u64],
-    table: &mut [u8],
+    into: &mut [u64; ROLE_WORDS],
+    table: &mut [u8; TABLE_BYTES],
     out: &mut [u8],
 ) -> Plan
     requires in_bounds { 192 * 3 ≤ length concepts.old }
     requires into_value { into.old ≡ replicate 200 0 }
-    requires table_len { length table.old ≡ 4608 }
     requires in_bounds_2 { 4096 ≤ length out.old }
     ensures { Planned (judge text.now) result concepts.new into.new table.new out.old out.new }
 {
@@ -171,23 +128,20 @@ pub fn answer(
     let mut roles = [0u16; 64];
     let read = read_text(text, concepts, &mut inclusions, &mut questions, &mut roles);
     match read {
-        Read::Problem(variables, c, i, q, p, ask) => {
-            let n = c * 3;
-            let m = i * 2;
-            let k = q * 2;
-            let l = p * 2;
-            plan_tables(
-                &concepts[..n],
-                &inclusions[..m],
-                &questions[..k],
-                &roles[..l],
-                variables,
-                ask,
-                into,
-                table,
-                out,
-            )
+        Ok(problem) => {
+            let n = problem.concepts * 3;
+            let m = problem.inclusions * 2;
+            let k = problem.questions * 2;
+            let l = problem.roles * 2;
+            let tables = Tables {
+                concepts: &concepts[..n],
+                inclusions: &inclusions[..m],
+                questions: &questions[..k],
+                roles: &roles[..l],
+                variables: problem.variables,
+            };
+            plan_tables(tables, problem.ask, into, table, out)
         }
-        Read::Rejected(r) => Plan::Whole(answer_refused(r, out)),
+        Err(refusal) => Plan::Whole(answer_refused(refusal, out)),
     }
 }

@@ -6,22 +6,25 @@ use numerals::{read_run, starts_with};
 
 // A number and the length used, its end among it.
 #[derive(Clone, Copy)]
-pub enum Number {
-    Value(u16, usize),
-    NoNumber,
+pub struct Number {
+    pub value: u16,
+    pub length: usize,
 }
 
 #[derive(Clone, Copy)]
-pub enum PairLine {
-    Two(u16, u16, usize),
-    NoPair,
+pub struct PairLine {
+    pub a: u16,
+    pub b: u16,
+    pub length: usize,
 }
 
 // Kind and two numbers, as the concept table has them.
 #[derive(Clone, Copy)]
-pub enum RowLine {
-    Row(u16, u16, u16, usize),
-    NoRow,
+pub struct RowLine {
+    pub kind: u16,
+    pub a: u16,
+    pub b: u16,
+    pub length: usize,
 }
 
 // The text that remains behind so many bytes.
@@ -33,85 +36,105 @@ pub fn behind<'a>(rest: &'a [u8], n: usize) -> &'a [u8]
 }
 
 // A number that the byte `stop` ends.
-pub fn read_number(rest: &[u8], stop: u8) -> Number
+pub fn read_number(rest: &[u8], stop: u8) -> Option<Number>
     requires { stop < 48 }
     ensures { result ≡ number stop rest.now }
 {
     let run = read_run(rest);
     let n = run.length;
     if n == 0 {
-        return Number::NoNumber;
+        return None;
     }
     if rest.len() <= n {
-        return Number::NoNumber;
+        return None;
     }
     if rest[n] != stop {
-        return Number::NoNumber;
+        return None;
     }
-    Number::Value(run.value, n + 1)
+    Some(Number {
+        value: run.value,
+        length: n + 1,
+    })
 }
 
 // A line of one number.
-pub fn number_line(rest: &[u8], key: &[u8]) -> Number
+pub fn number_line(rest: &[u8], key: &[u8]) -> Option<Number>
     requires { length key.now ≤ 16 }
     ensures { result ≡ number_line key.now rest.now }
 {
     if !starts_with(rest, key) {
-        return Number::NoNumber;
+        return None;
     }
     let k = key.len();
     let digits = behind(rest, k);
-    let found = read_number(digits, 10);
-    if let Number::Value(value, n) = found {
-        return Number::Value(value, k + n);
-    }
-    Number::NoNumber
+    let found = read_number(digits, 10)?;
+    Some(Number {
+        value: found.value,
+        length: k + found.length,
+    })
 }
 
 // A line of two numbers with a comma between them.
-pub fn pair_line(rest: &[u8], key: &[u8]) -> PairLine
+pub fn pair_line(rest: &[u8], key: &[u8]) -> Option<PairLine>
     requires { length key.now ≤ 16 }
     ensures { result ≡ pair_line key.now rest.now }
 {
     if !starts_with(rest, key) {
-        return PairLine::NoPair;
+        return None;
     }
     let k = key.len();
     let digits = behind(rest, k);
-    let first = read_number(digits, 44);
-    let Number::Value(a, n) = first else {
-        return PairLine::NoPair;
-    };
-    let more = behind(digits, n);
-    let second = read_number(more, 10);
-    let Number::Value(b, l) = second else {
-        return PairLine::NoPair;
-    };
-    PairLine::Two(a, b, k + n + l)
+    let first = read_number(digits, 44)?;
+    let more = behind(digits, first.length);
+    let second = read_number(more, 10)?;
+    Some(PairLine {
+        a: first.value,
+        b: second.value,
+        length: k + first.length + second.length,
+    })
 }
 
 // A line of the concept table: the key says the kind.
-pub fn row_line(rest: &[u8]) -> RowLine
+pub fn row_line(rest: &[u8]) -> Option<RowLine>
     ensures { result ≡ row_line rest.now }
 {
     if starts_with(rest, b"top=0\n") {
-        return RowLine::Row(0, 0, 0, 6);
+        return Some(RowLine {
+            kind: 0,
+            a: 0,
+            b: 0,
+            length: 6,
+        });
     }
-    let name = number_line(rest, b"name=");
-    if let Number::Value(a, n) = name {
-        return RowLine::Row(1, a, 0, n);
+    if let Some(name) = number_line(rest, b"name=") {
+        return Some(RowLine {
+            kind: 1,
+            a: name.value,
+            b: 0,
+            length: name.length,
+        });
     }
-    let existential = pair_line(rest, b"some=");
-    if let PairLine::Two(a, b, n) = existential {
-        return RowLine::Row(2, a, b, n);
+    if let Some(existential) = pair_line(rest, b"some=") {
+        return Some(RowLine {
+            kind: 2,
+            a: existential.a,
+            b: existential.b,
+            length: existential.length,
+        });
     }
-    let conjunction = pair_line(rest, b"and=");
-    if let PairLine::Two(a, b, n) = conjunction {
-        return RowLine::Row(3, a, b, n);
+    if let Some(conjunction) = pair_line(rest, b"and=") {
+        return Some(RowLine {
+            kind: 3,
+            a: conjunction.a,
+            b: conjunction.b,
+            length: conjunction.length,
+        });
     }
-    let variable = number_line(rest, b"blank=");
-    if let Number::Value(a, n) = variable {
-        return RowLine::Row(4, a, 0, n);
-    }
-    RowLine::NoRow
+    let variable = number_line(rest, b"blank=")?;
+    Some(RowLine {
+        kind: 4,
+        a: variable.value,
+        b: 0,
+        length: variable.length,
+    })
 }

@@ -15,15 +15,17 @@ ghost use Rattle.hermitcasket.specs.Printing.{parts_of};
 ghost use Rattle.hermitcasket.specs.Answer.{Held};
 
 use answer::Plan;
+use countermodel::limits::TABLE_BYTES;
 use parts::put_part;
 use std::io::Write;
+use subsumption::limits::ROLE_WORDS;
 
 // Writes part after part. A reader that went away is told nothing more.
 fn write_parts<W: Write>(
     output: &mut W,
     concepts: &[u16],
-    into: &[u64],
-    table: &[u8],
+    into: &[u64; ROLE_WORDS],
+    table: &[u8; TABLE_BYTES],
     parts: usize,
     out: &mut [u8],
 )
@@ -31,13 +33,11 @@ fn write_parts<W: Write>(
     requires parts_bound { parts ≤ parts_of concepts.now }
     requires in_bounds { 4096 ≤ length out.old }
 {
-    let mut k: usize = 0;
-    while k < parts {
+    for k in 0..parts {
         let size = put_part(concepts, into, table, k, out);
         if 0 < size {
             let _written = output.write_all(&out[..size]).is_ok();
         }
-        k += 1;
     }
 }
 
@@ -45,8 +45,8 @@ fn main(rt: HostRuntime) {
     let mut text = [0u8; 8193];
     let n = input::read_full(&mut rt.stdin(), &mut text);
     let mut concepts = [0u16; 576];
-    let mut into = [0u64; 200];
-    let mut table = [0u8; 4608];
+    let mut into = [0u64; ROLE_WORDS];
+    let mut table = [0u8; TABLE_BYTES];
     let mut out = [0u8; 4096];
     let plan = answer::answer(&text[..n], &mut concepts, &mut into, &mut table, &mut out);
     match plan {

@@ -13,7 +13,9 @@ ghost use Rattle.hermitcasket.specs.Answer.{Held, IsPart};
 
 use crate::print::put_link;
 use countermodel::helpers::{note_links, note_names};
+use countermodel::limits::TABLE_BYTES;
 use numerals::helpers::{put_line, put_pair};
+use subsumption::limits::ROLE_WORDS;
 
 // The line of a mark of an element: its name, or its link by the role to another.
 fn put_mark(link: bool, i: usize, role: usize, mark: usize, at: usize, out: &mut [u8]) -> usize
@@ -40,21 +42,17 @@ fn put_marks(
     ensures { Wrote out.old 0 (mark_lines link i role (marked_ids marks.now count)) result out.new }
 {
     let mut end: usize = 0;
-    let mut q: usize = 0;
-    while q < count {
-        let mark = q;
-        q += 1;
-        if marks[mark] {
-            end = put_mark(link, i, role, mark, end, out);
+    for q in 0..count {
+        if marks[q] {
+            end = put_mark(link, i, role, q, end, out);
         }
     }
     end
 }
 
 // The names of the element i.
-fn put_names(concepts: &[u16], table: &[u8], i: usize, out: &mut [u8]) -> usize
+fn put_names(concepts: &[u16], table: &[u8; TABLE_BYTES], i: usize, out: &mut [u8]) -> usize
     requires checked { Checked concepts.now }
-    requires table_len { length table.now ≡ 4608 }
     requires i_bound { i < count_of concepts.now }
     requires in_bounds { 4096 ≤ length out.old }
     ensures { Wrote out.old 0 (rows_text (name_rows i (names_at concepts.now (marked table.now) i))) result out.new }
@@ -67,15 +65,13 @@ fn put_names(concepts: &[u16], table: &[u8], i: usize, out: &mut [u8]) -> usize
 // The links of the element i by the role.
 fn put_links(
     concepts: &[u16],
-    into: &[u64],
-    table: &[u8],
+    into: &[u64; ROLE_WORDS],
+    table: &[u8; TABLE_BYTES],
     i: usize,
     role: usize,
     out: &mut [u8],
 ) -> usize
     requires checked { Checked concepts.now }
-    requires into_len { length into.now ≡ 200 }
-    requires table_len { length table.now ≡ 4608 }
     requires i_bound { (i < count_of concepts.now) × (role < 100) }
     requires in_bounds { 4096 ≤ length out.old }
     ensures { Output (IsLinks concepts.now into.now table.now i role) out.old result out.new }
@@ -86,7 +82,13 @@ fn put_links(
 }
 
 // Part k, in front of the buffer; answers its length.
-pub fn put_part(concepts: &[u16], into: &[u64], table: &[u8], k: usize, out: &mut [u8]) -> usize
+pub fn put_part(
+    concepts: &[u16],
+    into: &[u64; ROLE_WORDS],
+    table: &[u8; TABLE_BYTES],
+    k: usize,
+    out: &mut [u8],
+) -> usize
     requires held { (t : Tables) × Held t concepts.now into.now table.now }
     requires k_bound { k < parts_of concepts.now }
     requires in_bounds { 4096 ≤ length out.old }

@@ -33,10 +33,8 @@ fn put_ids(ids: &[u16], at: usize, out: &mut [u8]) -> usize
     ensures { Wrote out.old at (ids_text false ids.now) result out.new }
 {
     let mut end = at;
-    let mut i: usize = 0;
-    while i < ids.len() {
-        end = put_id(ids[i], 0 < i, end, out);
-        i += 1;
+    for (i, &id) in ids.iter().enumerate() {
+        end = put_id(id, 0 < i, end, out);
     }
     end
 }

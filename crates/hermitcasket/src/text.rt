@@ -1,20 +1,13 @@
 // The whole text: counts and tables, section by section. Each reader takes the text's remaining part and the byte where that starts.
 ghost use Rattle.std.specs.Prelude.{◌≡◌, ◌+◌, ◌*◌, ◌≤◌, length};
 ghost use Rattle.numerals.specs.Lines.{concepts_key};
-ghost use Rattle.hermitcasket.specs.Text.{read_lines, row_at, pair_at, section_at, roles_at, judge};
-ghost use Rattle.hermitcasket.specs.Inner.Text.{part_of, PartFits, Counts, Sectioned, Ends, Last, fault_of, judged_by, ReadFits, TablesRead};
+ghost use Rattle.hermitcasket.specs.Text.{row_at, pair_at, section_at, roles_at, judge};
+ghost use Rattle.hermitcasket.specs.Inner.Text.{LinesRead, Counts, Sectioned, Ends, Last, judged_by, ReadFits, TablesRead};
 ghost use Rattle.subsumption.specs.Inner.Lent.{given};
 
-use crate::lines::{Number, PairLine, RowLine, behind, number_line, pair_line, row_line};
+use crate::lines::{behind, number_line, pair_line, row_line};
 use numerals::starts_with;
 use subsumption::refusal::Refusal;
-
-// The length of the lines, or the place where the earliest faulty one starts.
-#[derive(Clone, Copy)]
-pub enum Lines {
-    Upto(usize),
-    Off(usize),
-}
 
 // What is asked of the tables: to solve them, or to show an interpretation where a pair fails.
 #[derive(Clone, Copy)]
@@ -25,103 +18,109 @@ pub enum Ask {
 
 // What the text says: the variables, the counts of concepts, inclusions, questions and pairs of roles, and what is asked.
 #[derive(Clone, Copy)]
-pub enum Read {
-    Problem(u16, usize, usize, usize, usize, Ask),
-    Rejected(Refusal),
+pub struct Problem {
+    pub variables: u16,
+    pub concepts: usize,
+    pub inclusions: usize,
+    pub questions: usize,
+    pub roles: usize,
+    pub ask: Ask,
 }
 
-// So many lines of the concept table, three numbers each.
-fn read_rows(part: &[u8], at: usize, count: usize, out: &mut [u16]) -> Lines
+// So many lines of the concept table, three numbers each; their length.
+fn read_rows(part: &[u8], at: usize, count: usize, out: &mut [u16]) -> Result<usize, Refusal>
     requires part_bound { at + length part.now ≤ 8192 }
     requires count_in_bounds { count * 3 ≤ length out.old }
-    ensures part_value { read_lines row_at count at part.now ≡ part_of result at part.now (count * 3) out.new }
-    ensures part_fits { PartFits result (length part.now) }
+    ensures { LinesRead row_at 3 count at part.now result out.new }
 {
     let mut rest = part;
     let mut used: usize = 0;
-    let mut i: usize = 0;
-    while i < count {
-        let line = row_line(rest);
-        let RowLine::Row(kind, a, b, n) = line else {
-            return Lines::Off(at + used);
+    for i in 0..count {
+        let Some(line) = row_line(rest) else {
+            return Err(Refusal::BadText(at + used));
         };
         let m = i * 3;
-        out[m] = kind;
-        out[m + 1] = a;
-        out[m + 2] = b;
-        let next = behind(rest, n);
-        rest = next;
-        used += n;
-        i += 1;
+        out[m] = line.kind;
+        out[m + 1] = line.a;
+        out[m + 2] = line.b;
+        rest = behind(rest, line.length);
+        used += line.length;
     }
-    Lines::Upto(used)
+    Ok(used)
 }
 
-// So many lines of two numbers each.
-fn read_pairs(part: &[u8], at: usize, key: &[u8], count: usize, out: &mut [u16]) -> Lines
+// So many lines of two numbers each; their length.
+fn read_pairs(
+    part: &[u8],
+    at: usize,
+    key: &[u8],
+    count: usize,
+    out: &mut [u16],
+) -> Result<usize, Refusal>
     requires part_bound { at + length part.now ≤ 8192 }
     requires key_len_bound { length key.now ≤ 16 }
     requires count_in_bounds { count * 2 ≤ length out.old }
-    ensures part_value { read_lines (pair_at key.now) count at part.now ≡ part_of result at part.now (count * 2) out.new }
-    ensures part_fits { PartFits result (length part.now) }
+    ensures { LinesRead (pair_at key.now) 2 count at part.now result out.new }
 {
     let mut rest = part;
     let mut used: usize = 0;
-    let mut i: usize = 0;
-    while i < count {
-        let line = pair_line(rest, key);
-        let PairLine::Two(left, right, n) = line else {
-            return Lines::Off(at + used);
+    for i in 0..count {
+        let Some(line) = pair_line(rest, key) else {
+            return Err(Refusal::BadText(at + used));
         };
         let m = i * 2;
-        out[m] = left;
-        out[m + 1] = right;
-        let next = behind(rest, n);
-        rest = next;
-        used += n;
-        i += 1;
+        out[m] = line.a;
+        out[m + 1] = line.b;
+        rest = behind(rest, line.length);
+        used += line.length;
     }
-    Lines::Upto(used)
+    Ok(used)
 }
 
 // A count, or a section's count of lines, and the length used.
 #[derive(Clone, Copy)]
-pub enum Section {
-    Through(usize, usize),
-    Faulty(Refusal),
+pub struct Section {
+    pub count: usize,
+    pub length: usize,
 }
 
 // A count line. A count over its limit is refused with the table's place.
-fn read_count(rest: &[u8], at: usize, key: &[u8], limit: u16, table: usize) -> Section
+fn read_count(
+    rest: &[u8],
+    at: usize,
+    key: &[u8],
+    limit: u16,
+    table: usize,
+) -> Result<Section, Refusal>
     requires { length key.now ≤ 16 }
     ensures { Counts key.now limit table at rest.now result }
 {
-    let found = number_line(rest, key);
-    let Number::Value(count, n) = found else {
-        return Section::Faulty(Refusal::BadText(at));
+    let Some(found) = number_line(rest, key) else {
+        return Err(Refusal::BadText(at));
     };
-    if limit < count {
-        return Section::Faulty(Refusal::Limit(table));
+    if limit < found.value {
+        return Err(Refusal::Limit(table));
     }
-    Section::Through(count as usize, n)
+    Ok(Section {
+        count: found.value as usize,
+        length: found.length,
+    })
 }
 
 // The concept table.
-fn read_concepts(rest: &[u8], at: usize, out: &mut [u16]) -> Section
+fn read_concepts(rest: &[u8], at: usize, out: &mut [u16]) -> Result<Section, Refusal>
     requires rest_bound { at + length rest.now ≤ 8192 }
     requires in_bounds { 192 * 3 ≤ length out.old }
     ensures { Sectioned (section_at concepts_key 192 0 row_at) 192 3 at rest.now result out.new }
 {
-    let counted = read_count(rest, at, b"entries=", 192, 0);
-    let Section::Through(count, n) = counted else {
-        return counted;
-    };
+    let counted = read_count(rest, at, b"entries=", 192, 0)?;
+    let n = counted.length;
     let rows = behind(rest, n);
-    let lines = read_rows(rows, at + n, count, out);
-    match lines {
-        Lines::Upto(m) => Section::Through(count, n + m),
-        Lines::Off(place) => Section::Faulty(Refusal::BadText(place)),
-    }
+    let m = read_rows(rows, at + n, counted.count, out)?;
+    Ok(Section {
+        count: counted.count,
+        length: n + m,
+    })
 }
 
 // A table of pairs: the key of its count, and that of its lines.
@@ -133,95 +132,75 @@ fn read_section(
     limit: u16,
     table: usize,
     out: &mut [u16],
-) -> Section
+) -> Result<Section, Refusal>
     requires rest_bound { at + length rest.now ≤ 8192 }
     requires key_len_bound { length key.now ≤ 16 }
     requires line_len_bound { length line.now ≤ 16 }
     requires limit_in_bounds { limit * 2 ≤ length out.old }
     ensures { Sectioned (section_at key.now limit table (pair_at line.now)) limit 2 at rest.now result out.new }
 {
-    let counted = read_count(rest, at, key, limit, table);
-    let Section::Through(count, n) = counted else {
-        return counted;
-    };
+    let counted = read_count(rest, at, key, limit, table)?;
+    let n = counted.length;
     let pairs = behind(rest, n);
-    let lines = read_pairs(pairs, at + n, line, count, out);
-    match lines {
-        Lines::Upto(m) => Section::Through(count, n + m),
-        Lines::Off(place) => Section::Faulty(Refusal::BadText(place)),
-    }
+    let m = read_pairs(pairs, at + n, line, counted.count, out)?;
+    Ok(Section {
+        count: counted.count,
+        length: n + m,
+    })
 }
 
 // The roles above roles. A text may lack the section and then has no such pairs.
-fn read_roles(rest: &[u8], at: usize, out: &mut [u16]) -> Section
+fn read_roles(rest: &[u8], at: usize, out: &mut [u16]) -> Result<Section, Refusal>
     requires rest_bound { at + length rest.now ≤ 8192 }
     requires in_bounds { 32 * 2 ≤ length out.old }
     ensures { Sectioned roles_at 32 2 at rest.now result out.new }
 {
     if !starts_with(rest, b"roles=") {
-        return Section::Through(0, 0);
+        return Ok(Section {
+            count: 0,
+            length: 0,
+        });
     }
     read_section(rest, at, b"roles=", b"wider=", 32, 4, out)
 }
 
-// The text's end.
-#[derive(Clone, Copy)]
-pub enum End {
-    Asks(Ask),
-    Damaged(Refusal),
-}
-
 // What stands behind the questions: nothing, or the line of a pair and nothing behind it.
-fn read_end(rest: &[u8], at: usize) -> End
+fn read_end(rest: &[u8], at: usize) -> Result<Ask, Refusal>
     requires { at + length rest.now ≤ 8192 }
     ensures { Ends at rest.now result }
 {
     if rest.len() == 0 {
-        return End::Asks(Ask::Fill);
+        return Ok(Ask::Fill);
     }
-    let line = pair_line(rest, b"show=");
-    let PairLine::Two(left, right, n) = line else {
-        return End::Damaged(Refusal::BadText(at));
+    let Some(line) = pair_line(rest, b"show=") else {
+        return Err(Refusal::BadText(at));
     };
-    if n < rest.len() {
-        return End::Damaged(Refusal::BadText(at + n));
+    if line.length < rest.len() {
+        return Err(Refusal::BadText(at + line.length));
     }
-    End::Asks(Ask::Show(left, right))
+    Ok(Ask::Show(line.a, line.b))
 }
 
 // The count of the questions, and what is asked behind them.
 #[derive(Clone, Copy)]
-pub enum Asked {
-    Questions(usize, Ask),
-    Wrong(Refusal),
+pub struct Asked {
+    pub questions: usize,
+    pub ask: Ask,
 }
 
 // The questions and the end.
-fn read_questions(rest: &[u8], at: usize, out: &mut [u16]) -> Asked
+fn read_questions(rest: &[u8], at: usize, out: &mut [u16]) -> Result<Asked, Refusal>
     requires rest_bound { at + length rest.now ≤ 8192 }
     requires in_bounds { 32 * 2 ≤ length out.old }
     ensures { Last at rest.now result out.new }
 {
-    let section = read_section(rest, at, b"questions=", b"below=", 32, 2, out);
-    let Section::Through(count, n) = section else {
-        return Asked::Wrong(fault(section));
-    };
-    let last = behind(rest, n);
-    let end = read_end(last, at + n);
-    match end {
-        End::Asks(ask) => Asked::Questions(count, ask),
-        End::Damaged(r) => Asked::Wrong(r),
-    }
-}
-
-// The refusal of a section that was not read through.
-fn fault(section: Section) -> Refusal
-    ensures { result ≡ fault_of section }
-{
-    match section {
-        Section::Through(_, used) => Refusal::BadText(used),
-        Section::Faulty(r) => r,
-    }
+    let section = read_section(rest, at, b"questions=", b"below=", 32, 2, out)?;
+    let last = behind(rest, section.length);
+    let ask = read_end(last, at + section.length)?;
+    Ok(Asked {
+        questions: section.count,
+        ask,
+    })
 }
 
 // The tables behind the pairs of roles, into the caller's arrays.
@@ -233,7 +212,7 @@ fn read_tables(
     concepts: &mut [u16],
     inclusions: &mut [u16],
     questions: &mut [u16],
-) -> Read
+) -> Result<Problem, Refusal>
     requires rest_bound { at + length rest.now ≤ 8192 }
     requires variables_bound { variables ≤ 8 }
     requires pairs_bound { pairs ≤ 32 }
@@ -242,22 +221,20 @@ fn read_tables(
     requires in_bounds_3 { 32 * 2 ≤ length questions.old }
     ensures { TablesRead variables pairs at rest.now result concepts.new inclusions.new questions.new }
 {
-    let rows = read_concepts(rest, at, concepts);
-    let Section::Through(c, n) = rows else {
-        return Read::Rejected(fault(rows));
-    };
-    let second = behind(rest, n);
-    let b = at + n;
-    let given = read_section(second, b, b"inclusions=", b"below=", 96, 1, inclusions);
-    let Section::Through(i, m) = given else {
-        return Read::Rejected(fault(given));
-    };
-    let third = behind(second, m);
-    let asked = read_questions(third, b + m, questions);
-    match asked {
-        Asked::Questions(q, ask) => Read::Problem(variables, c, i, q, pairs, ask),
-        Asked::Wrong(r) => Read::Rejected(r),
-    }
+    let rows = read_concepts(rest, at, concepts)?;
+    let second = behind(rest, rows.length);
+    let b = at + rows.length;
+    let given = read_section(second, b, b"inclusions=", b"below=", 96, 1, inclusions)?;
+    let third = behind(second, given.length);
+    let asked = read_questions(third, b + given.length, questions)?;
+    Ok(Problem {
+        variables,
+        concepts: rows.count,
+        inclusions: given.count,
+        questions: asked.questions,
+        roles: pairs,
+        ask: asked.ask,
+    })
 }
 
 // The whole text, into the caller's arrays.
@@ -267,7 +244,7 @@ pub fn read_text(
     inclusions: &mut [u16],
     questions: &mut [u16],
     roles: &mut [u16],
-) -> Read
+) -> Result<Problem, Refusal>
     requires in_bounds { 192 * 3 ≤ length concepts.old }
     requires in_bounds_2 { 96 * 2 ≤ length inclusions.old }
     requires in_bounds_3 { 32 * 2 ≤ length questions.old }
@@ -276,23 +253,17 @@ pub fn read_text(
     ensures read_fits { ReadFits result }
 {
     if 8192 < text.len() {
-        return Read::Rejected(Refusal::BadText(8192));
+        return Err(Refusal::BadText(8192));
     }
-    let counted = read_count(text, 0, b"blanks=", 8, 3);
-    let Section::Through(variables, n) = counted else {
-        return Read::Rejected(fault(counted));
-    };
-    let rest = behind(text, n);
-    let above = read_roles(rest, n, roles);
-    let Section::Through(pairs, m) = above else {
-        return Read::Rejected(fault(above));
-    };
-    let tables = behind(rest, m);
+    let counted = read_count(text, 0, b"blanks=", 8, 3)?;
+    let rest = behind(text, counted.length);
+    let above = read_roles(rest, counted.length, roles)?;
+    let tables = behind(rest, above.length);
     read_tables(
         tables,
-        n + m,
-        variables as u16,
-        pairs,
+        counted.length + above.length,
+        counted.count as u16,
+        above.count,
         concepts,
         inclusions,
         questions,

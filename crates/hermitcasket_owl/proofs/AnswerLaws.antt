@@ -1,4 +1,5 @@
 -- The answer for a text, by what the reading told.
+use Rattle.std.specs.Prelude.{Result, Err, Ok}
 use Prim.Native.Nat.{ℕ, ◌+◌, ◌*◌, ◌%◌, ◌≤◌}
 use mathlib.Core.Path.{◌≡◌, refl, sym, ap, ap₂, ◌∙◌, subst}
 use mathlib.Core.List.{List, []}
@@ -8,10 +9,8 @@ use lib.Seq.{take_at}
 use borrow.Author.Tests.{eqb-true, not-false}
 use Rattle.subsumption.specs.declared.refusal.Refusal.{Refusal}
 use Rattle.subsumption.specs.declared.refusal.Code.{Code}
-use Rattle.subsumption.specs.declared.refusal.Outcome.{Outcome}
-use Rattle.subsumption.specs.declared.refusal.Outcome.TheVariants.{Done, Refused}
 use Rattle.subsumption.specs.Tables.{tables, count_of, pairs_of}
-use Rattle.subsumption.specs.Refusal.{code_of, Reply}
+use Rattle.subsumption.specs.Refusal.{code_of, Reply, Outcome, Done}
 use Rattle.subsumption.specs.Check.{unfit, concept_fault, id_fault}
 use Rattle.subsumption.proofs.Bools.{or-false}
 use Rattle.subsumption.proofs.Replies.{same-refusal, not_done}
@@ -20,7 +19,6 @@ use Rattle.numerals.specs.Printing.{refused_text, Output}
 use Rattle.numerals.specs.Inner.Printing.{Wrote}
 use Rattle.numerals.proofs.PieceLaws.{output}
 use Rattle.owl.specs.declared.read.Catalogue.{Catalogue}
-use Rattle.owl.specs.declared.read.Catalogue.TheVariants.{Tables, Rejected}
 use Rattle.owl.specs.Judgement.{State, Step, go, stop, judge}
 use Rattle.owl.specs.Read.{CatalogueReply, catalogue_reply, catalogue_fault, in_front, Put, ReadsBy, reading_of, ReadsCatalogue}
 use Rattle.owl.proofs.AcceptedLaws.{catalogue-accepted}
@@ -38,8 +36,8 @@ module _ (text : List ℕ) (s : State) (e : reading_of (catalogue_fault text 576
   judged = by (catalogue_fault text 576 192) e
     where
       by : (fault : Outcome) → reading_of fault text ≡ go s → judge text ≡ go s
-      by Done h = h
-      by (Refused r) h = absurd (let z : ◌≡◌ {A = ℕ} 0 1 = cc h in omega arith)
+      by (Ok tt) h = h
+      by (Err r) h = absurd (let z : ◌≡◌ {A = ℕ} 0 1 = cc h in omega arith)
 
   sound : concept_fault (tables s.rows s.inclusions [] [] 0) ≡ Done
   sound = (catalogue-accepted text s judged).0
@@ -58,74 +56,74 @@ module _ (text : List ℕ) (s : State) (e : reading_of (catalogue_fault text 576
 
 module _
     (text concepts concepts' inclusions inclusions' : List ℕ) (long-concepts : length concepts ≡ 576) (long-inclusions : length inclusions ≡ 192)
-    (read : Catalogue) (reads : ReadsCatalogue text concepts concepts' inclusions inclusions' (catalogue_reply read)) where
+    (read : Result Catalogue Refusal) (reads : ReadsCatalogue text concepts concepts' inclusions inclusions' (catalogue_reply read)) where
   abbrev reading : Step
   reading = reading_of (catalogue_fault text 576 192) text
 
-  reads-by : (answer : Catalogue) → read ≡ answer → ReadsBy reading concepts concepts' inclusions inclusions' (catalogue_reply answer)
+  reads-by : (answer : Result Catalogue Refusal) → read ≡ answer → ReadsBy reading concepts concepts' inclusions inclusions' (catalogue_reply answer)
   reads-by answer e =
       subst (λ (z : ℕ). ReadsBy (reading_of (catalogue_fault text z 192) text) concepts concepts' inclusions inclusions' (catalogue_reply answer)) long-concepts
       (subst (λ (z : ℕ). ReadsBy (reading_of (catalogue_fault text (length concepts) z) text) concepts concepts' inclusions inclusions' (catalogue_reply answer)) long-inclusions
-      (subst (λ (z : Catalogue). ReadsCatalogue text concepts concepts' inclusions inclusions' (catalogue_reply z)) e reads))
+      (subst (λ (z : Result Catalogue Refusal). ReadsCatalogue text concepts concepts' inclusions inclusions' (catalogue_reply z)) e reads))
 
   -- ---- tables
-  record Accepted (n m : ℕ) : Type 0 where
+  record Accepted (c : Catalogue) : Type 0 where
     state : State
     goes : reading ≡ go state
-    put : Put state concepts concepts' inclusions inclusions' (catalogue_reply (Tables n m))
+    put : Put state concepts concepts' inclusions inclusions' (catalogue_reply (Ok c))
 
-  module _ (n m : ℕ) (e : read ≡ Tables n m) where
-    accepted : Accepted n m
+  module _ (c : Catalogue) (e : read ≡ Ok c) where
+    accepted : Accepted c
     unfolding told
-    accepted = by reading refl (reads-by (Tables n m) e)
+    accepted = by reading refl (reads-by (Ok c) e)
       where
-        by : (step : Step) → reading ≡ step → ReadsBy step concepts concepts' inclusions inclusions' (catalogue_reply (Tables n m)) → Accepted n m
+        by : (step : Step) → reading ≡ step → ReadsBy step concepts concepts' inclusions inclusions' (catalogue_reply (Ok c)) → Accepted c
         by (go s) f put = record { state = s; goes = f; put = put }
         by (stop r) f kept = not_done r 0 (sym (ap told kept.told))
 
-    entries-are : n ≡ count_of accepted.state.rows
+    entries-are : c.concepts ≡ count_of accepted.state.rows
     entries-are = ap (λ (z : CatalogueReply). z.concepts) accepted.put.told
 
-    pairs-are : m ≡ pairs_of accepted.state.inclusions
+    pairs-are : c.inclusions ≡ pairs_of accepted.state.inclusions
     pairs-are = ap (λ (z : CatalogueReply). z.inclusions) accepted.put.told
 
-    pub few-entries : n ≤ 192
+    pub few-entries : c.concepts ≤ 192
     few-entries = omega (arith, entries-are, concepts-few _ (sound text _ accepted.goes))
 
-    pub few-pairs : m ≤ 96
+    pub few-pairs : c.inclusions ≤ 96
     few-pairs = omega (arith, pairs-are, inclusions-few _ (sound text _ accepted.goes))
 
-    rows-front : take (n * 3) concepts' ≡ accepted.state.rows
+    rows-front : take (c.concepts * 3) concepts' ≡ accepted.state.rows
     unfolding in_front
     rows-front =
-        ap (λ (z : List ℕ). take (n * 3) z) accepted.put.put-concepts
-        ∙ take_at accepted.state.rows _ (n * 3) (omega (arith, entries-are, rows_whole text _ accepted.goes))
+        ap (λ (z : List ℕ). take (c.concepts * 3) z) accepted.put.put-concepts
+        ∙ take_at accepted.state.rows _ (c.concepts * 3) (omega (arith, entries-are, rows_whole text _ accepted.goes))
 
-    pairs-front : take (m * 2) inclusions' ≡ accepted.state.inclusions
+    pairs-front : take (c.inclusions * 2) inclusions' ≡ accepted.state.inclusions
     unfolding in_front
     pairs-front =
-        ap (λ (z : List ℕ). take (m * 2) z) accepted.put.put-inclusions
-        ∙ take_at accepted.state.inclusions _ (m * 2) (omega (arith, pairs-are, inclusions-whole text _ accepted.goes))
+        ap (λ (z : List ℕ). take (c.inclusions * 2) z) accepted.put.put-inclusions
+        ∙ take_at accepted.state.inclusions _ (c.inclusions * 2) (omega (arith, pairs-are, inclusions-whole text _ accepted.goes))
 
-    same-card : card_text (take (n * 3) concepts') (take (m * 2) inclusions') ≡ card_text accepted.state.rows accepted.state.inclusions
+    same-card : card_text (take (c.concepts * 3) concepts') (take (c.inclusions * 2) inclusions') ≡ card_text accepted.state.rows accepted.state.inclusions
     same-card = ap₂ (λ (x y : List ℕ). card_text x y) rows-front pairs-front
 
-    pub card-room : (out : List ℕ) → 4096 ≤ length out → 0 + length (card_text (take (n * 3) concepts') (take (m * 2) inclusions')) ≤ length out
+    pub card-room : (out : List ℕ) → 4096 ≤ length out → 0 + length (card_text (take (c.concepts * 3) concepts') (take (c.inclusions * 2) inclusions')) ≤ length out
     card-room out h = omega (arith, ap length same-card, card-fits _ _ (sound text _ accepted.goes) (known text _ accepted.goes) out h)
 
     pub carded :
-        (before : List ℕ) (size : ℕ) (after : List ℕ) → Wrote before 0 (card_text (take (n * 3) concepts') (take (m * 2) inclusions')) size after
+        (before : List ℕ) (size : ℕ) (after : List ℕ) → Wrote before 0 (card_text (take (c.concepts * 3) concepts') (take (c.inclusions * 2) inclusions')) size after
         → Output (Carded text) before size after
     carded before size after w =
-        output (Carded text) before _ size after w (subst (λ (z : Step). CardedBy z (card_text (take (n * 3) concepts') (take (m * 2) inclusions'))) (sym accepted.goes) same-card)
+        output (Carded text) before _ size after w (subst (λ (z : Step). CardedBy z (card_text (take (c.concepts * 3) concepts') (take (c.inclusions * 2) inclusions'))) (sym accepted.goes) same-card)
 
   -- ---- a refusal
-  module _ (r : Refusal) (e : read ≡ Rejected r) where
+  module _ (r : Refusal) (e : read ≡ Err r) where
     refused : reading ≡ stop r
     unfolding told
-    refused = by reading refl (reads-by (Rejected r) e)
+    refused = by reading refl (reads-by (Err r) e)
       where
-        by : (step : Step) → reading ≡ step → ReadsBy step concepts concepts' inclusions inclusions' (catalogue_reply (Rejected r)) → reading ≡ stop r
+        by : (step : Step) → reading ≡ step → ReadsBy step concepts concepts' inclusions inclusions' (catalogue_reply (Err r)) → reading ≡ stop r
         by (go s) f put = not_done r 0 (ap told put.told)
         by (stop q) f kept = f ∙ ap stop (sym (same-refusal r q (ap told kept.told)))
 

@@ -1,4 +1,5 @@
 -- A card is under 4096 bytes: there are at most 192 rows of 12 bytes and 96 inclusions of 14.
+use Rattle.subsumption.specs.Refusal.{Done}
 use Prim.Native.Nat.{ℕ, zero, suc, ◌+◌, ◌*◌, ◌<◌, ◌≤◌}
 use mathlib.Core.Path.{◌≡◌, ap, ◌∙◌}
 use mathlib.Core.List.{List, [], ◌++◌}
@@ -8,7 +9,6 @@ use native.Mathlib.Nat.{suc-mul, zero-mul}
 use lib.ListN.{length, take, drop, length-append}
 use lib.Seq.{drop-drop}
 use borrow.Author.Tests.{ltb-true, ltb-false, not-false}
-use Rattle.subsumption.specs.declared.refusal.Outcome.TheVariants.{Done}
 use Rattle.subsumption.specs.Tables.{tables, node, decode, count_of, pairs_of, left_of, right_of}
 use Rattle.subsumption.specs.Check.{malformed_row, malformed, malformed_fault, forward, forward_fault, concept_fault, id_fault}
 use Rattle.subsumption.proofs.Bools.{or-false}

@@ -5,7 +5,7 @@ ghost use Rattle.hermitcasket_owl.specs.Card.{Carded};
 
 use crate::card::put_card;
 use numerals::helpers::put_refused;
-use owl::{Catalogue, read_catalogue};
+use owl::read_catalogue;
 use subsumption::refusal::code_of;
 
 // The whole program, from the text's bytes to the output's.
@@ -17,12 +17,12 @@ pub fn answer(text: &[u8], out: &mut [u8]) -> usize
     let mut inclusions = [0u16; 192];
     let read = read_catalogue(text, &mut concepts, &mut inclusions);
     match read {
-        Catalogue::Tables(entries, pairs) => {
-            let n = entries * 3;
-            let m = pairs * 2;
+        Ok(catalogue) => {
+            let n = catalogue.concepts * 3;
+            let m = catalogue.inclusions * 2;
             put_card(&concepts[..n], &inclusions[..m], out)
         }
-        Catalogue::Rejected(refusal) => {
+        Err(refusal) => {
             let code = code_of(refusal);
             put_refused(code, out)
         }

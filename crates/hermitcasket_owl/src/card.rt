@@ -12,13 +12,11 @@ fn put_rows(concepts: &[u16], at: usize, out: &mut [u8]) -> usize
 {
     let count = concepts.len() / 3;
     let mut end = at;
-    let mut i: usize = 0;
-    while i < count {
+    for i in 0..count {
         let kind = concepts[i * 3] as usize;
         let a = concepts[i * 3 + 1] as usize;
         let b = concepts[i * 3 + 2] as usize;
         end = put_row(kind, a, b, end, out);
-        i += 1;
     }
     end
 }
@@ -30,12 +28,10 @@ fn put_pairs(inclusions: &[u16], at: usize, out: &mut [u8]) -> usize
 {
     let count = inclusions.len() / 2;
     let mut end = at;
-    let mut i: usize = 0;
-    while i < count {
+    for i in 0..count {
         let left = inclusions[i * 2] as usize;
         let right = inclusions[i * 2 + 1] as usize;
         end = put_pair(b"below=", left, right, end, out);
-        i += 1;
     }
     end
 }

@@ -15,7 +15,7 @@ use Rattle.subsumption.proofs.Bools.{or-first, same_bool, or_cases, eq-or-ne, le
 use Rattle.subsumption.proofs.Bits.{bit-or, bit_or_right, bit-shr, bit-mod}
 use Rattle.square.specs.Inner.Square.{on_line, in_row}
 use Rattle.square.specs.Inner.Loading.{WordOf}
-use Rattle.incremental.specs.Inner.Bytes.{WordStored, RowStored, Stored}
+use Rattle.incremental.specs.Inner.Bytes.{WordStored, RowStored}
 
 -- ---- a word's bits come to eight bytes
 pub record AddedTo (word at : ℕ) (before : List ℕ) (m : ℕ) (after : List ℕ) : Type 0 where
@@ -25,9 +25,6 @@ pub record AddedTo (word at : ℕ) (before : List ℕ) (m : ℕ) (after : List �
   pub there : (p : ℕ) → (p < at) ⊎ (at + m ≤ p) → get_or after p 0 ≡ get_or before p 0
 
 module _ (word at : ℕ) (before : List ℕ) where
-  pub added-first : AddedTo word at before 0 before
-  added-first = record { within = omega arith; size = refl; bits = λ k h. absurd (omega arith); there = λ p h. refl }
-
   pub added_more :
       (m : ℕ) (mid : List ℕ) → m < 8 → at + 8 ≤ length before → AddedTo word at before m mid
       → AddedTo word at before (m + 1) (set mid (at + m) (bit_or (get_or mid (at + m) 0) (word / 2 ^ (m * 8) % 2 ^ 8)))
@@ -59,14 +56,6 @@ module _ (word at : ℕ) (before : List ℕ) where
 
       old : (k : ℕ) → k < (m + 1) * 8 → (k / 8 ≡ m → ⊥) → bit (get_or (set mid (at + m) byte) (at + k / 8) 0) (k % 8) ≡ or (bit (get_or before (at + k / 8) 0) (k % 8)) (bit word k)
       old k l n = ap (λ (z : ℕ). bit z (k % 8)) (get_or-set_other mid (at + m) (at + k / 8) byte 0 (λ e. n (omega arith))) ∙ A.bits k (omega (arith, n))
-
-  pub added-done : (m : ℕ) (after : List ℕ) → 8 ≤ m → AddedTo word at before m after → WordStored word at before after
-  added-done m after h A =
-      record {
-        size = A.size;
-        bits = λ k l. A.bits k (omega arith);
-        there = λ p l. ⊎_elim (λ u. A.there p (inl u)) (λ u. A.there p (inr (omega (arith, A.within)))) l;
-      }
 
   -- nothing to add
   pub added_none : (old : ℕ) → WordOf before at old → bit_or old word ≡ old → WordStored word at before before
@@ -138,9 +127,6 @@ pub record StoredTo (square : List ℕ) (count : ℕ) (before : List ℕ) (n : �
   pub rest : (p : ℕ) → row_start n ≤ p → get_or after p 0 ≡ get_or before p 0
 
 module _ (square : List ℕ) (count : ℕ) (before : List ℕ) where
-  pub stored-first : StoredTo square count before 0 before
-  stored-first = record { within = omega arith; size = refl; bits = λ i j h. absurd (omega arith); rest = λ p h. refl }
-
   pub stored_next : (n : ℕ) (mid after : List ℕ) → n < count → StoredTo square count before n mid → RowStored square n mid after → StoredTo square count before (n + 1) after
   unfolding row_start marked
   stored_next n mid after h T R =
@@ -156,8 +142,3 @@ module _ (square : List ℕ) (count : ℕ) (before : List ℕ) where
             (λ v. ap (λ (z : ℕ). bit z (j % 8)) (R.under (i * 24 + j / 8) (omega arith)) ∙ T.bits i j v m) (last-cases i n (omega arith));
         rest = λ p l. R.over p (omega arith) ∙ T.rest p (omega arith);
       }
-
-  pub stored-done : (n : ℕ) (after : List ℕ) → count ≤ n → StoredTo square count before n after → Stored square count before after
-  stored-done n after h T =
-      let e : n ≡ count = omega (arith, T.within) in
-      record { size = T.size; bits = λ i j l. T.bits i j (omega arith); rest = λ p l. T.rest p (subst (λ (z : ℕ). row_start z ≤ p) (sym e) l) }

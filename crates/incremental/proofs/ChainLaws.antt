@@ -8,8 +8,7 @@ use lib.ListN.{length, get_or, set, length-set, replicate, length-replicate, get
 use lib.Seq.{get_or-set_same, get_or-set_other}
 use Rattle.subsumption.specs.Tables.{pairs_of, left_of}
 use Rattle.subsumption.proofs.Bools.{eq-or-ne}
-use Rattle.square.specs.Inner.Sets.{Inserted}
-use Rattle.incremental.specs.Inner.Including.{Pairs, NextPair, ChainTo, Chain, Idle}
+use Rattle.incremental.specs.Inner.Including.{Pairs, NextPair, ChainTo, Idle}
 use Rattle.square.proofs.SetLaws.{empty-line}
 
 pub chain-none : (inclusions : List ℕ) → pairs_of inclusions ≤ 96 → ChainTo inclusions (replicate 288 96) (pairs_of inclusions)
@@ -78,22 +77,8 @@ module _ (inclusions chain : List ℕ) (m : ℕ) (P : Pairs 192 inclusions) (som
   pub chain_more : ChainTo inclusions two (m - 1)
   chain_more = record { long = length-set one left (m - 1) ∙ one-long; first = chain_first; next = chain_next }
 
-pub chain-all : (inclusions chain : List ℕ) (m : ℕ) → m ≤ 0 → ChainTo inclusions chain m → Chain inclusions chain
-chain-all inclusions chain m h C = subst (λ (z : ℕ). ChainTo inclusions chain z) (omega arith) C
-
 -- ---- ids that are no left side
 pub idle-none : (inclusions idle : List ℕ) → idle ≡ replicate 3 0 → Idle inclusions idle
 idle-none inclusions idle e =
     subst (λ (z : List ℕ). Idle inclusions z) (sym e)
     (record { long = length-replicate {A = ℕ} 3 0; none = λ l m h u p q. empty-line 3 0 l h (omega arith) u })
-
-pub idle-more :
-    (inclusions chain before after : List ℕ) (l : ℕ) → Chain inclusions chain → l < 192 → pairs_of inclusions ≤ get_or chain l 0 → Idle inclusions before
-    → Inserted before after 0 l → Idle inclusions after
-idle-more inclusions chain before after l C h over I A =
-    record {
-      long = A.long ∙ I.long;
-      none =
-          λ k m g u p q.
-          ⊎_elim (λ v. I.none k m g v p q) (λ (e : k ≡ l). (C.first l h).none m (omega arith) (omega arith) p (q ∙ e)) (A.bits k g u);
-    }

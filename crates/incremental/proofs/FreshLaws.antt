@@ -7,12 +7,10 @@ use mathlib.Core.Logic.{⊎_elim, ◌↔◌}
 use native.Mathlib.Omega.{arith}
 use lib.ListN.{length, get_or, get_or-eq_default}
 use borrow.Author.Tests.{eqb-true, ltb-true, not-false}
-use Rattle.subsumption.specs.declared.refusal.Outcome.{Outcome}
-use Rattle.subsumption.specs.declared.refusal.Outcome.TheVariants.{Done}
 use Rattle.subsumption.specs.Tables.{Tables, count_of, left_of, right_of, Concept, top, name, exists, and, var, tree}
 use Rattle.subsumption.specs.Atoms.{bit, atoms, chosen}
 use Rattle.subsumption.specs.Subsumption.{Interpretation, Reading, Member, Included, no_variables, assigned, Obeys, Subsumed}
-use Rattle.subsumption.specs.Refusal.{Reply}
+use Rattle.subsumption.specs.Refusal.{Reply, Outcome, Done}
 use Rattle.subsumption.specs.Check.{table_fault, assignment_fault, assignment_fault_at}
 use Rattle.subsumption.specs.Rules.{follows}
 use Rattle.subsumption.specs.Table.{row_start, marked, TableOf}

@@ -14,7 +14,6 @@ use Rattle.subsumption.specs.Inner.Roles.{in_set}
 use Rattle.subsumption.specs.Inner.Links.{Inner}
 use Rattle.subsumption.proofs.Bools.{both_true, both-intro, eq-or-ne, le-or-lt, last-cases}
 use Rattle.subsumption.proofs.Bits.{bit-and, bit-or-cases, bit_or_left, bit_or_right}
-use Rattle.subsumption.proofs.Nodes.{node-exists, exists-node}
 use Rattle.subsumption.proofs.Columns.{not-both}
 use Rattle.square.specs.Inner.Square.{on_line, in_row, Square}
 use Rattle.incremental.specs.Inner.Marking.{in_half, Adds, InThree, Holding}
@@ -69,7 +68,7 @@ module _ (concepts : List ℕ) (n : ℕ) where
   role-cases r e w = ⊎_elim (λ u. inl u) (λ l. inr (record { before = l; inner = w.inner; row = w.row })) (last-cases e n (omega (arith, w.before)))
 
   pub existentials-skip :
-      (outer inners roles : List ℕ) → (get_or concepts (n * 3) 0 ≡ 2 → ⊥) → Existentials concepts outer inners roles n → Existentials concepts outer inners roles (n + 1)
+      (outer inners roles : List ℕ) → ((r x : ℕ) → node concepts n ≡ exists_at r x → ⊥) → Existentials concepts outer inners roles n → Existentials concepts outer inners roles (n + 1)
   existentials-skip outer inners roles k E =
       record {
         outers =
@@ -92,28 +91,19 @@ module _ (concepts : List ℕ) (n : ℕ) where
       }
     where
       none-inner : {A : Type 0} (x e : ℕ) → e ≡ n → WithInner concepts (n + 1) x e → A
-      none-inner x e u w = absurd (k (exists-node concepts n w.role x (ap (node concepts) (sym u) ∙ w.row)).0)
+      none-inner x e u w = absurd (k w.role x (ap (node concepts) (sym u) ∙ w.row))
 
       none-role : {A : Type 0} (r e : ℕ) → e ≡ n → WithRole concepts (n + 1) r e → A
-      none-role r e u w = absurd (k (exists-node concepts n r w.inner (ap (node concepts) (sym u) ∙ w.row)).0)
+      none-role r e u w = absurd (k r w.inner (ap (node concepts) (sym u) ∙ w.row))
 
-  module _ (outer inners roles outer' inners' roles' : List ℕ) (E : Existentials concepts outer inners roles n) (k : get_or concepts (n * 3) 0 ≡ 2) (low : n < 192)
-      (A : Inserted outer outer' (get_or concepts (n * 3 + 2) 0 * 3) n) (B : Inserted inners inners' 0 (get_or concepts (n * 3 + 2) 0))
-      (C : Inserted roles roles' (get_or concepts (n * 3 + 1) 0 * 3) n) where
-    abbrev inner : ℕ
-    inner = get_or concepts (n * 3 + 2) 0
-
-    abbrev role : ℕ
-    role = get_or concepts (n * 3 + 1) 0
-
-    row : node concepts n ≡ exists_at role inner
-    row = node-exists concepts n k
-
+  module _ (role inner : ℕ) (outer inners roles outer' inners' roles' : List ℕ) (E : Existentials concepts outer inners roles n)
+      (row : node concepts n ≡ exists_at role inner) (low : n < 192)
+      (A : Inserted outer outer' (inner * 3) n) (B : Inserted inners inners' 0 inner) (C : Inserted roles roles' (role * 3) n) where
     same-inner : (x e : ℕ) → e ≡ n → WithInner concepts (n + 1) x e → x ≡ inner
-    same-inner x e u w = let q = ap (node concepts) (sym u) ∙ w.row in sym (exists-node concepts n w.role x q).2
+    same-inner x e u w = let q : node concepts n ≡ exists_at w.role x = ap (node concepts) (sym u) ∙ w.row in cc
 
     same-role : (r e : ℕ) → e ≡ n → WithRole concepts (n + 1) r e → r ≡ role
-    same-role r e u w = let q = ap (node concepts) (sym u) ∙ w.row in sym (exists-node concepts n r w.inner q).1
+    same-role r e u w = let q : node concepts n ≡ exists_at r w.inner = ap (node concepts) (sym u) ∙ w.row in cc
 
     outer-only : (x e : ℕ) → x < 192 → e < 192 → on_line outer' (x * 3) e ≡ true → WithInner concepts (n + 1) x e
     outer-only x e h l u = ⊎_elim same other (eq-or-ne x inner)
@@ -171,11 +161,6 @@ module _ (concepts : List ℕ) (n : ℕ) where
                     (λ v. C.kept (r * 3) e (E.role.every r e h l v)) (role-cases r e w);
               };
         }
-
-pub existentials-all :
-    (concepts outer inners roles : List ℕ) (n : ℕ) → n ≤ count_of concepts → count_of concepts ≤ n → Existentials concepts outer inners roles n
-    → Existentials concepts outer inners roles (count_of concepts)
-existentials-all concepts outer inners roles n h l E = subst (λ (z : ℕ). Existentials concepts outer inners roles z) (omega arith) E
 
 -- ---- the union of the lines that a word picks
 or-three :
@@ -410,16 +395,7 @@ and-three a b c d f g e l = go (e / 64) (omega arith)
     go (suc (suc (suc w))) h = absurd (omega arith)
 
 module _ (concepts into outer inners roles : List ℕ) (I : Inner concepts) (E : Existentials concepts outer inners roles (count_of concepts)) (square : List ℕ) (S : Square square)
-    (f : ℕ) (inside : f < count_of concepts) (k : get_or concepts (f * 3) 0 ≡ 2) where
-  abbrev s : ℕ
-  s = get_or concepts (f * 3 + 1) 0
-
-  abbrev y : ℕ
-  y = get_or concepts (f * 3 + 2) 0
-
-  row-f : node concepts f ≡ exists_at s y
-  row-f = node-exists concepts f k
-
+    (f : ℕ) (inside : f < count_of concepts) (s y : ℕ) (row-f : node concepts f ≡ exists_at s y) where
   module _ (first second third : ℕ) (R : ByRole into roles s (InThree first second third)) where
     -- an existential whose role counts is in the set
     in-kind : (e r x : ℕ) → e < count_of concepts → node concepts e ≡ exists_at r x → in_set into r s ≡ true → InThree first second third e
@@ -431,9 +407,9 @@ module _ (concepts into outer inners roles : List ℕ) (I : Inner concepts) (E :
     link-none b h q =
         pass-none S
         (λ e r s' x y' l n m u v.
-        let same = exists-node concepts f s' y' m in
+        let same-s : s ≡ s' = cc in
         S.mirror e f (omega (arith, I.few)) (omega (arith, I.few))
-        ∙ h q e (omega (arith, I.few)) (in-kind e r x l n (subst (λ (z : ℕ). in_set into r z ≡ true) (sym same.1) u)))
+        ∙ h q e (omega (arith, I.few)) (in-kind e r x l n (subst (λ (z : ℕ). in_set into r z ≡ true) (sym same-s) u)))
 
     pub link-some :
         (a b c : ℕ) (after : List ℕ) (changed : Bool) → ByInner square outer inners y (InThree a b c)
@@ -442,7 +418,7 @@ module _ (concepts into outer inners roles : List ℕ) (I : Inner concepts) (E :
     link-some a b c after changed B A = step-pass I.few (adds-columns S A) right done
       where
         row_of : (i r x s z : ℕ) → node concepts i ≡ exists_at r x → node concepts i ≡ exists_at s z → node concepts i ≡ exists_at s x
-        row_of i r x s z e f = f ∙ ap (exists_at s) (sym (exists-node concepts i s z f).2 ∙ (exists-node concepts i r x e).2)
+        row_of i r x s z e f = cc
 
         right :
             (Q : ℕ → ℕ → Bool) → LinkLines concepts (in_set into) Q
@@ -463,18 +439,19 @@ module _ (concepts into outer inners roles : List ℕ) (I : Inner concepts) (E :
             ((i j : ℕ) → i < 192 → j < 192 → (j ≡ f) × InThree (bit_and first a) (bit_and second b) (bit_and third c) i → in_row square i j ≡ true)
             → LinkAt concepts (in_set into) (in_row square) f
         done g e r s' x y' l n m u v =
-            let same = exists-node concepts f s' y' m in
+            let same-s : s ≡ s' = cc in
+            let same-y : y ≡ y' = cc in
             let xl : x < count_of concepts = I.known e r x l n in
             let el : e < 192 = omega (arith, I.few) in
             g e f el (omega (arith, I.few)) (
               refl,
               (and-three first second third a b c e el).1 (
-                in-kind e r x l n (subst (λ (z : ℕ). in_set into r z ≡ true) (sym same.1) u),
-                B.every e x el (omega (arith, I.few)) (subst (λ (z : ℕ). in_row square x z ≡ true) (sym same.2) v)
+                in-kind e r x l n (subst (λ (z : ℕ). in_set into r z ≡ true) (sym same-s) u),
+                B.every e x el (omega (arith, I.few)) (subst (λ (z : ℕ). in_row square x z ≡ true) (sym same-y) v)
                     (E.inner.every x e (omega (arith, I.few)) (record { before = l; role = r; row = n }))
                     (E.outers.every x e (omega (arith, I.few)) el (record { before = l; role = r; row = n })),
               ),
             )
 
-pub link-other : (concepts into square : List ℕ) (f : ℕ) → Square square → (get_or concepts (f * 3) 0 ≡ 2 → ⊥) → LinkPass concepts (in_set into) f square square false
-link-other concepts into square f S k = pass-none S (λ e r s x y l n m u v. absurd (k (exists-node concepts f s y m).0))
+pub link-other : (concepts into square : List ℕ) (f : ℕ) → Square square → ((s y : ℕ) → node concepts f ≡ exists_at s y → ⊥) → LinkPass concepts (in_set into) f square square false
+link-other concepts into square f S k = pass-none S (λ e r s x y l n m u v. absurd (k s y m))

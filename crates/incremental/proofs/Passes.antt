@@ -73,19 +73,11 @@ module _ {count : ℕ} {Law : (ℕ → ℕ → Bool) → Type 0} where
       }
 
   -- a loop of passes, each owing S of its number
-  pub loop-first : (S : ℕ → List ℕ → Type 0) (s : List ℕ) → Square s → Pass count Law (λ l. (k : ℕ) → k < 0 → S k l) s s false
-  loop-first S s Q = pass-none Q (λ k h. absurd (omega arith))
-
   pub loop-more :
       (S : ℕ → List ℕ → Type 0) (i : ℕ) {before mid after : List ℕ} {a b : Bool}
       → Pass count Law (λ l. (k : ℕ) → k < i → S k l) before mid a → Pass count Law (S i) mid after b
       → Pass count Law (λ l. (k : ℕ) → k < i + 1 → S k l) before after (a || b)
   loop-more S i {before} p q = pass-as (pass-then p q) (λ u. below_more (λ k. S k before) i u.0 u.1)
-
-  pub loop-done :
-      (S : ℕ → List ℕ → Type 0) (i n : ℕ) {before after : List ℕ} {a : Bool} → n ≤ i → Pass count Law (λ l. (k : ℕ) → k < i → S k l) before after a
-      → Pass count Law (λ l. (k : ℕ) → k < n → S k l) before after a
-  loop-done S i n h p = pass-as p (λ u k l. u k (omega arith))
 
 -- a stronger law serves
 pub pass-law :

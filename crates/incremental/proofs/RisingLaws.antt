@@ -1,24 +1,21 @@
 -- Columns in rising order: rule 6 at one column, one column, all columns.
-use Prim.Native.Nat.{ℕ, ◌+◌, ◌<◌, ◌≤◌}
+use Prim.Native.Nat.{ℕ, ◌+◌, ◌<◌}
 use mathlib.Core.Path.{◌≡◌, sym, ap, ◌∙◌, subst}
 use mathlib.Core.List.{List}
 use mathlib.Core.Bool.{Bool, true, false, ◌||◌}
 use native.Mathlib.Omega.{arith}
 use Rattle.subsumption.specs.Tables.{count_of, pairs_of, left_of, right_of}
-use Rattle.square.specs.Inner.Square.{in_row, in_column, Square}
+use Rattle.square.specs.Inner.Square.{in_row, in_column}
 use Rattle.incremental.specs.Inner.Marking.{Adds}
 use Rattle.incremental.specs.Inner.Pass.{Pass}
 use Rattle.incremental.specs.Inner.Settling.{MeetPass}
 use Rattle.incremental.specs.Inner.Including.{Pairs}
 use Rattle.incremental.specs.Inner.Links.{LinkPass}
-use Rattle.incremental.specs.Inner.Rising.{ColumnGains, RisenLines, RisenAt, RisenPass, AllRisen}
-use Rattle.incremental.proofs.Passes.{pass-none, pass-as, pass-then, pass-law, step-pass, loop-first, loop-more, loop-done}
+use Rattle.incremental.specs.Inner.Rising.{ColumnGains, RisenLines, RisenAt, RisenPass}
+use Rattle.incremental.proofs.Passes.{pass-as, pass-then, pass-law, step-pass, loop-more}
 
 -- ---- rule 6, at the column j
 module _ (count : ℕ) (inclusions : List ℕ) (P : Pairs count inclusions) (j : ℕ) (inside : j < count) where
-  pub gains-first : (s : List ℕ) → Square s → ColumnGains count inclusions s s false
-  gains-first s S = pass-none S tt
-
   pub gains-more :
       (m : ℕ) (low : m < pairs_of inclusions) {before mid after : List ℕ} {a b : Bool} → ColumnGains count inclusions before mid a
       → in_column mid (right_of inclusions m) j ≡ true
@@ -62,12 +59,6 @@ module _ (concepts inclusions : List ℕ) (wide : ℕ → ℕ → Bool) (choose 
   RisenTo n before after changed =
       Pass (count_of concepts) (RisenLines concepts inclusions wide choose) (λ s. (j : ℕ) → j < n → RisenAt concepts wide choose j s) before after changed
 
-  pub risen-first : (s : List ℕ) → Square s → RisenTo 0 s s false
-  risen-first s S = loop-first (RisenAt concepts wide choose) s S
-
   pub risen-next :
       (n : ℕ) {before mid after : List ℕ} {a b : Bool} → RisenTo n before mid a → RisenPass concepts inclusions wide choose n mid after b → RisenTo (n + 1) before after (a || b)
   risen-next n p q = loop-more (RisenAt concepts wide choose) n p q
-
-  pub risen-done : (n : ℕ) {before after : List ℕ} {changed : Bool} → count_of concepts ≤ n → RisenTo n before after changed → AllRisen concepts inclusions wide choose before after changed
-  risen-done n h p = loop-done (RisenAt concepts wide choose) n (count_of concepts) h p

@@ -53,10 +53,6 @@ module _ (concepts inclusions : List ℕ) (choose : ℕ → List ℕ) where
         is : (k : ℕ) → k + count_of concepts ≡ n → i ≡ n - count_of concepts → i ≡ k
         is k e f = omega arith
 
-    pub rows-skip : is_in done i ≡ true → RowsTo before (n + 1) done hint mid a
-    rows-skip u =
-        record { long = T.long; hinted = T.hinted; within = omega arith; turned = turned_more done (λ k v. v) u; passed = T.passed }
-
     pub rows_more :
         (few : count_of concepts ≤ 192) (one after done' : List ℕ) (b c : Bool) → InnerPass concepts choose i mid one b
         → IncludePass (count_of concepts) inclusions (λ s. DoneRows (count_of concepts) inclusions s done → IncludeAt (count_of concepts) inclusions (in_row s) i) one after c

@@ -80,9 +80,6 @@ module _ (square covered : List ℕ) (i from : ℕ) where
     pub within : k * 64 + low ≤ 192
     pub none : (y : ℕ) → from ≤ y → y < k * 64 + low → in_row square i y ≡ true → is_in covered y ≡ true
 
-  pub open-first : from ≤ 192 → OpenTo (from / 64) (from % 64)
-  open-first h = record { short = omega arith; start = omega arith; within = omega arith; none = λ y l m u. absurd (omega arith) }
-
   was : (a o : Bool) → a ≡ true → both a (not o) ≡ false → o ≡ true
   unfolding both
   was true true e f = refl

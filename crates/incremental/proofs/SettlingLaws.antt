@@ -7,14 +7,13 @@ use mathlib.Core.Logic.{◌⊎◌, inl, inr, ⊎_elim}
 use native.Mathlib.Omega.{arith}
 use lib.ListN.{length, get_or, take, drop, length-drop}
 use lib.Seq.{get_or-drop, take_all}
-use Rattle.subsumption.specs.Tables.{Node, node, decode, count_of}
+use Rattle.subsumption.specs.Tables.{Node, and_at, var_at, node, count_of}
 use Rattle.subsumption.specs.Atoms.{bit, pick}
 use Rattle.subsumption.specs.Inner.Tables.{Rising}
 use Rattle.subsumption.specs.Inner.Columns.{Common}
 use Rattle.subsumption.specs.Inner.Settling.{Settleable, choose_from}
 use Rattle.subsumption.proofs.Bits.{zero_bit}
 use Rattle.subsumption.proofs.Bools.{last-cases}
-use Rattle.subsumption.proofs.Nodes.{node-and, node-var}
 use Rattle.subsumption.proofs.Picks.{ChosenBelow, picked-at, at-picked}
 use Rattle.square.specs.Inner.Square.{on_line, in_row, Square}
 use Rattle.incremental.specs.Inner.Marking.{in_half, Adds, InThree}
@@ -57,10 +56,6 @@ pub record Spreading (q : ℕ) (atoms : List ℕ) (choice to : ℕ) (before afte
       → Pass count (ChosenUnder atoms choice to count) (λ s. (p : ℕ) → ChosenBelow q atoms choice p → Under count (in_row s) p to) before after changed
 
 module _ (atoms : List ℕ) (choice to : ℕ) (before : List ℕ) where
-  pub spreading-first : Square before → Spreading 0 atoms choice to before before false
-  spreading-first S =
-      record { within = omega arith; square = S; passed = λ count few l known. pass-none S (λ p c. absurd (omega (arith, c.before))) }
-
   module _ (q : ℕ) (mid : List ℕ) (a : Bool) (inside : q < length atoms) (T : Spreading q atoms choice to before mid a) where
     last_or : (p : ℕ) (c : ChosenBelow (q + 1) atoms choice p) → (c.place ≡ q) ⊎ (ChosenBelow q atoms choice p)
     last_or p c =
@@ -158,12 +153,9 @@ module _ (concepts atoms choices : List ℕ) (R : Settleable concepts atoms choi
     rising m e = subst (λ (x : Node). Rising i x) e (R.rising i inside)
 
     pub inner-and :
-        (mid : List ℕ) (a b : Bool) → get_or concepts (i * 3) 0 ≡ 3
-        → Adds in_row before mid (λ p q. (p ≡ i) × (in_row before (get_or concepts (i * 3 + 1) 0) q ≡ true)) a
-        → Adds in_row mid after (λ p q. (p ≡ i) × (in_row mid (get_or concepts (i * 3 + 2) 0) q ≡ true)) b
-        → InnerPass concepts (choose_from atoms choices) i before after (a || b)
-    inner-and mid a b e A B =
-        let n = node-and concepts i e in
+        (x y : ℕ) (mid : List ℕ) (a b : Bool) → node concepts i ≡ and_at x y → Adds in_row before mid (λ p q. (p ≡ i) × (in_row before x q ≡ true)) a
+        → Adds in_row mid after (λ p q. (p ≡ i) × (in_row mid y q ≡ true)) b → InnerPass concepts (choose_from atoms choices) i before after (a || b)
+    inner-and x y mid a b n A B =
         let low = rising _ n in
         pass-as
         (pass-then
@@ -172,21 +164,19 @@ module _ (concepts atoms choices : List ℕ) (R : Settleable concepts atoms choi
         (λ u. subst (λ (x : Node). InnerAt (count_of concepts) (choose_from atoms choices) (in_row before) i x) (sym n) (u.0, u.1))
 
     pub inner-var :
-        get_or concepts (i * 3) 0 ≡ 4 → SpreadPass atoms (get_or choices (get_or concepts (i * 3 + 1) 0) 0) i before after changed
+        (k : ℕ) → node concepts i ≡ var_at k → SpreadPass atoms (get_or choices k 0) i before after changed
         → InnerPass concepts (choose_from atoms choices) i before after changed
-    inner-var e P =
-        let n = node-var concepts i e in
+    inner-var k n P =
         pass-as
         (pass-law (λ Q r. subst (λ (x : Node). InnerAt (count_of concepts) (choose_from atoms choices) Q i x) n (r i inside))
         (P (count_of concepts) R.few inside R.atoms-known))
         (λ u. subst (λ (x : Node). InnerAt (count_of concepts) (choose_from atoms choices) (in_row before) i x) (sym n) u)
 
     pub meet-and :
-        get_or concepts (i * 3) 0 ≡ 3
-        → Adds in_row before after (λ p q. (q ≡ i) × (in_row before p (get_or concepts (i * 3 + 1) 0) ≡ true) × (in_row before p (get_or concepts (i * 3 + 2) 0) ≡ true)) changed
+        (x y : ℕ) → node concepts i ≡ and_at x y
+        → Adds in_row before after (λ p q. (q ≡ i) × (in_row before p x ≡ true) × (in_row before p y ≡ true)) changed
         → MeetPass concepts (choose_from atoms choices) i before after changed
-    meet-and e A =
-        let n = node-and concepts i e in
+    meet-and x y n A =
         let low = rising _ n in
         pass-as
         (meet-pass _ _ i R.few (omega (arith, low.0)) (omega (arith, low.1)) inside
@@ -194,11 +184,10 @@ module _ (concepts atoms choices : List ℕ) (R : Settleable concepts atoms choi
         (λ u. subst (λ (x : Node). MeetAt (count_of concepts) (choose_from atoms choices) (in_row before) i x) (sym n) u)
 
     pub meet-var :
-        get_or concepts (i * 3) 0 ≡ 4
-        → Adds in_row before after (λ p q. (q ≡ i) × ((x : ℕ) → Memᴰ x (pick atoms (get_or choices (get_or concepts (i * 3 + 1) 0) 0)) → in_row before p x ≡ true)) changed
+        (k : ℕ) → node concepts i ≡ var_at k
+        → Adds in_row before after (λ p q. (q ≡ i) × ((x : ℕ) → Memᴰ x (pick atoms (get_or choices k 0)) → in_row before p x ≡ true)) changed
         → MeetPass concepts (choose_from atoms choices) i before after changed
-    meet-var e A =
-        let n = node-var concepts i e in
+    meet-var j n A =
         step-pass R.few A
         (λ Q r w p q l k u. (
           omega (arith, u.0),
@@ -209,22 +198,9 @@ module _ (concepts atoms choices : List ℕ) (R : Settleable concepts atoms choi
         (λ f. subst (λ (x : Node). MeetAt (count_of concepts) (choose_from atoms choices) (in_row before) i x) (sym n)
         (λ p l u. f p i (omega (arith, R.few)) (omega (arith, R.few)) (refl, u)))
 
-other_row :
-    (count : ℕ) (choose : ℕ → List ℕ) (R : ℕ → ℕ → Bool) (i kind a b : ℕ) → (kind ≡ 3 → ⊥) → (kind ≡ 4 → ⊥)
-    → InnerAt count choose R i (decode kind a b) × MeetAt count choose R i (decode kind a b)
-unfolding decode
-other_row count choose R i zero a b p q = (tt, tt)
-other_row count choose R i (suc zero) a b p q = (tt, tt)
-other_row count choose R i (suc (suc zero)) a b p q = (tt, tt)
-other_row count choose R i (suc (suc (suc zero))) a b p q = absurd (p refl)
-other_row count choose R i (suc (suc (suc (suc zero)))) a b p q = absurd (q refl)
-other_row count choose R i (suc (suc (suc (suc (suc kind))))) a b p q = (tt, tt)
+module _ (concepts : List ℕ) (choose : ℕ → List ℕ) (i : ℕ) (s : List ℕ) (S : Square s) where
+  pub inner-none : InnerAt (count_of concepts) choose (in_row s) i (node concepts i) → InnerPass concepts choose i s s false
+  inner-none e = pass-none S e
 
-module _ (concepts : List ℕ) (choose : ℕ → List ℕ) (i : ℕ) (s : List ℕ) (S : Square s) (p : get_or concepts (i * 3) 0 ≡ 3 → ⊥) (q : get_or concepts (i * 3) 0 ≡ 4 → ⊥) where
-  pub inner-none : InnerPass concepts choose i s s false
-  unfolding node
-  inner-none = pass-none S (other_row _ choose (in_row s) i _ _ _ p q).0
-
-  pub meet-none : MeetPass concepts choose i s s false
-  unfolding node
-  meet-none = pass-none S (other_row _ choose (in_row s) i _ _ _ p q).1
+  pub meet-none : MeetAt (count_of concepts) choose (in_row s) i (node concepts i) → MeetPass concepts choose i s s false
+  meet-none e = pass-none S e

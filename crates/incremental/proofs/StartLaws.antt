@@ -11,7 +11,6 @@ use Rattle.subsumption.specs.Atoms.{bit}
 use Rattle.subsumption.specs.Inner.Names.{Nameable}
 use Rattle.subsumption.proofs.Bools.{eq-or-ne, le-or-lt, last-cases}
 use Rattle.subsumption.proofs.Bits.{bit-ones}
-use Rattle.subsumption.proofs.Nodes.{node-name, node-exists, node-and, node-var, name-node}
 use Rattle.square.specs.Inner.Square.{on_line, in_row, Square}
 use Rattle.incremental.specs.Inner.Marking.{in_half, Adds, InThree}
 use Rattle.incremental.specs.Inner.Lines.{StartLines}
@@ -31,30 +30,27 @@ names-none concepts names e =
       every = λ n j h l u. absurd (omega arith);
     })
 
-pub names-skip : (concepts names : List ℕ) (i : ℕ) → (get_or concepts (i * 3) 0 ≡ 1 → ⊥) → NamesTo concepts names i → NamesTo concepts names (i + 1)
+pub names-skip : (concepts names : List ℕ) (i : ℕ) → ((n : ℕ) → node concepts i ≡ name_at n → ⊥) → NamesTo concepts names i → NamesTo concepts names (i + 1)
 names-skip concepts names i k N =
     record {
       long = N.long;
       only = λ n j h l u. let v = N.only n j h l u in (omega (arith, v.0), v.1);
       every =
           λ n j h l u.
-          ⊎_elim (λ (e : j ≡ i). absurd (k (name-node concepts i n (ap (node concepts) (sym e) ∙ u)).0)) (λ v. N.every n j h v u) (last-cases j i (omega arith));
+          ⊎_elim (λ (e : j ≡ i). absurd (k n (ap (node concepts) (sym e) ∙ u))) (λ v. N.every n j h v u) (last-cases j i (omega arith));
     }
 
 apart : (x y : ℕ) → (x ≡ y → ⊥) → (x * 3 + 3 ≤ y * 3) ⊎ (y * 3 + 3 ≤ x * 3)
 apart x y n = ⊎_elim (λ l. inr (omega (arith, n))) (λ l. inl (omega arith)) (le-or-lt y x)
 
-module _ (concepts names after : List ℕ) (i : ℕ) (k : get_or concepts (i * 3) 0 ≡ 1) (N : NamesTo concepts names i) (A : Inserted names after (get_or concepts (i * 3 + 1) 0 * 3) i) where
-  abbrev name : ℕ
-  name = get_or concepts (i * 3 + 1) 0
-
+module _ (concepts names after : List ℕ) (i name : ℕ) (row : node concepts i ≡ name_at name) (N : NamesTo concepts names i) (A : Inserted names after (name * 3) i) where
   only-more : (n j : ℕ) → n < 1000 → j < 192 → on_line after (n * 3) j ≡ true → (j < i + 1) × (node concepts j ≡ name_at n)
   only-more n j h l u = ⊎_elim same other (eq-or-ne n name)
     where
       same : n ≡ name → (j < i + 1) × (node concepts j ≡ name_at n)
       same e =
           ⊎_elim (λ v. let w = N.only n j h l (subst (λ (z : ℕ). on_line names (z * 3) j ≡ true) (sym e) v) in (omega (arith, w.0), w.1))
-          (λ (v : j ≡ i). (omega arith, ap (node concepts) v ∙ node-name concepts i k ∙ ap name_at (sym e)))
+          (λ (v : j ≡ i). (omega arith, ap (node concepts) v ∙ row ∙ ap name_at (sym e)))
           (A.bits j l (subst (λ (z : ℕ). on_line after (z * 3) j ≡ true) e u))
 
       other : (n ≡ name → ⊥) → (j < i + 1) × (node concepts j ≡ name_at n)
@@ -69,16 +65,13 @@ module _ (concepts names after : List ℕ) (i : ℕ) (k : get_or concepts (i * 3
             λ n j h l u.
             ⊎_elim
             (λ (e : j ≡ i).
-            subst (λ (z : ℕ). on_line after (z * 3) j ≡ true) (name-node concepts i n (ap (node concepts) (sym e) ∙ u)).1
+            subst (λ (z : ℕ). on_line after (z * 3) j ≡ true) (same_name n (ap (node concepts) (sym e) ∙ u))
             (subst (λ (z : ℕ). on_line after (name * 3) z ≡ true) (sym e) A.taken))
             (λ v. A.kept (n * 3) j (N.every n j h v u)) (last-cases j i (omega arith));
       }
-
-pub names-all : (concepts names : List ℕ) (i : ℕ) → i ≤ count_of concepts → count_of concepts ≤ i → NamesTo concepts names i → NamesTo concepts names (count_of concepts)
-names-all concepts names i h l N = subst (λ (z : ℕ). NamesTo concepts names z) (omega arith) N
-
-pub name-low : (concepts : List ℕ) (i : ℕ) → Nameable concepts → get_or concepts (i * 3) 0 ≡ 1 → get_or concepts (i * 3 + 1) 0 < 1000
-name-low concepts i N k = N.low i _ (node-name concepts i k)
+    where
+      same_name : (n : ℕ) → node concepts i ≡ name_at n → name ≡ n
+      same_name n u = cc
 
 -- ---- growth
 module _ {count : ℕ} {Law : (ℕ → ℕ → Bool) → Type 0} where
@@ -139,11 +132,11 @@ module _ (concepts : List ℕ) (N : Nameable concepts) (i : ℕ) (inside : i < c
       }
 
   pub begun-name :
-      (names after : List ℕ) (b : Bool) → NamesTo concepts names (count_of concepts) → get_or concepts (i * 3) 0 ≡ 1
+      (name : ℕ) (names after : List ℕ) (b : Bool) → NamesTo concepts names (count_of concepts) → node concepts i ≡ name_at name
       → Adds (in_half 0) one after
-      (λ p q. (p ≡ i) × InThree (get_or names (get_or concepts (i * 3 + 1) 0 * 3) 0) (get_or names (get_or concepts (i * 3 + 1) 0 * 3 + 1) 0) (get_or names (get_or concepts (i * 3 + 1) 0 * 3 + 2) 0) q) b
+      (λ p q. (p ≡ i) × InThree (get_or names (name * 3) 0) (get_or names (name * 3 + 1) 0) (get_or names (name * 3 + 2) 0) q) b
       → BegunAt concepts before after i
-  begun-name names after b M k B =
+  begun-name name names after b M row B =
       record {
         grown = grown-then own more;
         here =
@@ -154,22 +147,20 @@ module _ (concepts : List ℕ) (N : Nameable concepts) (i : ℕ) (inside : i < c
             };
       }
     where
-      row : node concepts i ≡ name_at (get_or concepts (i * 3 + 1) 0)
-      row = node-name concepts i k
+      name-low : name < 1000
+      name-low = N.low i name row
 
       more : Grown (count_of concepts) (StartLines concepts) one after
       more =
           grown-by N.few (adds-rows B)
           (λ R r p q l m u.
-          let v = M.only (get_or concepts (i * 3 + 1) 0) q (name-low concepts i N k) m (sym (line-three names (get_or concepts (i * 3 + 1) 0 * 3) q m) ∙ u.1) in
-          (v.0, subst (λ (z : ℕ). R z q ≡ true) (sym u.0) (r.named i q (get_or concepts (i * 3 + 1) 0) inside v.0 row v.1)))
+          let v = M.only name q name-low m (sym (line-three names (name * 3) q m) ∙ u.1) in
+          (v.0, subst (λ (z : ℕ). R z q ≡ true) (sym u.0) (r.named i q name inside v.0 row v.1)))
 
       has-name :
           (j n : ℕ) → j < count_of concepts → node concepts i ≡ name_at n → node concepts j ≡ name_at n
-          → InThree (get_or names (get_or concepts (i * 3 + 1) 0 * 3) 0) (get_or names (get_or concepts (i * 3 + 1) 0 * 3 + 1) 0) (get_or names (get_or concepts (i * 3 + 1) 0 * 3 + 2) 0) j
-      has-name j n h p q =
-          line-three names (get_or concepts (i * 3 + 1) 0 * 3) j (omega (arith, N.few))
-          ∙ M.every (get_or concepts (i * 3 + 1) 0) j (name-low concepts i N k) h (q ∙ ap name_at (sym (name-node concepts i n p).1))
+          → InThree (get_or names (name * 3) 0) (get_or names (name * 3 + 1) 0) (get_or names (name * 3 + 2) 0) j
+      has-name j n h p q = line-three names (name * 3) j (omega (arith, N.few)) ∙ M.every name j name-low h (q ∙ sym p ∙ row)
 
       no_top : node concepts i ≡ top_at → ⊥
       no_top p = let z : ◌≡◌ {A = ℕ} 0 1 = cc (p, row) in omega arith
@@ -193,24 +184,6 @@ module _ (concepts : List ℕ) (N : Nameable concepts) (i : ℕ) (inside : i < c
     where
       no_name : (n : ℕ) → node concepts i ≡ name_at n → ⊥
       no_name n p = let z : ◌≡◌ {A = ℕ} 0 1 = cc (p, row) in omega arith
-
--- kinds 2, 3 and 4 have no line
-module _ (concepts : List ℕ) (N : Nameable concepts) (i : ℕ) (inside : i < count_of concepts) (before one : List ℕ) (a : Bool)
-    (A : Adds (in_half 0) before one (λ p q. (p ≡ i) × (q ≡ i)) a) where
-  pub begun-exists : get_or concepts (i * 3) 0 ≡ 2 → BegunAt concepts before one i
-  begun-exists k =
-      begun-other concepts N i inside before one a A (node-exists concepts i k) (λ n e. let z : ◌≡◌ {A = ℕ} 0 1 = cc e in omega arith)
-      (λ e. let z : ◌≡◌ {A = ℕ} 0 1 = cc e in omega arith)
-
-  pub begun-and : get_or concepts (i * 3) 0 ≡ 3 → BegunAt concepts before one i
-  begun-and k =
-      begun-other concepts N i inside before one a A (node-and concepts i k) (λ n e. let z : ◌≡◌ {A = ℕ} 0 1 = cc e in omega arith)
-      (λ e. let z : ◌≡◌ {A = ℕ} 0 1 = cc e in omega arith)
-
-  pub begun-var : get_or concepts (i * 3) 0 ≡ 4 → BegunAt concepts before one i
-  begun-var k =
-      begun-other concepts N i inside before one a A (node-var concepts i k) (λ n e. let z : ◌≡◌ {A = ℕ} 0 1 = cc e in omega arith)
-      (λ e. let z : ◌≡◌ {A = ℕ} 0 1 = cc e in omega arith)
 
 -- ---- all ids
 pub record BegunTo (concepts before : List ℕ) (i : ℕ) (after : List ℕ) : Type 0 where

@@ -1,4 +1,5 @@
 -- An assignment told as pairs: it is accepted, it chooses just what is told, and how the code reads it.
+use Rattle.std.specs.Prelude.{Err}
 use Prim.Native.Nat.{ℕ, zero, suc, ◌+◌, ◌*◌, ◌/◌, ◌%◌, ◌^◌, ◌<◌, ◌≤◌}
 use mathlib.Core.Path.{◌≡◌, refl, sym, ap, ap₂, ◌∙◌, subst}
 use mathlib.Core.List.Memᴰ
@@ -15,12 +16,10 @@ use lib.Seq.{get_or-set_same, get_or-set_other}
 use lib.Bits.{bit_or, or_lt}
 use borrow.Author.Tests.{eqb-true, eq-eqb, ne_eqb, ltb-true, lt-ltb, le-ltb, not-false}
 use Rattle.subsumption.specs.declared.refusal.Refusal.TheVariants.{BadAssignment}
-use Rattle.subsumption.specs.declared.refusal.Outcome.{Outcome}
-use Rattle.subsumption.specs.declared.refusal.Outcome.TheVariants.{Done, Refused}
 use Rattle.subsumption.specs.Tables.{Tables, or, both, any_below, pairs_of, left_of, right_of}
 use Rattle.subsumption.specs.Atoms.{bit, atoms, chosen}
 use Rattle.subsumption.specs.Rules.{contains}
-use Rattle.subsumption.specs.Refusal.{or_else, refuse_if, first_at}
+use Rattle.subsumption.specs.Refusal.{or_else, refuse_if, first_at, Outcome, Done}
 use Rattle.subsumption.specs.Check.{assignment_fault, assignment_fault_at}
 use Rattle.subsumption.specs.Table.{one}
 use Rattle.subsumption.proofs.Bools.{or_cases, or-first, or-second, or-false, or-skip, both_true, both-none, both-skip, any_below-elim, same_bool, eq-or-ne, le-or-lt}
@@ -173,16 +172,6 @@ pub record PlaceTo (ids : List ℕ) (id q : ℕ) : Type 0 where
   pub none : (r : ℕ) → r < q → get_or ids r 0 ≡ id → ⊥
 
 module _ (ids : List ℕ) (id : ℕ) where
-  pub place-first : PlaceTo ids id 0
-  place-first = record { low = omega arith; none = λ r h e. absurd (omega arith) }
-
-  pub place-more : (q : ℕ) → q < length ids → PlaceTo ids id q → (get_or ids q 0 ≡ id → ⊥) → PlaceTo ids id (q + 1)
-  place-more q h P n =
-      record {
-        low = omega arith;
-        none = λ r l e. ⊎_elim (λ (u : r ≡ q). n (subst (λ (z : ℕ). get_or ids z 0 ≡ id) u e)) (λ v. P.none r (omega (arith, v)) e) (eq-or-ne r q);
-      }
-
   pub place_found : (q : ℕ) → PlaceTo ids id q → get_or ids q 0 ≡ id → PlaceOf ids id q
   place_found q P e = record { low = P.low; found = λ _. e; none = P.none }
 
@@ -218,7 +207,7 @@ pub bad-atom :
 bad-atom ids variables variable id place h P = place-bad ids id place P ∙ sym (or-skip _ _ (ap not (lt-ltb variable variables h)))
 
 module _ (ids : List ℕ) (variables : ℕ) (told : List ℕ) where
-  pub told-ragged : (length told % 2 ≡ 0 → ⊥) → Refused (BadAssignment 0) ≡ told_fault_in ids variables told
+  pub told-ragged : (length told % 2 ≡ 0 → ⊥) → Err (BadAssignment 0) ≡ told_fault_in ids variables told
   unfolding told_fault_in or_else refuse_if
   told-ragged n = rw (ne_eqb (length told % 2) 0 n)
 

@@ -1,4 +1,5 @@
 -- What an update leaves: from the closed square to the table, and the checks in their order.
+use Rattle.std.specs.Prelude.{Err}
 use Prim.Native.Nat.{ℕ, ◌*◌, ◌<◌, ◌≤◌}
 use mathlib.Core.Path.{◌≡◌, refl, sym, ap, ◌∙◌, subst}
 use mathlib.Core.List.{List, Memᴰ}
@@ -9,12 +10,10 @@ use lib.ListN.{length, get_or}
 use borrow.Author.Tests.{ltb-true, lt-ltb}
 use Rattle.subsumption.specs.declared.refusal.Refusal.{Refusal}
 use Rattle.subsumption.specs.declared.refusal.Refusal.TheVariants.{BufferTooShort}
-use Rattle.subsumption.specs.declared.refusal.Outcome.{Outcome}
-use Rattle.subsumption.specs.declared.refusal.Outcome.TheVariants.{Done, Refused}
 use Rattle.subsumption.specs.Tables.{Tables, tables, or, Node, top_at, name_at, exists_at, and_at, var_at, node, count_of, pairs_of}
 use Rattle.subsumption.specs.Atoms.{atoms, pick, chosen}
 use Rattle.subsumption.specs.Roles.{wider}
-use Rattle.subsumption.specs.Refusal.{reply_of}
+use Rattle.subsumption.specs.Refusal.{reply_of, Outcome, Done}
 use Rattle.subsumption.specs.Check.{table_fault, buffer_fault}
 use Rattle.subsumption.specs.Rules.{follows}
 use Rattle.subsumption.specs.Table.{row_start, marked}
@@ -172,28 +171,28 @@ module _ (t : Tables) (assignment choices : List ℕ) (wf : WellFormed t) (agree
 
 -- ---- the checks
 module _ (t : Tables) (told before : List ℕ) where
-  updates-refused : (r : Refusal) → Refused r ≡ updating_fault t told (length before) → Updates t told before before (reply_of (Refused r))
+  updates-refused : (r : Refusal) → Err r ≡ updating_fault t told (length before) → Updates t told before before (reply_of (Err r))
   updates-refused r e = record { replied = ap reply_of e; updated = subst (λ (f : Outcome). UpdatedBy f t told before before) e refl }
 
   updates-done : (after : List ℕ) → Done ≡ updating_fault t told (length before) → ClosureOf t (told_assignment t told) before after → Updates t told before after (reply_of Done)
   updates-done after e c = record { replied = ap reply_of e; updated = subst (λ (f : Outcome). UpdatedBy f t told before after) e c }
 
-  pub update-refused : (r : Refusal) → Refused r ≡ table_fault t → Updates t told before before (reply_of (Refused r))
+  pub update-refused : (r : Refusal) → Err r ≡ table_fault t → Updates t told before before (reply_of (Err r))
   unfolding updating_fault
-  update-refused r e = updates-refused r (stops (Refused r) _ _ r e refl)
+  update-refused r e = updates-refused r (stops (Err r) _ _ r e refl)
 
 module _ (cs is rs : List ℕ) (v : ℕ) (ids told before : List ℕ) (x : Outcome) (ex : x ≡ told_fault_in ids v told) where
   told-fault : (qs : List ℕ) → Accepted (tables cs is qs rs v) ids → x ≡ told_fault (tables cs is qs rs v) told
   unfolding told_fault told_fault_in
   told-fault qs a = ex ∙ ap (λ (z : List ℕ). told_fault_in z v told) a.listed
 
-  pub update-told : (r : Refusal) → x ≡ Refused r → ForAccepted cs is rs v ids (λ t. Updates t told before before (reply_of (Refused r)))
+  pub update-told : (r : Refusal) → x ≡ Err r → ForAccepted cs is rs v ids (λ t. Updates t told before before (reply_of (Err r)))
   unfolding updating_fault
   update-told r h qs a =
       updates-refused (tables cs is qs rs v) told before r (goes_on Done _ _ _ (sym a.passed) refl (stops x _ _ r (told-fault qs a) h))
 
   module _ (hx : x ≡ Done) where
-    pub update-room : length before < count_of cs * 24 → ForAccepted cs is rs v ids (λ t. Updates t told before before (reply_of (Refused (BufferTooShort (count_of cs * 24)))))
+    pub update-room : length before < count_of cs * 24 → ForAccepted cs is rs v ids (λ t. Updates t told before before (reply_of (Err (BufferTooShort (count_of cs * 24)))))
     unfolding updating_fault buffer_fault row_start
     update-room h qs a =
         updates-refused (tables cs is qs rs v) told before (BufferTooShort (count_of cs * 24))

@@ -1,10 +1,10 @@
 -- An updated table beside one made afresh (02, A.7): what the law `update-fresh` speaks of.
+use Rattle.subsumption.specs.Refusal.{Done}
 use Rattle.std.specs.Prelude.{ℕ, ◌<◌, ◌≡◌, ◌↔◌, get_or}
 use mathlib.Core.List.{List, Memᴰ}
 use Rattle.subsumption.specs.Tables.{Tables, tables, count_of, pairs_of, left_of, right_of}
 use Rattle.subsumption.specs.Atoms.{chosen}
 use Rattle.subsumption.specs.Table.{row_start, TableOf}
-use Rattle.subsumption.specs.declared.refusal.Outcome.TheVariants.{Done}
 use Rattle.subsumption.specs.Check.{assignment_fault}
 use Rattle.incremental.specs.Told.{told_assignment}
 

@@ -1,11 +1,10 @@
 -- An assignment told as pairs (02, A.7: a filling told as pairs): a variable, and the id of an atom that is chosen for it.
 use Rattle.std.specs.Prelude.{ℕ, zero, suc, ◌+◌, ◌*◌, ◌%◌, List, [], ◌∷◌, Bool, not, eqb, ltb, length}
 use Rattle.subsumption.specs.declared.refusal.Refusal.TheVariants.{BadAssignment}
-use Rattle.subsumption.specs.declared.refusal.Outcome.{Outcome}
 use Rattle.subsumption.specs.Tables.{Tables, or, both, any_below, pairs_of, left_of, right_of}
 use Rattle.subsumption.specs.Atoms.{atoms}
 use Rattle.subsumption.specs.Rules.{contains}
-use Rattle.subsumption.specs.Refusal.{or_else, refuse_if, first_at}
+use Rattle.subsumption.specs.Refusal.{or_else, refuse_if, first_at, Outcome}
 use Rattle.subsumption.specs.Table.{one}
 
 -- Check 9 here: a ragged list, tested first; a variable that is not below the count, or an id that is no atom.

@@ -1,9 +1,7 @@
 -- Updating a held table (02, A.7): it becomes the smallest one that holds its own marks and is closed under the rules.
-use Rattle.std.specs.Prelude.{ℕ, ◌<◌, ◌≤◌, ◌≡◌, List, Bool, true, length, get_or}
-use Rattle.subsumption.specs.declared.refusal.Outcome.{Outcome}
-use Rattle.subsumption.specs.declared.refusal.Outcome.TheVariants.{Done, Refused}
+use Rattle.std.specs.Prelude.{ℕ, ◌<◌, ◌≤◌, ◌≡◌, List, Bool, true, length, get_or, Err, Ok}
 use Rattle.subsumption.specs.Tables.{Tables, count_of}
-use Rattle.subsumption.specs.Refusal.{Reply, reply_of, or_else}
+use Rattle.subsumption.specs.Refusal.{Reply, reply_of, or_else, Outcome}
 use Rattle.subsumption.specs.Check.{table_fault, buffer_fault}
 use Rattle.subsumption.specs.Rules.{follows}
 use Rattle.subsumption.specs.Table.{row_start, marked}
@@ -34,8 +32,8 @@ pub record ClosureOf (t : Tables) (assignment before after : List ℕ) : Type 0 
 
 -- A refusal leaves the table as it was.
 abbrev pub UpdatedBy : Outcome → Tables → List ℕ → List ℕ → List ℕ → Type 0
-UpdatedBy Done t told before after = ClosureOf t (told_assignment t told) before after
-UpdatedBy (Refused r) t told before after = after ≡ before
+UpdatedBy (Ok tt) t told before after = ClosureOf t (told_assignment t told) before after
+UpdatedBy (Err r) t told before after = after ≡ before
 
 pub record Updates (t : Tables) (told before after : List ℕ) (reply : Reply) : Type 0 where
   pub replied : reply ≡ reply_of (updating_fault t told (length before))

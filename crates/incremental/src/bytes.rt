@@ -10,11 +10,9 @@ fn add_word(word: u64, at: usize, table: &mut [u8])
     requires { at + 8 ≤ length table.old }
     ensures { WordStored word at table.old table.new }
 {
-    let mut m = 0;
-    while m < 8 {
+    for m in 0..8 {
         let byte = (word >> (m * 8)) % 256;
         table[at + m] = table[at + m] | (byte as u8);
-        m += 1;
     }
 }
 
@@ -47,9 +45,7 @@ pub fn store(square: &[u64], count: usize, table: &mut [u8])
     requires count_bound { (count ≤ 192) × (count * 24 ≤ length table.old) }
     ensures { Stored square.now count table.old table.new }
 {
-    let mut i = 0;
-    while i < count {
+    for i in 0..count {
         store_row(square, i, table);
-        i += 1;
     }
 }

@@ -33,7 +33,7 @@ fn round(
     chain: &[u16],
     idle: &[u64],
     order: &[u16],
-    into: &[u64],
+    into: &[u64; ROLE_WORDS],
     outer: &[u64],
     inners: &[u64],
     roles: &[u64],
@@ -44,7 +44,6 @@ fn round(
     requires chain { Chain inclusions.now chain.now }
     requires idle { Idle inclusions.now idle.now }
     requires order_len { length order.now ≡ 192 }
-    requires into_len { length into.now ≡ roles_size }
     requires existentials { Existentials concepts.now outer.now inners.now roles.now (count_of concepts.now) }
     requires square { Square square.old }
     ensures { RoundPass concepts.now inclusions.now (in_set into.now)
@@ -66,7 +65,7 @@ fn rounds(
     choices: &[u64],
     chain: &[u16],
     idle: &[u64],
-    into: &[u64],
+    into: &[u64; ROLE_WORDS],
     outer: &[u64],
     inners: &[u64],
     roles: &[u64],
@@ -76,7 +75,6 @@ fn rounds(
     requires inclusions_bound { pairs_of inclusions.now ≤ 96 }
     requires chain { Chain inclusions.now chain.now }
     requires idle { Idle inclusions.now idle.now }
-    requires into_len { length into.now ≡ roles_size }
     requires existentials { Existentials concepts.now outer.now inners.now roles.now (count_of concepts.now) }
     requires square { Square square.old }
     ensures { Rounded concepts.now inclusions.now (in_set into.now)

@@ -20,9 +20,8 @@ pub fn note_chain(inclusions: &[u16], chain: &mut [u16])
     requires chain_value { chain.old ≡ replicate 288 96 }
     ensures { Chain inclusions.now chain.new }
 {
-    let mut m = inclusions.len() / 2;
-    while m > 0 {
-        m -= 1;
+    let pairs = inclusions.len() / 2;
+    for m in (0..pairs).rev() {
         let left = inclusions[m * 2] as usize;
         chain[CONCEPTS + m] = chain[left];
         chain[left] = m as u16;
@@ -36,14 +35,11 @@ pub fn note_idle(inclusions: &[u16], chain: &[u16], idle: &mut [u64])
     ensures { Idle inclusions.now idle.new }
 {
     let pairs = inclusions.len() / 2;
-    let mut l: usize = 0;
-    while l < CONCEPTS {
-        let id = l;
-        l += 1;
-        if (chain[id] as usize) < pairs {
+    for l in 0..CONCEPTS {
+        if (chain[l] as usize) < pairs {
             continue;
         }
-        insert(idle, 0, id);
+        insert(idle, 0, l);
     }
 }
 
@@ -77,15 +73,13 @@ fn next_open(square: &[u64], covered: &[u64], i: usize, from: usize) -> usize
     requires i_bound { (i < 192) × (from ≤ 192) }
     ensures { NextOpen square.now covered.now i from result }
 {
-    let mut k = from / 64;
     let mut low = from % 64;
-    while k < 3 {
+    for k in from / 64..3 {
         let open = ((covered[k] | square[i * 3 + k]) ^ covered[k]) >> low;
         if open != 0 {
             return k * 64 + low + u64::trailing_zeros(open) as usize;
         }
         low = 0;
-        k += 1;
     }
     CONCEPTS
 }

@@ -11,8 +11,8 @@ ghost use Rattle.incremental.specs.Inner.Links.{Existentials, Joins, ByRole, ByI
 
 use crate::marking::{holds, take};
 use square::helpers::{COLUMNS, insert};
-use subsumption::kinds::EXISTENTIAL;
-use subsumption::limits::CONCEPTS;
+use subsumption::helpers::{Node, node_at};
+use subsumption::limits::{CONCEPTS, ROLE_WORDS};
 
 // Of the roles, the words: three a role, and lines to 128.
 pub const ROLE_LINES: usize = CONCEPTS * 2;
@@ -26,19 +26,13 @@ pub fn note_existentials(concepts: &[u16], outer: &mut [u64], inners: &mut [u64]
     ensures { Existentials concepts.now outer.new inners.new roles.new (count_of concepts.now) }
 {
     let count = concepts.len() / 3;
-    let mut e: usize = 0;
-    while e < count {
-        let id = e;
-        let at = e * 3;
-        e += 1;
-        if concepts[at] != EXISTENTIAL {
+    for e in 0..count {
+        let Node::Exists(role, inner) = node_at(concepts, e) else {
             continue;
-        }
-        let role = concepts[at + 1] as usize;
-        let inner = concepts[at + 2] as usize;
-        insert(outer, inner * 3, id);
-        insert(inners, 0, inner);
-        insert(roles, role * 3, id);
+        };
+        insert(outer, inner as usize * 3, e);
+        insert(inners, 0, inner as usize);
+        insert(roles, role as usize * 3, e);
     }
 }
 
@@ -75,8 +69,7 @@ fn join(sets: &[u64], from: usize, word: u64, set: Words) -> Words
 }
 
 // The existentials whose role counts as that role.
-fn of_role(into: &[u64], roles: &[u64], role: usize) -> Words
-    requires into_len { length into.now ≡ roles_size }
+fn of_role(into: &[u64; ROLE_WORDS], roles: &[u64], role: usize) -> Words
     requires roles_len { length roles.now ≡ 384 }
     requires role_bound { role < 100 }
     ensures { ByRole into.now roles.now role (InThree result.first result.second result.third) }
@@ -117,7 +110,7 @@ fn over(square: &[u64], outer: &[u64], inners: &[u64], inner: usize) -> Words
 // An existential f: below it is each existential whose role counts as its own and whose inner id is below its own.
 pub fn link_to(
     concepts: &[u16],
-    into: &[u64],
+    into: &[u64; ROLE_WORDS],
     outer: &[u64],
     inners: &[u64],
     roles: &[u64],
@@ -126,25 +119,21 @@ pub fn link_to(
 ) -> bool
     requires inner { Inner concepts.now }
     requires existentials { Existentials concepts.now outer.now inners.now roles.now (count_of concepts.now) }
-    requires into_len { length into.now ≡ roles_size }
     requires square { Square square.old }
     requires f_bound { f < count_of concepts.now }
     ensures { LinkPass concepts.now (in_set into.now) f square.old square.new result }
 {
-    let at = f * 3;
-    if concepts[at] != EXISTENTIAL {
+    let Node::Exists(role, inner) = node_at(concepts, f) else {
         return false;
-    }
-    let role = concepts[at + 1] as usize;
-    let inner = concepts[at + 2] as usize;
-    let kinds = of_role(into, roles, role);
+    };
+    let kinds = of_role(into, roles, role as usize);
     let first = kinds.first;
     let second = kinds.second;
     let third = kinds.third;
     if holds(square, COLUMNS + f * 3, first, second, third) {
         return false;
     }
-    let found = over(square, outer, inners, inner);
+    let found = over(square, outer, inners, inner as usize);
     let a = first & found.first;
     let b = second & found.second;
     let c = third & found.third;

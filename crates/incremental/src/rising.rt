@@ -15,6 +15,7 @@ use crate::links::link_to;
 use crate::marking::meet;
 use crate::settling::settle_column;
 use square::helpers::{COLUMNS, has};
+use subsumption::limits::ROLE_WORDS;
 
 // Rule 6, at the column j: what is below a left side is below it, if the right side is. Once through the inclusions, so that a no says
 // nothing.
@@ -26,11 +27,9 @@ fn include_column(inclusions: &[u16], count: usize, square: &mut [u64], j: usize
 {
     let pairs = inclusions.len() / 2;
     let mut changed = false;
-    let mut m: usize = 0;
-    while m < pairs {
+    for m in 0..pairs {
         let left = inclusions[m * 2] as usize;
         let right = inclusions[m * 2 + 1] as usize;
-        m += 1;
         if !has(square, COLUMNS + j * 3, right) {
             continue;
         }
@@ -46,7 +45,7 @@ fn rise_column(
     inclusions: &[u16],
     atoms: &[u16],
     choices: &[u64],
-    into: &[u64],
+    into: &[u64; ROLE_WORDS],
     outer: &[u64],
     inners: &[u64],
     roles: &[u64],
@@ -56,7 +55,6 @@ fn rise_column(
     requires settleable { Settleable concepts.now atoms.now choices.now }
     requires pairs { Pairs (count_of concepts.now) inclusions.now }
     requires inner { Inner concepts.now }
-    requires into_len { length into.now ≡ roles_size }
     requires existentials { Existentials concepts.now outer.now inners.now roles.now (count_of concepts.now) }
     requires square { Square square.old }
     requires j_bound { j < count_of concepts.now }
@@ -77,7 +75,7 @@ pub fn rise(
     inclusions: &[u16],
     atoms: &[u16],
     choices: &[u64],
-    into: &[u64],
+    into: &[u64; ROLE_WORDS],
     outer: &[u64],
     inners: &[u64],
     roles: &[u64],
@@ -86,7 +84,6 @@ pub fn rise(
     requires settleable { Settleable concepts.now atoms.now choices.now }
     requires pairs { Pairs (count_of concepts.now) inclusions.now }
     requires inner { Inner concepts.now }
-    requires into_len { length into.now ≡ roles_size }
     requires existentials { Existentials concepts.now outer.now inners.now roles.now (count_of concepts.now) }
     requires square { Square square.old }
     ensures { AllRisen concepts.now inclusions.now (in_set into.now)
@@ -94,13 +91,11 @@ pub fn rise(
 {
     let count = concepts.len() / 3;
     let mut changed = false;
-    let mut j = 0;
-    while j < count {
+    for j in 0..count {
         let new = rise_column(
             concepts, inclusions, atoms, choices, into, outer, inners, roles, square, j,
         );
         changed = changed | new;
-        j += 1;
     }
     changed
 }

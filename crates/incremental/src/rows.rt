@@ -34,10 +34,8 @@ pub fn close_rows(
     let mut done = [0u64; 3];
     let mut changed = false;
     let mut hint: usize = 0;
-    let mut n: usize = 0;
-    while n < count * 2 {
+    for n in 0..count * 2 {
         let i = proposed(order, count, n);
-        n += 1;
         if has(&done, 0, i) {
             continue;
         }

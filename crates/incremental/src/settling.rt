@@ -11,7 +11,7 @@ ghost use Rattle.incremental.specs.Inner.Settling.{SpreadPass, InnerPass, MeetPa
 
 use crate::marking::{flow, meet, take};
 use square::helpers::COLUMNS;
-use subsumption::kinds::{CONJUNCTION, VARIABLE};
+use subsumption::helpers::{Node, node_at};
 
 const ALL: u64 = 18446744073709551615;
 
@@ -23,15 +23,12 @@ fn spread(atoms: &[u16], choice: u64, square: &mut [u64], to: usize) -> bool
     ensures { SpreadPass atoms.now choice to square.old square.new result }
 {
     let mut changed = false;
-    let mut q = 0;
-    while q < atoms.len() {
-        let atom = atoms[q] as usize;
+    for (q, atom) in atoms.iter().enumerate() {
         let picked = (choice >> q) % 2;
-        q += 1;
         if picked == 0 {
             continue;
         }
-        let new = flow(square, atom, to);
+        let new = flow(square, *atom as usize, to);
         changed = changed | new;
     }
     changed
@@ -56,11 +53,9 @@ fn common(atoms: &[u16], choice: u64, columns: &[u64]) -> Words
     let mut first = ALL;
     let mut second = ALL;
     let mut third = ALL;
-    let mut q = 0;
-    while q < atoms.len() {
-        let at = atoms[q] as usize * 3;
+    for (q, atom) in atoms.iter().enumerate() {
+        let at = *atom as usize * 3;
         let picked = (choice >> q) % 2;
-        q += 1;
         if picked == 0 {
             continue;
         }
@@ -103,20 +98,15 @@ pub fn settle_row(
     requires i_bound { i < count_of concepts.now }
     ensures { InnerPass concepts.now (choose_from atoms.now choices.now) i square.old square.new result }
 {
-    let at = i * 3;
-    let kind = concepts[at];
-    let x = concepts[at + 1] as usize;
-    if kind == CONJUNCTION {
-        let y = concepts[at + 2] as usize;
-        let a = flow(square, x, i);
-        let b = flow(square, y, i);
-        return a | b;
+    match node_at(concepts, i) {
+        Node::Top | Node::Name(_) | Node::Exists(_, _) => false,
+        Node::And(x, y) => {
+            let a = flow(square, x as usize, i);
+            let b = flow(square, y as usize, i);
+            a | b
+        }
+        Node::Variable(k) => spread(atoms, choices[k as usize], square, i),
     }
-    if kind != VARIABLE {
-        return false;
-    }
-    let choice = choices[x];
-    spread(atoms, choice, square, i)
 }
 
 // Rules 4 and 8, at the column j.
@@ -132,16 +122,9 @@ pub fn settle_column(
     requires j_bound { j < count_of concepts.now }
     ensures { MeetPass concepts.now (choose_from atoms.now choices.now) j square.old square.new result }
 {
-    let at = j * 3;
-    let kind = concepts[at];
-    let x = concepts[at + 1] as usize;
-    if kind == CONJUNCTION {
-        let y = concepts[at + 2] as usize;
-        return meet(square, x, y, j);
+    match node_at(concepts, j) {
+        Node::Top | Node::Name(_) | Node::Exists(_, _) => false,
+        Node::And(x, y) => meet(square, x as usize, y as usize, j),
+        Node::Variable(k) => gather(atoms, choices[k as usize], square, j),
     }
-    if kind != VARIABLE {
-        return false;
-    }
-    let choice = choices[x];
-    gather(atoms, choice, square, j)
 }

@@ -7,7 +7,7 @@ ghost use Rattle.incremental.specs.Inner.Start.{NamesTo, Begun, BegunAt};
 
 use crate::marking::{ROWS, mark, take};
 use square::helpers::{COLUMNS, insert};
-use subsumption::kinds::{CONJUNCTION, EXISTENTIAL, NAME, VARIABLE};
+use subsumption::helpers::{Node, node_at};
 
 const ALL: u64 = 18446744073709551615;
 
@@ -20,16 +20,11 @@ fn note_names(concepts: &[u16], names: &mut [u64])
     ensures { NamesTo concepts.now names.new (count_of concepts.now) }
 {
     let count = concepts.len() / 3;
-    let mut i: usize = 0;
-    while i < count {
-        let id = i;
-        let at = i * 3;
-        i += 1;
-        if concepts[at] != NAME {
+    for i in 0..count {
+        let Node::Name(name) = node_at(concepts, i) else {
             continue;
-        }
-        let name = concepts[at + 1] as usize;
-        insert(names, name * 3, id);
+        };
+        insert(names, name as usize * 3, i);
     }
 }
 
@@ -41,25 +36,19 @@ fn start_row(concepts: &[u16], names: &[u64], square: &mut [u64], i: usize)
     ensures { BegunAt concepts.now square.old square.new i }
 {
     mark(square, ROWS, i, i);
-    let kind = concepts[i * 3];
-    if kind == NAME {
-        let at = concepts[i * 3 + 1] as usize * 3;
-        let first = names[at];
-        let second = names[at + 1];
-        let third = names[at + 2];
-        take(square, ROWS, i, first, second, third);
-        return;
+    match node_at(concepts, i) {
+        Node::Top => {
+            take(square, COLUMNS, i, ALL, ALL, ALL);
+        }
+        Node::Name(name) => {
+            let at = name as usize * 3;
+            let first = names[at];
+            let second = names[at + 1];
+            let third = names[at + 2];
+            take(square, ROWS, i, first, second, third);
+        }
+        Node::Exists(_, _) | Node::And(_, _) | Node::Variable(_) => {}
     }
-    if kind == EXISTENTIAL {
-        return;
-    }
-    if kind == CONJUNCTION {
-        return;
-    }
-    if kind == VARIABLE {
-        return;
-    }
-    take(square, COLUMNS, i, ALL, ALL, ALL);
 }
 
 fn start_rows(concepts: &[u16], names: &[u64], square: &mut [u64])
@@ -69,10 +58,8 @@ fn start_rows(concepts: &[u16], names: &[u64], square: &mut [u64])
     ensures { Begun concepts.now square.old square.new }
 {
     let count = concepts.len() / 3;
-    let mut i = 0;
-    while i < count {
+    for i in 0..count {
         start_row(concepts, names, square, i);
-        i += 1;
     }
 }
 

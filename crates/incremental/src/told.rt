@@ -2,20 +2,16 @@
 ghost use Rattle.std.specs.Prelude.{◌≡◌, replicate};
 ghost use Rattle.incremental.specs.Inner.Told.{bad_pair, told_fault_in, PlaceOf, Readable, ToldChoices};
 
-use subsumption::refusal::{Outcome, Refusal};
+use subsumption::refusal::Refusal;
 
 // The place of the id among the atoms; their number if it is none.
 fn place_of(atoms: &[u16], id: u16) -> usize
     ensures { PlaceOf atoms.now id result }
 {
-    let mut q = 0;
-    while q < atoms.len() {
-        if atoms[q] == id {
-            return q;
-        }
-        q += 1;
-    }
-    q
+    atoms
+        .iter()
+        .position(|atom| *atom == id)
+        .unwrap_or(atoms.len())
 }
 
 fn is_bad(atoms: &[u16], variables: u16, variable: u16, id: u16) -> bool
@@ -25,23 +21,21 @@ fn is_bad(atoms: &[u16], variables: u16, variable: u16, id: u16) -> bool
 }
 
 // Check 9: a ragged list first, then the first bad pair.
-pub fn check_told(atoms: &[u16], variables: u16, told: &[u16]) -> Outcome
+pub fn check_told(atoms: &[u16], variables: u16, told: &[u16]) -> Result<(), Refusal>
     ensures { result ≡ told_fault_in atoms.now variables told.now }
 {
     if told.len() % 2 != 0 {
-        return Outcome::Refused(Refusal::BadAssignment(0));
+        return Err(Refusal::BadAssignment(0));
     }
     let pairs = told.len() / 2;
-    let mut m: usize = 0;
-    while m < pairs {
+    for m in 0..pairs {
         let variable = told[m * 2];
         let id = told[m * 2 + 1];
         if is_bad(atoms, variables, variable, id) {
-            return Outcome::Refused(Refusal::BadAssignment(m));
+            return Err(Refusal::BadAssignment(m));
         }
-        m += 1;
     }
-    Outcome::Done
+    Ok(())
 }
 
 // One choice a variable: bit q for the atom at place q.
@@ -51,11 +45,9 @@ pub fn read_told(atoms: &[u16], told: &[u16], choices: &mut [u64])
     ensures { ToldChoices atoms.now told.now choices.new }
 {
     let pairs = told.len() / 2;
-    let mut m: usize = 0;
-    while m < pairs {
+    for m in 0..pairs {
         let variable = told[m * 2] as usize;
         let place = place_of(atoms, told[m * 2 + 1]);
         choices[variable] = choices[variable] | (1 << place);
-        m += 1;
     }
 }

@@ -9,8 +9,8 @@ use crate::closing::close;
 use crate::told::{check_told, read_told};
 use square::helpers::{SQUARE, load};
 use subsumption::limits::{ATOMS, ROW_BYTES};
-use subsumption::refusal::{Outcome, Refusal};
-use subsumption::{Listed, list_atoms};
+use subsumption::refusal::Refusal;
+use subsumption::{Tables, list_atoms};
 
 const MOST_VARIABLES: usize = 8;
 
@@ -23,18 +23,15 @@ fn put_update(
     variables: u16,
     told: &[u16],
     table: &mut [u8],
-) -> Outcome
+) -> Result<(), Refusal>
     requires { Prepared concepts.now inclusions.now roles.now variables atoms.now }
     ensures { ForAccepted concepts.now inclusions.now roles.now variables atoms.now
         (λ t. Updates t told.now table.old table.new (reply_of result)) }
 {
-    let pairs = check_told(atoms, variables, told);
-    if let Outcome::Refused(r) = pairs {
-        return Outcome::Refused(r);
-    }
+    check_told(atoms, variables, told)?;
     let count = concepts.len() / 3;
     if table.len() < count * ROW_BYTES {
-        return Outcome::Refused(Refusal::BufferTooShort(count * ROW_BYTES));
+        return Err(Refusal::BufferTooShort(count * ROW_BYTES));
     }
     let mut choices = [0u64; MOST_VARIABLES];
     read_told(atoms, told, &mut choices);
@@ -42,33 +39,22 @@ fn put_update(
     load(table, count, &mut square);
     close(concepts, inclusions, roles, atoms, &choices, &mut square);
     store(&square, count, table);
-    Outcome::Done
+    Ok(())
 }
 
 // Makes the held table the smallest one that holds its own marks and is closed under the rules.
-pub fn update_table(
-    concepts: &[u16],
-    inclusions: &[u16],
-    questions: &[u16],
-    roles: &[u16],
-    variables: u16,
-    told: &[u16],
-    table: &mut [u8],
-) -> Outcome
-    ensures { Updates (lent concepts inclusions questions roles variables) told.now table.old table.new (reply_of result) }
+pub fn update_table(tables: Tables, told: &[u16], table: &mut [u8]) -> Result<(), Refusal>
+    ensures { Updates (lent tables) told.now table.old table.new (reply_of result) }
 {
     let mut ids = [0u16; ATOMS];
-    let listed = list_atoms(concepts, inclusions, questions, roles, variables, &mut ids);
-    match listed {
-        Listed::Rejected(r) => Outcome::Refused(r),
-        Listed::Atoms(count) => put_update(
-            concepts,
-            inclusions,
-            roles,
-            &ids[..count],
-            variables,
-            told,
-            table,
-        ),
-    }
+    let count = list_atoms(tables, &mut ids)?;
+    put_update(
+        tables.concepts,
+        tables.inclusions,
+        tables.roles,
+        &ids[..count],
+        tables.variables,
+        told,
+        table,
+    )
 }

@@ -1,4 +1,5 @@
 -- Finding without settings: all atoms, and what settings that permit them all leave of the answer.
+use Rattle.std.specs.Prelude.{Err, Ok}
 use Prim.Native.Nat.{ℕ, zero, suc, ◌*◌, ◌-◌, ◌%◌, ◌^◌, ◌<◌, ◌≤◌}
 use mathlib.Core.Path.{◌≡◌, refl, sym, ap, ◌∙◌, subst}
 use mathlib.Core.List.{List, [], ◌∷◌}
@@ -10,13 +11,11 @@ use lib.Pow.{pow_pos, pow-lt, ones_lt}
 use lib.Bits.{and_mask}
 use lib.ListN.{length, get_or, take, replicate, get_or-replicate}
 use lib.Seq.{get_or-take, length-take-le}
-use Rattle.subsumption.specs.declared.refusal.Outcome.{Outcome}
-use Rattle.subsumption.specs.declared.refusal.Outcome.TheVariants.{Done, Refused}
 use Rattle.subsumption.specs.declared.refusal.Refusal.{Refusal}
 use Rattle.subsumption.specs.Tables.{Tables, pairs_of}
 use Rattle.subsumption.specs.Atoms.{atoms, bit}
 use Rattle.subsumption.specs.Check.{table_fault, buffer_fault}
-use Rattle.subsumption.specs.Refusal.{Reply, reply_refused, or_else}
+use Rattle.subsumption.specs.Refusal.{Reply, reply_refused, or_else, Outcome, Done}
 use Rattle.subsumption.specs.Inner.Listing.{Accepted}
 use Rattle.subsumption.proofs.Bools.{both_true}
 use Rattle.subsumption.proofs.Bits.{bit-and, bit-pow}
@@ -89,10 +88,10 @@ module _ (t : Tables) (h : table_fault t ≡ Done) (all : List ℕ) (full : Full
       }
 
 -- ---- the answer
-pub tables-refuse : (t : Tables) (before : List ℕ) (r : Refusal) → Refused r ≡ table_fault t → Finds t before before (reply_refused r)
+pub tables-refuse : (t : Tables) (before : List ℕ) (r : Refusal) → Err r ≡ table_fault t → Finds t before before (reply_refused r)
 unfolding finding_fault
 tables-refuse t before r e =
-    subst (λ (f : Outcome). FindsAfter f t before before (reply_refused r)) (stops (Refused r) _ _ r e refl) (refl, refl)
+    subst (λ (f : Outcome). FindsAfter f t before before (reply_refused r)) (stops (Err r) _ _ r e refl) (refl, refl)
 
 module _ (t : Tables) (s : Settings) (before after : List ℕ) (reply : Reply) (h : table_fault t ≡ Done) (set : settings_fault t s ≡ Done) (u : Unrestricted t s) where
   same-fault : within_fault t s (length before) ≡ finding_fault t (length before)
@@ -100,7 +99,7 @@ module _ (t : Tables) (s : Settings) (before after : List ℕ) (reply : Reply) (
   same-fault = ap (λ (z : Outcome). or_else (table_fault t) (or_else z (buffer_fault t.variables (length before)))) set
 
   after-fault : (f : Outcome) → FindsWithinAfter f t s before after reply → FindsAfter f t before after reply
-  after-fault Done (inl (e, f)) =
+  after-fault (Ok tt) (inl (e, f)) =
       inl (
         e,
         record {
@@ -115,8 +114,8 @@ module _ (t : Tables) (s : Settings) (before after : List ℕ) (reply : Reply) (
           rest = f.rest;
         },
       )
-  after-fault Done (inr (e, f)) = inr (e, record { none = f.by-substitution u; kept = f.kept })
-  after-fault (Refused r) x = x
+  after-fault (Ok tt) (inr (e, f)) = inr (e, record { none = f.by-substitution u; kept = f.kept })
+  after-fault (Err r) x = x
 
   -- with settings that permit all nothing moves
   pub finds-unrestricted : FindsWithin t s before after reply → Finds t before after reply

@@ -1,4 +1,5 @@
 -- Counting twins once: an assignment over the list with all copies solves exactly when a corresponding one over the atoms does.
+use Rattle.subsumption.specs.Refusal.{Done}
 use Prim.Native.Nat.{ℕ, ◌<◌}
 use mathlib.Core.Path.{◌≡◌, refl, sym, ap, ◌∙◌, subst}
 use mathlib.Core.List.Memᴰ
@@ -7,7 +8,6 @@ use mathlib.Core.Bool.{Bool, true}
 use mathlib.Core.Logic.{◌↔◌, ⊎_elim}
 use native.Mathlib.Omega.{arith}
 use lib.ListN.{length, get_or, get_or-eq_default}
-use Rattle.subsumption.specs.declared.refusal.Outcome.TheVariants.{Done}
 use Rattle.subsumption.specs.Tables.{Tables, both, any_below, count_of, left_of, right_of, Concept, tree}
 use Rattle.subsumption.specs.Atoms.{stands, twin, atoms, bit, pick, chosen}
 use Rattle.subsumption.specs.Subsumption.{Interpretation, Reading, Member, no_variables}

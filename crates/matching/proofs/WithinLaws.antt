@@ -1,21 +1,20 @@
 -- From the search to the answer within settings: where it starts, what is written, and what settings ask of assignments.
+use Rattle.std.specs.Prelude.{Option, Some, None, Err, Ok}
 use Prim.Native.Nat.{ℕ, ◌+◌, ◌-◌, ◌/◌, ◌%◌, ◌^◌, ◌<◌, ◌≤◌}
 use mathlib.Core.Path.{◌≡◌, refl, sym, ap, ◌∙◌, subst}
 use mathlib.Core.List.{List}
-use mathlib.Core.Bool.{Bool, true, false}
+use mathlib.Core.Bool.{true}
 use mathlib.Core.Logic.{◌⊎◌, ◌↔◌, inl, inr, ⊎_elim}
 use native.Mathlib.Omega.{arith}
 use lib.Dec.{eqb}
 use lib.ListN.{length, get_or, take, drop, set, length-set, length-drop, get_or-eq_default}
 use lib.Seq.{get_or-set_same, get_or-set_other, get_or-take, get_or-drop, length-take-le, ext_get_or}
-use Rattle.subsumption.specs.declared.refusal.Outcome.{Outcome}
-use Rattle.subsumption.specs.declared.refusal.Outcome.TheVariants.{Done, Refused}
 use Rattle.subsumption.specs.declared.refusal.Refusal.{Refusal}
 use Rattle.subsumption.specs.declared.refusal.Refusal.TheVariants.{BufferTooShort, NoAssignment}
 use Rattle.subsumption.specs.Tables.{Tables, pairs_of}
 use Rattle.subsumption.specs.Atoms.{atoms, bit}
 use Rattle.subsumption.specs.Check.{table_fault, assignment_fault, buffer_fault}
-use Rattle.subsumption.specs.Refusal.{Reply, reply_refused}
+use Rattle.subsumption.specs.Refusal.{Reply, reply_refused, reply_of, Outcome, Done}
 use Rattle.subsumption.specs.Inner.Listing.{Accepted}
 use Rattle.subsumption.proofs.Bools.{le-or-lt, last-cases}
 use Rattle.subsumption.proofs.Bits.{bit-of-zero}
@@ -28,19 +27,17 @@ use Rattle.settings.proofs.SettingsLaws.{settings-long, settings-below}
 use Rattle.matching.specs.Solving.{takes}
 use Rattle.matching.specs.Within.{within_fault, FindsWithinAfter, FindsWithin}
 use Rattle.matching.specs.Among.{SolvesAmong, FirstAmong, NoneAmong}
-use Rattle.matching.specs.Inner.Search.{Within, Between, Meets, NoSolution}
+use Rattle.matching.specs.Inner.Search.{Within, Between, Meets, SolutionIn, NoSolution}
 use Rattle.matching.specs.Inner.Search.Problem.{most_at, AskedAt, Problem}
 use Rattle.matching.specs.Inner.Search.Nogoods.{used, Room, Nogoods}
 use Rattle.matching.specs.Inner.Search.Narrow.{Narrower, Narrowed}
-use Rattle.matching.specs.Inner.Search.Solve.{Answers, Searched}
+use Rattle.matching.specs.Inner.Search.Solve.{Refuted, Searched}
 use Rattle.matching.specs.Inner.Search.Interval.{IntervalOf}
 use Rattle.matching.specs.Inner.Search.Order.{FirstIn, FirstOf}
 use Rattle.matching.specs.Inner.Within.{Counting, Asking, Found, FoundBy, FoundIn, FirstFound, FoundAmong, FindsAmongAfter, FindsAmong, Copied}
-use Rattle.matching.specs.declared.find.Match.TheVariants.{Filled}
-use Rattle.matching.specs.Find.{match_reply}
 use Rattle.matching.proofs.SubstitutionLaws.Locality.{none-among}
 use Rattle.matching.proofs.SearchLaws.Nogoods.{nogoods-none}
-use Rattle.matching.proofs.SearchLaws.Solve.{full-interval, answers-found, answers-none, refuted-none}
+use Rattle.matching.proofs.SearchLaws.Solve.{full-interval, refuted-none}
 use Rattle.matching.proofs.SearchLaws.Fronts.{front-known, front-takes, front-within, accepted-long, accepted-bits, accept, within-accepted}
 
 -- ---- copying
@@ -68,36 +65,6 @@ module _ (wanted : ℕ) (before : List ℕ) where
     pub long : length after ≡ length before
     pub here : (m : ℕ) → m < n → get_or after (939 + m) 0 ≡ wanted / 2 ^ m % 2
     pub there : (p : ℕ) → (p < 939) ⊎ (939 + n ≤ p) → get_or after p 0 ≡ get_or before p 0
-
-  pub asked-none : AskedTo before 0
-  asked-none = record { within = omega arith; long = refl; here = λ m l. absurd (omega arith); there = λ p o. refl }
-
-  pub asked-more :
-      (after : List ℕ) (n : ℕ) → length before ≡ 971 → n < 32 → AskedTo after n → AskedTo (set after (939 + n) (wanted / 2 ^ n % 2)) (n + 1)
-  asked-more after n h l s =
-      record {
-        within = omega arith;
-        long = length-set after (939 + n) _ ∙ s.long;
-        here =
-            λ m i.
-            ⊎_elim
-            (λ (e : m ≡ n).
-            ap (λ (z : ℕ). get_or (set after (939 + n) (wanted / 2 ^ n % 2)) (939 + z) 0) e ∙ get_or-set_same after (939 + n) _ 0 (omega (arith, s.long))
-            ∙ ap (λ (z : ℕ). wanted / 2 ^ z % 2) (sym e))
-            (λ j. get_or-set_other after (939 + n) (939 + m) _ 0 (λ e. omega arith) ∙ s.here m j) (last-cases m n (omega arith));
-        there =
-            λ p o.
-            ⊎_elim (λ (u : p < 939). get_or-set_other after (939 + n) p _ 0 (λ e. omega arith) ∙ s.there p (inl u))
-            (λ (u : 939 + (n + 1) ≤ p). get_or-set_other after (939 + n) p _ 0 (λ e. omega arith) ∙ s.there p (inr (omega arith))) o;
-      }
-
-  pub asked-all : (after : List ℕ) (n : ℕ) → 32 ≤ n → AskedTo after n → Asking wanted before after
-  asked-all after n h s =
-      record {
-        long = s.long;
-        here = λ m l. s.here m (omega arith);
-        there = λ p o. s.there p (⊎_elim (λ u. inl u) (λ (u : 971 ≤ p). inr (omega (arith, s.within))) o);
-      }
 
   -- the asked ones are those whose bit is set
   pub asked-bit : (after : List ℕ) → Asking wanted before after → (m : ℕ) → m < 32 → AskedAt after m ↔ (bit wanted m ≡ true)
@@ -142,8 +109,8 @@ module _ (t : Tables) (h : table_fault t ≡ Done) (problem low permitted high :
   all-between other a w s =
       record { above = λ k q e. absurd (none-low k q (front-known t.variables low k q e).1); below = n.all other a s w }
 
-  nothing-found : (choice : List ℕ) → NoSolution t problem low high → FoundBy t problem permitted false choice
-  nothing-found choice x other a w m = x other a (all-between other a w m.solves) m
+  nothing-found : NoSolution t problem low high → FoundBy t problem permitted None
+  nothing-found x other a w m = x other a (all-between other a w m.solves) m
 
   first_found : (choice : List ℕ) → FirstIn t problem low high choice → Found t problem permitted choice
   first_found choice f =
@@ -165,25 +132,28 @@ room-none store e f = record { long = e; few = omega arith }
 
 module _ (sets problem low permitted high : List ℕ) (zeros : (k : ℕ) → get_or low k 0 ≡ 0) (long : length low ≡ 8)
     (size : length high ≡ 8) (n : Narrowed sets problem permitted high)
-    (before after : List ℕ) (fits : length before ≡ 16385) (none : used before ≡ 0) (found : Bool) (known rest : List ℕ)
-    (s : Searched sets problem high low high before after (λ t. Answers t problem low high found known rest)) where
+    (before after : List ℕ) (fits : length before ≡ 16385) (none : used before ≡ 0) where
   module _ (t : Tables) (c : Problem t sets problem) (a : assignment_fault t (take t.variables permitted) ≡ Done)
       (i : (k q : ℕ) → t.variables ≤ k → takes permitted k q ≡ true → ⊥) where
     start : IntervalOf t low high
     start = whole t c.passed problem low permitted high zeros long a i size (n t c a)
 
-    searched : Answers t problem low high found known rest × Nogoods t problem after
-    searched = s t c start (full-interval t low high start) (nogoods-none t problem before fits none)
+    searched : (Given : Tables → Type 0) → Searched sets problem high low high before after Given → Given t × Nogoods t problem after
+    searched Given s = s t c start (full-interval t low high start) (nogoods-none t problem before fits none)
 
-  pub found_first : (choice : List ℕ) → found ≡ true → FirstOf sets problem low high after known choice → FoundIn sets problem permitted true choice
-  found_first choice e f t c a i =
-      first_found t c.passed problem low permitted high zeros long a i size (n t c a) choice
-      (f t c (start t c a i) (searched t c a i).1 (answers-found t problem low high found known rest (searched t c a i).0 e))
+  pub found_first :
+      (known : List ℕ) → Searched sets problem high low high before after (λ t. SolutionIn t problem low high known)
+      → (choice : List ℕ) → FirstOf sets problem low high after known choice → FoundIn sets problem permitted (Some choice)
+  found_first known s choice f t c a i =
+      let (x, m) = searched t c a i _ s in
+      first_found t c.passed problem low permitted high zeros long a i size (n t c a) choice (f t c (start t c a i) m x)
 
-  pub found_none : found ≡ false → FoundIn sets problem permitted false known
-  found_none e t c a i =
-      nothing-found t c.passed problem low permitted high zeros long a i size (n t c a) known
-      (refuted-none t problem low high known rest (answers-none t problem low high found known rest (searched t c a i).0 e))
+  pub found_none :
+      (below above : List ℕ) → Searched sets problem high low high before after (λ t. Refuted t problem low high below above)
+      → FoundIn sets problem permitted None
+  found_none below above s t c a i =
+      nothing-found t c.passed problem low permitted high zeros long a i size (n t c a)
+      (refuted-none t problem low high below above (searched t c a i _ s).0)
 
 -- ---- what settings ask of an assignment
 -- past the variables an accepted assignment takes nothing
@@ -246,8 +216,8 @@ module _ (t : Tables) (s : Settings) (ok : settings_fault t s ≡ Done) (permitt
             few = few-each t other a (λ k. get_or s.largest k 0) (λ k l. omega (arith, m.few k, most-of k l));
           }
 
-    pub found_among : (b : Bool) (choice : List ℕ) → FoundBy t problem permitted b choice → FoundAmong (λ m. bit wanted m ≡ true) t s b choice
-    found_among true choice f =
+    pub found_among : (found : Option (List ℕ)) → FoundBy t problem permitted found → FoundAmong (λ m. bit wanted m ≡ true) t s found
+    found_among (Some choice) f =
         record {
           long = f.long;
           first =
@@ -258,7 +228,7 @@ module _ (t : Tables) (s : Settings) (ok : settings_fault t s ≡ Done) (permitt
                 first = λ other a h x. f.first other a (heeds-inside other a h) (heeds-meets other a h x);
               };
         }
-    found_among false choice f = λ other a h x. f other a (heeds-inside other a h) (heeds-meets other a h x)
+    found_among None f = λ other a h x. f other a (heeds-inside other a h) (heeds-meets other a h x)
 
 -- the check by the number of atoms that are listed
 pub settings-known : (t : Tables) (ids : List ℕ) (s : Settings) (r : Outcome) → Accepted t ids → r ≡ settings_fault_at (length ids) t.variables s → r ≡ settings_fault t s
@@ -266,18 +236,18 @@ unfolding settings_fault
 settings-known t ids s r A e = subst (λ (z : List ℕ). r ≡ settings_fault_at (length z) t.variables s) A.listed e
 
 -- ---- the answer
-pub tables-refuse : (t : Tables) (s : Settings) (before : List ℕ) (r : Refusal) → Refused r ≡ table_fault t → FindsWithin t s before before (reply_refused r)
+pub tables-refuse : (t : Tables) (s : Settings) (before : List ℕ) (r : Refusal) → Err r ≡ table_fault t → FindsWithin t s before before (reply_refused r)
 unfolding within_fault
 tables-refuse t s before r e =
-    subst (λ (f : Outcome). FindsWithinAfter f t s before before (reply_refused r)) (stops (Refused r) _ _ r e refl) (refl, refl)
+    subst (λ (f : Outcome). FindsWithinAfter f t s before before (reply_refused r)) (stops (Err r) _ _ r e refl) (refl, refl)
 
 module _ (asked : ℕ → Type 0) (t : Tables) (s : Settings) (before : List ℕ) where
-  finds-refused : (r : Refusal) → Refused r ≡ within_fault t s (length before) → FindsAmong asked t s before before (reply_refused r)
+  finds-refused : (r : Refusal) → Err r ≡ within_fault t s (length before) → FindsAmong asked t s before before (reply_refused r)
   finds-refused r e = subst (λ (f : Outcome). FindsAmongAfter f asked t s before before (reply_refused r)) e (refl, refl)
 
-  pub settings-refuse : table_fault t ≡ Done → (r : Refusal) → Refused r ≡ settings_fault t s → FindsAmong asked t s before before (reply_refused r)
+  pub settings-refuse : table_fault t ≡ Done → (r : Refusal) → Err r ≡ settings_fault t s → FindsAmong asked t s before before (reply_refused r)
   unfolding within_fault
-  settings-refuse h r e = finds-refused r (goes_on Done _ _ _ (sym h) refl (stops (Refused r) _ _ r e refl))
+  settings-refuse h r e = finds-refused r (goes_on Done _ _ _ (sym h) refl (stops (Err r) _ _ r e refl))
 
   pub buffer-refuses :
       table_fault t ≡ Done → settings_fault t s ≡ Done → length before < t.variables
@@ -310,11 +280,10 @@ module _ (asked : ℕ → Type 0) (t : Tables) (s : Settings) (before after : Li
   passed = goes_on Done _ _ Done (sym ok) refl (goes_on Done _ _ Done (sym set) refl (done-le (length before) t.variables _ room))
 
   pub finds-filled :
-      (b : Bool) (choice : List ℕ) → FoundAmong asked t s b choice → b ≡ true → Copied t.variables choice before after
-      → FindsAmong asked t s before after (match_reply Filled)
-  finds-filled b choice g y c =
-      let found : FirstFound asked t s choice = subst (λ (z : Bool). FoundAmong asked t s z choice) y g in
-      subst (λ (z : Outcome). FindsAmongAfter z asked t s before after (match_reply Filled)) passed
+      (choice : List ℕ) → FirstFound asked t s choice → Copied t.variables choice before after
+      → FindsAmong asked t s before after (reply_of Done)
+  finds-filled choice found c =
+      subst (λ (z : Outcome). FindsAmongAfter z asked t s before after (reply_of Done)) passed
       (inl (
         refl,
         record {
@@ -324,10 +293,8 @@ module _ (asked : ℕ → Type 0) (t : Tables) (s : Settings) (before after : Li
         },
       ))
 
-  pub finds-nothing :
-      (b : Bool) (choice : List ℕ) → FoundAmong asked t s b choice → b ≡ false → after ≡ before → FindsAmong asked t s before after (reply_refused NoAssignment)
-  finds-nothing b choice g y k =
-      let none : NoneAmong asked t s = subst (λ (z : Bool). FoundAmong asked t s z choice) y g in
+  pub finds-nothing : NoneAmong asked t s → after ≡ before → FindsAmong asked t s before after (reply_refused NoAssignment)
+  finds-nothing none k =
       subst (λ (z : Outcome). FindsAmongAfter z asked t s before after (reply_refused NoAssignment)) passed
       (inr (
         refl,
@@ -341,7 +308,7 @@ module _ (asked : ℕ → Type 0) (t : Tables) (s : Settings) (before after : Li
 -- where all questions are asked
 module _ (asked : ℕ → Type 0) (t : Tables) (s : Settings) (before after : List ℕ) (reply : Reply) (all : (m : ℕ) → m < pairs_of t.questions → asked m) where
   after-all : (f : Outcome) → FindsAmongAfter f asked t s before after reply → FindsWithinAfter f t s before after reply
-  after-all Done (inl (e, f)) =
+  after-all (Ok tt) (inl (e, f)) =
       inl (
         e,
         record {
@@ -356,7 +323,7 @@ module _ (asked : ℕ → Type 0) (t : Tables) (s : Settings) (before after : Li
           rest = f.rest;
         },
       )
-  after-all Done (inr (e, f)) =
+  after-all (Ok tt) (inr (e, f)) =
       inr (
         e,
         record {
@@ -365,7 +332,7 @@ module _ (asked : ℕ → Type 0) (t : Tables) (s : Settings) (before after : Li
           kept = f.kept;
         },
       )
-  after-all (Refused r) x = x
+  after-all (Err r) x = x
 
   pub finds-within : FindsAmong asked t s before after reply → FindsWithin t s before after reply
   finds-within = after-all (within_fault t s (length before))

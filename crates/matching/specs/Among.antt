@@ -1,6 +1,6 @@
 -- Finding an assignment that makes some of the questions hold (02, A.10): those that are asked. The atoms are those of all of them.
+use Rattle.subsumption.specs.Refusal.{Done}
 use Rattle.std.specs.Prelude.{ℕ, ◌<◌, ◌≡◌, List, ◌⊎◌, length, take, drop}
-use Rattle.subsumption.specs.declared.refusal.Outcome.TheVariants.{Done}
 use Rattle.subsumption.specs.Tables.{Tables, pairs_of, left_of, right_of}
 use Rattle.subsumption.specs.Subsumption.{Interpretation, Reading, assigned, SubsumedBy}
 use Rattle.subsumption.specs.Check.{assignment_fault}

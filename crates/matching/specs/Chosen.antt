@@ -1,14 +1,10 @@
 -- Listing one variable's chosen ids (01, "Operations"): what it answers, the list that it hands back, and what the buffer then holds.
-use Rattle.std.specs.Prelude.{ℕ, ◌≡◌, List, ◌++◌, not, ltb, length, drop}
+use Rattle.std.specs.Prelude.{ℕ, ◌≡◌, List, ◌++◌, not, ltb, length, drop, Err, Ok}
 use Rattle.subsumption.specs.declared.refusal.Refusal.TheVariants.{Malformed}
-use Rattle.subsumption.specs.declared.refusal.Outcome.{Outcome}
-use Rattle.subsumption.specs.declared.refusal.Outcome.TheVariants.{Done, Refused}
 use Rattle.subsumption.specs.Tables.{Tables}
 use Rattle.subsumption.specs.Atoms.{chosen}
-use Rattle.subsumption.specs.Refusal.{Reply, reply_done, reply_refused, reply_with, or_else, refuse_if}
+use Rattle.subsumption.specs.Refusal.{Reply, reply_with, or_else, refuse_if, Outcome}
 use Rattle.subsumption.specs.Check.{limit_fault, table_fault, assignment_fault, buffer_fault}
-use Rattle.matching.specs.declared.chosen.Chosen.{Chosen}
-use Rattle.matching.specs.declared.chosen.Chosen.TheVariants.{Ids, Rejected}
 
 -- A variable's number that is not below the count is judged within check 2, at place 0.
 unfoldable pub variable_fault : ℕ → ℕ → Outcome
@@ -21,14 +17,10 @@ choosing_fault t assignment k size =
     (or_else (variable_fault t.variables k) (or_else (table_fault t) (or_else (assignment_fault t assignment) (buffer_fault 64 size))))
 
 -- The value is how many ids there are.
-abbrev pub chosen_reply : Chosen → Reply
-chosen_reply (Ids n) = reply_done n
-chosen_reply (Rejected r) = reply_refused r
-
 -- The ids stand in front; past them, and after a refusal, the buffer keeps its values.
 unfoldable pub chosen_in : Outcome → List ℕ → List ℕ → List ℕ
-chosen_in Done ids before = ids ++ drop (length ids) before
-chosen_in (Refused r) ids before = before
+chosen_in (Ok tt) ids before = ids ++ drop (length ids) before
+chosen_in (Err r) ids before = before
 
 -- The reply and the buffer after it.
 pub record Chooses (t : Tables) (assignment : List ℕ) (k : ℕ) (before after : List ℕ) (reply : Reply) : Type 0 where
@@ -37,5 +29,5 @@ pub record Chooses (t : Tables) (assignment : List ℕ) (k : ℕ) (before after 
 
 -- What is handed back: the list; after a refusal the whole buffer, with its values.
 unfoldable pub handed_back : Outcome → List ℕ → List ℕ → List ℕ
-handed_back Done ids before = ids
-handed_back (Refused r) ids before = before
+handed_back (Ok tt) ids before = ids
+handed_back (Err r) ids before = before

@@ -2,10 +2,9 @@
 -- list of them.
 use Rattle.std.specs.Prelude.{ℕ, ◌+◌, ◌-◌, ◌*◌, ◌/◌, ◌%◌, List, Bool, not, eqb, length, get_or}
 use Rattle.subsumption.specs.declared.refusal.Refusal.TheVariants.{BadDerivation}
-use Rattle.subsumption.specs.declared.refusal.Outcome.{Outcome}
 use Rattle.subsumption.specs.Tables.{Tables, or, both, any_below}
 use Rattle.subsumption.specs.Rules.{follows}
-use Rattle.subsumption.specs.Refusal.{or_else, refuse_if, first_at}
+use Rattle.subsumption.specs.Refusal.{or_else, refuse_if, first_at, Outcome}
 use Rattle.subsumption.specs.Decide.{deciding_fault}
 
 -- A line is four numbers: rule, left, right, extra.

@@ -1,12 +1,8 @@
 -- Finding an assignment (01, "Operations" and demand 3): the first one, or none when no substitution solves.
-use Rattle.std.specs.Prelude.{ℕ, ◌≡◌, List, ◌⊎◌, length, take, drop}
+use Rattle.std.specs.Prelude.{ℕ, ◌≡◌, List, ◌⊎◌, length, take, drop, Err, Ok}
 use Rattle.subsumption.specs.declared.refusal.Refusal.TheVariants.{NoAssignment}
-use Rattle.subsumption.specs.declared.refusal.Outcome.{Outcome}
-use Rattle.subsumption.specs.declared.refusal.Outcome.TheVariants.{Done, Refused}
-use Rattle.matching.specs.declared.find.Match.{Match}
-use Rattle.matching.specs.declared.find.Match.TheVariants.{Filled, Rejected}
 use Rattle.subsumption.specs.Tables.{Tables}
-use Rattle.subsumption.specs.Refusal.{Reply, reply_done, reply_refused, or_else}
+use Rattle.subsumption.specs.Refusal.{Reply, reply_done, reply_refused, or_else, Outcome}
 use Rattle.subsumption.specs.Check.{table_fault, buffer_fault}
 use Rattle.matching.specs.Solving.{Substitution, SolvesBy, First}
 
@@ -32,15 +28,11 @@ pub record NoneSolves (t : Tables) (before after : List ℕ) : Type 0 where
   pub kept : after ≡ before
 
 -- No value: what is found is written.
-abbrev pub match_reply : Match → Reply
-match_reply Filled = reply_done 0
-match_reply (Rejected r) = reply_refused r
-
 -- Where nothing is refused, either the first assignment is written, or none exists and the reply is refusal 10.
 abbrev pub FindsAfter : Outcome → Tables → List ℕ → List ℕ → Reply → Type 0
-FindsAfter Done t before after reply =
+FindsAfter (Ok tt) t before after reply =
     ((reply ≡ reply_done 0) × FilledBy t before after) ⊎ ((reply ≡ reply_refused NoAssignment) × NoneSolves t before after)
-FindsAfter (Refused r) t before after reply = (reply ≡ reply_refused r) × (after ≡ before)
+FindsAfter (Err r) t before after reply = (reply ≡ reply_refused r) × (after ≡ before)
 
 abbrev pub Finds : Tables → List ℕ → List ℕ → Reply → Type 0
 Finds t before after reply = FindsAfter (finding_fault t (length before)) t before after reply

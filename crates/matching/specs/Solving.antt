@@ -1,6 +1,6 @@
 -- Assignments and substitutions that make every question hold, and the order of assignments (01, "Tables" and "Below").
+use Rattle.subsumption.specs.Refusal.{Done}
 use Rattle.std.specs.Prelude.{ℕ, ◌<◌, ◌≡◌, List, Bool, true, false, ◌⊎◌, get_or}
-use Rattle.subsumption.specs.declared.refusal.Outcome.TheVariants.{Done}
 use Rattle.subsumption.specs.Tables.{Tables, pairs_of, left_of, right_of, Concept, has_variable}
 use Rattle.subsumption.specs.Atoms.{bit}
 use Rattle.subsumption.specs.Subsumption.{Interpretation, Reading, Member, no_variables, assigned, SubsumedBy}

@@ -1,7 +1,7 @@
 -- What counting twins once leaves as it was (A.2): the assignments over the list with all copies, and those over the atoms.
+use Rattle.subsumption.specs.Refusal.{Done}
 use Rattle.std.specs.Prelude.{ℕ, ◌≡◌, ◌↔◌, length, get_or}
 use mathlib.Core.List.{List, Memᴰ}
-use Rattle.subsumption.specs.declared.refusal.Outcome.TheVariants.{Done}
 use Rattle.subsumption.specs.Tables.{Tables, count_of, tree}
 use Rattle.subsumption.specs.Atoms.{stands, keep, pick, chosen}
 use Rattle.subsumption.specs.Subsumption.{Member, no_variables}

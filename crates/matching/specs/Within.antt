@@ -1,10 +1,8 @@
 -- Finding an assignment within settings (02, A.9): the first one within them, or none of them solves.
-use Rattle.std.specs.Prelude.{ℕ, ◌≡◌, List, ◌⊎◌, length, take, drop}
+use Rattle.std.specs.Prelude.{ℕ, ◌≡◌, List, ◌⊎◌, length, take, drop, Err, Ok}
 use Rattle.subsumption.specs.declared.refusal.Refusal.TheVariants.{NoAssignment}
-use Rattle.subsumption.specs.declared.refusal.Outcome.{Outcome}
-use Rattle.subsumption.specs.declared.refusal.Outcome.TheVariants.{Done, Refused}
 use Rattle.subsumption.specs.Tables.{Tables}
-use Rattle.subsumption.specs.Refusal.{Reply, reply_done, reply_refused, or_else}
+use Rattle.subsumption.specs.Refusal.{Reply, reply_done, reply_refused, or_else, Outcome, Done}
 use Rattle.subsumption.specs.Check.{table_fault, assignment_fault, buffer_fault}
 use Rattle.settings.specs.Settings.{Settings, Heeds, Unrestricted, settings_fault}
 use Rattle.matching.specs.Solving.{Solves, Earlier, Substitution, SolvesBy}
@@ -35,9 +33,9 @@ pub record NoneWithin (t : Tables) (s : Settings) (before after : List ℕ) : Ty
 
 -- Where nothing is refused, either the first assignment is written, or none exists and the reply is refusal 10.
 abbrev pub FindsWithinAfter : Outcome → Tables → Settings → List ℕ → List ℕ → Reply → Type 0
-FindsWithinAfter Done t s before after reply =
+FindsWithinAfter (Ok tt) t s before after reply =
     ((reply ≡ reply_done 0) × FilledWithin t s before after) ⊎ ((reply ≡ reply_refused NoAssignment) × NoneWithin t s before after)
-FindsWithinAfter (Refused r) t s before after reply = (reply ≡ reply_refused r) × (after ≡ before)
+FindsWithinAfter (Err r) t s before after reply = (reply ≡ reply_refused r) × (after ≡ before)
 
 abbrev pub FindsWithin : Tables → Settings → List ℕ → List ℕ → Reply → Type 0
 FindsWithin t s before after reply = FindsWithinAfter (within_fault t s (length before)) t s before after reply

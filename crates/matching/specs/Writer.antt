@@ -1,13 +1,9 @@
 -- Writing the derivation of one pair (01, "Operations"): its lines in front of the buffer, or a refusal.
-use Rattle.std.specs.Prelude.{ℕ, ◌*◌, ◌<◌, ◌≤◌, ◌≡◌, List, ◌⊎◌, length, take, drop}
+use Rattle.std.specs.Prelude.{ℕ, ◌*◌, ◌<◌, ◌≤◌, ◌≡◌, List, ◌⊎◌, length, take, drop, Err, Ok}
 use Rattle.subsumption.specs.declared.refusal.Refusal.TheVariants.{NotSubsumed}
-use Rattle.subsumption.specs.declared.refusal.Outcome.{Outcome}
-use Rattle.subsumption.specs.declared.refusal.Outcome.TheVariants.{Done, Refused}
-use Rattle.matching.specs.declared.writer.Derived.{Derived}
-use Rattle.matching.specs.declared.writer.Derived.TheVariants.{Lines, Rejected}
 use Rattle.subsumption.specs.Tables.{Tables, count_of}
 use Rattle.subsumption.specs.Subsumption.{Subsumed}
-use Rattle.subsumption.specs.Refusal.{Reply, reply_done, reply_refused, or_else}
+use Rattle.subsumption.specs.Refusal.{Reply, reply_done, reply_refused, or_else, Outcome, Done}
 use Rattle.subsumption.specs.Check.{buffer_fault}
 use Rattle.subsumption.specs.Decide.{deciding_fault}
 use Rattle.matching.specs.Derivation.{left_at, right_at, derivation_fault}
@@ -29,17 +25,13 @@ pub record DerivationOf (t : Tables) (assignment : List ℕ) (left right : ℕ) 
   pub rest : drop (n * 4) after ≡ drop (n * 4) before
 
 -- The value is how many lines there are.
-abbrev pub derived_reply : Derived → Reply
-derived_reply (Lines n) = reply_done n
-derived_reply (Rejected r) = reply_refused r
-
 -- Where nothing else is refused, lines exactly when the pair is subsumed, else refusal 11. A refusal leaves the buffer as it was.
 abbrev pub DerivesAfter : Outcome → Tables → List ℕ → ℕ → ℕ → List ℕ → List ℕ → Reply → Type 0
-DerivesAfter Done t assignment left right before after reply =
+DerivesAfter (Ok tt) t assignment left right before after reply =
     ((reply ≡ reply_done reply.value) × Subsumed t assignment left right
     × DerivationOf t assignment left right before after reply.value)
     ⊎ ((reply ≡ reply_refused NotSubsumed) × (Subsumed t assignment left right → ⊥) × (after ≡ before))
-DerivesAfter (Refused r) t assignment left right before after reply = (reply ≡ reply_refused r) × (after ≡ before)
+DerivesAfter (Err r) t assignment left right before after reply = (reply ≡ reply_refused r) × (after ≡ before)
 
 abbrev pub Derives : Tables → List ℕ → ℕ → ℕ → List ℕ → List ℕ → Reply → Type 0
 Derives t assignment left right before after reply =

@@ -2,21 +2,15 @@
 ghost use Rattle.std.specs.Prelude.{◌≡◌, ◌<◌, ◌≤◌, ◌^◌, length, get_or};
 ghost use Rattle.subsumption.specs.Lent.{lent};
 ghost use Rattle.subsumption.specs.Atoms.{pick, chosen};
-ghost use Rattle.subsumption.specs.Refusal.{reply_with, reply_of};
+ghost use Rattle.subsumption.specs.Refusal.{reply_with, reply_of, value_reply};
 ghost use Rattle.subsumption.specs.Inner.Atoms.{in_front};
-ghost use Rattle.matching.specs.Chosen.{choosing_fault, chosen_reply, chosen_in, handed_back, Chooses};
+ghost use Rattle.matching.specs.Chosen.{choosing_fault, chosen_in, handed_back, Chooses};
 ghost use Rattle.matching.specs.Inner.Chosen.{known_fault, earlier_of, told_of};
 
 use subsumption::helpers::check_assignment;
 use subsumption::limits::ATOMS;
-use subsumption::refusal::{Outcome, Refusal, code_of};
-use subsumption::{Listed, list_atoms};
-
-#[derive(Clone, Copy)]
-pub enum Chosen {
-    Ids(usize),
-    Rejected(Refusal),
-}
+use subsumption::refusal::{Refusal, code_of};
+use subsumption::{Tables, list_atoms};
 
 // What is told beside the list.
 #[derive(Clone, Copy)]
@@ -36,12 +30,10 @@ fn put_picked(ids: &[u16], choice: u64, out: &mut [u16]) -> usize
 {
     let count = u64::count_ones(choice) as usize;
     let mut rest = choice;
-    let mut listed: usize = 0;
-    while listed < count {
+    for listed in 0..count {
         let position = u64::trailing_zeros(rest) as usize;
         out[listed] = ids[position];
         rest = rest & (rest - 1);
-        listed += 1;
     }
     count
 }
@@ -53,9 +45,9 @@ fn put_known(
     assignment: &[u64],
     variable: u16,
     out: &mut [u16],
-) -> Chosen
+) -> Result<usize, Refusal>
     requires { length ids.now ≤ 64 }
-    ensures result_value { chosen_reply result ≡ reply_with
+    ensures result_value { value_reply result ≡ reply_with
         (known_fault (length ids.now) variables assignment.now variable (length out.old))
         (length (pick ids.now (get_or assignment.now variable 0))) }
     ensures out_value { out.new ≡ chosen_in
@@ -63,17 +55,14 @@ fn put_known(
         (pick ids.now (get_or assignment.now variable 0)) out.old }
 {
     if variables <= variable {
-        return Chosen::Rejected(Refusal::Malformed(0));
+        return Err(Refusal::Malformed(0));
     }
-    let choices = check_assignment(assignment, variables, ids.len());
-    if let Outcome::Refused(r) = choices {
-        return Chosen::Rejected(r);
-    }
+    check_assignment(assignment, variables, ids.len())?;
     if out.len() < ATOMS {
-        return Chosen::Rejected(Refusal::BufferTooShort(ATOMS));
+        return Err(Refusal::BufferTooShort(ATOMS));
     }
     let choice = assignment[variable as usize];
-    Chosen::Ids(put_picked(ids, choice, out))
+    Ok(put_picked(ids, choice, out))
 }
 
 // The tables are refused: the variable's number comes before all but check 1.
@@ -92,37 +81,33 @@ fn refused_with(r: Refusal, known: bool) -> Refusal
 
 // Lists one variable's chosen ids in front of the buffer.
 pub fn put_chosen(
-    concepts: &[u16],
-    inclusions: &[u16],
-    questions: &[u16],
-    roles: &[u16],
-    variables: u16,
+    tables: Tables,
     assignment: &[u64],
     variable: u16,
     out: &mut [u16],
-) -> Chosen
-    ensures { Chooses (lent concepts inclusions questions roles variables) assignment.now variable
-        out.old out.new (chosen_reply result) }
+) -> Result<usize, Refusal>
+    ensures { Chooses (lent tables) assignment.now variable
+        out.old out.new (value_reply result) }
 {
     let mut ids = [0u16; ATOMS];
-    let atoms = list_atoms(concepts, inclusions, questions, roles, variables, &mut ids);
+    let atoms = list_atoms(tables, &mut ids);
     match atoms {
-        Listed::Rejected(r) => Chosen::Rejected(refused_with(r, variable < variables)),
-        Listed::Atoms(count) => put_known(&ids[..count], variables, assignment, variable, out),
+        Err(r) => Err(refused_with(r, variable < tables.variables)),
+        Ok(count) => put_known(&ids[..count], tables.variables, assignment, variable, out),
     }
 }
 
 // What an answer tells beside the list: after a refusal the whole buffer goes back.
-fn tell(answer: Chosen, size: usize) -> Told
+fn tell(answer: Result<usize, Refusal>, size: usize) -> Told
     ensures { result ≡ told_of answer size }
 {
     match answer {
-        Chosen::Ids(n) => Told {
+        Ok(n) => Told {
             number: 0,
             place: 0,
             count: n,
         },
-        Chosen::Rejected(r) => {
+        Err(r) => {
             let code = code_of(r);
             Told {
                 number: code.number,
@@ -136,11 +121,7 @@ fn tell(answer: Chosen, size: usize) -> Told
 // Lists one variable's chosen ids, rising, and hands the list back as the written stretch of the buffer. A refusal stands beside the whole
 // buffer, handed back as it was.
 pub fn list_chosen<'a>(
-    concepts: &[u16],
-    inclusions: &[u16],
-    questions: &[u16],
-    roles: &[u16],
-    variables: u16,
+    tables: Tables,
     assignment: &[u64],
     variable: u16,
     out: &'a mut [u16],
@@ -148,17 +129,15 @@ pub fn list_chosen<'a>(
     place: &mut u64,
 ) -> &'a mut [u16]
     ensures result_value { result.now ≡ handed_back
-        (choosing_fault (lent concepts inclusions questions roles variables) assignment.now variable (length out.old))
-        (chosen (lent concepts inclusions questions roles variables) assignment.now variable) out.old }
+        (choosing_fault (lent tables) assignment.now variable (length out.old))
+        (chosen (lent tables) assignment.now variable) out.old }
     ensures number_value { number.new ≡ (reply_of
-        (choosing_fault (lent concepts inclusions questions roles variables) assignment.now variable (length out.old))).number }
+        (choosing_fault (lent tables) assignment.now variable (length out.old))).number }
     ensures place_value { place.new ≡ (reply_of
-        (choosing_fault (lent concepts inclusions questions roles variables) assignment.now variable (length out.old))).place }
+        (choosing_fault (lent tables) assignment.now variable (length out.old))).place }
 {
     let size = out.len();
-    let answer = put_chosen(
-        concepts, inclusions, questions, roles, variables, assignment, variable, out,
-    );
+    let answer = put_chosen(tables, assignment, variable, out);
     let told = tell(answer, size);
     *number = told.number;
     *place = told.place as u64;

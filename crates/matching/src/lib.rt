@@ -12,8 +12,8 @@ mod search;
 mod within;
 mod writer;
 
-pub use chosen::{Chosen, list_chosen, put_chosen};
+pub use chosen::{list_chosen, put_chosen};
 pub use derivation::check_derivation;
-pub use find::{Match, find_assignment};
+pub use find::find_assignment;
 pub use within::find_within;
-pub use writer::{Derived, derive};
+pub use writer::derive;

@@ -4,30 +4,25 @@ pub mod load;
 pub mod propose;
 pub mod sets;
 
+ghost use Rattle.subsumption.specs.Refusal.{value_reply};
 ghost use Rattle.std.specs.Prelude.{◌≡◌, false, ◌+◌, ◌*◌, ◌<◌, ◌≤◌, eqb, length};
 ghost use Rattle.subsumption.specs.Lent.{lent};
 ghost use Rattle.subsumption.specs.Tables.{both, count_of};
 ghost use Rattle.subsumption.specs.Inner.Listing.{Prepared, ForAccepted};
 ghost use Rattle.subsumption.specs.Inner.Sizes.{roles_size};
-ghost use Rattle.matching.specs.Writer.{derived_reply, Derives};
+ghost use Rattle.matching.specs.Writer.{Derives};
 ghost use Rattle.matching.specs.Inner.Derivation.{seen};
 ghost use Rattle.matching.specs.Inner.Writer.{Grounds, in_front, LineWritten, RestKept, Blank, Asked, Written, WrittenTo, Begun, WrittenFor};
 
 use crate::derivation::marks::{has_mark, mark_pair};
 use crate::limits::SQUARE;
-use crate::writer::explain::{Next, next_line, test_line};
+use crate::writer::explain::{Line, next_line, test_line};
 use crate::writer::propose::{line_at, propose};
 use crate::writer::sets::{LINES, WORK, number};
+use subsumption::Tables;
 use subsumption::helpers::{check_assignment, decide_known, list_asked, note_roles};
 use subsumption::limits::{ATOMS, ROLE_WORDS};
-use subsumption::refusal::{Outcome, Refusal};
-use subsumption::{Decision, Listed};
-
-#[derive(Clone, Copy)]
-pub enum Derived {
-    Lines(usize),
-    Rejected(Refusal),
-}
+use subsumption::refusal::Refusal;
 
 // A line in front of the part not yet written.
 fn put_line(rest: &mut [u16], rule: u16, left: u16, right: u16, extra: u16)
@@ -63,7 +58,7 @@ fn is_pair(left: usize, right: usize, i: usize, j: usize) -> bool
 fn write_more(
     concepts: &[u16],
     inclusions: &[u16],
-    into: &[u64],
+    into: &[u64; ROLE_WORDS],
     atoms: &[u16],
     assignment: &[u64],
     left: usize,
@@ -73,7 +68,6 @@ fn write_more(
     written: usize,
 ) -> usize
     requires grounds { Grounds concepts.now inclusions.now atoms.now assignment.now }
-    requires into_len { length into.now ≡ roles_size }
     requires asked { Asked concepts.now inclusions.now into.now atoms.now assignment.now left right }
     requires written { Written concepts.now inclusions.now into.now atoms.now assignment.now marks.old out.old written }
     requires right_value { seen (count_of concepts.now) marks.old left right ≡ false }
@@ -87,7 +81,15 @@ fn write_more(
     let mut from = 0;
     loop {
         let next = next_line(concepts, inclusions, into, atoms, assignment, marks, from);
-        if let Next::Line(rule, i, j, extra) = next {
+        if let Some(
+            Line {
+                rule,
+                left: i,
+                right: j,
+                extra,
+            },
+        ) = next
+        {
             write_line(out, n, rule as u16, i as u16, j as u16, extra as u16);
             mark_pair(marks, count, i, j);
             n += 1;
@@ -109,7 +111,7 @@ fn write_more(
 fn write_tested(
     concepts: &[u16],
     inclusions: &[u16],
-    into: &[u64],
+    into: &[u64; ROLE_WORDS],
     atoms: &[u16],
     assignment: &[u64],
     left: usize,
@@ -120,7 +122,6 @@ fn write_tested(
     out: &mut [u16],
 ) -> usize
     requires grounds { Grounds concepts.now inclusions.now atoms.now assignment.now }
-    requires into_len { length into.now ≡ roles_size }
     requires left_bound { (left < count_of concepts.now) × (right < count_of concepts.now) }
     requires blank { Blank (count_of concepts.now) marks.old }
     requires concepts_in_bounds { count_of concepts.now * count_of concepts.now * 4 ≤ length out.old }
@@ -131,12 +132,18 @@ fn write_tested(
     let count = concepts.len() / 3;
     let end = number(work, LINES, 0, 0);
     let mut n = 0;
-    let mut k = first;
-    while k < end {
+    for k in first..end {
         let line = line_at(work, k);
-        k += 1;
         let next = test_line(concepts, inclusions, into, atoms, assignment, marks, line);
-        if let Next::Line(rule, i, j, extra) = next {
+        if let Some(
+            Line {
+                rule,
+                left: i,
+                right: j,
+                extra,
+            },
+        ) = next
+        {
             write_line(out, n, rule as u16, i as u16, j as u16, extra as u16);
             mark_pair(marks, count, i, j);
             n += 1;
@@ -152,7 +159,7 @@ fn write_tested(
 fn write_proposed(
     concepts: &[u16],
     inclusions: &[u16],
-    into: &[u64],
+    into: &[u64; ROLE_WORDS],
     atoms: &[u16],
     assignment: &[u64],
     left: usize,
@@ -161,7 +168,6 @@ fn write_proposed(
     out: &mut [u16],
 ) -> usize
     requires grounds { Grounds concepts.now inclusions.now atoms.now assignment.now }
-    requires into_len { length into.now ≡ roles_size }
     requires left_bound { (left < count_of concepts.now) × (right < count_of concepts.now) }
     requires blank { Blank (count_of concepts.now) marks.old }
     requires concepts_in_bounds { count_of concepts.now * count_of concepts.now * 4 ≤ length out.old }
@@ -189,7 +195,7 @@ fn write_proposed(
 fn write_lines(
     concepts: &[u16],
     inclusions: &[u16],
-    into: &[u64],
+    into: &[u64; ROLE_WORDS],
     atoms: &[u16],
     assignment: &[u64],
     left: usize,
@@ -198,7 +204,6 @@ fn write_lines(
     out: &mut [u16],
 ) -> usize
     requires grounds { Grounds concepts.now inclusions.now atoms.now assignment.now }
-    requires into_len { length into.now ≡ roles_size }
     requires asked { Asked concepts.now inclusions.now into.now atoms.now assignment.now left right }
     requires blank { Blank (count_of concepts.now) marks.old }
     requires concepts_in_bounds { count_of concepts.now * count_of concepts.now * 4 ≤ length out.old }
@@ -222,7 +227,7 @@ fn write_lines(
 fn put_lines(
     concepts: &[u16],
     inclusions: &[u16],
-    into: &[u64],
+    into: &[u64; ROLE_WORDS],
     atoms: &[u16],
     assignment: &[u64],
     left: u16,
@@ -230,7 +235,6 @@ fn put_lines(
     out: &mut [u16],
 ) -> usize
     requires grounds { Grounds concepts.now inclusions.now atoms.now assignment.now }
-    requires into_len { length into.now ≡ roles_size }
     requires asked { Asked concepts.now inclusions.now into.now atoms.now assignment.now left right }
     requires concepts_in_bounds { count_of concepts.now * count_of concepts.now * 4 ≤ length out.old }
     ensures { WrittenFor concepts.now inclusions.now into.now atoms.now assignment.now left right
@@ -263,66 +267,53 @@ fn derive_known(
     left: u16,
     right: u16,
     out: &mut [u16],
-) -> Derived
+) -> Result<usize, Refusal>
     requires prepared { Prepared concepts.now inclusions.now roles.now variables atoms.now }
     requires left_bound { (left < count_of concepts.now) × (right < count_of concepts.now) }
     ensures { ForAccepted concepts.now inclusions.now roles.now variables atoms.now
-        (λ t. Derives t assignment.now left right out.old out.new (derived_reply result)) }
+        (λ t. Derives t assignment.now left right out.old out.new (value_reply result)) }
 {
-    let choices = check_assignment(assignment, variables, atoms.len());
-    if let Outcome::Refused(r) = choices {
-        return Derived::Rejected(r);
-    }
+    check_assignment(assignment, variables, atoms.len())?;
     let count = concepts.len() / 3;
     let wanted = count * count * 4;
     if out.len() < wanted {
-        return Derived::Rejected(Refusal::BufferTooShort(wanted));
+        return Err(Refusal::BufferTooShort(wanted));
     }
-    let decision = decide_known(
+    let below = decide_known(
         concepts, inclusions, roles, atoms, variables, assignment, left, right,
-    );
+    )?;
+    if !below {
+        return Err(Refusal::NotSubsumed);
+    }
     let mut into = [0u64; ROLE_WORDS];
     note_roles(roles, &mut into);
-    match decision {
-        Decision::Yes => Derived::Lines(put_lines(
-            concepts, inclusions, &into, atoms, assignment, left, right, out,
-        )),
-        Decision::No => Derived::Rejected(Refusal::NotSubsumed),
-        Decision::Rejected(r) => Derived::Rejected(r),
-    }
+    Ok(put_lines(
+        concepts, inclusions, &into, atoms, assignment, left, right, out,
+    ))
 }
 
 // Writes the derivation of one pair under an assignment.
 pub fn derive(
-    concepts: &[u16],
-    inclusions: &[u16],
-    questions: &[u16],
-    roles: &[u16],
-    variables: u16,
+    tables: Tables,
     assignment: &[u64],
     left: u16,
     right: u16,
     out: &mut [u16],
-) -> Derived
-    ensures { Derives (lent concepts inclusions questions roles variables) assignment.now left right
-        out.old out.new (derived_reply result) }
+) -> Result<usize, Refusal>
+    ensures { Derives (lent tables) assignment.now left right
+        out.old out.new (value_reply result) }
 {
     let mut ids = [0u16; ATOMS];
-    let listed = list_asked(
-        concepts, inclusions, questions, roles, variables, left, right, &mut ids,
-    );
-    match listed {
-        Listed::Rejected(r) => Derived::Rejected(r),
-        Listed::Atoms(count) => derive_known(
-            concepts,
-            inclusions,
-            roles,
-            &ids[..count],
-            variables,
-            assignment,
-            left,
-            right,
-            out,
-        ),
-    }
+    let count = list_asked(tables, left, right, &mut ids)?;
+    derive_known(
+        tables.concepts,
+        tables.inclusions,
+        tables.roles,
+        &ids[..count],
+        tables.variables,
+        assignment,
+        left,
+        right,
+        out,
+    )
 }

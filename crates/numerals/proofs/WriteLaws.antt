@@ -4,8 +4,8 @@ use mathlib.Core.Path.{◌≡◌, refl, sym, ap, ◌∙◌}
 use mathlib.Core.List.{List, [], ◌∷◌, ◌++◌, append_assoc, append-nil}
 use native.Mathlib.Omega.{arith}
 use native.Mathlib.Numerals.{add-one}
-use lib.ListN.{length, get_or, take, drop, set, length-append, length-drop, take-append-drop}
-use lib.Seq.{length-take-le, take_at, drop-drop, drop-append-add, set_split, take-length, paste, paste-suc}
+use lib.ListN.{length, take, drop, set, length-append, length-drop, take-append-drop}
+use lib.Seq.{length-take-le, take_at, drop-drop, drop-append-add, set_split}
 use Rattle.subsumption.specs.declared.refusal.Code.{Code}
 use Rattle.numerals.specs.Digits.{digits}
 use Rattle.numerals.specs.Printing.{number_text, pair_text, number_key, place_key, refused_text}
@@ -66,13 +66,6 @@ module _ (before : List ℕ) (at : ℕ) where
             w.buffer ∙ ap (λ (z : ℕ). placed z ys between) v.place ∙ ap (λ (z : List ℕ). placed (at + length xs) ys z) v.buffer ∙ placed-join before at xs ys h;
       }
 
-  -- a copy that is whole
-  pub wrote-paste : (bytes after : List ℕ) (i : ℕ) → after ≡ paste before at bytes i → i ≤ length bytes → length bytes ≤ i → Wrote before at bytes (at + i) after
-  unfolding placed
-  wrote-paste bytes after i e h k =
-      let q : i ≡ length bytes = omega arith in
-      record { place = omega arith; buffer = e ∙ rw (q, take-length) refl }
-
   -- ---- a number
   pub wrote-digit : (n : ℕ) → n < 10 → at + length (digits n) ≤ length before → Wrote before at (digits n) (at + 1) (set before at (48 + n))
   wrote-digit n h k = rw (digits-one n h) (wrote-byte before at (48 + n) (omega (arith, ap length (digits-one n h))))
@@ -91,11 +84,6 @@ module _ (before : List ℕ) (at : ℕ) where
   pub next-within :
       (n : ℕ) → 10 ≤ n → at + length (digits n) ≤ length before → (next : ℕ) (between : List ℕ) → Wrote before at (digits (n / 10)) next between → next < length between
   next-within n h k next between w = omega (arith, number-room n h k, w.place, wrote-length (digits (n / 10)) next between (omega (arith, number-room n h k)) w)
-
-  pub paste_more :
-      (bytes out : List ℕ) (i : ℕ) → out ≡ paste before at bytes i → at + length bytes ≤ length before → i < length bytes
-      → set out (at + i) (get_or bytes i 0) ≡ paste before at bytes (i + 1)
-  paste_more bytes out i e h k = ap (λ (z : List ℕ). set z (at + i) (get_or bytes i 0)) e ∙ paste-suc before at bytes i 0 (omega arith) k ∙ ap (λ (z : ℕ). paste before at bytes z) (sym (add-one i))
 
 -- ---- a text of three pieces
 module _ (before : List ℕ) (at : ℕ) (x y z : List ℕ) (room : at + length (x ++ (y ++ z)) ≤ length before) where

@@ -14,17 +14,7 @@ pub struct Run {
 pub fn starts_with(rest: &[u8], key: &[u8]) -> bool
     ensures { result ≡ starts key.now rest.now }
 {
-    let mut i: usize = 0;
-    while i < key.len() {
-        if rest.len() <= i {
-            return false;
-        }
-        if rest[i] != key[i] {
-            return false;
-        }
-        i += 1;
-    }
-    true
+    rest.starts_with(key)
 }
 
 // A byte that cannot go on a number of which so many digits are read.
@@ -53,9 +43,7 @@ pub fn read_run(rest: &[u8]) -> Run
     ensures { result ≡ run_of rest.now }
 {
     let mut value: u32 = 0;
-    let mut n: usize = 0;
-    while n < rest.len() {
-        let byte = rest[n];
+    for (n, &byte) in rest.iter().enumerate() {
         if is_wrong_digit(value, n, byte) {
             return Run {
                 value: value as u16,
@@ -63,10 +51,9 @@ pub fn read_run(rest: &[u8]) -> Run
             };
         }
         value = value * 10 + (byte - 48) as u32;
-        n += 1;
     }
     Run {
         value: value as u16,
-        length: n,
+        length: rest.len(),
     }
 }

@@ -7,11 +7,9 @@ use native.Mathlib.Omega.{arith}
 use lib.ListN.{length, get_or}
 use borrow.Author.Tests.{lt-ltb, le-ltb, eq-eqb}
 use Rattle.subsumption.specs.declared.refusal.Refusal.{Refusal}
-use Rattle.subsumption.specs.declared.refusal.Outcome.{Outcome}
-use Rattle.subsumption.specs.declared.refusal.Outcome.TheVariants.{Done}
 use Rattle.subsumption.specs.Tables.{tables, or, Node, top_at, name_at, exists_at, and_at, var_at, node, count_of, pairs_of, left_of, right_of, tree, variables_of, has_variable}
 use Rattle.subsumption.specs.Inner.Tables.{Rising}
-use Rattle.subsumption.specs.Refusal.{or_else, refuse_if}
+use Rattle.subsumption.specs.Refusal.{or_else, refuse_if, Outcome, Done}
 use Rattle.subsumption.specs.Check.{unfit, limit_fault, malformed_fault, forward, forward_fault, no_concept, pairs_fault, concept_fault, id_fault, inclusion_fault, sides_fault, roles_fault}
 use Rattle.subsumption.proofs.VariableLaws.{variable-both}
 use Rattle.subsumption.proofs.Refusals.{done-if, both-done, no-fault}

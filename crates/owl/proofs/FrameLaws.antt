@@ -1,4 +1,5 @@
 -- The frames and the state as the code holds them.
+use Rattle.std.specs.Prelude.{Result, Ok, Err}
 use Prim.Native.Nat.{ℕ, zero, suc, ◌+◌, ◌-◌, ◌*◌, ◌<◌, ◌≤◌}
 use mathlib.Core.Path.{◌≡◌, refl, sym, ap, ◌∙◌, subst}
 use mathlib.Core.List.{List, [], ◌∷◌, ◌++◌}
@@ -13,8 +14,6 @@ use Rattle.subsumption.specs.declared.refusal.Refusal.TheVariants.{BadSyntax}
 use Rattle.owl.specs.declared.words.Word.{Word}
 use Rattle.owl.specs.declared.words.Word.TheVariants.{AxiomKey, TopKey, AndKey, SomeKey, NameOf, RoleOf, Other}
 use Rattle.owl.specs.declared.frames.Reader.{Reader}
-use Rattle.owl.specs.declared.frames.Next.{Next}
-use Rattle.owl.specs.declared.frames.Next.TheVariants.{Go, Stop}
 use Rattle.owl.specs.Tokens.{opening}
 use Rattle.owl.specs.Judgement.{exist, Frame, Want, item, State, Step, go, stop, first, opened, roled, joins, room_by, has_room, of_role, item_step, bracket_step, role_step, step_on, step}
 use Rattle.owl.specs.Inner.Frames.{kind_of, want_of, between, start_of, frame_of, frames_of, state_of, Nested, Fits, NextOf, waiting, room_at, FirstOf, TellsRoom, Opens, Roles}
@@ -106,13 +105,13 @@ pub same-state :
 same-state a b c d = cc
 
 module _ (frames pending rows inclusions : List ℕ) where
-  pub stops : (step : Step) (q : Refusal) → step ≡ stop q → NextOf step (Stop q) frames pending rows inclusions
-  stops step q e = subst (λ (z : Step). NextOf z (Stop q) frames pending rows inclusions) (sym e) refl
+  pub stops : (step : Step) (q : Refusal) → step ≡ stop q → NextOf step (Err q) frames pending rows inclusions
+  stops step q e = subst (λ (z : Step). NextOf z (Err q) frames pending rows inclusions) (sym e) refl
 
   pub goes :
       (step : Step) (s : State) (r : Reader) → step ≡ go s → s ≡ state_of r frames pending rows inclusions → Fits r frames pending rows inclusions
-      → NextOf step (Go r) frames pending rows inclusions
-  goes step s r e h f = subst (λ (z : Step). NextOf z (Go r) frames pending rows inclusions) (sym e) (record { state = h; fits = f })
+      → NextOf step (Ok r) frames pending rows inclusions
+  goes step s r e h f = subst (λ (z : Step). NextOf z (Ok r) frames pending rows inclusions) (sym e) (record { state = h; fits = f })
 
   -- the same frames and tables
   pub waits :
@@ -236,14 +235,14 @@ module _ (d kind used : ℕ) (frames : List ℕ) (long : length frames ≡ 99) (
       )
 
 module _ (r : Reader) (place : ℕ) (frames : List ℕ) where
-  pub opens_not : 3 ≤ r.want → Opens r place frames frames (Stop (BadSyntax place))
+  pub opens_not : 3 ≤ r.want → Opens r place frames frames (Err (BadSyntax place))
   unfolding step
   opens_not h pending rows inclusions f = stops frames pending rows inclusions _ _ (not-open (state_of r frames pending rows inclusions) place r.want h)
 
   pub opens :
       r.want < 3 → length frames ≡ 99 → (want : ℕ) → FirstOf r.want want
       → Opens r place frames (set (set (set frames (r.depth * 3) r.want) (r.depth * 3 + 1) 0) (r.depth * 3 + 2) r.used)
-      (Go (record { depth = r.depth + 1; used = r.used; count = r.count; pairs = r.pairs; want = want }))
+      (Ok (record { depth = r.depth + 1; used = r.used; count = r.count; pairs = r.pairs; want = want }))
   unfolding step opened pushed two one
   opens h l want w pending rows inclusions f =
       let room : r.depth < 33 = f.bounds.bracket-room h in
@@ -310,17 +309,17 @@ unfolding of_role
 role-on place s q = refl
 
 module _ (r : Reader) (place : ℕ) (word : Word) (frames : List ℕ) where
-  pub roles-not : (w : Word) → word ≡ w → NoRole w → Roles r place word frames frames (Stop (BadSyntax place))
+  pub roles-not : (w : Word) → word ≡ w → NoRole w → Roles r place word frames frames (Err (BadSyntax place))
   roles-not w e n pending rows inclusions f =
       stops frames pending rows inclusions _ _ (role-off place _ word (subst NoRole (sym e) n))
 
   pub roles :
-      (q : ℕ) → word ≡ RoleOf q → (0 < r.depth) × (r.depth ≤ 33) → length frames ≡ 99 → (next : Next) → next ≡ Go (waiting r 3)
+      (q : ℕ) → word ≡ RoleOf q → (0 < r.depth) × (r.depth ≤ 33) → length frames ≡ 99 → (next : Result Reader Refusal) → next ≡ Ok (waiting r 3)
       → Roles r place word frames (set frames ((r.depth - 1) * 3 + 1) q) next
   roles q e (low, high) l next g pending rows inclusions f =
       let d = r.depth - 1 in
       let z : r.depth ≡ suc d = omega arith in
-      subst (λ (x : Next). NextOf (of_role place (state_of r frames pending rows inclusions) word) x (set frames (d * 3 + 1) q) pending rows inclusions) (sym g)
+      subst (λ (x : Result Reader Refusal). NextOf (of_role place (state_of r frames pending rows inclusions) word) x (set frames (d * 3 + 1) q) pending rows inclusions) (sym g)
       (goes _ pending rows inclusions _ _ _ (taken (state_of r frames pending rows inclusions))
       (same-state
       (subst (λ (k : ℕ). roled q (frames_of k r.used frames pending) ≡ frames_of k r.used (set frames (d * 3 + 1) q) pending) (sym z) (roles-frames d r.used q frames pending l (omega arith)))

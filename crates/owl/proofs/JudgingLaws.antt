@@ -1,4 +1,5 @@
 -- The judgement, token by token.
+use Rattle.std.specs.Prelude.{Result, Ok, Err}
 use Prim.Native.Nat.{ℕ, zero, suc, ◌-◌, ◌<◌, ◌≤◌}
 use mathlib.Core.Path.{◌≡◌, refl, sym, ap, ◌∙◌, subst}
 use mathlib.Core.List.{List, [], ◌∷◌}
@@ -13,8 +14,6 @@ use Rattle.subsumption.specs.Tables.{or}
 use Rattle.owl.specs.declared.words.Word.{Word}
 use Rattle.owl.specs.declared.words.Word.TheVariants.{AxiomKey, TopKey, AndKey, SomeKey, NameOf, RoleOf, Other}
 use Rattle.owl.specs.declared.frames.Reader.{Reader}
-use Rattle.owl.specs.declared.frames.Next.{Next}
-use Rattle.owl.specs.declared.frames.Next.TheVariants.{Go, Stop}
 use Rattle.owl.specs.Tokens.{Token, opening, closing, word, Placed, is_space, is_bracket, bracket_of, tokens_from}
 use Rattle.owl.specs.Words.{read_word}
 use Rattle.owl.specs.Judgement.{Kind, subclass, meet, exist, Frame, Want, item, bracket, role, State, Step, go, stop, go_if, keyed, closed, begun, outside, item_step, bracket_step, role_step, step_on, step, ended, onward, run, start, judge}
@@ -49,14 +48,14 @@ module _ (place : ℕ) (s : State) where
   outside-on w e = rw e refl
 
 module _ (r : Reader) (place : ℕ) (w : Word) where
-  pub starts-not : (v : Word) → w ≡ v → NoAxiom v → Starts r place w (Stop (BadSyntax place))
+  pub starts-not : (v : Word) → w ≡ v → NoAxiom v → Starts r place w (Err (BadSyntax place))
   starts-not v e n frames pending rows inclusions d f =
       stops frames pending rows inclusions _ _ (outside-off place _ w (subst NoAxiom (sym e) n))
 
-  pub starts : (next : Next) → w ≡ AxiomKey → next ≡ Go (waiting r 0) → Starts r place w next
+  pub starts : (next : Result Reader Refusal) → w ≡ AxiomKey → next ≡ Ok (waiting r 0) → Starts r place w next
   unfolding keyed
   starts next e g frames pending rows inclusions d f =
-      subst (λ (x : Next). NextOf (outside place (state_of r frames pending rows inclusions) w) x frames pending rows inclusions) (sym g)
+      subst (λ (x : Result Reader Refusal). NextOf (outside place (state_of r frames pending rows inclusions) w) x frames pending rows inclusions) (sym g)
       (goes frames pending rows inclusions _ (state_of (waiting r 0) frames pending rows inclusions) (waiting r 0) (outside-on place _ w e) refl
       (waits frames pending rows inclusions r 0 (λ h. omega arith) (λ h. absurd (omega arith)) f))
 
@@ -120,12 +119,12 @@ module _ (place : ℕ) (s : State) where
     begun-some e = rw (e, h) refl
 
 module _ (r : Reader) (place : ℕ) (w : Word) (pending rows : List ℕ) where
-  pub begins-not : (v : Word) → w ≡ v → NoClass v → Begins r place w pending pending rows rows (Stop (BadSyntax place))
+  pub begins-not : (v : Word) → w ≡ v → NoClass v → Begins r place w pending pending rows rows (Err (BadSyntax place))
   begins-not v e n frames inclusions f = stops frames pending rows inclusions _ _ (begun-off place _ w (subst NoClass (sym e) n))
 
-  pub begins-deep : (next : Next) → 32 < r.depth → next ≡ deep_next w place → Begins r place w pending pending rows rows next
+  pub begins-deep : (next : Result Reader Refusal) → 32 < r.depth → next ≡ deep_next w place → Begins r place w pending pending rows rows next
   begins-deep next h g frames inclusions f =
-      subst (λ (x : Next). NextOf (begun place (state_of r frames pending rows inclusions) w) x frames pending rows inclusions) (sym g)
+      subst (λ (x : Result Reader Refusal). NextOf (begun place (state_of r frames pending rows inclusions) w) x frames pending rows inclusions) (sym g)
       (begun-deep place (state_of r frames pending rows inclusions) w
       (rw (frames-count r.depth r.used frames pending) (le-ltb r.depth 33 (omega arith))) frames pending rows inclusions)
 
@@ -134,38 +133,38 @@ module _ (r : Reader) (place : ℕ) (w : Word) (pending rows : List ℕ) where
     shallow frames = rw (frames-count r.depth r.used frames pending) (lt-ltb r.depth 33 (omega arith))
 
     pub begins-top :
-        (pending' rows' : List ℕ) (next : Next) → w ≡ TopKey → Closes r (0 ∷ 0 ∷ 0 ∷ []) pending pending' rows rows' next
+        (pending' rows' : List ℕ) (next : Result Reader Refusal) → w ≡ TopKey → Closes r (0 ∷ 0 ∷ 0 ∷ []) pending pending' rows rows' next
         → Begins r place w pending pending' rows rows' next
     begins-top pending' rows' next e c frames inclusions f =
         subst (λ (z : Step). NextOf z next frames pending' rows' inclusions) (sym (begun-top place (state_of r frames pending rows inclusions) (shallow frames) w e))
         (c frames inclusions f)
 
     pub begins-name :
-        (pending' rows' : List ℕ) (next : Next) (n : ℕ) → w ≡ NameOf n → Closes r (1 ∷ n ∷ 0 ∷ []) pending pending' rows rows' next
+        (pending' rows' : List ℕ) (next : Result Reader Refusal) (n : ℕ) → w ≡ NameOf n → Closes r (1 ∷ n ∷ 0 ∷ []) pending pending' rows rows' next
         → Begins r place w pending pending' rows rows' next
     begins-name pending' rows' next n e c frames inclusions f =
         subst (λ (z : Step). NextOf z next frames pending' rows' inclusions) (sym (begun-name place (state_of r frames pending rows inclusions) (shallow frames) w n e))
         (c frames inclusions f)
 
-    pub begins-and : (next : Next) → w ≡ AndKey → next ≡ Go (waiting r 1) → Begins r place w pending pending rows rows next
+    pub begins-and : (next : Result Reader Refusal) → w ≡ AndKey → next ≡ Ok (waiting r 1) → Begins r place w pending pending rows rows next
     unfolding keyed
     begins-and next e g frames inclusions f =
-        subst (λ (x : Next). NextOf (begun place (state_of r frames pending rows inclusions) w) x frames pending rows inclusions) (sym g)
+        subst (λ (x : Result Reader Refusal). NextOf (begun place (state_of r frames pending rows inclusions) w) x frames pending rows inclusions) (sym g)
         (goes frames pending rows inclusions _ (state_of (waiting r 1) frames pending rows inclusions) (waiting r 1)
         (begun-and place (state_of r frames pending rows inclusions) (shallow frames) w e) refl
         (waits frames pending rows inclusions r 1 (λ k. omega arith) (λ k. absurd (omega arith)) f))
 
-    pub begins-some : (next : Next) → w ≡ SomeKey → next ≡ Go (waiting r 2) → Begins r place w pending pending rows rows next
+    pub begins-some : (next : Result Reader Refusal) → w ≡ SomeKey → next ≡ Ok (waiting r 2) → Begins r place w pending pending rows rows next
     unfolding keyed
     begins-some next e g frames inclusions f =
-        subst (λ (x : Next). NextOf (begun place (state_of r frames pending rows inclusions) w) x frames pending rows inclusions) (sym g)
+        subst (λ (x : Result Reader Refusal). NextOf (begun place (state_of r frames pending rows inclusions) w) x frames pending rows inclusions) (sym g)
         (goes frames pending rows inclusions _ (state_of (waiting r 2) frames pending rows inclusions) (waiting r 2)
         (begun-some place (state_of r frames pending rows inclusions) (shallow frames) w e) refl
         (waits frames pending rows inclusions r 2 (λ k. omega arith) (λ k. absurd (omega arith)) f))
 
 -- ---- a word where a class would be too deep
 module _ (w : Word) (place : ℕ) where
-  pub deep-bad : (v : Word) → w ≡ v → NoClass v → Stop (BadSyntax place) ≡ deep_next w place
+  pub deep-bad : (v : Word) → w ≡ v → NoClass v → Err (BadSyntax place) ≡ deep_next w place
   unfolding deep_next
   deep-bad AxiomKey e n = rw e refl
   deep-bad TopKey e n = absurd n
@@ -175,7 +174,7 @@ module _ (w : Word) (place : ℕ) where
   deep-bad (RoleOf q) e n = rw e refl
   deep-bad Other e n = rw e refl
 
-  pub deep-class : (v : Word) → w ≡ v → IsClass v → Stop (TooDeep place) ≡ deep_next w place
+  pub deep-class : (v : Word) → w ≡ v → IsClass v → Err (TooDeep place) ≡ deep_next w place
   unfolding deep_next
   deep-class AxiomKey e n = absurd n
   deep-class TopKey e n = rw e refl
@@ -206,22 +205,22 @@ no_frames depth used frames pending e = rw e refl
 -- ---- a word
 module _ (r : Reader) (place : ℕ) (w : Word) (frames pending rows : List ℕ) where
   pub word-role :
-      (frames' : List ℕ) (next : Next) → 3 < r.want → Roles r place w frames frames' next → StepsOnWord r place w frames frames' pending pending rows rows next
+      (frames' : List ℕ) (next : Result Reader Refusal) → 3 < r.want → Roles r place w frames frames' next → StepsOnWord r place w frames frames' pending pending rows rows next
   word-role frames' next h c inclusions f =
       subst (λ (v : Want). NextOf (word_step place (state_of r frames pending rows inclusions) v (frames_of r.depth r.used frames pending) w) next frames' pending rows inclusions)
       (sym (want-role r.want h)) (c pending rows inclusions f)
 
-  pub word-bracket : r.want < 3 → StepsOnWord r place w frames frames pending pending rows rows (Stop (BadSyntax place))
+  pub word-bracket : r.want < 3 → StepsOnWord r place w frames frames pending pending rows rows (Err (BadSyntax place))
   word-bracket h inclusions f =
       let b = want-bracket r.want h in
-      subst (λ (v : Want). NextOf (word_step place (state_of r frames pending rows inclusions) v (frames_of r.depth r.used frames pending) w) (Stop (BadSyntax place)) frames pending rows inclusions)
+      subst (λ (v : Want). NextOf (word_step place (state_of r frames pending rows inclusions) v (frames_of r.depth r.used frames pending) w) (Err (BadSyntax place)) frames pending rows inclusions)
       (sym b.1) refl
 
   module _ (low : r.want ≤ 3) (high : 3 ≤ r.want) where
     is-item : want_of r.want ≡ item
     is-item = let z : r.want ≡ 3 = omega arith in ap want_of z
 
-    pub word-outside : (next : Next) → r.depth ≡ 0 → Starts r place w next → StepsOnWord r place w frames frames pending pending rows rows next
+    pub word-outside : (next : Result Reader Refusal) → r.depth ≡ 0 → Starts r place w next → StepsOnWord r place w frames frames pending pending rows rows next
     word-outside next d c inclusions f =
         subst (λ (v : Want). NextOf (word_step place (state_of r frames pending rows inclusions) v (frames_of r.depth r.used frames pending) w) next frames pending rows inclusions)
         (sym is-item)
@@ -239,14 +238,14 @@ module _ (r : Reader) (place : ℕ) (w : Word) (frames pending rows : List ℕ) 
           ∙ ap (λ (b : Bool). go_if b (begun place (state_of r frames pending rows inclusions) w) (BadSyntax place))
           (sym (tells pending f.pending-long (omega (arith, f.bounds.few, f.bounds.apart))))
 
-      pub word-full : not answer ≡ true → StepsOnWord r place w frames frames pending pending rows rows (Stop (BadSyntax place))
+      pub word-full : not answer ≡ true → StepsOnWord r place w frames frames pending pending rows rows (Err (BadSyntax place))
       unfolding go_if
       word-full h inclusions f =
           stops frames pending rows inclusions _ _
           (inside inclusions f ∙ ap (λ (b : Bool). go_if b (begun place (state_of r frames pending rows inclusions) w) (BadSyntax place)) (not-true answer h))
 
       pub word-begins :
-          (pending' rows' : List ℕ) (next : Next) → not answer ≡ false → Begins r place w pending pending' rows rows' next
+          (pending' rows' : List ℕ) (next : Result Reader Refusal) → not answer ≡ false → Begins r place w pending pending' rows rows' next
           → StepsOnWord r place w frames frames pending pending' rows rows' next
       unfolding go_if
       word-begins pending' rows' next h c inclusions f =
@@ -281,11 +280,11 @@ module _ (s : State) (place : ℕ) where
   closing-none = refl
 
 module _ (r : Reader) (place : ℕ) (frames pending rows inclusions : List ℕ) where
-  pub closes-due : (r.want ≡ 3 → ⊥) → Steps r place closing frames frames pending pending rows rows inclusions inclusions (Stop (BadSyntax place))
+  pub closes-due : (r.want ≡ 3 → ⊥) → Steps r place closing frames frames pending pending rows rows inclusions inclusions (Err (BadSyntax place))
   unfolding step
   closes-due n = stops frames pending rows inclusions _ _ (closing-due (state_of r frames pending rows inclusions) place r.want n)
 
-  pub closes-none : r.want ≡ 3 → r.depth ≡ 0 → Steps r place closing frames frames pending pending rows rows inclusions inclusions (Stop (BadSyntax place))
+  pub closes-none : r.want ≡ 3 → r.depth ≡ 0 → Steps r place closing frames frames pending pending rows rows inclusions inclusions (Err (BadSyntax place))
   unfolding step
   closes-none e d =
       stops frames pending rows inclusions _ _
@@ -294,7 +293,7 @@ module _ (r : Reader) (place : ℕ) (frames pending rows inclusions : List ℕ) 
       ∙ closing-none (state_of r frames pending rows inclusions) place)
 
   pub closes-frame :
-      (pending' rows' inclusions' : List ℕ) (next : Next) → r.want ≡ 3 → ShutsFrame r place frames pending pending' rows rows' inclusions inclusions' next
+      (pending' rows' inclusions' : List ℕ) (next : Result Reader Refusal) → r.want ≡ 3 → ShutsFrame r place frames pending pending' rows rows' inclusions inclusions' next
       → Steps r place closing frames frames pending pending' rows rows' inclusions inclusions' next
   unfolding step
   closes-frame pending' rows' inclusions' next e c =
@@ -333,21 +332,21 @@ word-steps s place bytes role fs e = refl
 
 module _ (token : List ℕ) (some : 0 < length token) (r : Reader) (place : ℕ) (frames pending rows inclusions : List ℕ) (f : Fits r frames pending rows inclusions) where
   pub token-opens :
-      (frames' : List ℕ) (next : Next) → get_or token 0 0 ≡ 40 → Opens r place frames frames' next
+      (frames' : List ℕ) (next : Result Reader Refusal) → get_or token 0 0 ≡ 40 → Opens r place frames frames' next
       → Steps r place (token_of token) frames frames' pending pending rows rows inclusions inclusions next
   token-opens frames' next e c =
       subst (λ (t : Token). Steps r place t frames frames' pending pending rows rows inclusions inclusions next) (sym (token-open token some e))
       (c pending rows inclusions f)
 
   pub token-closes :
-      (pending' rows' inclusions' : List ℕ) (next : Next) → (get_or token 0 0 ≡ 40 → ⊥) → get_or token 0 0 ≡ 41
+      (pending' rows' inclusions' : List ℕ) (next : Result Reader Refusal) → (get_or token 0 0 ≡ 40 → ⊥) → get_or token 0 0 ≡ 41
       → Steps r place closing frames frames pending pending' rows rows' inclusions inclusions' next
       → Steps r place (token_of token) frames frames pending pending' rows rows' inclusions inclusions' next
   token-closes pending' rows' inclusions' next n e c =
       subst (λ (t : Token). Steps r place t frames frames pending pending' rows rows' inclusions inclusions' next) (sym (token-close token some n e)) c
 
   pub token-words :
-      (frames' pending' rows' : List ℕ) (next : Next) (w : Word) → (get_or token 0 0 ≡ 40 → ⊥) → (get_or token 0 0 ≡ 41 → ⊥) → w ≡ read_word token
+      (frames' pending' rows' : List ℕ) (next : Result Reader Refusal) (w : Word) → (get_or token 0 0 ≡ 40 → ⊥) → (get_or token 0 0 ≡ 41 → ⊥) → w ≡ read_word token
       → StepsOnWord r place w frames frames' pending pending' rows rows' next
       → Steps r place (token_of token) frames frames' pending pending' rows rows' inclusions inclusions next
   unfolding step
@@ -378,7 +377,7 @@ module _ (s : State) (end : ℕ) where
   ended-well want e = rw e refl
 
 module _ (r : Reader) (end : ℕ) where
-  pub ends_open : 0 < r.depth → EndsText r end (Stop (BadSyntax end))
+  pub ends_open : 0 < r.depth → EndsText r end (Err (BadSyntax end))
   ends_open h frames pending rows inclusions f =
       stops frames pending rows inclusions _ _
       (ended-open (state_of r frames pending rows inclusions) end _ _ (rw (frames-count r.depth r.used frames pending) h))
@@ -387,13 +386,13 @@ module _ (r : Reader) (end : ℕ) where
     none : (frames pending : List ℕ) → frames_of r.depth r.used frames pending ≡ []
     none frames pending = no_frames r.depth r.used frames pending (omega arith)
 
-    pub ends-due : (r.want ≡ 3 → ⊥) → EndsText r end (Stop (BadSyntax end))
+    pub ends-due : (r.want ≡ 3 → ⊥) → EndsText r end (Err (BadSyntax end))
     ends-due n frames pending rows inclusions f =
         stops frames pending rows inclusions _ _
         (ap (λ (fs : List Frame). ended end (state_of r frames pending rows inclusions) fs (want_of r.want)) (none frames pending)
         ∙ ended-due (state_of r frames pending rows inclusions) end r.want n)
 
-    pub ends-well : r.want ≡ 3 → EndsText r end (Go r)
+    pub ends-well : r.want ≡ 3 → EndsText r end (Ok r)
     ends-well e frames pending rows inclusions f =
         goes frames pending rows inclusions _ (state_of r frames pending rows inclusions) r
         (ap (λ (fs : List Frame). ended end (state_of r frames pending rows inclusions) fs (want_of r.want)) (none frames pending)
@@ -436,18 +435,18 @@ module _ (text : List ℕ) where
 
   -- a step that went on, or stopped
   went :
-      (st : Step) (r : Reader) (frames pending rows inclusions : List ℕ) → NextOf st (Go r) frames pending rows inclusions
+      (st : Step) (r : Reader) (frames pending rows inclusions : List ℕ) → NextOf st (Ok r) frames pending rows inclusions
       → (st ≡ go (state_of r frames pending rows inclusions)) × Fits r frames pending rows inclusions
   went (go s) r frames pending rows inclusions h = (ap go h.state, h.fits)
   went (stop q) r frames pending rows inclusions h = absurd h
 
-  stopped : (st : Step) (q : Refusal) (frames pending rows inclusions : List ℕ) → NextOf st (Stop q) frames pending rows inclusions → st ≡ stop q
+  stopped : (st : Step) (q : Refusal) (frames pending rows inclusions : List ℕ) → NextOf st (Err q) frames pending rows inclusions → st ≡ stop q
   stopped (go s) q frames pending rows inclusions h = absurd h
   stopped (stop p) q frames pending rows inclusions h = ap stop (sym h)
 
   module _
       (r : Reader) (at : ℕ) (frames pending rows inclusions : List ℕ) (j : Judging r at frames pending rows inclusions) (end : ℕ) (e : Ends text at end)
-      (frames' pending' rows' inclusions' : List ℕ) (next : Next)
+      (frames' pending' rows' inclusions' : List ℕ) (next : Result Reader Refusal)
       (st : Steps r at (token_of (take (end - at) (drop at text))) frames frames' pending pending' rows rows' inclusions inclusions' next) where
     split :
         judge text
@@ -456,10 +455,10 @@ module _ (text : List ℕ) where
     split = sym j.left ∙ ap (λ (ts : List Placed). run (length text) ts (state_of r frames pending rows inclusions)) e.split
 
     pub judging-more :
-        (after : Reader) → next ≡ Go after → (at' : ℕ) → Skips text end at' → Judging after at' frames' pending' rows' inclusions'
+        (after : Reader) → next ≡ Ok after → (at' : ℕ) → Skips text end at' → Judging after at' frames' pending' rows' inclusions'
     unfolding onward
     judging-more after g at' s =
-        let w = went (step (state_of r frames pending rows inclusions) (token_at text at end)) after frames' pending' rows' inclusions' (subst (λ (x : Next). NextOf (step (state_of r frames pending rows inclusions) (token_at text at end)) x frames' pending' rows' inclusions') g st) in
+        let w = went (step (state_of r frames pending rows inclusions) (token_at text at end)) after frames' pending' rows' inclusions' (subst (λ (x : Result Reader Refusal). NextOf (step (state_of r frames pending rows inclusions) (token_at text at end)) x frames' pending' rows' inclusions') g st) in
         record {
           high = s.high;
           here = s.here;
@@ -469,18 +468,17 @@ module _ (text : List ℕ) where
               ∙ sym (split ∙ ap (λ (z : Step). onward z (run (length text) (tokens_from end (drop end text)))) w.0);
         }
 
-    pub judging-stops : (q : Refusal) → next ≡ Stop q → Judged text next frames' pending' rows' inclusions'
+    pub judging-stops : (q : Refusal) → next ≡ Err q → Judged text (Err q) frames' pending' rows' inclusions'
     unfolding onward
     judging-stops q g =
-        let w = stopped (step (state_of r frames pending rows inclusions) (token_at text at end)) q frames' pending' rows' inclusions' (subst (λ (x : Next). NextOf (step (state_of r frames pending rows inclusions) (token_at text at end)) x frames' pending' rows' inclusions') g st) in
-        subst (λ (x : Next). Judged text x frames' pending' rows' inclusions') (sym g)
-        (record {
+        let w = stopped (step (state_of r frames pending rows inclusions) (token_at text at end)) q frames' pending' rows' inclusions' (subst (λ (x : Result Reader Refusal). NextOf (step (state_of r frames pending rows inclusions) (token_at text at end)) x frames' pending' rows' inclusions') g st) in
+        record {
           judged = stops frames' pending' rows' inclusions' (judge text) q
               (split ∙ ap (λ (z : Step). onward z (run (length text) (tokens_from end (drop end text)))) w);
-        })
+        }
 
   pub judging-done :
-      (r : Reader) (at : ℕ) (frames pending rows inclusions : List ℕ) → Judging r at frames pending rows inclusions → length text ≤ at → (next : Next)
+      (r : Reader) (at : ℕ) (frames pending rows inclusions : List ℕ) → Judging r at frames pending rows inclusions → length text ≤ at → (next : Result Reader Refusal)
       → EndsText r (length text) next → Judged text next frames pending rows inclusions
   unfolding run tokens_from
   judging-done r at frames pending rows inclusions j h next c =

@@ -1,4 +1,5 @@
 -- Entries for classes that are closed.
+use Rattle.std.specs.Prelude.{Ok, Err}
 use Prim.Native.Nat.{ℕ, suc, ◌+◌, ◌-◌, ◌*◌, ◌<◌, ◌≤◌}
 use mathlib.Core.Path.{◌≡◌, refl, sym, ap, ◌∙◌}
 use mathlib.Core.List.{List, [], ◌∷◌, ◌++◌, append_assoc, append-nil}
@@ -11,7 +12,6 @@ use Rattle.subsumption.specs.declared.refusal.Refusal.TheVariants.{Limit}
 use Rattle.subsumption.specs.Tables.{count_of}
 use Rattle.subsumption.proofs.Lists.{take-three}
 use Rattle.owl.specs.declared.frames.Reader.{Reader}
-use Rattle.owl.specs.declared.frames.Next.TheVariants.{Go, Stop}
 use Rattle.owl.specs.Judgement.{item, State, Step, go, stop, go_if, joins, closed, pair_rows, meet_rows}
 use Rattle.owl.specs.Inner.Frames.{between, frames_of, state_of, Fits, NextOf, Closes}
 use Rattle.owl.specs.Inner.Rows.{row_put, Paired}
@@ -36,7 +36,7 @@ module _ (r : Reader) (more : ℕ) (row frames pending rows inclusions : List �
   abbrev after : Step
   after = closed row (frames_of r.depth r.used frames pending) (state_of r frames pending rows inclusions)
 
-  pub closes-not : 192 < r.count + more → (pending' rows' : List ℕ) → NextOf after (Stop (Limit 0)) frames pending' rows' inclusions
+  pub closes-not : 192 < r.count + more → (pending' rows' : List ℕ) → NextOf after (Err (Limit 0)) frames pending' rows' inclusions
   unfolding closed go_if
   closes-not h pending' rows' =
       let e : after ≡ stop (Limit 0) = rw (counted, le-ltb (r.count + more) 193 (omega arith)) refl in
@@ -44,7 +44,7 @@ module _ (r : Reader) (more : ℕ) (row frames pending rows inclusions : List �
 
   pub closes-row :
       (total last : ℕ) → total ≡ r.count + more → total ≡ suc last → r.count < total → total ≤ 192 → (rows' : List ℕ) → length rows' ≡ 576
-      → take (total * 3) rows' ≡ take (r.count * 3) rows ++ row → NextOf after (Go (behind r total)) frames (set pending r.used last) rows' inclusions
+      → take (total * 3) rows' ≡ take (r.count * 3) rows ++ row → NextOf after (Ok (behind r total)) frames (set pending r.used last) rows' inclusions
   unfolding closed go_if
   closes-row total last t p m h rows' long put =
       let s : State =
@@ -75,12 +75,12 @@ module _ (r : Reader) (more : ℕ) (row frames pending rows inclusions : List �
       })
 
 module _ (r : Reader) (kind a b : ℕ) (pending rows : List ℕ) where
-  pub full-row : 192 ≤ r.count → Closes r (kind ∷ a ∷ b ∷ []) pending pending rows rows (Stop (Limit 0))
+  pub full-row : 192 ≤ r.count → Closes r (kind ∷ a ∷ b ∷ []) pending pending rows rows (Err (Limit 0))
   full-row h frames inclusions f = closes-not r 1 (kind ∷ a ∷ b ∷ []) frames pending rows inclusions f refl (omega arith) pending rows
 
   pub one-row :
       r.count < 192 → length rows ≡ 576 → (rows' : List ℕ) → rows' ≡ row_put rows r.count kind a b
-      → Closes r (kind ∷ a ∷ b ∷ []) pending (set pending r.used r.count) rows rows' (Go (behind r (r.count + 1)))
+      → Closes r (kind ∷ a ∷ b ∷ []) pending (set pending r.used r.count) rows rows' (Ok (behind r (r.count + 1)))
   one-row h l rows' e frames inclusions f =
       closes-row r 1 (kind ∷ a ∷ b ∷ []) frames pending rows inclusions f refl (r.count + 1) r.count refl (add-one r.count) (omega arith) (omega arith) rows'
       (ap length e ∙ simp length-set l)

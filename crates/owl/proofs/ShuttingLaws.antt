@@ -1,4 +1,5 @@
 -- Closing brackets.
+use Rattle.std.specs.Prelude.{Result, Ok, Err}
 use Prim.Native.Nat.{ℕ, ◌+◌, ◌-◌, ◌*◌, ◌<◌, ◌≤◌}
 use mathlib.Core.Path.{◌≡◌, refl, sym, ap, ◌∙◌, subst}
 use mathlib.Core.List.{List, [], ◌∷◌, ◌++◌}
@@ -6,11 +7,10 @@ use native.Mathlib.Omega.{arith}
 use lib.ListN.{length, get_or, take, set, length-set}
 use lib.Seq.{length-take-le}
 use borrow.Author.Tests.{lt-ltb, le-ltb, eq-eqb, ne_eqb}
+use Rattle.subsumption.specs.declared.refusal.Refusal.{Refusal}
 use Rattle.subsumption.specs.declared.refusal.Refusal.TheVariants.{BadSyntax, Limit}
 use Rattle.subsumption.specs.Tables.{count_of}
 use Rattle.owl.specs.declared.frames.Reader.{Reader}
-use Rattle.owl.specs.declared.frames.Next.{Next}
-use Rattle.owl.specs.declared.frames.Next.TheVariants.{Go, Stop}
 use Rattle.owl.specs.Tokens.{closing}
 use Rattle.owl.specs.Judgement.{Kind, subclass, meet, exist, item, State, Step, go, go_if, closed, meet_rows, shut_by, shut, item_step}
 use Rattle.owl.specs.Inner.Frames.{kind_of, between, frame_of, frames_of, state_of, Nested, Bounds, Fits, NextOf, Closes, closing-frame, ShutsAxiom, ShutsClass}
@@ -30,7 +30,7 @@ module _ (outer : Reader) (used place : ℕ) (pending : List ℕ) (long : length
 
   -- ---- an axiom
   module _ (inclusions : List ℕ) (order : (outer.used ≤ used) × (outer.pairs * 2 + used ≤ 192)) where
-    pub axiom-not : (used - outer.used ≡ 2 → ⊥) → ShutsAxiom outer used place pending inclusions inclusions (Stop (BadSyntax place))
+    pub axiom-not : (used - outer.used ≡ 2 → ⊥) → ShutsAxiom outer used place pending inclusions inclusions (Err (BadSyntax place))
     unfolding shut shut_by go_if members
     axiom-not n frames rows f =
         stops frames pending rows inclusions
@@ -41,7 +41,7 @@ module _ (outer : Reader) (used place : ℕ) (pending : List ℕ) (long : length
         used - outer.used ≡ 2 → outer.pairs * 2 + used ≤ outer.count → length inclusions ≡ 192
         → ShutsAxiom outer used place pending inclusions
         (set (set inclusions (outer.pairs * 2) (get_or pending outer.used 0)) (outer.pairs * 2 + 1) (get_or pending (outer.used + 1) 0))
-        (Go (record { depth = outer.depth; used = outer.used; count = outer.count; pairs = outer.pairs + 1; want = 3 }))
+        (Ok (record { depth = outer.depth; used = outer.used; count = outer.count; pairs = outer.pairs + 1; want = 3 }))
     unfolding shut shut_by go_if members
     axiom-shut e apart l frames rows f =
         let s : State =
@@ -83,7 +83,7 @@ module _ (outer : Reader) (used place : ℕ) (pending : List ℕ) (long : length
   module _ (order : (outer.used ≤ used) × (used ≤ 192)) where
     -- ---- an existential
     module _ (r : ℕ) (rows : List ℕ) where
-      pub exist-not : (used - outer.used ≡ 1 → ⊥) → ShutsClass exist r outer used place pending pending rows rows (Stop (BadSyntax place))
+      pub exist-not : (used - outer.used ≡ 1 → ⊥) → ShutsClass exist r outer used place pending pending rows rows (Err (BadSyntax place))
       unfolding shut shut_by go_if members
       exist-not n frames inclusions f =
           stops frames pending rows inclusions
@@ -91,7 +91,7 @@ module _ (outer : Reader) (used place : ℕ) (pending : List ℕ) (long : length
           (BadSyntax place) (rw (members-count (omega (arith, order)), ne_eqb (used - outer.used) 1 n) refl)
 
       pub exist-shut :
-          (pending' rows' : List ℕ) (next : Next) → used - outer.used ≡ 1
+          (pending' rows' : List ℕ) (next : Result Reader Refusal) → used - outer.used ≡ 1
           → Closes outer (2 ∷ r ∷ get_or pending outer.used 0 ∷ []) pending pending' rows rows' next
           → ShutsClass exist r outer used place pending pending' rows rows' next
       unfolding shut shut_by go_if members
@@ -109,7 +109,7 @@ module _ (outer : Reader) (used place : ℕ) (pending : List ℕ) (long : length
 
     -- ---- an intersection
     module _ (rows : List ℕ) where
-      pub meet-not : used - outer.used < 2 → ShutsClass meet 0 outer used place pending pending rows rows (Stop (BadSyntax place))
+      pub meet-not : used - outer.used < 2 → ShutsClass meet 0 outer used place pending pending rows rows (Err (BadSyntax place))
       unfolding shut shut_by go_if members
       meet-not h frames inclusions f =
           stops frames pending rows inclusions
@@ -130,20 +130,20 @@ module _ (outer : Reader) (used place : ℕ) (pending : List ℕ) (long : length
         meet-size : length (meet_rows outer.count members) ≡ (used - outer.used - 1) * 3
         meet-size = meet-length outer.count members ∙ ap (λ (z : ℕ). (z - 1) * 3) (members-count order.1)
 
-        pub meet-full : 192 < outer.count + (used - outer.used - 1) → ShutsClass meet 0 outer used place pending pending rows rows (Stop (Limit 0))
+        pub meet-full : 192 < outer.count + (used - outer.used - 1) → ShutsClass meet 0 outer used place pending pending rows rows (Err (Limit 0))
         meet-full h frames inclusions f =
-            subst (λ (z : Step). NextOf z (Stop (Limit 0)) frames pending rows inclusions) (sym (meet-closes frames inclusions f))
+            subst (λ (z : Step). NextOf z (Err (Limit 0)) frames pending rows inclusions) (sym (meet-closes frames inclusions f))
             (closes-not outer (used - outer.used - 1) (meet_rows outer.count members) frames pending rows inclusions f meet-size h pending rows)
 
         pub meet-shut :
             outer.count + (used - outer.used - 1) ≤ 192 → (rows' : List ℕ) → Paired outer.used used outer.count pending rows rows'
             → ShutsClass meet 0 outer used place pending (set pending outer.used (outer.count + (used - outer.used - 1) - 1)) rows rows'
-            (Go (behind outer (outer.count + (used - outer.used - 1))))
+            (Ok (behind outer (outer.count + (used - outer.used - 1))))
         unfolding members
         meet-shut h rows' paired frames inclusions f =
             let total = outer.count + (used - outer.used - 1) in
             let z : outer.count + (used - outer.used) - 1 ≡ total = omega arith in
-            subst (λ (x : Step). NextOf x (Go (behind outer total)) frames (set pending outer.used (total - 1)) rows' inclusions) (sym (meet-closes frames inclusions f))
+            subst (λ (x : Step). NextOf x (Ok (behind outer total)) frames (set pending outer.used (total - 1)) rows' inclusions) (sym (meet-closes frames inclusions f))
             (closes-row outer (used - outer.used - 1) (meet_rows outer.count members) frames pending rows inclusions f meet-size total (total - 1) refl (omega arith) (omega arith) h
             rows' (paired.long ∙ f.rows_long) (subst (λ (n : ℕ). take (n * 3) rows' ≡ take (outer.count * 3) rows ++ meet_rows outer.count members) z paired.put))
 
@@ -198,7 +198,7 @@ module _ (r : Reader) (frames pending rows inclusions : List ℕ) (deep : 0 < r.
       with-kind = rw (k, sym e) refl
 
     pub shuts-axiom :
-        (inclusions' : List ℕ) (next : Next) → get_or frames ((r.depth - 1) * 3) 0 ≡ 0
+        (inclusions' : List ℕ) (next : Result Reader Refusal) → get_or frames ((r.depth - 1) * 3) 0 ≡ 0
         → ShutsAxiom (around r start) r.used place pending inclusions inclusions' next
         → ShutsFrame r place frames pending pending rows rows inclusions inclusions' next
     unfolding shut shut_by
@@ -206,7 +206,7 @@ module _ (r : Reader) (frames pending rows inclusions : List ℕ) (deep : 0 < r.
         subst (λ (z : Step). NextOf z next frames pending rows inclusions') (sym (shuts-top ∙ with-kind subclass (ap kind_of k))) (c frames rows around-fits)
 
     pub shuts-meet :
-        (pending' rows' : List ℕ) (next : Next) → get_or frames ((r.depth - 1) * 3) 0 ≡ 1
+        (pending' rows' : List ℕ) (next : Result Reader Refusal) → get_or frames ((r.depth - 1) * 3) 0 ≡ 1
         → ShutsClass meet 0 (around r start) r.used place pending pending' rows rows' next
         → ShutsFrame r place frames pending pending' rows rows' inclusions inclusions next
     unfolding shut shut_by closed
@@ -214,7 +214,7 @@ module _ (r : Reader) (frames pending rows inclusions : List ℕ) (deep : 0 < r.
         subst (λ (z : Step). NextOf z next frames pending' rows' inclusions) (sym (shuts-top ∙ with-kind meet (ap kind_of k))) (c frames inclusions around-fits)
 
     pub shuts-exist :
-        (pending' rows' : List ℕ) (next : Next) → (get_or frames ((r.depth - 1) * 3) 0 ≡ 0 → ⊥) → (get_or frames ((r.depth - 1) * 3) 0 ≡ 1 → ⊥)
+        (pending' rows' : List ℕ) (next : Result Reader Refusal) → (get_or frames ((r.depth - 1) * 3) 0 ≡ 0 → ⊥) → (get_or frames ((r.depth - 1) * 3) 0 ≡ 1 → ⊥)
         → ShutsClass exist (get_or frames ((r.depth - 1) * 3 + 1) 0) (around r start) r.used place pending pending' rows rows' next
         → ShutsFrame r place frames pending pending' rows rows' inclusions inclusions next
     unfolding shut shut_by closed

@@ -1,14 +1,11 @@
 -- Reading a catalogue in OWL functional syntax (02, A.8): what the operation answers, and what its buffers then hold.
-use Rattle.std.specs.Prelude.{ℕ, ◌≡◌, List, ◌++◌, ltb, length, drop}
+use Rattle.std.specs.Prelude.{ℕ, ◌≡◌, List, ◌++◌, ltb, length, drop, Result, Err, Ok}
 use Rattle.subsumption.specs.declared.refusal.Refusal.{Refusal}
 use Rattle.subsumption.specs.declared.refusal.Refusal.TheVariants.{BadSyntax}
-use Rattle.subsumption.specs.declared.refusal.Outcome.{Outcome}
-use Rattle.subsumption.specs.declared.refusal.Outcome.TheVariants.{Done, Refused}
 use Rattle.subsumption.specs.Tables.{count_of, pairs_of}
-use Rattle.subsumption.specs.Refusal.{code_of, or_else, refuse_if}
+use Rattle.subsumption.specs.Refusal.{code_of, or_else, refuse_if, Outcome}
 use Rattle.subsumption.specs.Check.{buffer_fault}
 use Rattle.owl.specs.declared.read.Catalogue.{Catalogue}
-use Rattle.owl.specs.declared.read.Catalogue.TheVariants.{Tables, Rejected}
 use Rattle.owl.specs.Judgement.{State, Step, go, stop, judge}
 
 -- What an answer tells in 01's numbers: how many entries and how many inclusions, or a refusal's number and place.
@@ -21,9 +18,9 @@ pub record CatalogueReply : Type 0 where
 abbrev pub refused_reply : Refusal → CatalogueReply
 refused_reply r = record { number = (code_of r).number; place = (code_of r).place; concepts = 0; inclusions = 0 }
 
-abbrev pub catalogue_reply : Catalogue → CatalogueReply
-catalogue_reply (Tables concepts inclusions) = record { number = 0; place = 0; concepts = concepts; inclusions = inclusions }
-catalogue_reply (Rejected r) = refused_reply r
+abbrev pub catalogue_reply : Result Catalogue Refusal → CatalogueReply
+catalogue_reply (Ok c) = record { number = 0; place = 0; concepts = c.concepts; inclusions = c.inclusions }
+catalogue_reply (Err r) = refused_reply r
 
 -- Check 8, entries before inclusions, then the length of the text; the judgement comes behind them.
 unfoldable pub catalogue_fault : List ℕ → ℕ → ℕ → Outcome
@@ -50,8 +47,8 @@ ReadsBy (go s) concepts concepts' inclusions inclusions' reply = Put s concepts 
 ReadsBy (stop r) concepts concepts' inclusions inclusions' reply = Kept r concepts concepts' inclusions inclusions' reply
 
 unfoldable pub reading_of : Outcome → List ℕ → Step
-reading_of Done text = judge text
-reading_of (Refused r) text = stop r
+reading_of (Ok tt) text = judge text
+reading_of (Err r) text = stop r
 
 abbrev pub ReadsCatalogue : List ℕ → List ℕ → List ℕ → List ℕ → List ℕ → CatalogueReply → Type 0
 ReadsCatalogue text concepts concepts' inclusions inclusions' reply =

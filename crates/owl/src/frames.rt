@@ -27,12 +27,6 @@ pub struct Reader {
     pub want: u16,
 }
 
-#[derive(Clone, Copy)]
-pub enum Next {
-    Go(Reader),
-    Stop(Refusal),
-}
-
 pub fn wide(x: u16) -> usize
     ensures { result ≡ x }
 {
@@ -40,16 +34,10 @@ pub fn wide(x: u16) -> usize
 }
 
 // The same tables and frames; something else may come next.
-pub fn waiting(reader: Reader, want: u16) -> Next
-    ensures { result ≡ Next.Go (waiting reader want) }
+pub fn waiting(reader: Reader, want: u16) -> Reader
+    ensures { result ≡ waiting reader want }
 {
-    Next::Go(Reader {
-        depth: reader.depth,
-        used: reader.used,
-        count: reader.count,
-        pairs: reader.pairs,
-        want,
-    })
+    Reader { want, ..reader }
 }
 
 // The innermost frame has room for a class.
@@ -80,31 +68,34 @@ fn first(kind: u16) -> u16
 }
 
 // An opening bracket: a new frame, the innermost.
-pub fn open_bracket(frames: &mut [u16], reader: Reader, place: usize) -> Next
+pub fn open_bracket(frames: &mut [u16], reader: Reader, place: usize) -> Result<Reader, Refusal>
     requires bounds { Bounds reader }
     requires frames_len { length frames.old ≡ 99 }
     ensures { Opens reader place frames.old frames.new result }
 {
     let kind = reader.want;
     if ITEM <= kind {
-        return Next::Stop(Refusal::BadSyntax(place));
+        return Err(Refusal::BadSyntax(place));
     }
     let at = reader.depth * 3;
     frames[at] = kind;
     frames[at + 1] = 0;
     frames[at + 2] = reader.used as u16;
     let want = first(kind);
-    Next::Go(Reader {
+    Ok(Reader {
         depth: reader.depth + 1,
-        used: reader.used,
-        count: reader.count,
-        pairs: reader.pairs,
         want,
+        ..reader
     })
 }
 
 // The role of the innermost existential.
-pub fn take_role(frames: &mut [u16], reader: Reader, word: Word, place: usize) -> Next
+pub fn take_role(
+    frames: &mut [u16],
+    reader: Reader,
+    word: Word,
+    place: usize,
+) -> Result<Reader, Refusal>
     requires depth_nonzero { (0 < reader.depth) × (reader.depth ≤ 33) }
     requires frames_len { length frames.old ≡ 99 }
     ensures { Roles reader place word frames.old frames.new result }
@@ -113,13 +104,13 @@ pub fn take_role(frames: &mut [u16], reader: Reader, word: Word, place: usize) -
         Word::RoleOf(r) => {
             let at = (reader.depth - 1) * 3 + 1;
             frames[at] = r;
-            waiting(reader, ITEM)
+            Ok(waiting(reader, ITEM))
         }
-        Word::AxiomKey => Next::Stop(Refusal::BadSyntax(place)),
-        Word::TopKey => Next::Stop(Refusal::BadSyntax(place)),
-        Word::AndKey => Next::Stop(Refusal::BadSyntax(place)),
-        Word::SomeKey => Next::Stop(Refusal::BadSyntax(place)),
-        Word::NameOf(_) => Next::Stop(Refusal::BadSyntax(place)),
-        Word::Other => Next::Stop(Refusal::BadSyntax(place)),
+        Word::AxiomKey => Err(Refusal::BadSyntax(place)),
+        Word::TopKey => Err(Refusal::BadSyntax(place)),
+        Word::AndKey => Err(Refusal::BadSyntax(place)),
+        Word::SomeKey => Err(Refusal::BadSyntax(place)),
+        Word::NameOf(_) => Err(Refusal::BadSyntax(place)),
+        Word::Other => Err(Refusal::BadSyntax(place)),
     }
 }

@@ -5,9 +5,7 @@ ghost use Rattle.owl.specs.Inner.Tokens.{token_of};
 ghost use Rattle.owl.specs.Inner.Frames.{Bounds, Fits, Starts, Begins};
 ghost use Rattle.owl.specs.Inner.Judging.{deep_next, FitsSomehow, StepsOnWord, Steps, EndsText, Judged};
 
-use crate::frames::{
-    AXIOM, EXIST, ITEM, MEET, Next, Reader, has_room, open_bracket, take_role, waiting,
-};
+use crate::frames::{AXIOM, EXIST, ITEM, MEET, Reader, has_room, open_bracket, take_role, waiting};
 use crate::rows::close_row;
 use crate::shutting::shut;
 use crate::tokens::{skip_spaces, token_end};
@@ -15,32 +13,32 @@ use crate::words::{Word, read_word};
 use subsumption::refusal::Refusal;
 
 // A word between axioms.
-fn start_axiom(reader: Reader, word: Word, place: usize) -> Next
+fn start_axiom(reader: Reader, word: Word, place: usize) -> Result<Reader, Refusal>
     ensures { Starts reader place word result }
 {
     match word {
-        Word::AxiomKey => waiting(reader, AXIOM),
-        Word::TopKey => Next::Stop(Refusal::BadSyntax(place)),
-        Word::AndKey => Next::Stop(Refusal::BadSyntax(place)),
-        Word::SomeKey => Next::Stop(Refusal::BadSyntax(place)),
-        Word::NameOf(_) => Next::Stop(Refusal::BadSyntax(place)),
-        Word::RoleOf(_) => Next::Stop(Refusal::BadSyntax(place)),
-        Word::Other => Next::Stop(Refusal::BadSyntax(place)),
+        Word::AxiomKey => Ok(waiting(reader, AXIOM)),
+        Word::TopKey => Err(Refusal::BadSyntax(place)),
+        Word::AndKey => Err(Refusal::BadSyntax(place)),
+        Word::SomeKey => Err(Refusal::BadSyntax(place)),
+        Word::NameOf(_) => Err(Refusal::BadSyntax(place)),
+        Word::RoleOf(_) => Err(Refusal::BadSyntax(place)),
+        Word::Other => Err(Refusal::BadSyntax(place)),
     }
 }
 
 // A word in the innermost frame where a class would be too deep.
-fn begin_deep(word: Word, place: usize) -> Next
+fn begin_deep(word: Word, place: usize) -> Result<Reader, Refusal>
     ensures { result ≡ deep_next word place }
 {
     match word {
-        Word::AxiomKey => Next::Stop(Refusal::BadSyntax(place)),
-        Word::TopKey => Next::Stop(Refusal::TooDeep(place)),
-        Word::AndKey => Next::Stop(Refusal::TooDeep(place)),
-        Word::SomeKey => Next::Stop(Refusal::TooDeep(place)),
-        Word::NameOf(_) => Next::Stop(Refusal::TooDeep(place)),
-        Word::RoleOf(_) => Next::Stop(Refusal::BadSyntax(place)),
-        Word::Other => Next::Stop(Refusal::BadSyntax(place)),
+        Word::AxiomKey => Err(Refusal::BadSyntax(place)),
+        Word::TopKey => Err(Refusal::TooDeep(place)),
+        Word::AndKey => Err(Refusal::TooDeep(place)),
+        Word::SomeKey => Err(Refusal::TooDeep(place)),
+        Word::NameOf(_) => Err(Refusal::TooDeep(place)),
+        Word::RoleOf(_) => Err(Refusal::BadSyntax(place)),
+        Word::Other => Err(Refusal::BadSyntax(place)),
     }
 }
 
@@ -51,7 +49,7 @@ fn begin_class(
     reader: Reader,
     word: Word,
     place: usize,
-) -> Next
+) -> Result<Reader, Refusal>
     requires bounds { Bounds reader }
     requires pending_len { length pending.old ≡ 192 }
     requires rows_len { length rows.old ≡ 576 }
@@ -61,13 +59,13 @@ fn begin_class(
         return begin_deep(word, place);
     }
     match word {
-        Word::AxiomKey => Next::Stop(Refusal::BadSyntax(place)),
+        Word::AxiomKey => Err(Refusal::BadSyntax(place)),
         Word::TopKey => close_row(pending, rows, reader, 0, 0, 0),
-        Word::AndKey => waiting(reader, MEET),
-        Word::SomeKey => waiting(reader, EXIST),
+        Word::AndKey => Ok(waiting(reader, MEET)),
+        Word::SomeKey => Ok(waiting(reader, EXIST)),
         Word::NameOf(n) => close_row(pending, rows, reader, 1, n, 0),
-        Word::RoleOf(_) => Next::Stop(Refusal::BadSyntax(place)),
-        Word::Other => Next::Stop(Refusal::BadSyntax(place)),
+        Word::RoleOf(_) => Err(Refusal::BadSyntax(place)),
+        Word::Other => Err(Refusal::BadSyntax(place)),
     }
 }
 
@@ -79,7 +77,7 @@ fn step_word(
     reader: Reader,
     word: Word,
     place: usize,
-) -> Next
+) -> Result<Reader, Refusal>
     requires { FitsSomehow reader frames.old pending.old rows.old }
     ensures { StepsOnWord reader place word frames.old frames.new pending.old pending.new
         rows.old rows.new result }
@@ -88,13 +86,13 @@ fn step_word(
         return take_role(frames, reader, word, place);
     }
     if reader.want < ITEM {
-        return Next::Stop(Refusal::BadSyntax(place));
+        return Err(Refusal::BadSyntax(place));
     }
     if reader.depth == 0 {
         return start_axiom(reader, word, place);
     }
     if !has_room(frames, reader) {
-        return Next::Stop(Refusal::BadSyntax(place));
+        return Err(Refusal::BadSyntax(place));
     }
     begin_class(pending, rows, reader, word, place)
 }
@@ -107,16 +105,16 @@ fn close_bracket(
     inclusions: &mut [u16],
     reader: Reader,
     place: usize,
-) -> Next
+) -> Result<Reader, Refusal>
     requires { Fits reader frames.now pending.old rows.old inclusions.old }
     ensures { Steps reader place closing frames.now frames.now pending.old pending.new
         rows.old rows.new inclusions.old inclusions.new result }
 {
     if reader.want != ITEM {
-        return Next::Stop(Refusal::BadSyntax(place));
+        return Err(Refusal::BadSyntax(place));
     }
     if reader.depth == 0 {
-        return Next::Stop(Refusal::BadSyntax(place));
+        return Err(Refusal::BadSyntax(place));
     }
     shut(frames, pending, rows, inclusions, reader, place)
 }
@@ -130,7 +128,7 @@ fn step_token(
     inclusions: &mut [u16],
     reader: Reader,
     place: usize,
-) -> Next
+) -> Result<Reader, Refusal>
     requires token_nonzero { 0 < length token.now }
     requires fits { Fits reader frames.old pending.old rows.old inclusions.old }
     ensures { Steps reader place (token_of token.now) frames.old frames.new pending.old pending.new
@@ -148,16 +146,16 @@ fn step_token(
 }
 
 // The text may end between axioms.
-fn end_text(reader: Reader, end: usize) -> Next
+fn end_text(reader: Reader, end: usize) -> Result<Reader, Refusal>
     ensures { EndsText reader end result }
 {
     if 0 < reader.depth {
-        return Next::Stop(Refusal::BadSyntax(end));
+        return Err(Refusal::BadSyntax(end));
     }
     if reader.want != ITEM {
-        return Next::Stop(Refusal::BadSyntax(end));
+        return Err(Refusal::BadSyntax(end));
     }
-    Next::Go(reader)
+    Ok(reader)
 }
 
 // The whole text, into the buffers.
@@ -167,7 +165,7 @@ pub fn judge_text(
     pending: &mut [u16],
     rows: &mut [u16],
     inclusions: &mut [u16],
-) -> Next
+) -> Result<Reader, Refusal>
     requires frames_len { length frames.old ≡ 99 }
     requires pending_len { length pending.old ≡ 192 }
     requires rows_len { length rows.old ≡ 576 }
@@ -184,7 +182,7 @@ pub fn judge_text(
     let mut at = skip_spaces(text, 0);
     while at < text.len() {
         let end = token_end(text, at);
-        let next = step_token(
+        reader = step_token(
             &text[at..end],
             frames,
             pending,
@@ -192,11 +190,7 @@ pub fn judge_text(
             inclusions,
             reader,
             at,
-        );
-        let Next::Go(after) = next else {
-            return next;
-        };
-        reader = after;
+        )?;
         at = skip_spaces(text, end);
     }
     end_text(reader, text.len())

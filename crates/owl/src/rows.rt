@@ -3,7 +3,7 @@ ghost use Rattle.std.specs.Prelude.{◌≡◌, [], ◌∷◌, ◌+◌, ◌-◌, 
 ghost use Rattle.owl.specs.Inner.Frames.{Bounds, Closes};
 ghost use Rattle.owl.specs.Inner.Rows.{row_put, Paired};
 
-use crate::frames::{ITEM, Next, Reader};
+use crate::frames::{ITEM, Reader};
 use subsumption::limits::CONCEPTS;
 use subsumption::refusal::Refusal;
 
@@ -26,7 +26,7 @@ pub fn close_row(
     kind: u16,
     a: u16,
     b: u16,
-) -> Next
+) -> Result<Reader, Refusal>
     requires bounds { Bounds reader }
     requires pending_len { length pending.old ≡ 192 }
     requires rows_len { length rows.old ≡ 576 }
@@ -34,17 +34,16 @@ pub fn close_row(
 {
     let count = reader.count;
     if CONCEPTS <= count {
-        return Next::Stop(Refusal::Limit(0));
+        return Err(Refusal::Limit(0));
     }
     put_row(rows, count, kind, a, b);
     let used = reader.used;
     pending[used] = count as u16;
-    Next::Go(Reader {
-        depth: reader.depth,
+    Ok(Reader {
         used: used + 1,
         count: count + 1,
-        pairs: reader.pairs,
         want: ITEM,
+        ..reader
     })
 }
 
@@ -57,12 +56,10 @@ pub fn put_ands(pending: &[u16], rows: &mut [u16], start: usize, used: usize, co
 {
     let mut left = pending[start];
     let mut next = count;
-    let mut m = start + 1;
-    while m < used {
+    for m in start + 1..used {
         let right = pending[m];
         put_row(rows, next, 3, left, right);
         left = next as u16;
         next += 1;
-        m += 1;
     }
 }

@@ -4,7 +4,7 @@ ghost use Rattle.owl.specs.Judgement.{meet, exist};
 ghost use Rattle.owl.specs.Inner.Frames.{Bounds, Fits, ShutsAxiom, ShutsClass};
 ghost use Rattle.owl.specs.Inner.Judging.{ShutsFrame};
 
-use crate::frames::{AXIOM, ITEM, MEET, Next, Reader, wide};
+use crate::frames::{AXIOM, ITEM, MEET, Reader, wide};
 use crate::rows::{close_row, put_ands};
 use subsumption::limits::CONCEPTS;
 use subsumption::refusal::Refusal;
@@ -16,7 +16,7 @@ fn shut_axiom(
     outer: Reader,
     used: usize,
     place: usize,
-) -> Next
+) -> Result<Reader, Refusal>
     requires used_le_used { (outer.used ≤ used) × (outer.pairs * 2 + used ≤ 192) }
     requires used_bound { outer.pairs * 2 + used ≤ outer.count }
     requires pending_len { length pending.now ≡ 192 }
@@ -25,17 +25,15 @@ fn shut_axiom(
 {
     let start = outer.used;
     if used - start != 2 {
-        return Next::Stop(Refusal::BadSyntax(place));
+        return Err(Refusal::BadSyntax(place));
     }
     let at = outer.pairs * 2;
     inclusions[at] = pending[start];
     inclusions[at + 1] = pending[start + 1];
-    Next::Go(Reader {
-        depth: outer.depth,
-        used: start,
-        count: outer.count,
+    Ok(Reader {
         pairs: outer.pairs + 1,
         want: ITEM,
+        ..outer
     })
 }
 
@@ -47,7 +45,7 @@ fn shut_exist(
     used: usize,
     role: u16,
     place: usize,
-) -> Next
+) -> Result<Reader, Refusal>
     requires bounds { Bounds outer }
     requires used_le_used { (outer.used ≤ used) × (used ≤ 192) }
     requires pending_len { length pending.old ≡ 192 }
@@ -56,7 +54,7 @@ fn shut_exist(
 {
     let start = outer.used;
     if used - start != 1 {
-        return Next::Stop(Refusal::BadSyntax(place));
+        return Err(Refusal::BadSyntax(place));
     }
     let inner = pending[start];
     close_row(pending, rows, outer, 2, role, inner)
@@ -69,7 +67,7 @@ fn shut_meet(
     outer: Reader,
     used: usize,
     place: usize,
-) -> Next
+) -> Result<Reader, Refusal>
     requires bounds { Bounds outer }
     requires used_le_used { (outer.used ≤ used) × (used ≤ 192) }
     requires pending_len { length pending.old ≡ 192 }
@@ -79,20 +77,19 @@ fn shut_meet(
     let start = outer.used;
     let members = used - start;
     if members < 2 {
-        return Next::Stop(Refusal::BadSyntax(place));
+        return Err(Refusal::BadSyntax(place));
     }
     let count = outer.count + (members - 1);
     if CONCEPTS < count {
-        return Next::Stop(Refusal::Limit(0));
+        return Err(Refusal::Limit(0));
     }
     put_ands(pending, rows, start, used, outer.count);
     pending[start] = (count - 1) as u16;
-    Next::Go(Reader {
-        depth: outer.depth,
+    Ok(Reader {
         used: start + 1,
         count,
-        pairs: outer.pairs,
         want: ITEM,
+        ..outer
     })
 }
 
@@ -104,7 +101,7 @@ pub fn shut(
     inclusions: &mut [u16],
     reader: Reader,
     place: usize,
-) -> Next
+) -> Result<Reader, Refusal>
     requires depth_nonzero { 0 < reader.depth }
     requires fits { Fits reader frames.now pending.old rows.old inclusions.old }
     ensures { ShutsFrame reader place frames.now pending.old pending.new rows.old rows.new
@@ -119,9 +116,8 @@ pub fn shut(
     let outer = Reader {
         depth,
         used: start,
-        count: reader.count,
-        pairs: reader.pairs,
         want: ITEM,
+        ..reader
     };
     if kind == AXIOM {
         return shut_axiom(pending, inclusions, outer, used, place);

@@ -26,14 +26,12 @@ pub fn skip_spaces(text: &[u8], at: usize) -> usize
     requires { at ≤ length text.now }
     ensures { Skips text.now at result }
 {
-    let mut p = at;
-    while p < text.len() {
+    for p in at..text.len() {
         if !is_space(text[p]) {
             return p;
         }
-        p += 1;
     }
-    p
+    text.len()
 }
 
 // The place behind the word that begins at `at`.
@@ -43,8 +41,7 @@ fn word_end(text: &[u8], at: usize) -> usize
     requires at_value_2 { is_bracket (get_or text.now at 0) ≡ false }
     ensures { Ends text.now at result }
 {
-    let mut p = at + 1;
-    while p < text.len() {
+    for p in at + 1..text.len() {
         let b = text[p];
         if is_space(b) {
             return p;
@@ -52,9 +49,8 @@ fn word_end(text: &[u8], at: usize) -> usize
         if is_bracket(b) {
             return p;
         }
-        p += 1;
     }
-    p
+    text.len()
 }
 
 // The place behind the token that begins at `at`.

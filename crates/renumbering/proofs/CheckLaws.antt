@@ -1,4 +1,5 @@
 -- Checks 21 and 22: what the loops have found so far.
+use Rattle.std.specs.Prelude.{Err}
 use Prim.Native.Nat.{ℕ, ◌+◌, ◌<◌, ◌≤◌}
 use mathlib.Core.Path.{◌≡◌, refl, sym, ◌∙◌, subst}
 use mathlib.Core.List.{List}
@@ -12,13 +13,12 @@ use lib.Seq.{get_or-set_same, get_or-set_other}
 use borrow.Author.Tests.{lt-ltb, le-ltb, eq-eqb, ne_eqb}
 use Rattle.subsumption.specs.declared.refusal.Refusal.{Refusal}
 use Rattle.subsumption.specs.declared.refusal.Refusal.TheVariants.{BadOrder}
-use Rattle.subsumption.specs.declared.refusal.Outcome.TheVariants.{Done, Refused}
 use Rattle.subsumption.specs.Tables.{or, any_below, decode}
-use Rattle.subsumption.specs.Refusal.{first_at}
+use Rattle.subsumption.specs.Refusal.{first_at, Done}
 use Rattle.subsumption.specs.Check.{forward}
 use Rattle.subsumption.proofs.Bools.{or-first, or-second, eq-or-ne}
 use Rattle.subsumption.proofs.Refusals.{stops, goes_on, refused-if, done-if}
-use Rattle.renumbering.specs.declared.moving.Moved.{Moved}
+use Rattle.subsumption.specs.declared.tables.Row.{Row}
 use Rattle.renumbering.specs.Order.{new_id, stood, order_fault}
 use Rattle.renumbering.specs.Renumbering.{moved_node}
 use Rattle.renumbering.specs.Inner.Moving.{moved_parts}
@@ -65,11 +65,11 @@ module _ (count : ℕ) (order : List ℕ) (m : ℕ) where
     not-bad k l h = rw (lt-ltb (new_id order m) count k) (sym (s.flags (new_id order m) l) ∙ h)
 
 module _ (count : ℕ) (order : List ℕ) where
-  pub order-refused : (r : Refusal) → Refused r ≡ first_at BadOrder (bad_at count order) 0 (length order) → Refused r ≡ order_fault count order
+  pub order-refused : (r : Refusal) → Err r ≡ first_at BadOrder (bad_at count order) 0 (length order) → Err r ≡ order_fault count order
   unfolding order_fault
-  order-refused r e = stops (Refused r) _ _ r e refl
+  order-refused r e = stops (Err r) _ _ r e refl
 
-  pub order-uneven : Done ≡ first_at BadOrder (bad_at count order) 0 (length order) → (length order ≡ count → ⊥) → Refused (BadOrder (length order)) ≡ order_fault count order
+  pub order-uneven : Done ≡ first_at BadOrder (bad_at count order) 0 (length order) → (length order ≡ count → ⊥) → Err (BadOrder (length order)) ≡ order_fault count order
   unfolding order_fault
   order-uneven e h = goes_on Done _ _ _ e refl (refused-if _ _ (rw (ne_eqb (length order) count h) refl))
 
@@ -80,7 +80,7 @@ module _ (count : ℕ) (order : List ℕ) where
 -- ---- check 22
 -- the code's test of a row, and the paper's
 pub moved-forward :
-    (concepts order : List ℕ) (i : ℕ) (row : Moved) (r : Bool) → row ≡ moved_parts order concepts i
-    → r ≡ forward (new_id order i) (decode row.kind row.first row.second) → forward (new_id order i) (moved_node order concepts i) ≡ r
+    (concepts order : List ℕ) (i : ℕ) (row : Row) (r : Bool) → row ≡ moved_parts order concepts i
+    → r ≡ forward (new_id order i) (decode row.kind row.a row.b) → forward (new_id order i) (moved_node order concepts i) ≡ r
 unfolding moved_node
 moved-forward concepts order i row r e h = sym (rw e at h)

@@ -9,7 +9,7 @@ use native.Mathlib.Numerals.{add-one}
 use native.Mathlib.Nat.{zero-add}
 use lib.Dec.{eqb}
 use lib.ListN.{length, get_or, take, set, length-append}
-use lib.Seq.{take-suc, length-take-le, take_all, length_front}
+use lib.Seq.{take-suc, length-take-le, length_front}
 use borrow.Author.Tests.{eqb-true}
 use Rattle.subsumption.specs.declared.tables.Row.{Row}
 use Rattle.subsumption.specs.Tables.{or, count_of}
@@ -18,7 +18,6 @@ use Rattle.subsumption.specs.Inner.Atoms.{in_front}
 use Rattle.subsumption.proofs.Bools.{or_cases}
 use Rattle.subsumption.proofs.Lists.{front-more}
 use Rattle.subsumption.proofs.Nodes.{node-exists, node-and}
-use Rattle.renumbering.specs.declared.moving.Moved.{Moved}
 use Rattle.renumbering.specs.Order.{new_id, place_of, moved_ids}
 use Rattle.renumbering.specs.Renumbering.{moved_field, moved_first, moved_second, moved_row, moved_rows, moved_concepts}
 use Rattle.renumbering.specs.Inner.Moving.{Known, Inward, moved_parts}
@@ -57,7 +56,7 @@ module _ (concepts order : List ℕ) (inward : Inward concepts) (long : length o
 pub row_moved :
     (concepts order : List ℕ) (i : ℕ) (row : Row) (first second : ℕ) → row ≡ row_of concepts i → first ≡ moved_field order (eqb row.kind 3) row.a
     → second ≡ moved_field order (eqb row.kind 2 || eqb row.kind 3) row.b
-    → record { kind = row.kind; first = first; second = second } ≡ moved_parts order concepts i
+    → record { kind = row.kind; a = first; b = second } ≡ moved_parts order concepts i
 unfolding moved_first moved_second
 row_moved concepts order i row first second e f g =
     rw (f, g, e) (rw bars refl)
@@ -120,14 +119,6 @@ module _ (order : List ℕ) where
             ap (moved_ids order) (ap (λ (z : ℕ). take z ids) (add-one p) ∙ take-suc ids p 0 h) ∙ ids-join _ _
             ∙ ap (λ (z : List ℕ). moved_ids order (take p ids) ++ z) (ids-one (get_or ids p 0) ∙ ap (λ (n : ℕ). n ∷ []) (sym e))
 
-    pub ids-size : (out : List ℕ) (p : ℕ) → IdsTo out p → length ids ≤ length before → length out ≡ length before
-    ids-size out p s l =
-        ap length s.buffer
-        ∙ front_long (moved_ids order (take p ids)) before (omega (arith, s.within, moved_length order (take p ids), length-take-le p ids s.within))
-
-    pub ids-done : (out : List ℕ) (p : ℕ) → IdsTo out p → length ids ≤ p → out ≡ in_front (moved_ids order ids) before
-    ids-done out p s h = s.buffer ∙ ap (λ (z : List ℕ). in_front (moved_ids order z) before) (take_all p ids h)
-
 -- ---- rows
 module _ (order concepts : List ℕ) where
   rows_snoc : (from count : ℕ) → moved_rows order concepts from (suc count) ≡ moved_rows order concepts from count ++ moved_row order concepts (place_of (from + count) order)
@@ -152,8 +143,8 @@ module _ (order concepts : List ℕ) where
 
     module _ (room : length concepts ≤ length before) where
       pub rows_step :
-          (out : List ℕ) (k i : ℕ) (row : Moved) → RowsTo out k → k < count_of concepts → i ≡ place_of k order → row ≡ moved_parts order concepts i
-          → RowsTo (set (set (set out (k * 3) row.kind) (k * 3 + 1) row.first) (k * 3 + 2) row.second) (k + 1)
+          (out : List ℕ) (k i : ℕ) (row : Row) → RowsTo out k → k < count_of concepts → i ≡ place_of k order → row ≡ moved_parts order concepts i
+          → RowsTo (set (set (set out (k * 3) row.kind) (k * 3 + 1) row.a) (k * 3 + 2) row.b) (k + 1)
       unfolding moved_row
       rows_step out k i row s h q e =
           record {
@@ -163,9 +154,6 @@ module _ (order concepts : List ℕ) where
                 (front-three (moved_rows order concepts 0 k) before (k * 3) _ _ _ (sym (rows-length order concepts 0 k)) (omega arith)
                 ∙ ap (λ (z : List ℕ). in_front z before) (sym (rows_more k)));
           }
-
-      pub rows-size : (out : List ℕ) (k : ℕ) → RowsTo out k → length out ≡ length before
-      rows-size out k s = ap length s.buffer ∙ front_long (moved_rows order concepts 0 k) before (omega (arith, s.within, rows-length order concepts 0 k))
 
     pub rows-done : (out : List ℕ) (k : ℕ) → RowsTo out k → count_of concepts ≤ k → out ≡ in_front (moved_concepts order concepts) before
     unfolding moved_concepts

@@ -1,4 +1,5 @@
 -- The operation: its checks in their order, what they leave of the tables and the buffers, and what it has written.
+use Rattle.std.specs.Prelude.{Err, Ok}
 use Prim.Native.Nat.{ℕ, ◌<◌, ◌≤◌}
 use mathlib.Core.Path.{◌≡◌, refl, sym, ◌∙◌, subst}
 use mathlib.Core.List.{List}
@@ -6,10 +7,8 @@ use native.Mathlib.Omega.{arith}
 use lib.ListN.{length}
 use Rattle.subsumption.specs.declared.refusal.Refusal.{Refusal}
 use Rattle.subsumption.specs.declared.refusal.Refusal.TheVariants.{BufferTooShort}
-use Rattle.subsumption.specs.declared.refusal.Outcome.{Outcome}
-use Rattle.subsumption.specs.declared.refusal.Outcome.TheVariants.{Done, Refused}
 use Rattle.subsumption.specs.Tables.{Tables, count_of}
-use Rattle.subsumption.specs.Refusal.{reply_of}
+use Rattle.subsumption.specs.Refusal.{reply_of, Outcome, Done}
 use Rattle.subsumption.specs.Check.{table_fault, buffer_fault}
 use Rattle.subsumption.specs.Inner.Atoms.{in_front}
 use Rattle.subsumption.proofs.Accepted.{well_formed}
@@ -42,13 +41,13 @@ module _ (t : Tables) (accepted : table_fault t ≡ Done) where
 
 -- the tables' checks reply what they answer
 pub same_outcome : (x fault : Outcome) → reply_of x ≡ reply_of fault → x ≡ fault
-same_outcome Done fault e = sym (by_value fault 0 0 e).0
-same_outcome (Refused r) fault e = by-refusal fault 0 r e
+same_outcome (Ok tt) fault e = sym (by_value fault 0 0 e).0
+same_outcome (Err r) fault e = by-refusal fault 0 r e
 
 -- ---- the checks in their order
 module _ (t : Tables) (order : List ℕ) (concepts inclusions questions : ℕ) where
   module _ (x : Outcome) (e : reply_of x ≡ reply_of (table_fault t)) where
-    pub tables-refuse : (r : Refusal) → x ≡ Refused r → Refused r ≡ renumbering_fault t order concepts inclusions questions
+    pub tables-refuse : (r : Refusal) → x ≡ Err r → Err r ≡ renumbering_fault t order concepts inclusions questions
     unfolding renumbering_fault
     tables-refuse r h = stops x _ _ r (same_outcome x (table_fault t) e) h
 
@@ -56,17 +55,17 @@ module _ (t : Tables) (order : List ℕ) (concepts inclusions questions : ℕ) w
     tables-pass h = is-done x _ (same_outcome x (table_fault t) e) h
 
   module _ (accepted : table_fault t ≡ Done) (y : Outcome) (e : y ≡ order_fault (count_of t.concepts) order) where
-    pub order-refuses : (r : Refusal) → y ≡ Refused r → Refused r ≡ renumbering_fault t order concepts inclusions questions
+    pub order-refuses : (r : Refusal) → y ≡ Err r → Err r ≡ renumbering_fault t order concepts inclusions questions
     unfolding renumbering_fault
     order-refuses r h = goes_on Done _ _ _ (sym accepted) refl (stops y _ _ r e h)
 
   module _ (accepted : table_fault t ≡ Done) (listed : order_fault (count_of t.concepts) order ≡ Done) (z : Outcome) (e : z ≡ rising_fault t.concepts order) where
-    pub rising-refuses : (r : Refusal) → z ≡ Refused r → Refused r ≡ renumbering_fault t order concepts inclusions questions
+    pub rising-refuses : (r : Refusal) → z ≡ Err r → Err r ≡ renumbering_fault t order concepts inclusions questions
     unfolding renumbering_fault
     rising-refuses r h = goes_on Done _ _ _ (sym accepted) refl (goes_on Done _ _ _ (sym listed) refl (stops z _ _ r e h))
 
     module _ (h : z ≡ Done) where
-      pub concepts-short : concepts < length t.concepts → Refused (BufferTooShort (length t.concepts)) ≡ renumbering_fault t order concepts inclusions questions
+      pub concepts-short : concepts < length t.concepts → Err (BufferTooShort (length t.concepts)) ≡ renumbering_fault t order concepts inclusions questions
       unfolding renumbering_fault buffer_fault
       concepts-short l =
           goes_on Done _ _ _ (sym accepted) refl
@@ -74,7 +73,7 @@ module _ (t : Tables) (order : List ℕ) (concepts inclusions questions : ℕ) w
 
       module _ (l : length t.concepts ≤ concepts) where
         pub inclusions-short :
-            inclusions < length t.inclusions → Refused (BufferTooShort (length t.inclusions)) ≡ renumbering_fault t order concepts inclusions questions
+            inclusions < length t.inclusions → Err (BufferTooShort (length t.inclusions)) ≡ renumbering_fault t order concepts inclusions questions
         unfolding renumbering_fault buffer_fault
         inclusions-short m =
             goes_on Done _ _ _ (sym accepted) refl
@@ -92,7 +91,7 @@ module _ (t : Tables) (order : List ℕ) (concepts inclusions questions : ℕ) w
               (goes_on Done _ _ _ (done-le concepts (length t.concepts) _ l) refl (goes_on Done _ _ _ (done-le inclusions (length t.inclusions) _ m) refl f))))
 
           pub questions-short :
-              questions < length t.questions → Refused (BufferTooShort (length t.questions)) ≡ renumbering_fault t order concepts inclusions questions
+              questions < length t.questions → Err (BufferTooShort (length t.questions)) ≡ renumbering_fault t order concepts inclusions questions
           unfolding buffer_fault
           questions-short n = questions-judged _ (refused-lt questions (length t.questions) _ n)
 
@@ -140,10 +139,10 @@ module _ (t : Tables) (order : List ℕ) (concepts inclusions questions : ℕ) w
 -- ---- what is written
 module _ (t : Tables) (order concepts inclusions questions : List ℕ) (x : Outcome)
     (e : x ≡ renumbering_fault t order (length concepts) (length inclusions) (length questions)) where
-  pub renumber-refused : (r : Refusal) → x ≡ Refused r → Renumbers t order concepts concepts inclusions inclusions questions questions (reply_of (Refused r))
+  pub renumber-refused : (r : Refusal) → x ≡ Err r → Renumbers t order concepts concepts inclusions inclusions questions questions (reply_of (Err r))
   unfolding put_in
   renumber-refused r h =
-      let q : renumbering_fault t order (length concepts) (length inclusions) (length questions) ≡ Refused r = sym e ∙ h in
+      let q : renumbering_fault t order (length concepts) (length inclusions) (length questions) ≡ Err r = sym e ∙ h in
       record {
         replied = same-reply _ _ (sym q);
         put-concepts = rw q refl;

@@ -1,5 +1,6 @@
 -- A list that passed check 21 gives each id below the count one new id, and each new id has its place; the list that leads back, and one
 -- list after another.
+use Rattle.subsumption.specs.Refusal.{Done}
 use Prim.Native.Nat.{ℕ, zero, suc, ◌+◌, ◌<◌}
 use mathlib.Core.Path.{◌≡◌, refl, sym, ap, ◌∙◌}
 use mathlib.Core.List.{List, [], ◌∷◌}
@@ -10,7 +11,6 @@ use lib.Dec.{eqb, ltb}
 use lib.ListN.{length, get_or}
 use lib.Seq.{ext_get_or}
 use borrow.Author.Tests.{eqb-true, ltb-true, lt-ltb, eq-eqb, ne_eqb, not-false}
-use Rattle.subsumption.specs.declared.refusal.Outcome.TheVariants.{Done}
 use Rattle.subsumption.specs.Tables.{or}
 use Rattle.subsumption.proofs.Bools.{or-false, or-skip, last-cases, any_below-intro, any_below-elim, le-or-lt, eq-or-ne}
 use Rattle.subsumption.proofs.Refusals.{both-done, done-if, passed_first, passed-second, passed-if, passed-at, no-fault}

@@ -1,7 +1,7 @@
 -- What renumbering promises of the tables (02, A.12): the laws of proofs/RenumberingLaws.antt speak of these.
+use Rattle.subsumption.specs.Refusal.{Done}
 use Rattle.std.specs.Prelude.{ℕ, ◌<◌, ◌≡◌, ◌↔◌}
 use mathlib.Core.List.{List, Memᴰ}
-use Rattle.subsumption.specs.declared.refusal.Outcome.TheVariants.{Done}
 use Rattle.subsumption.specs.Tables.{Tables, count_of, tree}
 use Rattle.subsumption.specs.Atoms.{chosen}
 use Rattle.subsumption.specs.Subsumption.{Subsumed}

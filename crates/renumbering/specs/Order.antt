@@ -1,9 +1,8 @@
 -- Lists that give each id its new one (02, A.12), and the checks of such a list.
 use Rattle.std.specs.Prelude.{ℕ, zero, suc, List, [], ◌∷◌, Bool, true, false, not, eqb, ltb, length, get_or}
 use Rattle.subsumption.specs.declared.refusal.Refusal.TheVariants.{BadOrder}
-use Rattle.subsumption.specs.declared.refusal.Outcome.{Outcome}
 use Rattle.subsumption.specs.Tables.{or, any_below}
-use Rattle.subsumption.specs.Refusal.{or_else, refuse_if, first_at}
+use Rattle.subsumption.specs.Refusal.{or_else, refuse_if, first_at, Outcome}
 
 -- The new id of an id.
 abbrev pub new_id : List ℕ → ℕ → ℕ

@@ -1,9 +1,7 @@
 -- The operation (02, A.12): the renumbered tables in a second set of buffers.
-use Rattle.std.specs.Prelude.{ℕ, ◌≡◌, List, ◌++◌, length, drop}
-use Rattle.subsumption.specs.declared.refusal.Outcome.{Outcome}
-use Rattle.subsumption.specs.declared.refusal.Outcome.TheVariants.{Done, Refused}
+use Rattle.std.specs.Prelude.{ℕ, ◌≡◌, List, ◌++◌, length, drop, Err, Ok}
 use Rattle.subsumption.specs.Tables.{Tables, count_of}
-use Rattle.subsumption.specs.Refusal.{Reply, reply_of, or_else}
+use Rattle.subsumption.specs.Refusal.{Reply, reply_of, or_else, Outcome}
 use Rattle.subsumption.specs.Check.{table_fault, buffer_fault}
 use Rattle.renumbering.specs.Order.{order_fault}
 use Rattle.renumbering.specs.Renumbering.{rising_fault, renumbered}
@@ -19,8 +17,8 @@ renumbering_fault t order concepts inclusions questions =
 
 -- The numbers stand in front; past them, and after a refusal, the buffer keeps its values.
 unfoldable pub put_in : Outcome → List ℕ → List ℕ → List ℕ
-put_in Done numbers before = numbers ++ drop (length numbers) before
-put_in (Refused r) numbers before = before
+put_in (Ok tt) numbers before = numbers ++ drop (length numbers) before
+put_in (Err r) numbers before = before
 
 -- The three buffers before and after.
 pub record Renumbers (t : Tables) (order concepts concepts' inclusions inclusions' questions questions' : List ℕ)

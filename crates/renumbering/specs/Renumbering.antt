@@ -2,9 +2,8 @@
 -- new one. Names, roles and variables are no ids; the role pairs stay.
 use Rattle.std.specs.Prelude.{ℕ, zero, suc, ◌+◌, ◌*◌, List, [], ◌∷◌, ◌++◌, Bool, true, false, eqb, get_or}
 use Rattle.subsumption.specs.declared.refusal.Refusal.TheVariants.{ForwardInOrder}
-use Rattle.subsumption.specs.declared.refusal.Outcome.{Outcome}
 use Rattle.subsumption.specs.Tables.{Tables, tables, or, Node, decode, count_of}
-use Rattle.subsumption.specs.Refusal.{first_at}
+use Rattle.subsumption.specs.Refusal.{first_at, Outcome}
 use Rattle.subsumption.specs.Check.{forward}
 use Rattle.renumbering.specs.Order.{new_id, place_of, moved_ids}
 

@@ -1,15 +1,15 @@
 // Rows and pairs with their ids replaced.
 ghost use Rattle.std.specs.Prelude.{◌≡◌, ◌++◌, ◌≤◌, ◌<◌, length, drop};
-ghost use Rattle.subsumption.specs.Tables.{count_of, decode};
+ghost use Rattle.subsumption.specs.Tables.{count_of};
 ghost use Rattle.subsumption.specs.Check.{forward};
 ghost use Rattle.renumbering.specs.Order.{moved_ids};
 ghost use Rattle.renumbering.specs.Renumbering.{moved_field, moved_concepts, rising_fault};
 ghost use Rattle.renumbering.specs.Inner.Order.{Arranges, LeadsBack};
 ghost use Rattle.renumbering.specs.Inner.Moving.{Known, Inward, moved_parts, IdsBelow};
 
-use subsumption::helpers::row_at;
+use subsumption::helpers::{Node, Row, row_at};
 use subsumption::kinds::{CONJUNCTION, EXISTENTIAL};
-use subsumption::refusal::{Outcome, Refusal};
+use subsumption::refusal::Refusal;
 
 // A field of a row: an inner id is replaced.
 fn moved_field(order: &[u16], inner: bool, x: u16) -> u16
@@ -22,15 +22,7 @@ fn moved_field(order: &[u16], inner: bool, x: u16) -> u16
     x
 }
 
-// A row's three numbers.
-#[derive(Clone, Copy)]
-struct Moved {
-    kind: u16,
-    first: u16,
-    second: u16,
-}
-
-fn moved_row(concepts: &[u16], order: &[u16], i: usize) -> Moved
+fn moved_row(concepts: &[u16], order: &[u16], i: usize) -> Row
     requires inward { Inward concepts.now }
     requires order_len { length order.now ≡ count_of concepts.now }
     requires i_bound { i < count_of concepts.now }
@@ -38,44 +30,37 @@ fn moved_row(concepts: &[u16], order: &[u16], i: usize) -> Moved
 {
     let row = row_at(concepts, i);
     let kind = row.kind;
-    let first = moved_field(order, kind == CONJUNCTION, row.a);
-    let second = moved_field(order, (kind == EXISTENTIAL) | (kind == CONJUNCTION), row.b);
-    Moved {
-        kind,
-        first,
-        second,
-    }
+    let a = moved_field(order, kind == CONJUNCTION, row.a);
+    let b = moved_field(order, (kind == EXISTENTIAL) | (kind == CONJUNCTION), row.b);
+    Row { kind, a, b }
 }
 
 // One of a row's inner ids is not smaller than its own.
-fn is_forward(own: u16, kind: u16, first: u16, second: u16) -> bool
-    ensures { result ≡ forward own (decode kind first second) }
+#[tactic(auto, unfolding(subsumption::specs::Check::forward, subsumption::specs::Tables::or))]
+fn is_forward(own: u16, node: Node) -> bool
+    ensures { result ≡ forward own node }
 {
-    if kind == EXISTENTIAL {
-        return own <= second;
+    match node {
+        Node::Top | Node::Name(_) | Node::Variable(_) => false,
+        Node::Exists(_, j) => own <= j,
+        Node::And(j, k) => own <= j || own <= k,
     }
-    if kind == CONJUNCTION {
-        return own <= first || own <= second;
-    }
-    false
 }
 
 // Check 22.
-pub fn check_rising(concepts: &[u16], order: &[u16]) -> Outcome
+pub fn check_rising(concepts: &[u16], order: &[u16]) -> Result<(), Refusal>
     requires inward { Inward concepts.now }
     requires order_len { length order.now ≡ count_of concepts.now }
     ensures { result ≡ rising_fault concepts.now order.now }
 {
     let count = concepts.len() / 3;
-    let mut i: usize = 0;
-    while i < count {
+    for i in 0..count {
         let row = moved_row(concepts, order, i);
-        if is_forward(order[i], row.kind, row.first, row.second) {
-            return Outcome::Refused(Refusal::ForwardInOrder(i));
+        if is_forward(order[i], Node::from(row)) {
+            return Err(Refusal::ForwardInOrder(i));
         }
-        i += 1;
     }
-    Outcome::Done
+    Ok(())
 }
 
 // The rows, by rising new id.
@@ -90,14 +75,12 @@ pub fn put_rows(concepts: &[u16], order: &[u16], back: &[u16], out: &mut [u16])
         (length (moved_concepts order.now concepts.now)) out.old }
 {
     let count = concepts.len() / 3;
-    let mut k: usize = 0;
-    while k < count {
+    for k in 0..count {
         let at = k * 3;
         let row = moved_row(concepts, order, back[k] as usize);
         out[at] = row.kind;
-        out[at + 1] = row.first;
-        out[at + 2] = row.second;
-        k += 1;
+        out[at + 1] = row.a;
+        out[at + 2] = row.b;
     }
 }
 
@@ -108,9 +91,7 @@ pub fn put_ids(order: &[u16], ids: &[u16], out: &mut [u16])
     ensures { out.new ≡ moved_ids order.now ids.now ++ drop (length (moved_ids order.now ids.now))
         out.old }
 {
-    let mut p: usize = 0;
-    while p < ids.len() {
-        out[p] = moved_field(order, true, ids[p]);
-        p += 1;
+    for (p, id) in ids.iter().enumerate() {
+        out[p] = moved_field(order, true, *id);
     }
 }

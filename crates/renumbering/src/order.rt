@@ -4,30 +4,28 @@ ghost use Rattle.renumbering.specs.Order.{order_fault};
 ghost use Rattle.renumbering.specs.Inner.Order.{Arranges, LeadsBack};
 
 use subsumption::limits::CONCEPTS;
-use subsumption::refusal::{Outcome, Refusal};
+use subsumption::refusal::Refusal;
 
 // Check 21.
-pub fn check_order(order: &[u16], count: usize) -> Outcome
+pub fn check_order(order: &[u16], count: usize) -> Result<(), Refusal>
     requires { count ≤ 192 }
     ensures { result ≡ order_fault count order.now }
 {
     let mut seen = [false; CONCEPTS];
-    let mut m: usize = 0;
-    while m < order.len() {
-        let id = order[m] as usize;
+    for (m, new) in order.iter().enumerate() {
+        let id = *new as usize;
         if count <= id {
-            return Outcome::Refused(Refusal::BadOrder(m));
+            return Err(Refusal::BadOrder(m));
         }
         if seen[id] {
-            return Outcome::Refused(Refusal::BadOrder(m));
+            return Err(Refusal::BadOrder(m));
         }
         seen[id] = true;
-        m += 1;
     }
     if order.len() != count {
-        return Outcome::Refused(Refusal::BadOrder(order.len()));
+        return Err(Refusal::BadOrder(order.len()));
     }
-    Outcome::Done
+    Ok(())
 }
 
 // The old id of each new one.
@@ -37,9 +35,7 @@ pub fn invert(order: &[u16], back: &mut [u16])
     requires back_len { length back.old ≡ 192 }
     ensures { LeadsBack order.now back.new }
 {
-    let mut i: usize = 0;
-    while i < order.len() {
-        back[order[i] as usize] = i as u16;
-        i += 1;
+    for (i, new) in order.iter().enumerate() {
+        back[*new as usize] = i as u16;
     }
 }

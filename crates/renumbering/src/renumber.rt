@@ -6,83 +6,59 @@ ghost use Rattle.renumbering.specs.Renumber.{renumbering_fault, Renumbers};
 
 use crate::moving::{check_rising, put_ids, put_rows};
 use crate::order::{check_order, invert};
-use subsumption::check_tables;
 use subsumption::limits::CONCEPTS;
-use subsumption::refusal::{Outcome, Refusal};
+use subsumption::refusal::Refusal;
+use subsumption::{Tables, check_tables};
 
 // All checks, before anything is written. The sizes are those of the buffers.
 fn check_renumbering(
-    concepts: &[u16],
-    inclusions: &[u16],
-    questions: &[u16],
-    roles: &[u16],
-    variables: u16,
+    tables: Tables,
     order: &[u16],
     concepts_size: usize,
     inclusions_size: usize,
     questions_size: usize,
-) -> Outcome
-    ensures { result ≡ renumbering_fault (lent concepts inclusions questions roles variables)
+) -> Result<(), Refusal>
+    ensures { result ≡ renumbering_fault (lent tables)
         order.now concepts_size inclusions_size questions_size }
 {
-    let checked = check_tables(concepts, inclusions, questions, roles, variables);
-    if let Outcome::Refused(r) = checked {
-        return Outcome::Refused(r);
+    check_tables(tables)?;
+    check_order(order, tables.concepts.len() / 3)?;
+    check_rising(tables.concepts, order)?;
+    if concepts_size < tables.concepts.len() {
+        return Err(Refusal::BufferTooShort(tables.concepts.len()));
     }
-    let listed = check_order(order, concepts.len() / 3);
-    if let Outcome::Refused(r) = listed {
-        return Outcome::Refused(r);
+    if inclusions_size < tables.inclusions.len() {
+        return Err(Refusal::BufferTooShort(tables.inclusions.len()));
     }
-    let rising = check_rising(concepts, order);
-    if let Outcome::Refused(r) = rising {
-        return Outcome::Refused(r);
+    if questions_size < tables.questions.len() {
+        return Err(Refusal::BufferTooShort(tables.questions.len()));
     }
-    if concepts_size < concepts.len() {
-        return Outcome::Refused(Refusal::BufferTooShort(concepts.len()));
-    }
-    if inclusions_size < inclusions.len() {
-        return Outcome::Refused(Refusal::BufferTooShort(inclusions.len()));
-    }
-    if questions_size < questions.len() {
-        return Outcome::Refused(Refusal::BufferTooShort(questions.len()));
-    }
-    Outcome::Done
+    Ok(())
 }
 
 // Writes the renumbered concepts, inclusions and questions, each into its buffer.
 pub fn renumber_tables(
-    concepts: &[u16],
-    inclusions: &[u16],
-    questions: &[u16],
-    roles: &[u16],
-    variables: u16,
+    tables: Tables,
     order: &[u16],
     concepts_out: &mut [u16],
     inclusions_out: &mut [u16],
     questions_out: &mut [u16],
-) -> Outcome
-    ensures { Renumbers (lent concepts inclusions questions roles variables) order.now concepts_out.old
+) -> Result<(), Refusal>
+    ensures { Renumbers (lent tables) order.now concepts_out.old
         concepts_out.new inclusions_out.old inclusions_out.new questions_out.old questions_out.new
         (reply_of result) }
 {
-    let checked = check_renumbering(
-        concepts,
-        inclusions,
-        questions,
-        roles,
-        variables,
+    check_renumbering(
+        tables,
         order,
         concepts_out.len(),
         inclusions_out.len(),
         questions_out.len(),
-    );
-    if let Outcome::Refused(r) = checked {
-        return Outcome::Refused(r);
-    }
+    )?;
     let mut back = [0u16; CONCEPTS];
     invert(order, &mut back);
-    put_rows(concepts, order, &back, concepts_out);
-    put_ids(order, inclusions, inclusions_out);
-    put_ids(order, questions, questions_out);
-    Outcome::Done
+    put_rows(tables.concepts, order, &back, concepts_out);
+    put_ids(order, tables.inclusions, inclusions_out);
+    put_ids(order, tables.questions, questions_out);
+    Ok(())
 }

@@ -1,4 +1,5 @@
 -- Accepted settings, and how the check comes to its answer.
+use Rattle.std.specs.Prelude.{Err}
 use Prim.Native.Nat.{ℕ, ◌<◌, ◌≤◌, ◌^◌}
 use mathlib.Core.Path.{◌≡◌, refl, sym, ap, ◌∙◌}
 use mathlib.Core.Bool.{true, false, not}
@@ -7,11 +8,9 @@ use lib.Dec.{eqb, ltb}
 use lib.ListN.{length, get_or}
 use borrow.Author.Tests.{eqb-true, eq-eqb, ne_eqb, ltb-true, ltb-false, lt-ltb, le-ltb, not-false}
 use Rattle.subsumption.specs.declared.refusal.Refusal.TheVariants.{BadSettings}
-use Rattle.subsumption.specs.declared.refusal.Outcome.{Outcome}
-use Rattle.subsumption.specs.declared.refusal.Outcome.TheVariants.{Done, Refused}
 use Rattle.subsumption.specs.Tables.{Tables, or}
 use Rattle.subsumption.specs.Atoms.{atoms}
-use Rattle.subsumption.specs.Refusal.{first_at}
+use Rattle.subsumption.specs.Refusal.{first_at, Outcome, Done}
 use Rattle.subsumption.proofs.Bools.{or-first, or-second, or-skip, or-false}
 use Rattle.subsumption.proofs.Refusals.{stops, goes_on, refused-if, done-if, passed_first, passed-second, passed-if, passed-at, no-fault}
 use Rattle.settings.specs.Settings.{Settings, faulty_at, settings_fault_at, settings_fault}
@@ -28,11 +27,11 @@ module _ (atomCount : ℕ) (s : Settings) (k : ℕ) where
 
 -- ---- the check
 module _ (atomCount variables : ℕ) (s : Settings) where
-  pub permitted-uneven : (length s.permitted ≡ variables → ⊥) → Refused (BadSettings variables) ≡ settings_fault_at atomCount variables s
+  pub permitted-uneven : (length s.permitted ≡ variables → ⊥) → Err (BadSettings variables) ≡ settings_fault_at atomCount variables s
   unfolding settings_fault_at
   permitted-uneven h = stops _ _ _ _ (refused-if _ _ (or-first _ _ (ap not (ne_eqb _ _ h)))) refl
 
-  pub largest-uneven : (length s.largest ≡ variables → ⊥) → Refused (BadSettings variables) ≡ settings_fault_at atomCount variables s
+  pub largest-uneven : (length s.largest ≡ variables → ⊥) → Err (BadSettings variables) ≡ settings_fault_at atomCount variables s
   unfolding settings_fault_at
   largest-uneven h = stops _ _ _ _ (refused-if _ _ (or-second _ _ (ap not (ne_eqb _ _ h)))) refl
 

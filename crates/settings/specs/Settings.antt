@@ -1,12 +1,13 @@
 -- Settings of the variables (02, A.9: permitted parts and largest counts of the blanks), and their check.
 use Rattle.std.specs.Prelude.{ℕ, ◌<◌, ◌≤◌, ◌^◌, ◌≡◌, List, Bool, true, not, eqb, ltb, length, get_or}
 use Rattle.subsumption.specs.declared.refusal.Refusal.TheVariants.{BadSettings}
-use Rattle.subsumption.specs.declared.refusal.Outcome.{Outcome}
+use denote.Triple.Both.{Both}
+use Rattle.settings.specs.declared.check.Settings.{Settings as Lent}
 use Rattle.subsumption.specs.Lent.{Slices}
 use Rattle.subsumption.specs.Tables.{Tables, or}
 use Rattle.subsumption.specs.Atoms.{atoms, bit}
 use Rattle.subsumption.specs.Table.{counted}
-use Rattle.subsumption.specs.Refusal.{or_else, refuse_if, first_at}
+use Rattle.subsumption.specs.Refusal.{or_else, refuse_if, first_at, Outcome}
 
 -- For each variable the atoms that it may take, in the bits of a choice, and how many of them at most.
 pub record Settings : Type 0 where
@@ -17,8 +18,12 @@ abbrev pub settings : List ℕ → List ℕ → Settings
 settings permitted largest = record { permitted = permitted; largest = largest }
 
 -- The settings that an operation is lent, as they were at the call.
-abbrev pub lent_settings : Slices → Slices → Settings
-lent_settings permitted largest = settings permitted.entry.now largest.entry.now
+abbrev pub lent_settings : Both Lent Lent → Settings
+lent_settings s = settings s.entry.permitted.now s.entry.largest.now
+
+-- The same where they are lent one by one, as C lends them.
+abbrev pub settings_lent_singly : Slices → Slices → Settings
+settings_lent_singly permitted largest = settings permitted.entry.now largest.entry.now
 
 -- How many atoms a choice takes.
 unfoldable pub size : ℕ → ℕ

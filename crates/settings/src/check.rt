@@ -5,37 +5,43 @@ ghost use Rattle.settings.specs.Inner.Check.{Loaded};
 
 use subsumption::helpers::is_past;
 use subsumption::limits::ATOMS;
-use subsumption::refusal::{Outcome, Refusal};
+use subsumption::refusal::Refusal;
+
+// The settings that an operation is lent (02: permitted parts and largest counts): for each variable the atoms that it may take, and how
+// many of them at most.
+#[derive(Clone, Copy)]
+pub struct Settings<'a> {
+    pub permitted: &'a [u64],
+    pub largest: &'a [u16],
+}
 
 // The settings of variable k are faulty.
-fn is_faulty(permitted: &[u64], largest: &[u16], k: usize, atoms: usize) -> bool
+fn is_faulty(settings: Settings, k: usize, atoms: usize) -> bool
     requires atoms_bound { atoms ≤ 64 }
-    requires k_in_bounds { (k < length permitted.now) × (k < length largest.now) }
-    ensures { result ≡ faulty_at atoms (lent_settings permitted largest) k }
+    requires k_in_bounds { (k < length settings.permitted.now) × (k < length settings.largest.now) }
+    ensures { result ≡ faulty_at atoms (lent_settings settings) k }
 {
-    is_past(permitted[k], atoms) || largest[k] as usize > ATOMS
+    is_past(settings.permitted[k], atoms) || settings.largest[k] > ATOMS as u16
 }
 
 // Check 19, given the number of atoms.
-pub fn check_settings(permitted: &[u64], largest: &[u16], variables: u16, atoms: usize) -> Outcome
+pub fn check_settings(settings: Settings, variables: u16, atoms: usize) -> Result<(), Refusal>
     requires { atoms ≤ 64 }
-    ensures { result ≡ settings_fault_at atoms variables (lent_settings permitted largest) }
+    ensures { result ≡ settings_fault_at atoms variables (lent_settings settings) }
 {
     let count = variables as usize;
-    if permitted.len() != count {
-        return Outcome::Refused(Refusal::BadSettings(count));
+    if settings.permitted.len() != count {
+        return Err(Refusal::BadSettings(count));
     }
-    if largest.len() != count {
-        return Outcome::Refused(Refusal::BadSettings(count));
+    if settings.largest.len() != count {
+        return Err(Refusal::BadSettings(count));
     }
-    let mut k: usize = 0;
-    while k < count {
-        if is_faulty(permitted, largest, k, atoms) {
-            return Outcome::Refused(Refusal::BadSettings(k));
+    for k in 0..count {
+        if is_faulty(settings, k, atoms) {
+            return Err(Refusal::BadSettings(k));
         }
-        k += 1;
     }
-    Outcome::Done
+    Ok(())
 }
 
 // The permitted atoms, none past the variables.
@@ -44,10 +50,6 @@ pub fn load_permitted(permitted: &[u64]) -> [u64; 8]
     ensures { Loaded permitted.now result }
 {
     let mut choice = [0u64; 8];
-    let mut k: usize = 0;
-    while k < permitted.len() {
-        choice[k] = permitted[k];
-        k += 1;
-    }
+    choice[..permitted.len()].copy_from_slice(permitted);
     choice
 }

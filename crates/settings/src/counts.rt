@@ -17,14 +17,11 @@ pub fn is_few(most: &[u16], choice: [u64; 8]) -> bool
     requires { (length most.now ≡ 8) × (length choice ≡ 8) }
     ensures { Counted most.now choice result }
 {
-    let mut k: usize = 0;
-    while k < 8 {
-        let v = k;
-        k += 1;
-        if most[v] >= 64 {
+    for k in 0..8 {
+        if most[k] >= 64 {
             continue;
         }
-        if size_of(choice[v]) > most[v] as u32 {
+        if size_of(choice[k]) > most[k] as u32 {
             return false;
         }
     }
@@ -37,54 +34,40 @@ pub fn clamp(most: &[u16], low: [u64; 8], high: [u64; 8]) -> [u64; 8]
     ensures { Clamped most.now low high result }
 {
     let mut inner = high;
-    let mut k: usize = 0;
-    while k < 8 {
-        let v = k;
-        k += 1;
-        if size_of(low[v]) < most[v] as u32 {
+    for k in 0..8 {
+        if size_of(low[k]) < most[k] as u32 {
             continue;
         }
-        inner[v] = low[v];
+        inner[k] = low[k];
     }
     inner
 }
 
-#[derive(Clone, Copy)]
-pub struct Sides {
-    pub low: [u64; 8],
-    pub high: [u64; 8],
-}
-
 // The nogood of a clamped interval as one of the whole: where it leaves out an atom that clamping took away, it is about what the
-// low side takes.
+// low side takes. The nogood's two sides are given and answered.
 pub fn unclamp(
     full: [u64; 8],
     low: [u64; 8],
     high: [u64; 8],
     inner: [u64; 8],
-    nogood: Sides,
-) -> Sides
+    nogood_low: [u64; 8],
+    nogood_high: [u64; 8],
+) -> ([u64; 8], [u64; 8])
     requires full_len { (length full ≡ 8) × (length low ≡ 8) × (length high ≡ 8) × (length inner ≡ 8) }
-    requires low_len { (length nogood.low ≡ 8) × (length nogood.high ≡ 8) }
-    ensures { Unclamped full low high inner nogood.low nogood.high result.low result.high }
+    requires low_len { (length nogood_low ≡ 8) × (length nogood_high ≡ 8) }
+    ensures { Unclamped full low high inner nogood_low nogood_high result.0 result.1 }
 {
-    let mut below = nogood.low;
-    let mut above = nogood.high;
-    let mut k: usize = 0;
-    while k < 8 {
-        let v = k;
-        k += 1;
-        if inner[v] == high[v] {
+    let mut below = nogood_low;
+    let mut above = nogood_high;
+    for k in 0..8 {
+        if inner[k] == high[k] {
             continue;
         }
-        if (high[v] | above[v]) == above[v] {
+        if (high[k] | above[k]) == above[k] {
             continue;
         }
-        below[v] = low[v];
-        above[v] = full[v];
+        below[k] = low[k];
+        above[k] = full[k];
     }
-    Sides {
-        low: below,
-        high: above,
-    }
+    (below, above)
 }

@@ -156,9 +156,6 @@ pub record RowsLoadedTo (bytes : List ℕ) (count n : ℕ) (after : List ℕ) : 
   pub marks : (i j : ℕ) → i < n → j < 192 → in_row after i j ≡ known bytes count i j
 
 module _ (bytes : List ℕ) (count : ℕ) where
-  pub loaded-first : (s : List ℕ) → length s ≡ 1152 → RowsLoadedTo bytes count 0 s
-  loaded-first s n = record { within = omega arith; long = n; marks = λ i j h. absurd (omega arith) }
-
   pub loaded-more : (n : ℕ) (mid after : List ℕ) → n < count → RowsLoadedTo bytes count n mid → RowLoaded bytes count n mid after → RowsLoadedTo bytes count (n + 1) after
   unfolding on_line
   loaded-more n mid after h T R =
@@ -170,9 +167,6 @@ module _ (bytes : List ℕ) (count : ℕ) where
             ⊎_elim (λ (e : i ≡ n). subst (λ (z : ℕ). in_row after z j ≡ known bytes count z j) (sym e) (R.marks j m))
             (λ v. ap (λ (z : ℕ). bit z (j % 64)) (R.there (i * 3 + j / 64) (inl (omega arith))) ∙ T.marks i j v m) (last-cases i n (omega arith));
       }
-
-  pub loaded-done : (n : ℕ) (after : List ℕ) → count ≤ n → RowsLoadedTo bytes count n after → RowsLoaded bytes count after
-  loaded-done n after h T = record { long = T.long; marks = λ i j l. T.marks i j (omega arith) }
 
   pub loaded : (before after : List ℕ) → count ≤ 192 → RowsLoaded bytes count before → Transposed before after → Loaded count bytes after
   unfolding on_line

@@ -74,10 +74,6 @@ pub record StagedTo (by low high : ℕ) (before : List ℕ) (p : ℕ) (after : L
   pub rest : (x : ℕ) → x < 64 → p ≤ pair_of by x → get_or after x 0 ≡ get_or before x 0
 
 module _ (s by low high : ℕ) (E : Exchange s by low high) (before : List ℕ) where
-  pub staged-first : length before ≡ 64 → StagedTo by low high before 0 before
-  staged-first n =
-      record { within = omega arith; long = n; firsts = λ x l h e. absurd (omega arith); seconds = λ x y l h e f. absurd (omega arith); rest = λ x l h. refl }
-
   module _ (p : ℕ) (mid : List ℕ) (T : StagedTo by low high before p mid) (inside : p < 32) (k : ℕ) (is : k ≡ first_of by p) where
     abbrev one : List ℕ
     one = set mid k (first_word by low (get_or mid k 0) (get_or mid (k + by) 0))
@@ -442,9 +438,6 @@ pub record WriteTo (block : List ℕ) (a b : ℕ) (before : List ℕ) (k : ℕ) 
   pub there : (p : ℕ) → ((q : ℕ) → q < 64 → p ≡ 576 + (b * 64 + q) * 3 + a → ⊥) → get_or after p 0 ≡ get_or before p 0
 
 module _ (block : List ℕ) (a b : ℕ) (before : List ℕ) where
-  pub write-first : WriteTo block a b before 0 before
-  write-first = record { within = omega arith; long = refl; words = λ q h. absurd (omega arith); there = λ p h. refl }
-
   pub write-more :
       (k : ℕ) (mid : List ℕ) → k < 64 → a < 3 → b < 3 → length before ≡ 1152 → WriteTo block a b before k mid
       → WriteTo block a b before (k + 1) (set mid (576 + (b * 64 + k) * 3 + a) (get_or block k 0))
@@ -472,9 +465,6 @@ pub record TurnedTo (before : List ℕ) (n : ℕ) (after : List ℕ) : Type 0 wh
   pub rows : (p : ℕ) → p < 576 → get_or after p 0 ≡ get_or before p 0
   pub blocks :
       (m r c : ℕ) → m < n → r < 64 → c < 64 → bit (get_or after (576 + (m % 3 * 64 + c) * 3 + m / 3) 0) r ≡ bit (get_or before ((m / 3 * 64 + r) * 3 + m % 3) 0) c
-
-pub turned-first : (s : List ℕ) → length s ≡ 1152 → TurnedTo s 0 s
-turned-first s n = record { within = omega arith; long = n; rows = λ p h. refl; blocks = λ m r c h. absurd (omega arith) }
 
 module _ (before : List ℕ) (n : ℕ) (mid after block turned-block : List ℕ) (T : TurnedTo before n mid) (h : n < 9) (B : BlockOf mid (n / 3) (n % 3) block)
     (U : Turned block turned-block) (W : BlockSet turned-block (n / 3) (n % 3) mid after) where

@@ -58,10 +58,8 @@ fn load_rows(table: &[u8], count: usize, square: &mut [u64])
     requires count_bound { (count ≤ 192) × (count * 24 ≤ length table.now) }
     ensures { RowsLoaded table.now count square.new }
 {
-    let mut i = 0;
-    while i < count {
+    for i in 0..count {
         load_row(table, count, i, square);
-        i += 1;
     }
 }
 

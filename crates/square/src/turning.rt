@@ -13,14 +13,12 @@ fn stage(block: &mut [u64], s: usize, by: usize, low: u64, high: u64)
     requires exchange { Exchange s by low high }
     ensures { Staged by block.old block.new }
 {
-    let mut p = 0;
-    while p < 32 {
+    for p in 0..32 {
         let k = p + ((p >> s) << s);
         let a = block[k];
         let b = block[k + by];
         block[k] = (a & low) | ((b & low) << by);
         block[k + by] = ((a >> by) & low) | (b & high);
-        p += 1;
     }
 }
 
@@ -43,10 +41,8 @@ fn read_block(square: &[u64], a: usize, b: usize, block: &mut [u64])
     requires a_bound { (a < 3) × (b < 3) }
     ensures { BlockOf square.now a b block.new }
 {
-    let mut k = 0;
-    while k < BLOCK {
+    for k in 0..BLOCK {
         block[k] = square[(a * 64 + k) * 3 + b];
-        k += 1;
     }
 }
 
@@ -57,10 +53,8 @@ fn write_block(block: &[u64], a: usize, b: usize, square: &mut [u64])
     requires a_bound { (a < 3) × (b < 3) }
     ensures { BlockSet block.now a b square.old square.new }
 {
-    let mut k = 0;
-    while k < BLOCK {
+    for k in 0..BLOCK {
         square[COLUMNS + (b * 64 + k) * 3 + a] = block[k];
-        k += 1;
     }
 }
 
@@ -69,13 +63,11 @@ pub fn turn(square: &mut [u64])
     ensures { Transposed square.old square.new }
 {
     let mut block = [0u64; BLOCK];
-    let mut n = 0;
-    while n < 9 {
+    for n in 0..9 {
         let a = n / 3;
         let b = n % 3;
         read_block(square, a, b, &mut block);
         transpose(&mut block);
         write_block(&block, a, b, square);
-        n += 1;
     }
 }

@@ -1,4 +1,5 @@
 -- What passed checks tell of the tables.
+use Rattle.std.specs.Prelude.{Err}
 use Prim.Native.Nat.{ℕ, zero, suc, ◌*◌, ◌%◌, ◌/◌, ◌^◌, ◌<◌, ◌≤◌}
 use mathlib.Core.Path.{◌≡◌, refl, sym, ap, ap₂, ◌∙◌, subst}
 use mathlib.Core.List.{List}
@@ -11,9 +12,7 @@ use lib.Pow.{pow_pos}
 use lib.ListN.{length, get_or, get_or-eq_default}
 use borrow.Author.Tests.{eqb-true, ltb-true, ltb-false, lt-ltb, le-ltb, eq-eqb, ne_eqb, not-false}
 use Rattle.subsumption.specs.declared.refusal.Refusal.TheVariants.{BadAssignment}
-use Rattle.subsumption.specs.declared.refusal.Outcome.{Outcome}
-use Rattle.subsumption.specs.declared.refusal.Outcome.TheVariants.{Done, Refused}
-use Rattle.subsumption.specs.Refusal.{or_else, refuse_if, first_at}
+use Rattle.subsumption.specs.Refusal.{or_else, refuse_if, first_at, Outcome, Done}
 use Rattle.subsumption.specs.declared.tables.Pair.{Pair}
 use Rattle.subsumption.specs.Inner.Tables.{pair_of, Rising}
 use Rattle.subsumption.specs.Tables.{Tables, or, both, Node, top_at, name_at, exists_at, and_at, var_at, node, decode, count_of, pairs_of, left_of, right_of, tree, has_variable}
@@ -220,7 +219,7 @@ bits-past choice atomCount =
     no h e = omega (arith, (div-lt_iff_lt-mul {k = 2 ^ atomCount} {x = choice} {y = 1} (pow_pos atomCount)).0 (omega arith))
 
 module _ (atomCount variables : ℕ) (assignment : List ℕ) where
-  pub wrong-count : (length assignment ≡ variables → ⊥) → Refused (BadAssignment variables) ≡ assignment_fault_at atomCount variables assignment
+  pub wrong-count : (length assignment ≡ variables → ⊥) → Err (BadAssignment variables) ≡ assignment_fault_at atomCount variables assignment
   unfolding assignment_fault_at or_else refuse_if
   wrong-count h = rw (ne_eqb (length assignment) variables h)
 

@@ -1,4 +1,5 @@
 -- The atoms' marks are right: what each pass adds, put together.
+use Rattle.std.specs.Prelude.{Err}
 use Prim.Native.Nat.{ℕ, zero, suc, ◌+◌, ◌<◌, ◌≤◌}
 use mathlib.Core.Path.{◌≡◌, refl, sym, ap, ap₂, ◌∙◌, subst}
 use mathlib.Core.List.{List, [], ◌∷◌}
@@ -8,37 +9,20 @@ use native.Mathlib.Omega.{arith}
 use lib.Dec.{eqb}
 use lib.ListN.{length, get_or, set, length-set, replicate, get_or-replicate, get_or-eq_default}
 use lib.Seq.{get_or-set_same, get_or-set_other}
-use borrow.Author.Tests.{eq-eqb, ne_eqb, eqb-true, lt-ltb, le-ltb, ltb-false}
+use borrow.Author.Tests.{eq-eqb, eqb-true, lt-ltb, le-ltb, ltb-false}
 use Rattle.subsumption.specs.declared.refusal.Refusal.{Refusal}
 use Rattle.subsumption.specs.declared.refusal.Refusal.TheVariants.{TooManyAtoms}
-use Rattle.subsumption.specs.declared.refusal.Outcome.{Outcome}
-use Rattle.subsumption.specs.declared.refusal.Outcome.TheVariants.{Done, Refused}
-use Rattle.subsumption.specs.declared.tables.Row.{Row}
-use Rattle.subsumption.specs.Inner.Tables.{row_of}
-use Rattle.subsumption.specs.Tables.{Tables, tables, or, both, any_below, node, decode, count_of, pairs_of, left_of, right_of, tree, has_variable}
+use Rattle.subsumption.specs.Tables.{Tables, tables, or, both, any_below, node, count_of, pairs_of, left_of, right_of, tree, has_variable}
 use Rattle.subsumption.specs.Atoms.{is_atomic, occurs, in_inclusion, in_question, stands, is_lowest, is_atom, keep, atoms}
-use Rattle.subsumption.specs.Refusal.{or_else, refuse_if}
+use Rattle.subsumption.specs.Refusal.{or_else, refuse_if, Outcome, Done}
 use Rattle.subsumption.specs.Check.{inclusion_fault, sides_fault, roles_fault, atoms_fault, use_fault}
 use Rattle.subsumption.specs.Inner.Atoms.{Known, mark_at, held, VariableSets, MarkedBy, in_pair, on_side, on_ground_right, Spread, Narrowed, StandingMarks, AtomMarks, marked_ids}
 use Rattle.subsumption.specs.Inner.Twins.{LowestTwins, Lowered}
 use Rattle.subsumption.specs.Inner.Check.{Used}
 use Rattle.subsumption.proofs.Bools.{or_cases, or-first, or-second, both_true, both-intro, any_below-intro, any_below-elim, last-cases, le-or-lt, same_bool}
 use Rattle.subsumption.proofs.Refusals.{passed-if, passed-second}
-use Rattle.subsumption.proofs.Marks.{row-node, held-set}
+use Rattle.subsumption.proofs.Marks.{held-set}
 use Rattle.subsumption.proofs.TwinLaws.{twin-same, same-twin, lowest-least, lowest-intro}
-
-pub atomic-name : (k a b : ℕ) → k ≡ 1 → true ≡ is_atomic (decode k a b)
-unfolding is_atomic decode
-atomic-name k a b e = rw e
-
-pub atomic-rest : (k a b : ℕ) → (k ≡ 1 → ⊥) → eqb k 2 ≡ is_atomic (decode k a b)
-unfolding is_atomic decode
-atomic-rest zero a b h = refl
-atomic-rest (suc zero) a b h = absurd (h refl)
-atomic-rest (suc (suc zero)) a b h = refl
-atomic-rest (suc (suc (suc zero))) a b h = refl
-atomic-rest (suc (suc (suc (suc zero)))) a b h = refl
-atomic-rest (suc (suc (suc (suc (suc k))))) a b h = ne_eqb (suc (suc (suc (suc (suc k))))) 2 (λ e. omega arith)
 
 pub record NarrowedTo (concepts : List ℕ) (before marks : List Bool) (p : ℕ) : Type 0 where
   pub long : length marks ≡ 192
@@ -50,10 +34,10 @@ pub narrowed_none : (concepts : List ℕ) (marks : List Bool) → length marks �
 narrowed_none concepts marks l = record { long = l; within = omega arith; done = λ q h. absurd (omega arith); rest = λ q h. refl }
 
 pub narrowed-more :
-    (concepts : List ℕ) (before marks : List Bool) (p : ℕ) (row : Row) (atomic mark : Bool) → NarrowedTo concepts before marks p → p < count_of concepts
-    → count_of concepts ≤ 192 → row ≡ row_of concepts p → atomic ≡ is_atomic (decode row.kind row.a row.b) → mark ≡ both atomic (mark_at marks p)
+    (concepts : List ℕ) (before marks : List Bool) (p : ℕ) (atomic mark : Bool) → NarrowedTo concepts before marks p → p < count_of concepts
+    → count_of concepts ≤ 192 → atomic ≡ is_atomic (node concepts p) → mark ≡ both atomic (mark_at marks p)
     → NarrowedTo concepts before (set marks p mark) (p + 1)
-narrowed-more concepts before marks p row atomic mark s h few e f g =
+narrowed-more concepts before marks p atomic mark s h few f g =
     record {
       long = length-set marks p mark ∙ s.long;
       within = omega arith;
@@ -66,7 +50,7 @@ narrowed-more concepts before marks p row atomic mark s h few e f g =
   where
     here : mark_at (set marks p mark) p ≡ both (is_atomic (node concepts p)) (mark_at before p)
     here =
-        get_or-set_same marks p mark false (omega (arith, s.long)) ∙ g ∙ ap₂ both (f ∙ ap is_atomic (row-node concepts p row e)) (s.rest p (omega arith))
+        get_or-set_same marks p mark false (omega (arith, s.long)) ∙ g ∙ ap₂ both f (s.rest p (omega arith))
 
 pub narrowed-done : (concepts : List ℕ) (before marks : List Bool) (p : ℕ) → NarrowedTo concepts before marks p → count_of concepts ≤ p → Narrowed concepts before marks
 narrowed-done concepts before marks p s h = record { long = s.long; marks = λ q l. s.done q (omega arith) }
@@ -187,7 +171,7 @@ module _ (t : Tables) (x y w : Outcome) (n : ℕ) (marks : List Bool) (ex : x �
   counted : n ≡ length (atoms t)
   counted = en ∙ ap length (atoms-listed t marks m)
 
-  pub use-many : (after : List Bool) → 64 < n → Used t after (Refused TooManyAtoms)
+  pub use-many : (after : List Bool) → 64 < n → Used t after (Err TooManyAtoms)
   unfolding use_fault atoms_fault or_else refuse_if
   use-many after h = record { answered = rw (← ex, hx, ← ey, hy, ← ew, hw, ← counted, lt-ltb 64 n h); marked = λ e. absurd (let z : ◌≡◌ {A = ℕ} 0 1 = cc e in omega arith) }
 
@@ -195,7 +179,7 @@ module _ (t : Tables) (x y w : Outcome) (n : ℕ) (marks : List Bool) (ex : x �
   unfolding use_fault atoms_fault or_else refuse_if
   use-few h = record { answered = rw (← ex, hx, ← ey, hy, ← ew, hw, ← counted, le-ltb 64 n h); marked = λ e. m }
 
-pub use-refused : (t : Tables) (marks : List Bool) (r : Refusal) → Refused r ≡ use_fault t → Used t marks (Refused r)
+pub use-refused : (t : Tables) (marks : List Bool) (r : Refusal) → Err r ≡ use_fault t → Used t marks (Err r)
 use-refused t marks r e = record { answered = e; marked = λ h. absurd (let z : ◌≡◌ {A = ℕ} 0 1 = cc h in omega arith) }
 
 pub used-few : (t : Tables) → use_fault t ≡ Done → length (atoms t) ≤ 64

@@ -1,4 +1,5 @@
 -- From passed checks to the closure, and from its columns to the answer.
+use Rattle.std.specs.Prelude.{Err, Ok, true, false}
 use Prim.Native.Nat.{ℕ, ◌*◌, ◌<◌, ◌≤◌}
 use mathlib.Core.Path.{◌≡◌, refl, sym, ap, ◌∙◌, subst}
 use mathlib.Core.List.{List}
@@ -6,14 +7,11 @@ use mathlib.Core.Bool.{Bool, true, false, not, false≢true}
 use native.Mathlib.Omega.{arith}
 use lib.ListN.{length, get_or, replicate, get_or-replicate, length-replicate}
 use borrow.Author.Tests.{eqb-true, ltb-true, lt-ltb, not-false}
-use Rattle.subsumption.specs.declared.refusal.Outcome.{Outcome}
-use Rattle.subsumption.specs.declared.refusal.Outcome.TheVariants.{Done, Refused}
 use Rattle.subsumption.specs.declared.refusal.Refusal.{Refusal}
-use Rattle.subsumption.specs.declared.decide.Decision.TheVariants.{Yes, No}
 use Rattle.subsumption.specs.Tables.{Tables, tables, var_at, node, count_of}
 use Rattle.subsumption.specs.Atoms.{atoms}
 use Rattle.subsumption.specs.Roles.{wider}
-use Rattle.subsumption.specs.Refusal.{reply_done, reply_refused, reply_with, Replies}
+use Rattle.subsumption.specs.Refusal.{reply_done, reply_refused, reply_with, Replies, Outcome, Done}
 use Rattle.subsumption.specs.Check.{buffer_fault, no_concept, alone_fault, table_fault, pair_fault, assignment_fault_at, assignment_fault}
 use Rattle.subsumption.specs.Inner.Columns.{has, Empty}
 use Rattle.subsumption.specs.Inner.Roles.{LowRoles}
@@ -141,22 +139,22 @@ module _ (t : Tables) (left right : ℕ) (h : pair_fault t left right ≡ Done) 
 
 -- ---- the decision
 module _ (t : Tables) (assignment : List ℕ) (left right : ℕ) where
-  pub decides-refused : (r : Refusal) → Refused r ≡ deciding_fault t assignment left right → Decides t assignment left right (reply_refused r)
+  pub decides-refused : (r : Refusal) → Err r ≡ deciding_fault t assignment left right → Decides t assignment left right (reply_refused r)
   decides-refused r e = subst (λ (f : Outcome). Replies f (Tells t assignment left right) (reply_refused r)) e refl
 
   decides : (value : ℕ) → deciding_fault t assignment left right ≡ Done → Tells t assignment left right value → Decides t assignment left right (reply_done value)
   decides value h s = subst (λ (f : Outcome). Replies f (Tells t assignment left right) (reply_done value)) (sym h) (refl, s)
 
   module _ (columns : List ℕ) (C : ColumnsOf t assignment columns) (h : deciding_fault t assignment left right ≡ Done) (b : Bool) (e : b ≡ has columns left right) where
-    pub decides-yes : b ≡ true → Decides t assignment left right (decision_reply Yes)
+    pub decides-yes : b ≡ true → Decides t assignment left right (decision_reply (Ok true))
     decides-yes y = decides 1 h (C.sound left right (asked-left t assignment left right h) (asked-right t assignment left right h) (sym e ∙ y))
 
-    pub decides-no : b ≡ false → Decides t assignment left right (decision_reply No)
+    pub decides-no : b ≡ false → Decides t assignment left right (decision_reply (Ok false))
     decides-no n = decides 0 h (λ s. false≢true (sym n ∙ e ∙ C.complete left right (asked-left t assignment left right h) (asked-right t assignment left right h) s))
 
 -- ---- writing the table
 module _ (t : Tables) (assignment before : List ℕ) where
-  pub wrote-refused : (r : Refusal) → Refused r ≡ writing_fault t assignment (length before) → Wrote t assignment before before (reply_refused r)
+  pub wrote-refused : (r : Refusal) → Err r ≡ writing_fault t assignment (length before) → Wrote t assignment before before (reply_refused r)
   wrote-refused r e = record { replied = ap (λ (z : Outcome). reply_with z (marks_in (count_of t.concepts) before)) e; left = subst (Left t assignment before before) e refl }
 
   pub wrote-done :
@@ -169,19 +167,19 @@ module _ (t : Tables) (assignment before : List ℕ) where
       → Written columns (count_of t.concepts) before after → TableOf t assignment before after
   table-written columns after h c w = table_of t assignment columns before after (well_formed t h).few c w
 
-  pub table-refused : (r : Refusal) → Refused r ≡ table_fault t → Wrote t assignment before before (reply_refused r)
+  pub table-refused : (r : Refusal) → Err r ≡ table_fault t → Wrote t assignment before before (reply_refused r)
   unfolding writing_fault
-  table-refused r e = wrote-refused r (stops (Refused r) _ _ r e refl)
+  table-refused r e = wrote-refused r (stops (Err r) _ _ r e refl)
 
 module _ (cs is rs : List ℕ) (v : ℕ) (ids assignment before : List ℕ) (x : Outcome) (ex : x ≡ assignment_fault_at (length ids) v assignment) where
-  pub put-choices : (r : Refusal) → x ≡ Refused r → ForAccepted cs is rs v ids (λ t. Wrote t assignment before before (reply_refused r))
+  pub put-choices : (r : Refusal) → x ≡ Err r → ForAccepted cs is rs v ids (λ t. Wrote t assignment before before (reply_refused r))
   unfolding writing_fault
   put-choices r h qs a =
       wrote-refused (tables cs is qs rs v) assignment before r
       (goes_on Done _ _ _ (sym a.passed) refl (stops x _ _ r (choices-fault cs is qs rs v assignment ids a x ex) h))
 
   module _ (hx : x ≡ Done) (y : Outcome) (ey : y ≡ buffer_fault (count_of cs * 24) (length before)) where
-    pub put-room : (r : Refusal) → y ≡ Refused r → ForAccepted cs is rs v ids (λ t. Wrote t assignment before before (reply_refused r))
+    pub put-room : (r : Refusal) → y ≡ Err r → ForAccepted cs is rs v ids (λ t. Wrote t assignment before before (reply_refused r))
     unfolding writing_fault row_start
     put-room r h qs a =
         wrote-refused (tables cs is qs rs v) assignment before r
@@ -199,9 +197,9 @@ module _ (cs is rs : List ℕ) (v : ℕ) (ids assignment before : List ℕ) (x :
 
 -- ---- deciding
 module _ (t : Tables) (assignment : List ℕ) (left right : ℕ) where
-  pub pair-refused : (r : Refusal) → Refused r ≡ pair_fault t left right → Decides t assignment left right (reply_refused r)
+  pub pair-refused : (r : Refusal) → Err r ≡ pair_fault t left right → Decides t assignment left right (reply_refused r)
   unfolding deciding_fault
-  pair-refused r e = decides-refused t assignment left right r (stops (Refused r) _ _ r e refl)
+  pair-refused r e = decides-refused t assignment left right r (stops (Err r) _ _ r e refl)
 
 module _ (cs is rs : List ℕ) (v : ℕ) (ids assignment : List ℕ) (left right : ℕ) (l : left < count_of cs) (k : right < count_of cs)
     (x : Outcome) (ex : x ≡ assignment_fault_at (length ids) v assignment) where
@@ -215,15 +213,15 @@ module _ (cs is rs : List ℕ) (v : ℕ) (ids assignment : List ℕ) (left right
   unfolding deciding_fault
   known-fault qs a = goes_on Done _ _ _ (sym (pair-passes qs a.passed)) refl (choices-fault cs is qs rs v assignment ids a x ex)
 
-  pub known-refused : (r : Refusal) → x ≡ Refused r → ForAccepted cs is rs v ids (λ t. Decides t assignment left right (reply_refused r))
+  pub known-refused : (r : Refusal) → x ≡ Err r → ForAccepted cs is rs v ids (λ t. Decides t assignment left right (reply_refused r))
   known-refused r h qs a = decides-refused (tables cs is qs rs v) assignment left right r (refuses x _ r (known-fault qs a) h)
 
   module _ (hx : x ≡ Done) (columns : List ℕ) (c : Closed cs is (wider rs) (choose_from ids assignment) (replicate 576 0) columns) (b : Bool) (e : b ≡ has columns left right) where
     known : (qs : List ℕ) (a : Accepted (tables cs is qs rs v) ids) → deciding_fault (tables cs is qs rs v) assignment left right ≡ Done
     known qs a = sym (known-fault qs a) ∙ hx
 
-    pub known-yes : b ≡ true → ForAccepted cs is rs v ids (λ t. Decides t assignment left right (decision_reply Yes))
+    pub known-yes : b ≡ true → ForAccepted cs is rs v ids (λ t. Decides t assignment left right (decision_reply (Ok true)))
     known-yes y qs a = decides-yes (tables cs is qs rs v) assignment left right columns (accepted-columns cs is qs rs v assignment ids a _ columns no-columns c) (known qs a) b e y
 
-    pub known-no : b ≡ false → ForAccepted cs is rs v ids (λ t. Decides t assignment left right (decision_reply No))
+    pub known-no : b ≡ false → ForAccepted cs is rs v ids (λ t. Decides t assignment left right (decision_reply (Ok false)))
     known-no n qs a = decides-no (tables cs is qs rs v) assignment left right columns (accepted-columns cs is qs rs v assignment ids a _ columns no-columns c) (known qs a) b e n

@@ -7,10 +7,9 @@ use mathlib.Core.Logic.{⊎_elim}
 use lib.Dec.{ltb, leb}
 use Rattle.subsumption.proofs.Bools.{le-or-lt}
 use borrow.Author.Tests.{lt-ltb, le-ltb, le-leb, lt-leb}
-use Rattle.subsumption.specs.declared.tables.Row.{Row}
 use Rattle.subsumption.specs.declared.tables.Pair.{Pair}
-use Rattle.subsumption.specs.Tables.{or, decode, node, left_of, right_of}
-use Rattle.subsumption.specs.Inner.Tables.{row_of, pair_of}
+use Rattle.subsumption.specs.Tables.{or, decode, left_of, right_of}
+use Rattle.subsumption.specs.Inner.Tables.{pair_of}
 use Rattle.subsumption.specs.Check.{forward, no_concept}
 
 -- the code's test and the paper's
@@ -18,10 +17,6 @@ pub leb-not-ltb : (i j : ℕ) → leb i j ≡ not (ltb j i)
 leb-not-ltb i j = ⊎_elim (λ h. rw (le-leb i j h, le-ltb j i h)) (λ h. rw (lt-leb i j h, lt-ltb j i h)) (le-or-lt i j)
 
 module _ (i k a b : ℕ) where
-  pub exists-inner : k ≡ 2 → leb i b ≡ forward i (decode k a b)
-  unfolding forward decode
-  exists-inner e = rw (e, leb-not-ltb i b)
-
   pub and_first : k ≡ 3 → i ≤ a → true ≡ forward i (decode k a b)
   unfolding forward decode or
   and_first e h = rw (e, le-ltb a i h)
@@ -38,10 +33,6 @@ no_inner i (suc (suc zero)) a b h2 h3 = absurd (h2 refl)
 no_inner i (suc (suc (suc zero))) a b h2 h3 = absurd (h3 refl)
 no_inner i (suc (suc (suc (suc zero)))) a b h2 h3 = refl
 no_inner i (suc (suc (suc (suc (suc k))))) a b h2 h3 = refl
-
-pub row-forward : (cs : List ℕ) (i : ℕ) (row : Row) (r : Bool) → row ≡ row_of cs i → r ≡ forward i (decode row.kind row.a row.b) → forward i (node cs i) ≡ r
-unfolding node
-row-forward cs i row r e h = sym (rw e at h)
 
 module _ (count left right : ℕ) where
   pub no-left : count ≤ left → true ≡ no_concept count left right

@@ -16,13 +16,12 @@ use Rattle.subsumption.specs.Inner.Tables.{Rising}
 use Rattle.subsumption.specs.Atoms.{bit}
 use Rattle.subsumption.specs.Inner.Columns.{has, InThree, Takes}
 use Rattle.subsumption.specs.Inner.Roles.{in_set, RoleSets}
-use Rattle.subsumption.specs.Inner.Names.{FirstNamed, Nameable, Seen, Firsts, IsNamed}
+use Rattle.subsumption.specs.Inner.Names.{FirstNamed, Nameable, Seen, Firsts}
 use Rattle.subsumption.specs.Inner.Links.{Inner, LinkedTo, Inserted, Put, Union, WithInner, WithRole, Existentials, KindsTo, Laid, Sorted}
 use Rattle.subsumption.specs.Inner.Closure.{Ready, Flow, flow-linked, Sound, LinkPass}
-use Rattle.subsumption.proofs.Bools.{le-or-lt, last-cases}
-use Rattle.subsumption.proofs.Nodes.{name-node, exists-node, node-name, node-exists}
+use Rattle.subsumption.proofs.Bools.{last-cases}
+use Rattle.subsumption.proofs.Nodes.{name-node, node-name}
 use Rattle.subsumption.proofs.Bits.{bit-of-zero}
-use Rattle.subsumption.proofs.Columns.{not-both}
 use Rattle.subsumption.proofs.SetLaws.{empty-sets, and-three, in-line, of-line}
 use Rattle.subsumption.proofs.Passes.{pass-none, step-pass}
 
@@ -32,13 +31,6 @@ ready-nameable R = record { few = R.few; low = R.low-names }
 pub ready-inner : {concepts inclusions atoms assignment : List ℕ} → Ready concepts inclusions atoms assignment → Inner concepts
 ready-inner {concepts} R =
     record { few = R.few; known = λ e r x h n. omega (arith, subst (λ (m : Node). Rising e m) n (R.rising e h)); low = R.low-roles }
-
-module _ (concepts : List ℕ) (e : ℕ) where
-  pub inner-low : Inner concepts → e < count_of concepts → get_or concepts (e * 3) 0 ≡ 2 → get_or concepts (e * 3 + 2) 0 < 192
-  inner-low I h kind = omega (arith, I.known e _ _ h (node-exists concepts e kind), I.few)
-
-  pub role-low : Inner concepts → get_or concepts (e * 3) 0 ≡ 2 → get_or concepts (e * 3 + 1) 0 < 100
-  role-low I kind = I.low e _ _ (node-exists concepts e kind)
 
 -- ---- noting the existentials
 pub existentials-none :
@@ -70,7 +62,7 @@ module _ (concepts : List ℕ) (n : ℕ) where
 
   -- one row more that is no existential
   pub existentials-skip :
-      (outer inners lines : List ℕ) → (get_or concepts (n * 3) 0 ≡ 2 → ⊥) → Existentials concepts outer inners lines n → Existentials concepts outer inners lines (n + 1)
+      (outer inners lines : List ℕ) → ((r x : ℕ) → node concepts n ≡ exists_at r x → ⊥) → Existentials concepts outer inners lines n → Existentials concepts outer inners lines (n + 1)
   existentials-skip outer inners lines k E =
       record {
         outer-long = E.outer-long;
@@ -84,28 +76,18 @@ module _ (concepts : List ℕ) (n : ℕ) where
       }
     where
       none-inner : {A : Type 0} (x e : ℕ) → e ≡ n → WithInner concepts (n + 1) x e → A
-      none-inner x e u w = absurd (k (exists-node concepts n w.role x (ap (node concepts) (sym u) ∙ w.row)).0)
+      none-inner x e u w = absurd (k w.role x (ap (node concepts) (sym u) ∙ w.row))
 
       none-role : {A : Type 0} (r e : ℕ) → e ≡ n → WithRole concepts (n + 1) r e → A
-      none-role r e u w = absurd (k (exists-node concepts n r w.inner (ap (node concepts) (sym u) ∙ w.row)).0)
+      none-role r e u w = absurd (k r w.inner (ap (node concepts) (sym u) ∙ w.row))
 
-  module _ (outer inners lines outer' inners' lines' : List ℕ) (E : Existentials concepts outer inners lines n) (k : get_or concepts (n * 3) 0 ≡ 2)
-      (A : Inserted outer outer' (get_or concepts (n * 3 + 2) 0) n) (B : Inserted inners inners' 0 (get_or concepts (n * 3 + 2) 0))
-      (C : Inserted lines lines' (get_or concepts (n * 3 + 1) 0) n) where
-    abbrev inner : ℕ
-    inner = get_or concepts (n * 3 + 2) 0
-
-    abbrev role : ℕ
-    role = get_or concepts (n * 3 + 1) 0
-
-    row : node concepts n ≡ exists_at role inner
-    row = node-exists concepts n k
-
+  module _ (role inner : ℕ) (outer inners lines outer' inners' lines' : List ℕ) (E : Existentials concepts outer inners lines n) (row : node concepts n ≡ exists_at role inner)
+      (A : Inserted outer outer' inner n) (B : Inserted inners inners' 0 inner) (C : Inserted lines lines' role n) where
     same-inner : (x e : ℕ) → e ≡ n → WithInner concepts (n + 1) x e → x ≡ inner
-    same-inner x e u w = let q = ap (node concepts) (sym u) ∙ w.row in sym (exists-node concepts n w.role x q).2
+    same-inner x e u w = let q : node concepts n ≡ exists_at w.role x = ap (node concepts) (sym u) ∙ w.row in cc
 
     same-role : (r e : ℕ) → e ≡ n → WithRole concepts (n + 1) r e → r ≡ role
-    same-role r e u w = let q = ap (node concepts) (sym u) ∙ w.row in sym (exists-node concepts n r w.inner q).1
+    same-role r e u w = let q : node concepts n ≡ exists_at r w.inner = ap (node concepts) (sym u) ∙ w.row in cc
 
     pub existentials-more : Existentials concepts outer' inners' lines' (n + 1)
     existentials-more =
@@ -238,24 +220,15 @@ over-union columns outer inners y set U =
     }
 
 module _ (concepts outer inners kinds : List ℕ) (I : Inner concepts) (f : ℕ) (inside : f < count_of concepts) where
-  pub not-linked : (columns : List ℕ) → (get_or concepts (f * 3) 0 ≡ 2 → ⊥) → LinkPass concepts outer inners kinds (λ wide. LinkedTo concepts wide f) columns columns false
-  not-linked columns ne inclusions wide choose S = pass-none (λ e r y h n l. absurd (ne (exists-node concepts f r y n).0))
+  pub not-linked : (columns : List ℕ) → ((r x : ℕ) → node concepts f ≡ exists_at r x → ⊥) → LinkPass concepts outer inners kinds (λ wide. LinkedTo concepts wide f) columns columns false
+  not-linked columns ne inclusions wide choose S = pass-none (λ e r y h n l. absurd (ne r y n))
 
-  module _ (kind : get_or concepts (f * 3) 0 ≡ 2) (before after : List ℕ) (changed : Bool) (a b c first second third : ℕ)
-      (O : Union outer (λ x. (has before x (get_or concepts (f * 3 + 2) 0) ≡ true) × (has inners x 0 ≡ true)) (InThree a b c))
+  module _ (s y : ℕ) (row-f : node concepts f ≡ exists_at s y) (before after : List ℕ) (changed : Bool) (a b c first second third : ℕ)
+      (O : Union outer (λ x. (has before x y ≡ true) × (has inners x 0 ≡ true)) (InThree a b c))
       (U : Union before
-      (InThree (bit_and a (get_or kinds (get_or concepts (f * 3 + 1) 0 * 3) 0)) (bit_and b (get_or kinds (get_or concepts (f * 3 + 1) 0 * 3 + 1) 0))
-      (bit_and c (get_or kinds (get_or concepts (f * 3 + 1) 0 * 3 + 2) 0))) (InThree first second third))
+      (InThree (bit_and a (get_or kinds (s * 3) 0)) (bit_and b (get_or kinds (s * 3 + 1) 0)) (bit_and c (get_or kinds (s * 3 + 2) 0)))
+      (InThree first second third))
       (T : Takes before after (λ j. j ≡ f) (InThree first second third) changed) where
-    abbrev s : ℕ
-    s = get_or concepts (f * 3 + 1) 0
-
-    abbrev y : ℕ
-    y = get_or concepts (f * 3 + 2) 0
-
-    row-f : node concepts f ≡ exists_at s y
-    row-f = node-exists concepts f kind
-
     pub linked-pass : LinkPass concepts outer inners kinds (λ wide. LinkedTo concepts wide f) before after changed
     linked-pass inclusions wide choose S = step-pass I.few T flows done
       where
@@ -263,7 +236,7 @@ module _ (concepts outer inners kinds : List ℕ) (I : Inner concepts) (f : ℕ)
         low = I.low f s y row-f
 
         row_of : (i r x t z : ℕ) → node concepts i ≡ exists_at r x → node concepts i ≡ exists_at t z → node concepts i ≡ exists_at t x
-        row_of i r x t z p q = q ∙ ap (exists_at t) (sym (exists-node concepts i t z q).2 ∙ (exists-node concepts i r x p).2)
+        row_of i r x t z p q = cc
 
         flows :
             (g : List ℕ) → Sound concepts inclusions wide choose g before → (i j : ℕ) → i < count_of concepts → j < count_of concepts → j ≡ f → InThree first second third i
@@ -281,35 +254,21 @@ module _ (concepts outer inners kinds : List ℕ) (I : Inner concepts) (f : ℕ)
 
         done : ((i j : ℕ) → i < count_of concepts → j ≡ f → InThree first second third i → has before i j ≡ true) → LinkedTo concepts wide f before
         done q e s' y' l n k i h u =
-            let same = exists-node concepts f s' y' n in
+            let same-s : s ≡ s' = cc in
+            let same-y : y ≡ y' = cc in
             let el : e < 192 = omega (arith, I.few) in
             let w : WithInner concepts (count_of concepts) k.from e = record { before = l; role = k.narrow; row = k.row } in
             let xl : k.from < 192 = omega (arith, I.known e _ _ l k.row, I.few) in
-            let found : InThree a b c e = O.every e k.from el xl (subst (λ (z : ℕ). has before k.from z ≡ true) (sym same.2) k.below, S.inners-every k.from e w) (S.outer-every k.from e w) in
-            let of : has kinds e s ≡ true = S.kinds-every s e k.narrow low (subst (λ (z : ℕ). wide k.narrow z ≡ true) (sym same.1) k.counting) (record { before = l; inner = k.from; row = k.row }) in
+            let found : InThree a b c e = O.every e k.from el xl (subst (λ (z : ℕ). has before k.from z ≡ true) (sym same-y) k.below, S.inners-every k.from e w) (S.outer-every k.from e w) in
+            let of : has kinds e s ≡ true = S.kinds-every s e k.narrow low (subst (λ (z : ℕ). wide k.narrow z ≡ true) (sym same-s) k.counting) (record { before = l; inner = k.from; row = k.row }) in
             q i f h refl
             (U.every i e (omega (arith, I.few)) el
             ((and-three a b c (get_or kinds (s * 3) 0) (get_or kinds (s * 3 + 1) 0) (get_or kinds (s * 3 + 2) 0) e el).1 (found, of-line kinds s e el of)) u)
-
--- rows of one name
-module _ (concepts : List ℕ) (k name : ℕ) where
-  pub named-not : (get_or concepts (k * 3) 0 ≡ 1 → ⊥) → IsNamed concepts k name false
-  named-not ne = record { found = λ p. not-both false p refl; none = λ _ n. ne (name-node concepts k name n).0 }
-
-  pub named-same : get_or concepts (k * 3) 0 ≡ 1 → IsNamed concepts k name (eqb (get_or concepts (k * 3 + 1) 0) name)
-  named-same kind =
-      record {
-        found = λ p. node-name concepts k kind ∙ ap name_at (eqb-true (get_or concepts (k * 3 + 1) 0) name p);
-        none = λ p n. eqb-false (get_or concepts (k * 3 + 1) 0) name p (name-node concepts k name n).1;
-      }
 
 -- the first row of each name seen
 module _ (concepts : List ℕ) (j : ℕ) where
   no_name : (get_or concepts (j * 3) 0 ≡ 1 → ⊥) → (n : ℕ) → node concepts j ≡ name_at n → ⊥
   no_name ne n e = ne (name-node concepts j n e).0
-
-  pub first-unnamed : (get_or concepts (j * 3) 0 ≡ 1 → ⊥) → FirstNamed concepts j j
-  first-unnamed ne = record { low = omega arith; named = λ n p. p; least = λ n i p q. absurd (no_name ne n p) }
 
   pub name-low : Nameable concepts → get_or concepts (j * 3) 0 ≡ 1 → get_or concepts (j * 3 + 1) 0 < 1000
   name-low N kind = N.low j _ (node-name concepts j kind)
@@ -323,30 +282,6 @@ module _ (concepts : List ℕ) (j : ℕ) where
 
     of-name : (n : ℕ) → node concepts j ≡ name_at n → n ≡ name
     of-name n p = sym (name-node concepts j n p).1
-
-    pub first-seen :
-        (answer : Bool) → IsNamed concepts (get_or seen (get_or concepts (j * 3 + 1) 0) 0) (get_or concepts (j * 3 + 1) 0) answer → answer ≡ true
-        → FirstNamed concepts j (get_or seen (get_or concepts (j * 3 + 1) 0) 0)
-    first-seen answer I b =
-        record {
-          low = known;
-          named = λ n p. I.found b ∙ ap name_at (sym (of-name n p));
-          least =
-              λ n i p q.
-              ⊎_elim (λ l. omega (arith, known)) (λ l. S.least name i l (q ∙ ap name_at (of-name n p))) (le-or-lt j i);
-        }
-
-    pub first-new :
-        (answer : Bool) → IsNamed concepts (get_or seen (get_or concepts (j * 3 + 1) 0) 0) (get_or concepts (j * 3 + 1) 0) answer → answer ≡ false
-        → FirstNamed concepts j j
-    first-new answer I b =
-        record {
-          low = omega arith;
-          named = λ n p. p;
-          least =
-              λ n i p q.
-              ⊎_elim (λ l. l) (λ l. absurd (I.none b (S.named name i l (q ∙ ap name_at (of-name n p))))) (le-or-lt j i);
-        }
 
     pub seen_more : (k : ℕ) → FirstNamed concepts j k → Seen concepts (j + 1) (set seen (get_or concepts (j * 3 + 1) 0) k)
     seen_more k F =

@@ -1,4 +1,5 @@
 -- Counting the marks of a table.
+use Rattle.subsumption.specs.Refusal.{Done}
 use Prim.Native.Nat.{ℕ, zero, suc, ◌+◌, ◌-◌, ◌*◌, ◌/◌, ◌%◌, ◌^◌, ◌<◌, ◌≤◌}
 use mathlib.Core.Path.{◌≡◌, refl, sym, ap, ap₂, ◌∙◌, subst}
 use mathlib.Core.List.{List}
@@ -14,7 +15,6 @@ use borrow.Author.Tests.{eq-eqb, ne_eqb, eqb-true}
 use Rattle.subsumption.specs.Tables.{Tables, both, count_of}
 use Rattle.subsumption.specs.Atoms.{bit}
 use Rattle.subsumption.specs.Table.{marked, one, counted, total, marks_in, TableOf}
-use Rattle.subsumption.specs.declared.refusal.Outcome.TheVariants.{Done}
 use Rattle.subsumption.specs.Check.{table_fault}
 use Rattle.subsumption.specs.Inner.Columns.{has}
 use Rattle.subsumption.specs.Inner.Rows.{Written}

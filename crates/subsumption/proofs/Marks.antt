@@ -1,21 +1,18 @@
 -- Marks of ids: what each pass over them adds.
-use Prim.Native.Nat.{ℕ, zero, suc, ◌+◌, ◌-◌, ◌*◌, ◌%◌, ◌^◌, ◌<◌, ◌≤◌}
+use Prim.Native.Nat.{ℕ, zero, suc, ◌+◌, ◌-◌, ◌<◌, ◌≤◌}
 use mathlib.Core.Path.{◌≡◌, refl, sym, ap, ap₂, ◌∙◌, subst}
 use mathlib.Core.List.{List}
 use mathlib.Core.Bool.{Bool, true, false, not, false≢true}
 use mathlib.Core.Logic.{◌⊎◌, ⊎_elim}
 use native.Mathlib.Omega.{arith}
 use native.Mathlib.Numerals.{add-one}
-use native.Mathlib.Nat.{eq-or-lt_of_le, one-mul, mod-eq_of_lt}
+use native.Mathlib.Nat.{eq-or-lt_of_le}
 use lib.Dec.{eqb}
-use lib.Bits.{bit_or}
-use lib.Pow.{pow-lt}
 use lib.ListN.{length, get_or, set, length-set}
 use lib.Seq.{get_or-set_same, get_or-set_other}
 use borrow.Author.Tests.{eq-eqb, ne_eqb, eqb-true}
 use Rattle.subsumption.specs.declared.tables.Pair.{Pair}
-use Rattle.subsumption.specs.declared.tables.Row.{Row}
-use Rattle.subsumption.specs.Inner.Tables.{row_of, pair_of, Rising}
+use Rattle.subsumption.specs.Inner.Tables.{pair_of, Rising}
 use Rattle.subsumption.specs.Tables.{or, any_below, Node, top_at, name_at, exists_at, and_at, var_at, node, decode, count_of, pairs_of, left_of, right_of, tree, variables_of, has_variable}
 use Rattle.subsumption.specs.Atoms.{inside, occurs}
 use Rattle.subsumption.specs.Inner.Atoms.{Layered, Known, mark_at, held, set_by, Narrow, VariableSets, in_pair, held_by, MarkedBy, VariableMarks, Spread, in_ground_right}
@@ -42,26 +39,9 @@ module _ (n k a b : ℕ) where
 
 -- ---- which rows hold a variable
 module _ (f : ℕ → Bool) (k a b : ℕ) where
-  pub held-exists : k ≡ 2 → f b ≡ held_by f (decode k a b)
-  unfolding held_by decode
-  held-exists e = rw e
-
   pub held_first : k ≡ 3 → f a ≡ true → true ≡ held_by f (decode k a b)
   unfolding held_by decode
   held_first e h = rw e (sym (or-first (f a) (f b) h))
-
-  pub held-second : k ≡ 3 → f a ≡ false → f b ≡ held_by f (decode k a b)
-  unfolding held_by decode
-  held-second e h = rw e (sym (or-skip (f a) (f b) h))
-
-pub held-rest : (f : ℕ → Bool) (k a b : ℕ) → (k ≡ 2 → ⊥) → (k ≡ 3 → ⊥) → eqb k 4 ≡ held_by f (decode k a b)
-unfolding held_by decode
-held-rest f zero a b h2 h3 = refl
-held-rest f (suc zero) a b h2 h3 = refl
-held-rest f (suc (suc zero)) a b h2 h3 = absurd (h2 refl)
-held-rest f (suc (suc (suc zero))) a b h2 h3 = absurd (h3 refl)
-held-rest f (suc (suc (suc (suc zero)))) a b h2 h3 = refl
-held-rest f (suc (suc (suc (suc (suc k))))) a b h2 h3 = ne_eqb (suc (suc (suc (suc (suc k))))) 4 (λ e. omega arith)
 
 module _ (concepts : List ℕ) (rising : (i : ℕ) → Rising i (node concepts i)) where
   pub held-tree : (f : ℕ → Bool) (i : ℕ) → ((j : ℕ) → j < i → f j ≡ has_variable (tree concepts j)) → held_by f (node concepts i) ≡ has_variable (tree concepts i)
@@ -134,29 +114,6 @@ module _ (questions sets : List ℕ) (marks : List Bool) (m : ℕ) (long : lengt
 
   pub skipped-right : held sets (right_of questions m) ≡ true → MarkedBy (λ q. in_ground_right questions sets q m) marks marks
   skipped-right e = marked-as _ _ _ _ (λ q. sym (both-none _ _ (ap not e))) (marked-none marks long)
-
-module _ (marks : List Bool) (k a b : ℕ) (long : length marks ≡ 192) where
-  pub marked-exists : k ≡ 2 → b < 192 → MarkedBy (λ q. inside (λ j. eqb q j) (decode k a b)) marks (set marks b true)
-  unfolding inside decode
-  marked-exists e h = marked-as _ _ _ _ (λ q. rw e) (marked-one marks b long h)
-
-  pub marked-and : k ≡ 3 → a < 192 → b < 192 → MarkedBy (λ q. inside (λ j. eqb q j) (decode k a b)) marks (set (set marks a true) b true)
-  unfolding inside decode
-  marked-and e ha hb = marked-as _ _ _ _ (λ q. rw e) (marked-two marks a b long ha hb)
-
-no-inside : (f : ℕ → Bool) (k a b : ℕ) → (k ≡ 2 → ⊥) → (k ≡ 3 → ⊥) → false ≡ inside f (decode k a b)
-unfolding inside decode
-no-inside f zero a b h2 h3 = refl
-no-inside f (suc zero) a b h2 h3 = refl
-no-inside f (suc (suc zero)) a b h2 h3 = absurd (h2 refl)
-no-inside f (suc (suc (suc zero))) a b h2 h3 = absurd (h3 refl)
-no-inside f (suc (suc (suc (suc zero)))) a b h2 h3 = refl
-no-inside f (suc (suc (suc (suc (suc k))))) a b h2 h3 = refl
-
-pub marked-rest :
-    (marks : List Bool) (k a b : ℕ) → length marks ≡ 192 → (k ≡ 2 → ⊥) → (k ≡ 3 → ⊥)
-    → MarkedBy (λ q. inside (λ j. eqb q j) (decode k a b)) marks marks
-marked-rest marks k a b long h2 h3 = marked-as _ _ _ _ (λ q. no-inside (λ j. eqb q j) k a b h2 h3) (marked-none marks long)
 
 -- ---- the pass for variables
 pub record VariablesTo (concepts : List ℕ) (marks : List Bool) (i : ℕ) : Type 0 where
@@ -241,19 +198,8 @@ rising-up i n (exists_at r j) h up = omega arith
 rising-up i n (and_at j k) h up = (omega arith, omega arith)
 rising-up i n (var_at k) h up = tt
 
-pub row-node : (concepts : List ℕ) (i : ℕ) (row : Row) → row ≡ row_of concepts i → decode row.kind row.a row.b ≡ node concepts i
-unfolding node
-row-node concepts i row e = rw e
-
-pub row-rising :
-    (concepts : List ℕ) (i n : ℕ) (row : Row) → Layered concepts → i ≤ n → row ≡ row_of concepts i → Rising n (decode row.kind row.a row.b)
-row-rising concepts i n row layered h e = subst (Rising n) (sym (row-node concepts i row e)) (rising-up i n (node concepts i) h (layered.rising i))
-
-pub variables-row :
-    (concepts : List ℕ) (marks : List Bool) (i : ℕ) (row : Row) (held : Bool) → Layered concepts → VariablesTo concepts marks i → i < count_of concepts
-    → row ≡ row_of concepts i → held ≡ held_by (mark_at marks) (decode row.kind row.a row.b) → VariablesTo concepts (set marks i held) (i + 1)
-variables-row concepts marks i row held layered s h e k =
-    variables-more concepts marks i held layered.rising s h (omega (arith, layered.few)) (k ∙ ap (held_by (mark_at marks)) (row-node concepts i row e))
+pub node-rising : (concepts : List ℕ) (i n : ℕ) (m : Node) → Layered concepts → i ≤ n → m ≡ node concepts i → Rising n m
+node-rising concepts i n m layered h e = subst (Rising n) (sym e) (rising-up i n (node concepts i) h (layered.rising i))
 
 -- ---- the pass that spreads marks to inner ids
 pub record Spreading (concepts : List ℕ) (before marks : List Bool) (i : ℕ) : Type 0 where
@@ -330,9 +276,9 @@ module _ (concepts : List ℕ) (layered : Layered concepts) where
         }
 
     pub spreading-more :
-        (row : Row) (after : List Bool) → row ≡ row_of concepts (i - 1) → mark_at marks (i - 1) ≡ true
-        → MarkedBy (λ q. inside (λ k. eqb q k) (decode row.kind row.a row.b)) marks after → Spreading concepts before after (i - 1)
-    spreading-more row after e m r =
+        (w : Node) (after : List Bool) → w ≡ node concepts (i - 1) → mark_at marks (i - 1) ≡ true → MarkedBy (λ q. inside (λ k. eqb q k) w) marks after
+        → Spreading concepts before after (i - 1)
+    spreading-more w after e m r =
         record {
           long = r.long;
           within = omega (arith, s.within);
@@ -347,7 +293,7 @@ module _ (concepts : List ℕ) (layered : Layered concepts) where
         }
       where
         at : (q : ℕ) → mark_at after q ≡ or (inside (λ k. eqb q k) (node concepts (i - 1))) (mark_at marks q)
-        at q = r.marks q ∙ ap (λ (z : Node). or (inside (λ k. eqb q k) z) (mark_at marks q)) (row-node concepts (i - 1) row e)
+        at q = r.marks q ∙ ap (λ (z : Node). or (inside (λ k. eqb q k) z) (mark_at marks q)) e
 
         old : (q : ℕ) → mark_at marks q ≡ true → mark_at after q ≡ true
         old q x = at q ∙ or-second _ _ x
@@ -392,19 +338,6 @@ module _ (concepts : List ℕ) (layered : Layered concepts) where
           }
 
 -- ---- the sets of the variables, row by row
-module _ (f : ℕ → ℕ) (k a b : ℕ) where
-  pub set-exists : k ≡ 2 → f b ≡ set_by f (decode k a b)
-  unfolding set_by decode
-  set-exists e = rw e
-
-  pub set-and : k ≡ 3 → bit_or (f a) (f b) ≡ set_by f (decode k a b)
-  unfolding set_by decode
-  set-and e = rw e
-
-  pub set-variable : (x : ℕ) → k ≡ 4 → x ≡ 2 ^ a → x ≡ set_by f (decode k a b)
-  unfolding set_by decode
-  set-variable x e h = rw e h
-
 pub set_rest : (f : ℕ → ℕ) (k a b : ℕ) → (k ≡ 2 → ⊥) → (k ≡ 3 → ⊥) → (k ≡ 4 → ⊥) → 0 ≡ set_by f (decode k a b)
 unfolding set_by decode
 set_rest f zero a b h2 h3 h4 = refl
@@ -413,14 +346,6 @@ set_rest f (suc (suc zero)) a b h2 h3 h4 = absurd (h2 refl)
 set_rest f (suc (suc (suc zero))) a b h2 h3 h4 = absurd (h3 refl)
 set_rest f (suc (suc (suc (suc zero)))) a b h2 h3 h4 = absurd (h4 refl)
 set_rest f (suc (suc (suc (suc (suc k))))) a b h2 h3 h4 = refl
-
-pub narrow-variable : (k a b : ℕ) → k ≡ 4 → Narrow (decode k a b) → a < 8
-unfolding decode
-narrow-variable k a b e h = subst (λ (z : ℕ). Narrow (decode z a b)) e h
-
--- the bit of a variable, in eight
-pub one-of-eight : (a : ℕ) → a < 8 → 1 * 2 ^ a % 256 ≡ 2 ^ a
-one-of-eight a h = ap (λ (z : ℕ). z % 256) (one-mul (2 ^ a)) ∙ mod-eq_of_lt (pow-lt h)
 
 pub record SetsTo (concepts sets : List ℕ) (i : ℕ) : Type 0 where
   pub long : length sets ≡ 192
@@ -431,9 +356,9 @@ pub sets-none : (concepts sets : List ℕ) → length sets ≡ 192 → SetsTo co
 sets-none concepts sets l = record { long = l; within = omega arith; each = λ j h. absurd (omega arith) }
 
 pub sets-row :
-    (concepts sets : List ℕ) (i : ℕ) (row : Row) (x : ℕ) → Layered concepts → SetsTo concepts sets i → i < count_of concepts → row ≡ row_of concepts i
-    → x ≡ set_by (λ j. get_or sets j 0) (decode row.kind row.a row.b) → SetsTo concepts (set sets i x) (i + 1)
-sets-row concepts sets i row x layered s h e k =
+    (concepts sets : List ℕ) (i x : ℕ) → Layered concepts → SetsTo concepts sets i → i < count_of concepts
+    → x ≡ set_by (λ j. get_or sets j 0) (node concepts i) → SetsTo concepts (set sets i x) (i + 1)
+sets-row concepts sets i x layered s h k =
     record {
       long = length-set sets i x ∙ s.long;
       within = omega arith;
@@ -442,7 +367,7 @@ sets-row concepts sets i row x layered s h e k =
           ⊎_elim
           (λ (q : j ≡ i).
           ap (λ (z : ℕ). get_or (set sets i x) z 0) q ∙ get_or-set_same sets i x 0 (omega (arith, s.long, layered.few)) ∙ k
-          ∙ ap (set_by (λ j. get_or sets j 0)) (row-node concepts i row e) ∙ set-tree concepts layered.rising (λ j. get_or sets j 0) i s.each
+          ∙ set-tree concepts layered.rising (λ j. get_or sets j 0) i s.each
           ∙ ap (λ (z : ℕ). variables_of (tree concepts z)) (sym q))
           (λ n. get_or-set_other sets i j x 0 (λ q. omega arith) ∙ s.each j n)
           (last-cases j i (omega arith));
@@ -451,10 +376,9 @@ sets-row concepts sets i row x layered s h e k =
 pub sets-done : (concepts sets : List ℕ) (i : ℕ) → SetsTo concepts sets i → count_of concepts ≤ i → VariableSets concepts sets
 sets-done concepts sets i s h = record { long = s.long; each = λ j l. s.each j (omega arith) }
 
-pub row-narrow :
-    (concepts : List ℕ) (i : ℕ) (row : Row) → ((j k : ℕ) → node concepts j ≡ var_at k → k < 8) → row ≡ row_of concepts i
-    → Narrow (decode row.kind row.a row.b)
-row-narrow concepts i row few e = subst Narrow (sym (row-node concepts i row e)) (go (node concepts i) refl)
+pub node-narrow :
+    (concepts : List ℕ) (i : ℕ) (m : Node) → ((j k : ℕ) → node concepts j ≡ var_at k → k < 8) → m ≡ node concepts i → Narrow m
+node-narrow concepts i m few e = subst Narrow (sym e) (go (node concepts i) refl)
   where
     go : (m : Node) → node concepts i ≡ m → Narrow m
     go top_at h = tt

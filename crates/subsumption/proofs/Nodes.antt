@@ -4,7 +4,7 @@ use mathlib.Core.Path.{◌≡◌, refl}
 use mathlib.Core.List.{List}
 use native.Mathlib.Omega.{arith}
 use lib.ListN.{get_or}
-use Rattle.subsumption.specs.Tables.{top_at, name_at, exists_at, and_at, var_at, node, decode}
+use Rattle.subsumption.specs.Tables.{name_at, exists_at, and_at, var_at, node, decode}
 
 module _ (concepts : List ℕ) (i : ℕ) where
   pub node-name : get_or concepts (i * 3) 0 ≡ 1 → node concepts i ≡ name_at (get_or concepts (i * 3 + 1) 0)
@@ -22,15 +22,6 @@ module _ (concepts : List ℕ) (i : ℕ) where
   pub node-var : get_or concepts (i * 3) 0 ≡ 4 → node concepts i ≡ var_at (get_or concepts (i * 3 + 1) 0)
   unfolding node decode
   node-var e = rw (e, decode) refl
-
-other-decoded : (kind a b : ℕ) → (kind ≡ 1 → ⊥) → (kind ≡ 2 → ⊥) → (kind ≡ 3 → ⊥) → (kind ≡ 4 → ⊥) → decode kind a b ≡ top_at
-unfolding decode
-other-decoded zero a b p q r s = refl
-other-decoded (suc zero) a b p q r s = absurd (p refl)
-other-decoded (suc (suc zero)) a b p q r s = absurd (q refl)
-other-decoded (suc (suc (suc zero))) a b p q r s = absurd (r refl)
-other-decoded (suc (suc (suc (suc zero)))) a b p q r s = absurd (s refl)
-other-decoded (suc (suc (suc (suc (suc k))))) a b p q r s = refl
 
 name-decoded : (kind a b m : ℕ) → decode kind a b ≡ name_at m → (kind ≡ 1) × (a ≡ m)
 unfolding decode
@@ -69,12 +60,6 @@ var-decoded (suc (suc (suc (suc zero)))) a b k e = (refl, cc)
 var-decoded (suc (suc (suc (suc (suc x))))) a b k e = let z : ◌≡◌ {A = ℕ} 0 1 = cc in absurd (omega arith)
 
 module _ (concepts : List ℕ) (i : ℕ) where
-  pub node-other :
-      (get_or concepts (i * 3) 0 ≡ 1 → ⊥) → (get_or concepts (i * 3) 0 ≡ 2 → ⊥) → (get_or concepts (i * 3) 0 ≡ 3 → ⊥) → (get_or concepts (i * 3) 0 ≡ 4 → ⊥)
-      → node concepts i ≡ top_at
-  unfolding node
-  node-other p q r s = other-decoded _ _ _ p q r s
-
   pub name-node : (m : ℕ) → node concepts i ≡ name_at m → (get_or concepts (i * 3) 0 ≡ 1) × (get_or concepts (i * 3 + 1) 0 ≡ m)
   unfolding node
   name-node m e = name-decoded _ _ _ m e

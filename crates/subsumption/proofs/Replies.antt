@@ -1,12 +1,11 @@
 -- Replies tell their cases apart: a refusal's number is not 0, and number and place give the refusal back.
+use Rattle.std.specs.Prelude.{Err, Ok}
 use Prim.Native.Nat.{ℕ, zero, suc}
 use mathlib.Core.Path.{◌≡◌, refl, sym, ap, ◌∙◌}
 use native.Mathlib.Omega.{arith}
 use Rattle.subsumption.specs.declared.refusal.Refusal.{Refusal}
 use Rattle.subsumption.specs.declared.refusal.Refusal.TheVariants.{Limit, Malformed, ForwardId, NoConcept, VariableInInclusion, VariablesOnBothSides, TooManyAtoms, BufferTooShort, BadAssignment, NoAssignment, NotSubsumed, BadDerivation, BadText, AllowanceSpent, NoCountermodel, BadRole, BadSyntax, TooDeep, BadSettings, BadBatch, BadOrder, ForwardInOrder}
-use Rattle.subsumption.specs.declared.refusal.Outcome.{Outcome}
-use Rattle.subsumption.specs.declared.refusal.Outcome.TheVariants.{Done, Refused}
-use Rattle.subsumption.specs.Refusal.{code_of, Reply, reply_done, reply_refused, reply_with, reply_of}
+use Rattle.subsumption.specs.Refusal.{code_of, Reply, reply_done, reply_refused, reply_with, reply_of, Outcome, Done}
 
 -- the refusal of a number and a place; numbers from 17 on by themselves
 later_at : ℕ → ℕ → Refusal
@@ -99,27 +98,27 @@ same-value m n e = ap (λ (z : Reply). z.value) e
 
 -- what a reply by these checks was
 module _ (fault : Outcome) (n : ℕ) where
-  pub by-refusal : (r : Refusal) → reply_refused r ≡ reply_with fault n → Refused r ≡ fault
+  pub by-refusal : (r : Refusal) → reply_refused r ≡ reply_with fault n → Err r ≡ fault
   by-refusal r e = go fault e
     where
-      go : (f : Outcome) → reply_refused r ≡ reply_with f n → Refused r ≡ f
-      go Done e = not_done r n e
-      go (Refused q) e = ap Refused (same-refusal r q e)
+      go : (f : Outcome) → reply_refused r ≡ reply_with f n → Err r ≡ f
+      go (Ok tt) e = not_done r n e
+      go (Err q) e = ap Err (same-refusal r q e)
 
   pub by_value : (m : ℕ) → reply_done m ≡ reply_with fault n → (fault ≡ Done) × (m ≡ n)
   by_value m e = go fault e
     where
       go : (f : Outcome) → reply_done m ≡ reply_with f n → (f ≡ Done) × (m ≡ n)
-      go Done e = (refl, same-value m n e)
-      go (Refused q) e = not_done q m (sym e)
+      go (Ok tt) e = (refl, same-value m n e)
+      go (Err q) e = not_done q m (sym e)
 
 pub same-reply : (x y : Outcome) → x ≡ y → reply_of x ≡ reply_of y
 same-reply x y e = ap reply_of e
 
-pub same-refused : (r : Refusal) (f : Outcome) → Refused r ≡ f → reply_refused r ≡ reply_of f
+pub same-refused : (r : Refusal) (f : Outcome) → Err r ≡ f → reply_refused r ≡ reply_of f
 same-refused r f e = ap reply_of e
 
-pub with-refused : (r : Refusal) (f : Outcome) (n : ℕ) → Refused r ≡ f → reply_refused r ≡ reply_with f n
+pub with-refused : (r : Refusal) (f : Outcome) (n : ℕ) → Err r ≡ f → reply_refused r ≡ reply_with f n
 with-refused r f n e = ap (λ (z : Outcome). reply_with z n) e
 
 pub with_value : (m : ℕ) (f : Outcome) (n : ℕ) → f ≡ Done → m ≡ n → reply_done m ≡ reply_with f n

@@ -1,12 +1,12 @@
 -- A scan for the lowest place at fault: what is left of it at place i.
+use Rattle.std.specs.Prelude.{Err}
 use Prim.Native.Nat.{ℕ, suc, ◌+◌, ◌-◌, ◌<◌, ◌≤◌}
 use mathlib.Core.Path.{◌≡◌, refl, sym, ◌∙◌, ap}
 use mathlib.Core.Bool.{Bool, true, false}
 use native.Mathlib.Omega.{arith}
 use native.Mathlib.Numerals.{add-one}
 use Rattle.subsumption.specs.declared.refusal.Refusal.{Refusal}
-use Rattle.subsumption.specs.declared.refusal.Outcome.TheVariants.{Done, Refused}
-use Rattle.subsumption.specs.Refusal.{or_else, refuse_if, first_at}
+use Rattle.subsumption.specs.Refusal.{or_else, refuse_if, first_at, Done}
 
 module _ (refusal : ℕ → Refusal) (faulty : ℕ → Bool) (count : ℕ) where
   -- nothing was found below i
@@ -28,7 +28,7 @@ module _ (refusal : ℕ → Refusal) (faulty : ℕ → Bool) (count : ℕ) where
         left = s.left ∙ ap (first_at refusal faulty i) (split i h) ∙ rw e (rw add-one refl);
       }
 
-  pub scan-found : (i : ℕ) → Scan i → i < count → faulty i ≡ true → Refused (refusal i) ≡ first_at refusal faulty 0 count
+  pub scan-found : (i : ℕ) → Scan i → i < count → faulty i ≡ true → Err (refusal i) ≡ first_at refusal faulty 0 count
   unfolding first_at or_else refuse_if
   scan-found i s h e = sym (s.left ∙ ap (first_at refusal faulty i) (split i h) ∙ rw e)
 

@@ -2,19 +2,19 @@
 use Prim.Native.Nat.{ℕ, ◌+◌, ◌*◌, ◌<◌}
 use mathlib.Core.Path.{◌≡◌, refl, sym, subst}
 use mathlib.Core.List.{List, Memᴰ}
-use mathlib.Core.Bool.{Bool, true, false, ◌||◌}
+use mathlib.Core.Bool.{Bool, true, ◌||◌}
 use native.Mathlib.Omega.{arith}
 use lib.ListN.{length, get_or}
-use Rattle.subsumption.specs.Tables.{Node, top_at, name_at, exists_at, and_at, var_at, node, count_of}
+use Rattle.subsumption.specs.Tables.{Node, top_at, name_at, and_at, var_at, node, count_of}
 use Rattle.subsumption.specs.Atoms.{pick}
 use Rattle.subsumption.specs.Inner.Tables.{Rising}
-use Rattle.subsumption.specs.Inner.Columns.{has, Into, Takes, Known}
+use Rattle.subsumption.specs.Inner.Columns.{has, Into, Takes}
 use Rattle.subsumption.specs.Inner.Names.{Firsts}
 use Rattle.subsumption.specs.Inner.Settling.{Settleable, Descended, DescendedBy, Ascended, AscendedBy, choose_from}
 use Rattle.subsumption.specs.Inner.Closure.{Ready, Flow, flow-same, flow-top, flow-named, flow-first, flow-second, flow-meet, flow-chooses, flow-all-chosen, Pass, SettlePass}
-use Rattle.subsumption.proofs.Nodes.{node-name, node-exists, node-and, node-var, and-node, var-node}
+use Rattle.subsumption.proofs.Nodes.{node-and}
 use Rattle.subsumption.proofs.Picks.{ChosenBelow, at-picked}
-use Rattle.subsumption.proofs.Passes.{pass-none, pass-as, pass-then, step-pass, flow-pass}
+use Rattle.subsumption.proofs.Passes.{pass-as, pass-then, step-pass, flow-pass}
 
 pub ready-settleable : {concepts inclusions atoms assignment : List ℕ} → Ready concepts inclusions atoms assignment → Settleable concepts atoms assignment
 ready-settleable R =
@@ -26,9 +26,6 @@ ready-settleable R =
       atoms-known = R.atoms-known;
     }
 
-pub settle-known : {concepts atoms assignment : List ℕ} → Settleable concepts atoms assignment → Known atoms
-settle-known S = record { few = S.few-atoms; low = λ q h. omega (arith, S.atoms-known q h, S.few) }
-
 module _ {concepts atoms assignment : List ℕ} (R : Settleable concepts atoms assignment) (j : ℕ) (inside : j < count_of concepts) where
   rising : {m : Node} → node concepts j ≡ m → Rising j m
   rising {m} e = subst (λ (x : Node). Rising j x) e (R.rising j inside)
@@ -38,9 +35,6 @@ module _ {concepts atoms assignment : List ℕ} (R : Settleable concepts atoms a
 
   pub and_low : get_or concepts (j * 3) 0 ≡ 3 → (get_or concepts (j * 3 + 1) 0 < 192) × (get_or concepts (j * 3 + 2) 0 < 192)
   and_low e = (omega (arith, (rising (node-and concepts j e)).0, R.few), omega (arith, (rising (node-and concepts j e)).1, R.few))
-
-  pub var-low : get_or concepts (j * 3) 0 ≡ 4 → get_or concepts (j * 3 + 1) 0 < length assignment
-  var-low e = R.numbered j _ (node-var concepts j e)
 
 module _ (concepts atoms assignment : List ℕ) (R : Settleable concepts atoms assignment) (j : ℕ) (inside : j < count_of concepts) where
   abbrev pub DescendedPass : List ℕ → List ℕ → Bool → Type 0
@@ -62,33 +56,17 @@ module _ (concepts atoms assignment : List ℕ) (R : Settleable concepts atoms a
       (λ f. f j j inside refl refl)
 
   pub descend-other :
-      (before after : List ℕ) (own : Bool) → (get_or concepts (j * 3) 0 ≡ 3 → ⊥) → (get_or concepts (j * 3) 0 ≡ 4 → ⊥)
+      (before after : List ℕ) (own : Bool) → DescendedBy (count_of concepts) (choose_from atoms assignment) j before (node concepts j)
       → Takes before after (λ x. x ≡ j) (λ i. i ≡ j) own → DescendedPass before after own
-  descend-other before after own p q t inclusions wide = pass-as (marked t) (λ s. descended refl s (none (node concepts j) refl))
-    where
-      none : (m : Node) → node concepts j ≡ m → DescendedBy (count_of concepts) (choose_from atoms assignment) j before m
-      none top_at e = tt
-      none (name_at n) e = tt
-      none (exists_at r x) e = tt
-      none (and_at x y) e = absurd (p (and-node concepts j x y e).0)
-      none (var_at k) e = absurd (q (var-node concepts j k e).0)
+  descend-other before after own none t inclusions wide = pass-as (marked t) (λ s. descended refl s none)
 
   pub descend-and :
-      (before one two after : List ℕ) (own a b : Bool) → get_or concepts (j * 3) 0 ≡ 3 → Takes before one (λ x. x ≡ j) (λ i. i ≡ j) own
-      → Takes one two (λ x. x ≡ get_or concepts (j * 3 + 1) 0) (λ i. has one i j ≡ true) a
-      → Takes two after (λ x. x ≡ get_or concepts (j * 3 + 2) 0) (λ i. has two i j ≡ true) b → DescendedPass before after ((own || a) || b)
-  descend-and before one two after own a b kind t u v inclusions wide =
+      (x y : ℕ) (before one two after : List ℕ) (own a b : Bool) → node concepts j ≡ and_at x y → Takes before one (λ x. x ≡ j) (λ i. i ≡ j) own
+      → Takes one two (λ z. z ≡ x) (λ i. has one i j ≡ true) a → Takes two after (λ z. z ≡ y) (λ i. has two i j ≡ true) b
+      → DescendedPass before after ((own || a) || b)
+  descend-and x y before one two after own a b e t u v inclusions wide =
       pass-as (pass-then (pass-then (marked t) left) right) (λ q. descended e q.0.0 (q.0.1, q.1))
     where
-      x : ℕ
-      x = get_or concepts (j * 3 + 1) 0
-
-      y : ℕ
-      y = get_or concepts (j * 3 + 2) 0
-
-      e : node concepts j ≡ and_at x y
-      e = node-and concepts j kind
-
       left : Pass concepts inclusions wide (choose_from atoms assignment) (λ l. Into (count_of concepts) l j x) one two a
       left = flow-pass j x R.few inside (λ g i h z. flow-first i j x y h inside e z) u
 
@@ -96,17 +74,10 @@ module _ (concepts atoms assignment : List ℕ) (R : Settleable concepts atoms a
       right = flow-pass j y R.few inside (λ g i h z. flow-second i j x y h inside e z) v
 
   pub descend-var :
-      (before one after : List ℕ) (own a : Bool) → get_or concepts (j * 3) 0 ≡ 4 → Takes before one (λ x. x ≡ j) (λ i. i ≡ j) own
-      → Takes one after (λ p. Memᴰ p (pick atoms (get_or assignment (get_or concepts (j * 3 + 1) 0) 0))) (λ i. has one i j ≡ true) a
-      → DescendedPass before after (own || a)
-  descend-var before one after own a kind t u inclusions wide = pass-as (pass-then (marked t) down) (λ q. descended e q.0 q.1)
+      (k : ℕ) (before one after : List ℕ) (own a : Bool) → node concepts j ≡ var_at k → Takes before one (λ x. x ≡ j) (λ i. i ≡ j) own
+      → Takes one after (λ p. Memᴰ p (pick atoms (get_or assignment k 0))) (λ i. has one i j ≡ true) a → DescendedPass before after (own || a)
+  descend-var k before one after own a e t u inclusions wide = pass-as (pass-then (marked t) down) (λ q. descended e q.0 q.1)
     where
-      k : ℕ
-      k = get_or concepts (j * 3 + 1) 0
-
-      e : node concepts j ≡ var_at k
-      e = node-var concepts j kind
-
       down :
           Pass concepts inclusions wide (choose_from atoms assignment)
           (λ l. (p : ℕ) → Memᴰ p (choose_from atoms assignment k) → Into (count_of concepts) l j p) one after a
@@ -124,9 +95,6 @@ module _ (concepts atoms assignment firsts : List ℕ) (R : Settleable concepts 
       → Ascended concepts firsts (choose_from atoms assignment) j columns
   ascended {m} columns e b = subst (λ (x : Node). AscendedBy (count_of concepts) (choose_from atoms assignment) (get_or firsts j 0) j columns x) (sym e) b
 
-  pub ascend-exists : (columns : List ℕ) → get_or concepts (j * 3) 0 ≡ 2 → AscendedPass columns columns false
-  ascend-exists columns e inclusions wide = pass-none (ascended columns (node-exists concepts j e) tt)
-
   pub ascend-top :
       (before after : List ℕ) (a : Bool) → node concepts j ≡ top_at → Takes before after (λ x. x ≡ j) (λ i. Unit {0}) a → AscendedPass before after a
   ascend-top before after a e u inclusions wide =
@@ -135,15 +103,12 @@ module _ (concepts atoms assignment firsts : List ℕ) (R : Settleable concepts 
       (λ f. ascended before e (λ i h. f i j h refl tt))
 
   pub ascend-name :
-      (before one after : List ℕ) (a b : Bool) → get_or concepts (j * 3) 0 ≡ 1
+      (n : ℕ) (before one after : List ℕ) (a b : Bool) → node concepts j ≡ name_at n
       → Takes before one (λ x. x ≡ get_or firsts j 0) (λ i. has before i j ≡ true) a
       → Takes one after (λ x. x ≡ j) (λ i. has one i (get_or firsts j 0) ≡ true) b → AscendedPass before after (a || b)
-  ascend-name before one after a b kind u v inclusions wide = pass-as (pass-then there back) (λ q. ascended before e (q.0, q.1))
+  ascend-name n before one after a b e u v inclusions wide = pass-as (pass-then there back) (λ q. ascended before e (q.0, q.1))
     where
-      e : node concepts j ≡ name_at (get_or concepts (j * 3 + 1) 0)
-      e = node-name concepts j kind
-
-      f : node concepts (get_or firsts j 0) ≡ name_at (get_or concepts (j * 3 + 1) 0)
+      f : node concepts (get_or firsts j 0) ≡ name_at n
       f = (F.each j inside).named _ e
 
       known : get_or firsts j 0 < count_of concepts
@@ -156,26 +121,15 @@ module _ (concepts atoms assignment firsts : List ℕ) (R : Settleable concepts 
       back = flow-pass (get_or firsts j 0) j R.few known (λ g i h w. flow-named i (get_or firsts j 0) j _ h known inside f e w) v
 
   pub ascend-and :
-      (before after : List ℕ) (a : Bool) → get_or concepts (j * 3) 0 ≡ 3
-      → Takes before after (λ x. x ≡ j)
-      (λ i. (has before i (get_or concepts (j * 3 + 1) 0) ≡ true) × (has before i (get_or concepts (j * 3 + 2) 0) ≡ true)) a
-      → AscendedPass before after a
-  ascend-and before after a kind w inclusions wide =
+      (x y : ℕ) (before after : List ℕ) (a : Bool) → node concepts j ≡ and_at x y
+      → Takes before after (λ x. x ≡ j) (λ i. (has before i x ≡ true) × (has before i y ≡ true)) a → AscendedPass before after a
+  ascend-and x y before after a e w inclusions wide =
       step-pass R.few w
       (λ g s i k h l p q.
       subst (λ (z : ℕ). Flow concepts inclusions wide (choose_from atoms assignment) g i z) (sym p)
       (flow-meet i j x y h inside e (s i x h x-known q.0) (s i y h y-known q.1)))
       (λ f. ascended before e (λ i h p q. f i j h refl (p, q)))
     where
-      x : ℕ
-      x = get_or concepts (j * 3 + 1) 0
-
-      y : ℕ
-      y = get_or concepts (j * 3 + 2) 0
-
-      e : node concepts j ≡ and_at x y
-      e = node-and concepts j kind
-
       x-known : x < count_of concepts
       x-known = omega (arith, (rising R j inside e).0)
 
@@ -183,23 +137,16 @@ module _ (concepts atoms assignment firsts : List ℕ) (R : Settleable concepts 
       y-known = omega (arith, (rising R j inside e).1)
 
   pub ascend-var :
-      (before after : List ℕ) (a : Bool) → get_or concepts (j * 3) 0 ≡ 4
-      → Takes before after (λ x. x ≡ j)
-      (λ i. (p : ℕ) → Memᴰ p (pick atoms (get_or assignment (get_or concepts (j * 3 + 1) 0) 0)) → has before i p ≡ true) a
+      (k : ℕ) (before after : List ℕ) (a : Bool) → node concepts j ≡ var_at k
+      → Takes before after (λ x. x ≡ j) (λ i. (p : ℕ) → Memᴰ p (pick atoms (get_or assignment k 0)) → has before i p ≡ true) a
       → AscendedPass before after a
-  ascend-var before after a kind v inclusions wide =
+  ascend-var k before after a e v inclusions wide =
       step-pass R.few v
       (λ g s i x h l p q.
       subst (λ (z : ℕ). Flow concepts inclusions wide (choose_from atoms assignment) g i z) (sym p)
       (flow-all-chosen i j k h inside e (λ z m. s i z h (chosen-known z m) (q z m))))
       (λ f. ascended before e (λ i h q. f i j h refl q))
     where
-      k : ℕ
-      k = get_or concepts (j * 3 + 1) 0
-
-      e : node concepts j ≡ var_at k
-      e = node-var concepts j kind
-
       chosen-known : (z : ℕ) → Memᴰ z (choose_from atoms assignment k) → z < count_of concepts
       chosen-known z m =
           let c : ChosenBelow (length atoms) atoms (get_or assignment k 0) z = at-picked atoms (get_or assignment k 0) z m in

@@ -1,5 +1,5 @@
 -- Keys of rows tell concepts apart; the loops that note the lowest twins and move the marks to them.
-use Prim.Native.Nat.{ℕ, zero, suc, ◌+◌, ◌*◌, ◌%◌, ◌<◌, ◌≤◌}
+use Prim.Native.Nat.{ℕ, suc, ◌+◌, ◌*◌, ◌%◌, ◌<◌, ◌≤◌}
 use mathlib.Core.Path.{◌≡◌, refl, sym, ap, ap₂, ◌∙◌, subst}
 use mathlib.Core.List.{List}
 use mathlib.Core.Bool.{Bool, true, false}
@@ -9,43 +9,15 @@ use lib.Dec.{eqb}
 use lib.ListN.{length, get_or, set, length-set, replicate}
 use lib.Seq.{get_or-set_same, get_or-set_other}
 use borrow.Author.Tests.{eq-eqb, ne_eqb, eqb-true}
-use Rattle.subsumption.specs.declared.tables.Row.{Row}
-use Rattle.subsumption.specs.Tables.{or, both, any_below, Node, top_at, name_at, exists_at, and_at, var_at, decode, node, count_of, name, exists, and, var, shape, tree}
-use Rattle.subsumption.specs.Inner.Tables.{row_of, Rising}
+use Rattle.subsumption.specs.Tables.{or, both, any_below, Node, top_at, name_at, exists_at, and_at, var_at, node, count_of, name, exists, and, var, shape, tree}
+use Rattle.subsumption.specs.Inner.Tables.{Rising}
 use Rattle.subsumption.specs.Inner.Atoms.{Layered, mark_at}
 use Rattle.subsumption.specs.Inner.Twins.{key_of, FirstSame, Slots, LowestTwin, LowestTwins, Lowered}
 use Rattle.subsumption.proofs.Bools.{or-first, or-skip, both_true, both_first, both-second, any_below-elim, last-cases, le-or-lt, eq-or-ne}
 use Rattle.subsumption.proofs.Trees.{tree-eq}
 use Rattle.subsumption.proofs.TwinLaws.{lowest-least, lowest-of}
-use Rattle.subsumption.proofs.Marks.{row-node}
 
 -- ---- keys
-module _ (f : ℕ → ℕ) (k a b r : ℕ) where
-  pub key-name : k ≡ 1 → r ≡ 1 + a * 8 + 0 * 524288 → r ≡ key_of f (decode k a b)
-  unfolding key_of decode
-  key-name e h = rw e (omega arith)
-
-  pub key-exists : k ≡ 2 → r ≡ 2 + a * 8 + f b * 524288 → r ≡ key_of f (decode k a b)
-  unfolding key_of decode
-  key-exists e h = rw e h
-
-  pub key-and : k ≡ 3 → r ≡ 3 + f a * 8 + f b * 524288 → r ≡ key_of f (decode k a b)
-  unfolding key_of decode
-  key-and e h = rw e h
-
-  pub key-var : k ≡ 4 → r ≡ 4 + a * 8 + 0 * 524288 → r ≡ key_of f (decode k a b)
-  unfolding key_of decode
-  key-var e h = rw e (omega arith)
-
-pub key-rest : (f : ℕ → ℕ) (k a b : ℕ) → (k ≡ 1 → ⊥) → (k ≡ 2 → ⊥) → (k ≡ 3 → ⊥) → (k ≡ 4 → ⊥) → 0 ≡ key_of f (decode k a b)
-unfolding key_of decode
-key-rest f zero a b h1 h2 h3 h4 = refl
-key-rest f (suc zero) a b h1 h2 h3 h4 = absurd (h1 refl)
-key-rest f (suc (suc zero)) a b h1 h2 h3 h4 = absurd (h2 refl)
-key-rest f (suc (suc (suc zero))) a b h1 h2 h3 h4 = absurd (h3 refl)
-key-rest f (suc (suc (suc (suc zero)))) a b h1 h2 h3 h4 = absurd (h4 refl)
-key-rest f (suc (suc (suc (suc (suc k))))) a b h1 h2 h3 h4 = refl
-
 key-smaller : (f g : ℕ → ℕ) (i : ℕ) (m : Node) → Rising i m → ((j : ℕ) → j < i → f j ≡ g j) → key_of f m ≡ key_of g m
 unfolding key_of
 key-smaller f g i top_at up h = refl
@@ -240,7 +212,7 @@ twins-none concepts firsts l =
     }
 
 module _ (concepts : List ℕ) (L : Layered concepts) (roles : Roles concepts) (firsts keys slots : List ℕ) (i : ℕ) (T : TwinsTo concepts firsts keys slots i)
-    (l : i < count_of concepts) (row : Row) (e : row ≡ row_of concepts i) (k : ℕ) (f : k ≡ key_of (λ j. get_or firsts j 0) (decode row.kind row.a row.b)) where
+    (l : i < count_of concepts) (k : ℕ) (f : k ≡ key_of (λ j. get_or firsts j 0) (node concepts i)) where
   pub slots_kept : Slots (set keys i k) i slots
   slots_kept =
       record {
@@ -250,7 +222,7 @@ module _ (concepts : List ℕ) (L : Layered concepts) (roles : Roles concepts) (
 
   own_key : get_or (set keys i k) i 0 ≡ key_of (lowest concepts) (node concepts i)
   own_key =
-      get_or-set_same keys i k 0 (omega (arith, T.long-keys, L.few)) ∙ f ∙ ap (key_of (λ j. get_or firsts j 0)) (row-node concepts i row e)
+      get_or-set_same keys i k 0 (omega (arith, T.long-keys, L.few)) ∙ f
       ∙ key-smaller (λ j. get_or firsts j 0) (lowest concepts) i (node concepts i) (L.rising i) T.noted
 
   keyed-more : (q : ℕ) → q < i + 1 → get_or (set keys i k) q 0 ≡ key_of (lowest concepts) (node concepts q)

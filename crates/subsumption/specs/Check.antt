@@ -1,10 +1,9 @@
 -- The checks of tables, pairs, assignments and buffers (01, "Refusal table"), in their order.
 use Rattle.std.specs.Prelude.{ℕ, zero, suc, ◌+◌, ◌*◌, ◌/◌, ◌%◌, ◌^◌, List, Bool, true, false, not, eqb, ltb, length, get_or}
 use Rattle.subsumption.specs.declared.refusal.Refusal.TheVariants.{Limit, Malformed, ForwardId, NoConcept, VariableInInclusion, VariablesOnBothSides, TooManyAtoms, BufferTooShort, BadAssignment, BadRole}
-use Rattle.subsumption.specs.declared.refusal.Outcome.{Outcome}
 use Rattle.subsumption.specs.Tables.{Tables, or, both, Node, top_at, name_at, exists_at, and_at, var_at, node, count_of, pairs_of, left_of, right_of, tree, has_variable}
 use Rattle.subsumption.specs.Atoms.{atoms}
-use Rattle.subsumption.specs.Refusal.{or_else, refuse_if, first_at}
+use Rattle.subsumption.specs.Refusal.{or_else, refuse_if, first_at, Outcome}
 
 -- Check 1: over a count limit, or ragged.
 unfoldable pub unfit : ℕ → ℕ → List ℕ → Bool

@@ -1,18 +1,16 @@
 -- Deciding one pair under an assignment (01, "Operations"): yes, no, or a refusal.
-use Rattle.std.specs.Prelude.{ℕ, zero, suc, List}
-use Rattle.subsumption.specs.declared.refusal.Outcome.{Outcome}
-use Rattle.subsumption.specs.declared.decide.Decision.{Decision}
-use Rattle.subsumption.specs.declared.decide.Decision.TheVariants.{Yes, No, Rejected}
+use Rattle.subsumption.specs.declared.refusal.Refusal.{Refusal}
+use Rattle.std.specs.Prelude.{ℕ, zero, suc, List, Ok, Bool, true, false, Err, Result}
 use Rattle.subsumption.specs.Tables.{Tables}
 use Rattle.subsumption.specs.Subsumption.{Subsumed}
-use Rattle.subsumption.specs.Refusal.{Reply, reply_done, reply_refused, Replies, or_else}
+use Rattle.subsumption.specs.Refusal.{Reply, reply_done, reply_refused, Replies, or_else, Outcome}
 use Rattle.subsumption.specs.Check.{pair_fault, assignment_fault}
 
 -- The value is 1 for yes and 0 for no.
-abbrev pub decision_reply : Decision → Reply
-decision_reply Yes = reply_done 1
-decision_reply No = reply_done 0
-decision_reply (Rejected r) = reply_refused r
+abbrev pub decision_reply : (Result Bool Refusal) → Reply
+decision_reply (Ok true) = reply_done 1
+decision_reply (Ok false) = reply_done 0
+decision_reply (Err r) = reply_refused r
 
 -- A value tells whether the pair is subsumed.
 abbrev pub Tells : Tables → List ℕ → ℕ → ℕ → ℕ → Type 0

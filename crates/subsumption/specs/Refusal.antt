@@ -1,10 +1,15 @@
 -- The refusal table (01): each case's number and place, and how checks are put in order.
-use Rattle.std.specs.Prelude.{ℕ, zero, suc, ◌≡◌, Bool, true, false}
+use Rattle.std.specs.Prelude.{ℕ, zero, suc, ◌≡◌, Bool, true, false, Result, Ok, Err}
 use Rattle.subsumption.specs.declared.refusal.Refusal.{Refusal}
 use Rattle.subsumption.specs.declared.refusal.Refusal.TheVariants.{Limit, Malformed, ForwardId, NoConcept, VariableInInclusion, VariablesOnBothSides, TooManyAtoms, BufferTooShort, BadAssignment, NoAssignment, NotSubsumed, BadDerivation, BadText, AllowanceSpent, NoCountermodel, BadRole, BadSyntax, TooDeep, BadSettings, BadBatch, BadOrder, ForwardInOrder}
-use Rattle.subsumption.specs.declared.refusal.Outcome.{Outcome}
-use Rattle.subsumption.specs.declared.refusal.Outcome.TheVariants.{Done, Refused}
 use Rattle.subsumption.specs.declared.refusal.Code.{Code}
+
+-- What an operation answers that has nothing to give but its work: that it is done, or a refusal.
+abbrev pub Outcome : Type 0
+Outcome = Result (Unit {0}) Refusal
+
+abbrev pub Done : Outcome
+Done = Ok tt
 
 abbrev pub code_of : Refusal → Code
 code_of (Limit place) = record { number = 1; place = place }
@@ -45,25 +50,30 @@ reply_refused r = record { number = (code_of r).number; place = (code_of r).plac
 
 -- The reply of an operation with these checks and this value.
 abbrev pub reply_with : Outcome → ℕ → Reply
-reply_with Done value = reply_done value
-reply_with (Refused r) value = reply_refused r
+reply_with (Ok tt) value = reply_done value
+reply_with (Err r) value = reply_refused r
 
 -- An outcome has no value.
 abbrev pub reply_of : Outcome → Reply
 reply_of outcome = reply_with outcome 0
 
+-- The reply of an operation that answers a number.
+abbrev pub value_reply : Result ℕ Refusal → Reply
+value_reply (Ok value) = reply_done value
+value_reply (Err r) = reply_refused r
+
 -- The reply of an operation with these checks, and a value that is right.
 abbrev pub Replies : Outcome → (ℕ → Type 0) → Reply → Type 0
-Replies Done Right reply = (reply ≡ reply_done reply.value) × Right reply.value
-Replies (Refused r) Right reply = reply ≡ reply_refused r
+Replies (Ok tt) Right reply = (reply ≡ reply_done reply.value) × Right reply.value
+Replies (Err r) Right reply = reply ≡ reply_refused r
 
 -- Checks run in order: the first that refuses decides.
 unfoldable pub or_else : Outcome → Outcome → Outcome
-or_else Done next = next
-or_else (Refused r) next = Refused r
+or_else (Ok tt) next = next
+or_else (Err r) next = Err r
 
 unfoldable pub refuse_if : Bool → Refusal → Outcome
-refuse_if true r = Refused r
+refuse_if true r = Err r
 refuse_if false r = Done
 
 -- Within one check the lowest place wins: the places from `from` on, `count` of them.

@@ -1,13 +1,9 @@
 -- The subsumption table (01: the below table): rows of 24 bytes, bit j of row i says that i is below j.
-use Rattle.std.specs.Prelude.{ℕ, zero, suc, ◌+◌, ◌*◌, ◌/◌, ◌%◌, ◌<◌, ◌≤◌, ◌≡◌, List, Bool, true, false, length, get_or}
-use Rattle.subsumption.specs.declared.table.Tabled.{Tabled}
-use Rattle.subsumption.specs.declared.table.Tabled.TheVariants.{Marks, Rejected}
-use Rattle.subsumption.specs.declared.refusal.Outcome.{Outcome}
-use Rattle.subsumption.specs.declared.refusal.Outcome.TheVariants.{Done, Refused}
+use Rattle.std.specs.Prelude.{ℕ, zero, suc, ◌+◌, ◌*◌, ◌/◌, ◌%◌, ◌<◌, ◌≤◌, ◌≡◌, List, Bool, true, false, length, get_or, Ok, Err}
 use Rattle.subsumption.specs.Tables.{Tables, count_of}
 use Rattle.subsumption.specs.Atoms.{bit}
 use Rattle.subsumption.specs.Subsumption.{Subsumed}
-use Rattle.subsumption.specs.Refusal.{Reply, reply_done, reply_refused, reply_with, or_else}
+use Rattle.subsumption.specs.Refusal.{Reply, reply_with, or_else, Outcome}
 use Rattle.subsumption.specs.Check.{table_fault, assignment_fault, buffer_fault}
 
 -- Where row i starts.
@@ -49,13 +45,8 @@ pub record TableOf (t : Tables) (assignment : List ℕ) (before after : List ℕ
 
 -- A refusal leaves the buffer as it was.
 abbrev pub Left : Tables → List ℕ → List ℕ → List ℕ → Outcome → Type 0
-Left t assignment before after Done = TableOf t assignment before after
-Left t assignment before after (Refused r) = after ≡ before
-
--- The value is how many marks were written.
-abbrev pub tabled_reply : Tabled → Reply
-tabled_reply (Marks n) = reply_done n
-tabled_reply (Rejected r) = reply_refused r
+Left t assignment before after (Ok tt) = TableOf t assignment before after
+Left t assignment before after (Err r) = after ≡ before
 
 pub record Wrote (t : Tables) (assignment : List ℕ) (before after : List ℕ) (reply : Reply) : Type 0 where
   pub replied : reply ≡ reply_with (writing_fault t assignment (length before)) (marks_in (count_of t.concepts) after)

@@ -1,6 +1,8 @@
 -- Tables (01, "Tables"): lent lists of numbers, and the concepts that they stand for.
 use Rattle.std.specs.Prelude.{ℕ, zero, suc, ◌+◌, ◌*◌, ◌/◌, ◌^◌, List, Bool, true, false, not, eqb, length, get_or}
 use Rattle.std.specs.Int.Bits.{bit_or}
+use Rattle.subsumption.specs.declared.tables.Node as Declared
+use Rattle.subsumption.specs.declared.tables.Node.TheVariants.{Top, Name, Exists, And, Variable}
 
 -- The four tables and the number of variables (01: blanks).
 pub record Tables : Type 0 where
@@ -27,13 +29,25 @@ unfoldable pub any_below : ℕ → (ℕ → Bool) → Bool
 any_below zero test = false
 any_below (suc n) test = or (test n) (any_below n test)
 
--- A row of the concept table (01: an entry): top, a name, "some" of a role and an inner id, "and" of two ids, a variable.
-pub data Node : Type 0 where
-  top_at : Node
-  name_at : ℕ → Node
-  exists_at : ℕ → ℕ → Node
-  and_at : ℕ → ℕ → Node
-  var_at : ℕ → Node
+-- A row of the concept table (01: an entry), which the code declares: top, a name, "some" of a role and an inner id, "and" of two ids, a
+-- variable.
+abbrev pub Node : Type 0
+Node = Declared.Node
+
+pattern abbrev pub top_at : Node
+top_at = Top
+
+pattern abbrev pub name_at : ℕ → Node
+name_at n = Name n
+
+pattern abbrev pub exists_at : ℕ → ℕ → Node
+exists_at r j = Exists r j
+
+pattern abbrev pub and_at : ℕ → ℕ → Node
+and_at i j = And i j
+
+pattern abbrev pub var_at : ℕ → Node
+var_at k = Variable k
 
 -- The kinds 0 to 4. Any other kind is refused (check 2) before anything reads it.
 unfoldable pub decode : ℕ → ℕ → ℕ → Node

@@ -1,14 +1,6 @@
 -- Which variables a concept uses (request A.1): the set as an answer, and the variables that stand in a concept.
 use Rattle.std.specs.Prelude.{ℕ, Bool, false, eqb}
-use Rattle.subsumption.specs.declared.variables.VariableSet.{VariableSet}
-use Rattle.subsumption.specs.declared.variables.VariableSet.TheVariants.{Set, Rejected}
 use Rattle.subsumption.specs.Tables.{or, Concept, top, name, exists, and, var}
-use Rattle.subsumption.specs.Refusal.{Reply, reply_done, reply_refused}
-
--- The value is the set.
-abbrev pub variables_reply : VariableSet → Reply
-variables_reply (Set s) = reply_done s
-variables_reply (Rejected r) = reply_refused r
 
 -- Variable k stands in the concept, at any depth.
 unfoldable pub stands_in : ℕ → Concept → Bool

@@ -18,35 +18,29 @@ use crate::closure::columns::flow;
 use crate::closure::links::{link_to, note_existentials, note_kinds};
 use crate::closure::names::note_firsts;
 use crate::closure::settling::{ascend, descend};
-use crate::limits::{CONCEPTS, ROLE_WORDS, WORDS};
+use crate::limits::{CONCEPTS, KIND_WORDS, ROLE_WORDS, SET_WORDS, WORDS};
 use crate::roles::note_roles;
 
 // Of the existentials by role, the words: three a role.
-const KIND_WORDS: usize = 300;
-
 // The inclusions: what is below a left side is below the right side.
-fn include_all(inclusions: &[u16], columns: &mut [u64]) -> bool
+fn include_all(inclusions: &[u16], columns: &mut [u64; WORDS]) -> bool
     requires low_pairs { LowPairs inclusions.now }
-    requires columns_len { length columns.old ≡ columns_size }
     ensures { IncludePass inclusions.now columns.old columns.new result }
 {
     let count = inclusions.len() / 2;
     let mut changed = false;
-    let mut m = 0;
-    while m < count {
+    for m in 0..count {
         let left = inclusions[m * 2] as usize;
         let right = inclusions[m * 2 + 1] as usize;
         let new = flow(columns, left, right);
         changed = changed | new;
-        m += 1;
     }
     changed
 }
 
 // The inclusions until they are quiet: a pass over them costs little beside one over the rows.
-fn include_until_quiet(inclusions: &[u16], columns: &mut [u64]) -> bool
+fn include_until_quiet(inclusions: &[u16], columns: &mut [u64; WORDS]) -> bool
     requires low_pairs { LowPairs inclusions.now }
-    requires columns_len { length columns.old ≡ columns_size }
     ensures { IncludePass inclusions.now columns.old columns.new result }
 {
     let mut changed = false;
@@ -59,17 +53,14 @@ fn include_until_quiet(inclusions: &[u16], columns: &mut [u64]) -> bool
 }
 
 // The steps that lead from a row to smaller ids, in falling order: what is below nested conjunctions comes to all members in one pass.
-fn fall(concepts: &[u16], atoms: &[u16], assignment: &[u64], columns: &mut [u64]) -> bool
+fn fall(concepts: &[u16], atoms: &[u16], assignment: &[u64], columns: &mut [u64; WORDS]) -> bool
     requires settleable { Settleable concepts.now atoms.now assignment.now }
-    requires columns_len { length columns.old ≡ columns_size }
     ensures { SettlePass concepts.now (choose_from atoms.now assignment.now)
         (AllDescended concepts.now (choose_from atoms.now assignment.now))
         columns.old columns.new result }
 {
     let mut changed = false;
-    let mut j = concepts.len() / 3;
-    while 0 < j {
-        j -= 1;
+    for j in (0..concepts.len() / 3).rev() {
         let new = descend(concepts, atoms, assignment, columns, j);
         changed = changed | new;
     }
@@ -82,17 +73,16 @@ fn rise(
     concepts: &[u16],
     atoms: &[u16],
     assignment: &[u64],
-    firsts: &[u16],
-    outer: &[u64],
-    inners: &[u64],
-    kinds: &[u64],
-    columns: &mut [u64],
+    firsts: &[u16; CONCEPTS],
+    outer: &[u64; WORDS],
+    inners: &[u64; SET_WORDS],
+    kinds: &[u64; KIND_WORDS],
+    columns: &mut [u64; WORDS],
 ) -> bool
     requires settleable { Settleable concepts.now atoms.now assignment.now }
     requires firsts { Firsts concepts.now firsts.now }
     requires inner { Inner concepts.now }
     requires laid { Laid outer.now inners.now kinds.now }
-    requires columns_len { length columns.old ≡ columns_size }
     ensures { RisePass concepts.now outer.now inners.now kinds.now
         (choose_from atoms.now assignment.now)
         (λ wide l. AllAscended concepts.now firsts.now (choose_from atoms.now assignment.now) l
@@ -101,13 +91,11 @@ fn rise(
 {
     let count = concepts.len() / 3;
     let mut changed = false;
-    let mut j = 0;
-    while j < count {
+    for j in 0..count {
         let a = ascend(concepts, atoms, assignment, firsts, columns, j);
         let b = link_to(concepts, outer, inners, kinds, columns, j);
         let new = a | b;
         changed = changed | new;
-        j += 1;
     }
     changed
 }
@@ -117,16 +105,15 @@ fn round(
     inclusions: &[u16],
     atoms: &[u16],
     assignment: &[u64],
-    firsts: &[u16],
-    outer: &[u64],
-    inners: &[u64],
-    kinds: &[u64],
-    columns: &mut [u64],
+    firsts: &[u16; CONCEPTS],
+    outer: &[u64; WORDS],
+    inners: &[u64; SET_WORDS],
+    kinds: &[u64; KIND_WORDS],
+    columns: &mut [u64; WORDS],
 ) -> bool
     requires ready { Ready concepts.now inclusions.now atoms.now assignment.now }
     requires firsts { Firsts concepts.now firsts.now }
     requires laid { Laid outer.now inners.now kinds.now }
-    requires columns_len { length columns.old ≡ columns_size }
     ensures { RoundPass concepts.now inclusions.now outer.now inners.now kinds.now
         (choose_from atoms.now assignment.now) firsts.now columns.old columns.new result }
 {
@@ -145,18 +132,17 @@ pub fn close(
     roles: &[u16],
     atoms: &[u16],
     assignment: &[u64],
-    columns: &mut [u64],
+    columns: &mut [u64; WORDS],
 )
     requires ready { Ready concepts.now inclusions.now atoms.now assignment.now }
     requires low_roles { LowRoles roles.now }
-    requires columns_len { length columns.old ≡ columns_size }
     ensures { Closed concepts.now inclusions.now (wider roles.now)
         (choose_from atoms.now assignment.now) columns.old columns.new }
 {
     let mut firsts = [0u16; CONCEPTS];
     note_firsts(concepts, &mut firsts);
     let mut outer = [0u64; WORDS];
-    let mut inners = [0u64; 3];
+    let mut inners = [0u64; SET_WORDS];
     let mut lines = [0u64; WORDS];
     note_existentials(concepts, &mut outer, &mut inners, &mut lines);
     let mut into = [0u64; ROLE_WORDS];

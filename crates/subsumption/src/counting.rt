@@ -5,6 +5,8 @@ ghost use Rattle.subsumption.specs.Table.{counted, total};
 ghost use Rattle.subsumption.specs.Inner.Columns.{has};
 ghost use Rattle.subsumption.specs.Inner.Sizes.{columns_size};
 
+use crate::limits::WORDS;
+
 // The ones among the lowest n bits of a word.
 fn ones_below(word: u64, n: usize) -> usize
     ensures value { result ≡ counted (bit word) n }
@@ -26,8 +28,7 @@ fn past(n: usize, by: usize) -> usize
 }
 
 // The ids below count that are in column j.
-fn ones_in(columns: &[u64], j: usize, count: usize) -> usize
-    requires columns_len { length columns.now ≡ columns_size }
+fn ones_in(columns: &[u64; WORDS], j: usize, count: usize) -> usize
     requires j_bound { j < 192 }
     requires count_bound { count ≤ 192 }
     ensures value { result ≡ counted (λ i. has columns.now i j) count }
@@ -39,16 +40,13 @@ fn ones_in(columns: &[u64], j: usize, count: usize) -> usize
     first + second + third
 }
 
-pub fn count_pairs(columns: &[u64], count: usize) -> usize
-    requires columns_len { length columns.now ≡ columns_size }
+pub fn count_pairs(columns: &[u64; WORDS], count: usize) -> usize
     requires count_bound { count ≤ 192 }
     ensures { result ≡ total (λ j. counted (λ i. has columns.now i j) count) count }
 {
     let mut pairs: usize = 0;
-    let mut j: usize = 0;
-    while j < count {
+    for j in 0..count {
         pairs += ones_in(columns, j, count);
-        j += 1;
     }
     pairs
 }

@@ -9,15 +9,9 @@ use crate::check::check_assignment;
 use crate::closure::close;
 use crate::closure::columns::below;
 use crate::limits::{ATOMS, WORDS};
-use crate::listing::{Listed, list_asked};
-use crate::refusal::{Outcome, Refusal};
-
-#[derive(Clone, Copy)]
-pub enum Decision {
-    Yes,
-    No,
-    Rejected(Refusal),
-}
+use crate::listing::list_asked;
+use crate::refusal::Refusal;
+use crate::tables::Tables;
 
 // Check 9, and then the answer. The atoms were listed when the tables and the pair passed, so no question is read again.
 pub fn decide_known(
@@ -29,52 +23,40 @@ pub fn decide_known(
     assignment: &[u64],
     left: u16,
     right: u16,
-) -> Decision
+) -> Result<bool, Refusal>
     requires prepared { Prepared concepts.now inclusions.now roles.now variables atoms.now }
     requires left_bound { (left < count_of concepts.now) × (right < count_of concepts.now) }
     ensures { ForAccepted concepts.now inclusions.now roles.now variables atoms.now
         (λ t. Decides t assignment.now left right (decision_reply result)) }
 {
-    let choices = check_assignment(assignment, variables, atoms.len());
-    if let Outcome::Refused(r) = choices {
-        return Decision::Rejected(r);
-    }
+    check_assignment(assignment, variables, atoms.len())?;
     let mut columns = [0u64; WORDS];
     close(concepts, inclusions, roles, atoms, assignment, &mut columns);
     if below(&columns, left as usize, right as usize) {
-        return Decision::Yes;
+        return Ok(true);
     }
-    Decision::No
+    Ok(false)
 }
 
 // Decides one pair under an assignment.
 pub fn decide_pair(
-    concepts: &[u16],
-    inclusions: &[u16],
-    questions: &[u16],
-    roles: &[u16],
-    variables: u16,
+    tables: Tables,
     assignment: &[u64],
     left: u16,
     right: u16,
-) -> Decision
-    ensures { Decides (lent concepts inclusions questions roles variables) assignment.now left right (decision_reply result) }
+) -> Result<bool, Refusal>
+    ensures { Decides (lent tables) assignment.now left right (decision_reply result) }
 {
     let mut ids = [0u16; ATOMS];
-    let listed = list_asked(
-        concepts, inclusions, questions, roles, variables, left, right, &mut ids,
-    );
-    match listed {
-        Listed::Rejected(r) => Decision::Rejected(r),
-        Listed::Atoms(count) => decide_known(
-            concepts,
-            inclusions,
-            roles,
-            &ids[..count],
-            variables,
-            assignment,
-            left,
-            right,
-        ),
-    }
+    let count = list_asked(tables, left, right, &mut ids)?;
+    decide_known(
+        tables.concepts,
+        tables.inclusions,
+        tables.roles,
+        &ids[..count],
+        tables.variables,
+        assignment,
+        left,
+        right,
+    )
 }

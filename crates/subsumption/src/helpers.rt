@@ -5,5 +5,5 @@ pub use crate::check::{check_assignment, check_concepts, is_past};
 pub use crate::decide::decide_known;
 pub use crate::listing::list_asked;
 pub use crate::roles::{counts, note_roles};
-pub use crate::tables::{Pair, Row, pair_at, row_at};
+pub use crate::tables::{Node, Pair, Row, node_at, pair_at, row_at};
 pub use crate::variables::write_sets;

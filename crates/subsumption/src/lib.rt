@@ -20,7 +20,8 @@ mod twins;
 mod variables;
 
 pub use check::check_tables;
-pub use decide::{Decision, decide_pair};
-pub use listing::{Listed, list_atoms};
-pub use table::{Tabled, write_table};
-pub use variables::{VariableSet, variables_in};
+pub use decide::decide_pair;
+pub use listing::list_atoms;
+pub use table::write_table;
+pub use tables::Tables;
+pub use variables::variables_in;

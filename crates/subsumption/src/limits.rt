@@ -25,3 +25,9 @@ pub const ROW_BYTES: usize = CONCEPTS / 8;
 
 // Of all columns, the words: three a column.
 pub const WORDS: usize = CONCEPTS * 3;
+
+// A set of ids: three words of 64.
+pub const SET_WORDS: usize = CONCEPTS / 64;
+
+// For each role a set of ids.
+pub const KIND_WORDS: usize = (LAST_ROLE as usize + 1) * SET_WORDS;

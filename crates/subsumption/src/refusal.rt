@@ -30,13 +30,6 @@ pub enum Refusal {
     ForwardInOrder(usize),
 }
 
-// What an operation answers that has nothing to give but its work.
-#[derive(Clone, Copy)]
-pub enum Outcome {
-    Done,
-    Refused(Refusal),
-}
-
 // The paper's number and place.
 #[derive(Clone, Copy)]
 pub struct Code {

@@ -4,7 +4,7 @@ ghost use Rattle.subsumption.specs.Table.{row_start};
 ghost use Rattle.subsumption.specs.Inner.Rows.{exchanged, Transposed, BlockOf, BandOf, Banded, RowWritten, Written};
 ghost use Rattle.subsumption.specs.Inner.Sizes.{columns_size};
 
-use crate::limits::ROW_BYTES;
+use crate::limits::{ROW_BYTES, WORDS};
 
 fn row_start(i: usize) -> usize
     requires { i < 192 }
@@ -48,17 +48,14 @@ fn transpose(x: u64) -> u64
 }
 
 // Of the columns 8 a to 8 a + 7, the byte m of each.
-fn block(columns: &[u64], count: usize, m: usize, a: usize) -> u64
-    requires columns_len { length columns.now ≡ columns_size }
+fn block(columns: &[u64; WORDS], count: usize, m: usize, a: usize) -> u64
     requires m_bound { (m < 24) × (a < 24) }
     ensures { BlockOf columns.now count m a result }
 {
     let mut word: u64 = 0;
-    let mut b = 0;
-    while b < 8 {
+    for b in 0..8 {
         let j = a * 8 + b;
         let place = b * 8;
-        b += 1;
         if count <= j {
             continue;
         }
@@ -68,24 +65,19 @@ fn block(columns: &[u64], count: usize, m: usize, a: usize) -> u64
     word
 }
 
-fn fill_band(columns: &[u64], count: usize, m: usize, band: &mut [u64])
-    requires columns_len { length columns.now ≡ columns_size }
+fn fill_band(columns: &[u64; WORDS], count: usize, m: usize, band: &mut [u64; ROW_BYTES])
     requires m_bound { m < 24 }
-    requires band_len { length band.old ≡ 24 }
     ensures { BandOf columns.now count m band.new }
 {
-    let mut a = 0;
-    while a < ROW_BYTES {
+    for a in 0..ROW_BYTES {
         let word = block(columns, count, m, a);
         let turned = transpose(word);
         band[a] = turned;
-        a += 1;
     }
 }
 
 // The band of row i: every eighth row starts a new one.
-fn renew_band(columns: &[u64], count: usize, i: usize, band: &mut [u64])
-    requires columns_len { length columns.now ≡ columns_size }
+fn renew_band(columns: &[u64; WORDS], count: usize, i: usize, band: &mut [u64; ROW_BYTES])
     requires i_bound { i < 192 }
     requires banded { Banded columns.now count i band.old }
     ensures { BandOf columns.now count (i / 8) band.new }
@@ -96,31 +88,25 @@ fn renew_band(columns: &[u64], count: usize, i: usize, band: &mut [u64])
     fill_band(columns, count, i / 8, band);
 }
 
-fn write_row(band: &[u64], i: usize, out: &mut [u8])
-    requires band_len { length band.now ≡ 24 }
+fn write_row(band: &[u64; ROW_BYTES], i: usize, out: &mut [u8])
     requires i_bound { (i < 192) × (i * 24 + 24 ≤ length out.old) }
     ensures { RowWritten band.now i out.old out.new }
 {
     let start = row_start(i);
     let place = i % 8 * 8;
-    let mut at = 0;
-    while at < ROW_BYTES {
+    for at in 0..ROW_BYTES {
         let byte = (band[at] >> place) % 256;
         out[start + at] = byte as u8;
-        at += 1;
     }
 }
 
-pub fn write_rows(columns: &[u64], count: usize, out: &mut [u8])
-    requires columns_len { length columns.now ≡ columns_size }
+pub fn write_rows(columns: &[u64; WORDS], count: usize, out: &mut [u8])
     requires count_bound { (count ≤ 192) × (count * 24 ≤ length out.old) }
     ensures { Written columns.now count out.old out.new }
 {
     let mut band = [0u64; ROW_BYTES];
-    let mut i = 0;
-    while i < count {
+    for i in 0..count {
         renew_band(columns, count, i, &mut band);
         write_row(&band, i, out);
-        i += 1;
     }
 }

@@ -1,14 +1,13 @@
 // Which ids are twins: of each id the lowest one of its concept. A row has a key, made of its kind, its number and the lowest
 // twins of its inner ids, so that equal keys are equal concepts. Slots by a key's remainder tell where its first row can be.
 ghost use Rattle.std.specs.Prelude.{◌≡◌, ℕ, ◌+◌, ◌*◌, ◌<◌, ◌≤◌, length, get_or};
-ghost use Rattle.subsumption.specs.Tables.{decode, node, exists_at, count_of};
+ghost use Rattle.subsumption.specs.Tables.{node, exists_at, count_of};
 ghost use Rattle.subsumption.specs.Inner.Tables.{Rising};
 ghost use Rattle.subsumption.specs.Inner.Atoms.{Layered};
 ghost use Rattle.subsumption.specs.Inner.Twins.{key_of, FirstSame, Slots, LowestTwins, Lowered};
 
-use crate::kinds::{CONJUNCTION, EXISTENTIAL, NAME, VARIABLE};
 use crate::limits::CONCEPTS;
-use crate::tables::row_at;
+use crate::tables::{Node, node_at};
 
 // A prime, so that keys spread.
 const SLOTS: usize = 1021;
@@ -21,25 +20,18 @@ fn packed(kind: u16, x: u16, y: u16) -> u64
     (kind as u64) + (x as u64) * 8 + (y as u64) * 524288
 }
 
-fn key_of(firsts: &[u16], kind: u16, a: u16, b: u16) -> u64
-    requires { Rising (length firsts.now) (decode kind a b) }
-    ensures { result ≡ key_of (λ j. get_or firsts.now j 0) (decode kind a b) }
+#[tactic(auto, unfolding(crate::specs::Inner::Twins::key_of))]
+fn key_of(firsts: &[u16; CONCEPTS], node: Node) -> u64
+    requires { Rising (length firsts.now) node }
+    ensures { result ≡ key_of (λ j. get_or firsts.now j 0) node }
 {
-    if kind == NAME {
-        return packed(1, a, 0);
+    match node {
+        Node::Top => 0,
+        Node::Name(n) => packed(1, n, 0),
+        Node::Exists(r, j) => packed(2, r, firsts[j as usize]),
+        Node::And(i, j) => packed(3, firsts[i as usize], firsts[j as usize]),
+        Node::Variable(k) => packed(4, k, 0),
     }
-    if kind == EXISTENTIAL {
-        return packed(2, a, firsts[b as usize]);
-    }
-    if kind == CONJUNCTION {
-        let first = firsts[a as usize];
-        let second = firsts[b as usize];
-        return packed(3, first, second);
-    }
-    if kind == VARIABLE {
-        return packed(4, a, 0);
-    }
-    0
 }
 
 // The first place of the i-th key, looked for from a place before which it is not.
@@ -50,12 +42,10 @@ fn first_same(keys: &[u64], from: usize, i: usize) -> usize
     ensures { FirstSame keys.now i result }
 {
     let key = keys[i];
-    let mut q = from;
-    while q < i {
+    for q in from..i {
         if keys[q] == key {
             return q;
         }
-        q += 1;
     }
     i
 }
@@ -78,41 +68,32 @@ fn first_place(keys: &[u64], slots: &mut [u16], i: usize) -> usize
 }
 
 // Inner ids are smaller, so one walk up finds the lowest twin of every id.
-pub fn note_twins(concepts: &[u16], firsts: &mut [u16])
+pub fn note_twins(concepts: &[u16], firsts: &mut [u16; CONCEPTS])
     requires layered { Layered concepts.now }
     requires by_index { (i r j : ℕ) → node concepts.now i ≡ exists_at r j → r < 100 }
-    requires firsts_len { length firsts.old ≡ 192 }
     ensures { LowestTwins concepts.now firsts.new }
 {
     let count = concepts.len() / 3;
     let mut keys = [0u64; CONCEPTS];
     let mut slots = [NO_ROW; SLOTS];
-    let mut i: usize = 0;
-    while i < count {
-        let row = row_at(concepts, i);
-        let key = key_of(firsts, row.kind, row.a, row.b);
+    for i in 0..count {
+        let key = key_of(firsts, node_at(concepts, i));
         keys[i] = key;
         let first = first_place(&keys, &mut slots, i);
         firsts[i] = first as u16;
-        i += 1;
     }
 }
 
 // Each mark moves to the lowest twin. That one is not higher, so one walk up does.
-pub fn keep_lowest(firsts: &[u16], count: usize, marks: &mut [bool])
+pub fn keep_lowest(firsts: &[u16; CONCEPTS], count: usize, marks: &mut [bool; CONCEPTS])
     requires count_bound { count ≤ 192 }
-    requires firsts_len { length firsts.now ≡ 192 }
     requires by_index { (i : ℕ) → i < count → get_or firsts.now i 0 ≤ i }
-    requires marks_len { length marks.old ≡ 192 }
     ensures { Lowered firsts.now count marks.old marks.new }
 {
-    let mut p: usize = 0;
-    while p < count {
-        let id = p;
-        p += 1;
-        if marks[id] {
-            let first = firsts[id] as usize;
-            marks[id] = false;
+    for p in 0..count {
+        if marks[p] {
+            let first = firsts[p] as usize;
+            marks[p] = false;
             marks[first] = true;
         }
     }

@@ -1,11 +1,13 @@
 -- What the walk of accepted tables within accepted settings promises.
-use Rattle.std.specs.Prelude.{ℕ, ◌≤◌, ◌≡◌, List, Bool, true, false, length, take}
-use Rattle.subsumption.specs.declared.refusal.Outcome.TheVariants.{Done}
+use Rattle.subsumption.specs.Refusal.{Done}
+use Rattle.std.specs.Prelude.{ℕ, ◌≤◌, ◌≡◌, List, length, take}
 use Rattle.subsumption.specs.Tables.{Tables}
 use Rattle.subsumption.specs.Check.{assignment_fault}
 use Rattle.settings.specs.Settings.{Settings, Heeds}
 use Rattle.matching.specs.Solving.{Solves}
 use Rattle.matching.specs.Within.{FirstWithin}
+use Rattle.allowance.specs.declared.walk.Ending.{Ending}
+use Rattle.allowance.specs.declared.walk.Ending.TheVariants.{Found, Spent, Absent}
 use Rattle.allowance.specs.Count.{CountOf, Exceeds}
 
 -- The first assignment within the settings that solves, or there is none, with the count; or the count is over the allowance.
@@ -20,7 +22,7 @@ pub record NoneCounted (t : Tables) (settings : Settings) (allowance met : ℕ) 
   pub counted : CountOf t settings met
   pub enough : met ≤ allowance
 
-abbrev pub WalkedBy : Tables → Settings → ℕ → Bool → Bool → List ℕ → ℕ → Type 0
-WalkedBy t settings allowance true spent choice met = FirstCounted t settings allowance choice met
-WalkedBy t settings allowance false true choice met = Exceeds t settings allowance × (met ≡ allowance)
-WalkedBy t settings allowance false false choice met = NoneCounted t settings allowance met
+abbrev pub WalkedBy : Tables → Settings → ℕ → Ending → ℕ → Type 0
+WalkedBy t settings allowance (Found choice) met = FirstCounted t settings allowance choice met
+WalkedBy t settings allowance Spent met = Exceeds t settings allowance × (met ≡ allowance)
+WalkedBy t settings allowance Absent met = NoneCounted t settings allowance met

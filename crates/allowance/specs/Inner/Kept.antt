@@ -1,6 +1,6 @@
 -- What keeping passes and failures promises (src/kept.rt).
+use Rattle.subsumption.specs.Refusal.{Done}
 use Rattle.std.specs.Prelude.{ℕ, ◌+◌, ◌*◌, ◌<◌, ◌≡◌, List, Bool, true, false, ◌⊎◌, length, get_or, take}
-use Rattle.subsumption.specs.declared.refusal.Outcome.TheVariants.{Done}
 use Rattle.subsumption.specs.Tables.{Tables, pairs_of}
 use Rattle.subsumption.specs.Check.{assignment_fault}
 use Rattle.matching.specs.Inner.Search.{Decided, Within}

@@ -1,7 +1,8 @@
 -- Partial choices as words, and the next one that does not extend one (src/place.rt).
-use Rattle.std.specs.Prelude.{ℕ, ◌+◌, ◌*◌, ◌<◌, ◌≤◌, ◌≡◌, List, [], ◌∷◌, Bool, true, false, length}
+use Rattle.std.specs.Prelude.{ℕ, ◌+◌, ◌*◌, ◌<◌, ◌≤◌, ◌≡◌, List, [], ◌∷◌, Bool, true, false, length, Option, Some, None}
 use Rattle.matching.specs.Solving.{takes}
 use Rattle.allowance.specs.Partial.{settled}
+use Rattle.allowance.specs.declared.place.Place.{Place}
 
 -- the words take what is settled so, and of all else what `rest` says
 pub record Side (count : ℕ) (rest : ℕ → ℕ → Bool) (words : List ℕ) (s : List Bool) : Type 0 where
@@ -41,7 +42,10 @@ pub record NextAt (count : ℕ) (permitted low high : List ℕ) (settled₁ : �
   pub many : length (next_of s) ≡ settled₁
 
 -- of whatever partial choice the words are
-abbrev pub NextFrom : ℕ → List ℕ → List ℕ → List ℕ → ℕ → Bool → List ℕ → List ℕ → ℕ → Type 0
-NextFrom count permitted low high many found low₁ high₁ many₁ =
-    (s : List Bool) → Words count permitted low high s → length s ≡ many → (found ≡ has_next s)
-    × (found ≡ true → NextAt count permitted low₁ high₁ many₁ s)
+abbrev pub NextFrom : ℕ → List ℕ → List ℕ → List ℕ → ℕ → Option Place → Type 0
+NextFrom count permitted low high many (Some place) =
+    ((length place.low ≡ 8) × (length place.high ≡ 8) × (place.settled ≤ 8 * count))
+    × ((s : List Bool) → Words count permitted low high s → length s ≡ many → (has_next s ≡ true)
+    × NextAt count permitted place.low place.high place.settled s)
+NextFrom count permitted low high many None =
+    (s : List Bool) → Words count permitted low high s → length s ≡ many → has_next s ≡ false

@@ -1,6 +1,6 @@
 -- What the walk over the partial choices promises (src/walk.rt).
-use Rattle.std.specs.Prelude.{ℕ, suc, ◌*◌, ◌<◌, ◌≤◌, ◌≡◌, List, Bool, true, false, length, get_or}
-use Rattle.subsumption.specs.declared.refusal.Outcome.TheVariants.{Done}
+use Rattle.subsumption.specs.Refusal.{Done}
+use Rattle.std.specs.Prelude.{ℕ, suc, ◌*◌, ◌<◌, ◌≤◌, ◌≡◌, List, Bool, length, get_or}
 use Rattle.subsumption.specs.Tables.{Tables}
 use Rattle.subsumption.specs.Atoms.{atoms}
 use Rattle.settings.specs.Settings.{Settings, settings_fault}
@@ -9,6 +9,8 @@ use Rattle.matching.specs.Inner.Search.{Decided}
 use Rattle.matching.specs.Inner.Search.Problem.{Problem, most_at}
 use Rattle.allowance.specs.Partial.{Open, all_partials}
 use Rattle.allowance.specs.Count.{Stretch, Answered, Exceeds}
+use Rattle.allowance.specs.declared.walk.Ending.{Ending}
+use Rattle.allowance.specs.declared.walk.Ending.TheVariants.{Found, Spent, Absent}
 use Rattle.allowance.specs.Inner.Place.{At}
 use Rattle.allowance.specs.Inner.Kept.{Kept, AllAsked}
 
@@ -38,12 +40,12 @@ pub record FoundAt (t : Tables) (settings : Settings) (permitted choice : List �
   pub first : Answered t settings before s
 
 -- The answer and how many open ones were met up to it; or all of them, without an answer; or one more than the allowance.
-abbrev pub WalkedTo : Tables → Settings → List ℕ → ℕ → ℕ → Bool → Bool → List ℕ → ℕ → Type 0
-WalkedTo t settings permitted count allowance true spent choice met = FoundAt t settings permitted choice count met × (met ≤ allowance)
-WalkedTo t settings permitted count allowance false true choice met = Exceeds t settings allowance × (met ≡ allowance)
-WalkedTo t settings permitted count allowance false false choice met = Stretch t settings (all_partials t) met × (met ≤ allowance)
+abbrev pub WalkedTo : Tables → Settings → List ℕ → ℕ → ℕ → Ending → ℕ → Type 0
+WalkedTo t settings permitted count allowance (Found choice) met = FoundAt t settings permitted choice count met × (met ≤ allowance)
+WalkedTo t settings permitted count allowance Spent met = Exceeds t settings allowance × (met ≡ allowance)
+WalkedTo t settings permitted count allowance Absent met = Stretch t settings (all_partials t) met × (met ≤ allowance)
 
-abbrev pub Walked : List ℕ → List ℕ → List ℕ → ℕ → ℕ → ℕ → Bool → Bool → List ℕ → ℕ → Type 0
-Walked sets problem permitted count pairs allowance found spent choice met =
+abbrev pub Walked : List ℕ → List ℕ → List ℕ → ℕ → ℕ → ℕ → Ending → ℕ → Type 0
+Walked sets problem permitted count pairs allowance ending met =
     (t : Tables) (settings : Settings) → Lent t settings sets problem permitted count → t.variables * count ≡ pairs
-    → WalkedTo t settings permitted count allowance found spent choice met
+    → WalkedTo t settings permitted count allowance ending met

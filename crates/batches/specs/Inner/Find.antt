@@ -2,8 +2,7 @@
 use Rattle.std.specs.Prelude.{ℕ, ◌+◌, ◌*◌, ◌<◌, ◌≤◌, ◌≡◌, List, ◌⊎◌, length, get_or}
 use Rattle.subsumption.specs.declared.refusal.Code.{Code}
 use Rattle.subsumption.specs.Tables.{Tables}
-use Rattle.subsumption.specs.Refusal.{Reply}
-use Rattle.matching.specs.declared.find.Match.{Match}
+use Rattle.subsumption.specs.Refusal.{Reply, Outcome}
 use Rattle.allowance.specs.Find.{reply_by, FindsCounted}
 use Rattle.batches.specs.Batch.{unrestricted, stretch}
 
@@ -18,5 +17,5 @@ pub record FindsAt (t : Tables) (allowance k : ℕ) (before after : List ℕ) (r
   pub only : OnStretch t.variables k before after
 
 -- The number and the place of an answer, whatever its count.
-abbrev pub Coded : Match → Code → Type 0
+abbrev pub Coded : Outcome → Code → Type 0
 Coded answer code = (count : ℕ) → reply_by answer count ≡ record { number = code.number; place = code.place; value = count }

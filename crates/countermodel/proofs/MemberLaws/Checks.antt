@@ -1,4 +1,6 @@
 -- The checks of a given interpretation: when each refuses, and what a passed one tells.
+use Rattle.std.specs.Prelude.{Err}
+use Rattle.subsumption.specs.Refusal.{Done}
 use Prim.Native.Nat.{ℕ, zero, suc, ◌%◌, ◌<◌, ◌≤◌}
 use mathlib.Core.Path.{◌≡◌, refl, sym, ap, ◌∙◌}
 use mathlib.Core.List.{List}
@@ -8,7 +10,6 @@ use lib.Dec.{eqb, ltb, leb}
 use lib.ListN.{length}
 use borrow.Author.Tests.{eq-eqb, ne_eqb, lt-ltb, le-ltb, eqb-true, ltb-true, ltb-false, not-false}
 use Rattle.subsumption.specs.declared.refusal.Refusal.TheVariants.{Limit, NoConcept}
-use Rattle.subsumption.specs.declared.refusal.Outcome.TheVariants.{Done, Refused}
 use Rattle.subsumption.specs.Tables.{or}
 use Rattle.subsumption.proofs.Bools.{or-first, or-second, or-false, or-skip}
 use Rattle.subsumption.proofs.Forward.{leb-not-ltb}
@@ -20,15 +21,15 @@ use Rattle.countermodel.proofs.RowMembers.{kind-at}
 
 -- ---- check 1
 module _ (size : ℕ) (rows : List ℕ) where
-  pub size_none : size ≡ 0 → Refused (Limit 0) ≡ size_fault size rows
+  pub size_none : size ≡ 0 → Err (Limit 0) ≡ size_fault size rows
   unfolding size_fault
   size_none e = refused-if _ _ (or-first _ _ (eq-eqb size 0 e))
 
-  pub size-over : 192 < size → Refused (Limit 0) ≡ size_fault size rows
+  pub size-over : 192 < size → Err (Limit 0) ≡ size_fault size rows
   unfolding size_fault
   size-over h = refused-if _ _ (or-second (eqb size 0) _ (or-first _ _ (lt-ltb 192 size h)))
 
-  pub size-ragged : (length rows % 4 ≡ 0 → ⊥) → Refused (Limit 0) ≡ size_fault size rows
+  pub size-ragged : (length rows % 4 ≡ 0 → ⊥) → Err (Limit 0) ≡ size_fault size rows
   unfolding size_fault
   size-ragged h = refused-if _ _ (or-second (eqb size 0) _ (or-second (ltb 192 size) _ (ap not (ne_eqb _ 0 h))))
 
@@ -110,11 +111,11 @@ low_rows size rows s h =
 
 -- ---- check 4
 module _ (count size concept element : ℕ) where
-  pub no-concept : count ≤ concept → Refused (NoConcept 0) ≡ element_fault count size concept element
+  pub no-concept : count ≤ concept → Err (NoConcept 0) ≡ element_fault count size concept element
   unfolding element_fault
   no-concept h = stops _ _ _ _ (refused-if _ (NoConcept 0) (ap not (le-ltb concept count h))) refl
 
-  pub no-element : concept < count → size ≤ element → Refused (NoConcept 1) ≡ element_fault count size concept element
+  pub no-element : concept < count → size ≤ element → Err (NoConcept 1) ≡ element_fault count size concept element
   unfolding element_fault
   no-element h l =
       goes_on Done _ _ _ (done-if _ (NoConcept 0) (ap not (lt-ltb concept count h))) refl (refused-if _ _ (ap not (le-ltb element size l)))

@@ -1,4 +1,5 @@
 -- From passed checks to the walk, and from its answer to the decision.
+use Rattle.std.specs.Prelude.{Err, Ok, true, false}
 use Prim.Native.Nat.{ℕ, ◌<◌, ◌≤◌}
 use mathlib.Core.Path.{◌≡◌, refl, sym, ap, ◌∙◌, subst}
 use mathlib.Core.List.{List}
@@ -6,12 +7,9 @@ use mathlib.Core.Bool.{Bool, true, false}
 use native.Mathlib.Omega.{arith}
 use lib.ListN.{length, get_or}
 use Rattle.subsumption.specs.declared.refusal.Refusal.{Refusal}
-use Rattle.subsumption.specs.declared.refusal.Outcome.{Outcome}
-use Rattle.subsumption.specs.declared.refusal.Outcome.TheVariants.{Done, Refused}
-use Rattle.subsumption.specs.declared.decide.Decision.TheVariants.{Yes, No}
 use Rattle.subsumption.specs.Tables.{Tables, tables, count_of, tree, has_variable}
 use Rattle.subsumption.specs.Atoms.{atoms}
-use Rattle.subsumption.specs.Refusal.{reply_done, reply_refused, Replies, or_else}
+use Rattle.subsumption.specs.Refusal.{reply_done, reply_refused, Replies, or_else, Outcome, Done}
 use Rattle.subsumption.specs.Check.{table_fault, assignment_fault_at, assignment_fault}
 use Rattle.subsumption.specs.Decide.{decision_reply}
 use Rattle.subsumption.specs.Inner.Listing.{Accepted}
@@ -56,12 +54,12 @@ listing cs is qs rs v ids a = record { inclusions = is; questions = qs; roles = 
 
 -- ---- the decision
 module _ (t : Tables) (assignment : List ℕ) (size : ℕ) (rows : List ℕ) (concept element : ℕ) where
-  pub member-refused : (r : Refusal) → Refused r ≡ membership_fault t assignment size rows concept element → DecidesMember t assignment size rows concept element (reply_refused r)
+  pub member-refused : (r : Refusal) → Err r ≡ membership_fault t assignment size rows concept element → DecidesMember t assignment size rows concept element (reply_refused r)
   member-refused r e = subst (λ (f : Outcome). Replies f (TellsMember t assignment (interpretation_of size rows) concept element) (reply_refused r)) e refl
 
-  pub tables-refused : (r : Refusal) → Refused r ≡ table_fault t → DecidesMember t assignment size rows concept element (reply_refused r)
+  pub tables-refused : (r : Refusal) → Err r ≡ table_fault t → DecidesMember t assignment size rows concept element (reply_refused r)
   unfolding membership_fault
-  tables-refused r e = member-refused r (stops (Refused r) _ _ r e refl)
+  tables-refused r e = member-refused r (stops (Err r) _ _ r e refl)
 
   told : (value : ℕ) → Done ≡ membership_fault t assignment size rows concept element → TellsMember t assignment (interpretation_of size rows) concept element value → DecidesMember t assignment size rows concept element (reply_done value)
   told value e h = subst (λ (f : Outcome). Replies f (TellsMember t assignment (interpretation_of size rows) concept element) (reply_done value)) e (refl, h)
@@ -80,23 +78,23 @@ module _ (cs : List ℕ) (v : ℕ) (ids assignment : List ℕ) (size : ℕ) (row
       (choices-fault cs is qs rs v assignment ids a x ex))
 
   refused :
-      (r : Refusal) → Refused r ≡ or_else x (or_else (size_fault size rows) (or_else (rows_fault size rows) (element_fault (count_of cs) size concept element)))
+      (r : Refusal) → Err r ≡ or_else x (or_else (size_fault size rows) (or_else (rows_fault size rows) (element_fault (count_of cs) size concept element)))
       → ForListing cs v ids (λ t. DecidesMember t assignment size rows concept element (reply_refused r))
   refused r e is qs rs a = member-refused (tables cs is qs rs v) assignment size rows concept element r (e ∙ known-fault is qs rs a)
 
-  pub choices-refused : (r : Refusal) → x ≡ Refused r → ForListing cs v ids (λ t. DecidesMember t assignment size rows concept element (reply_refused r))
+  pub choices-refused : (r : Refusal) → x ≡ Err r → ForListing cs v ids (λ t. DecidesMember t assignment size rows concept element (reply_refused r))
   choices-refused r h = refused r (stops x _ _ r refl h)
 
   module _ (hx : x ≡ Done) (y : Outcome) (ey : y ≡ size_fault size rows) where
-    pub size-refused : (r : Refusal) → y ≡ Refused r → ForListing cs v ids (λ t. DecidesMember t assignment size rows concept element (reply_refused r))
+    pub size-refused : (r : Refusal) → y ≡ Err r → ForListing cs v ids (λ t. DecidesMember t assignment size rows concept element (reply_refused r))
     size-refused r h = refused r (goes_on x _ _ _ refl hx (stops y _ _ r ey h))
 
     module _ (hy : y ≡ Done) (z : Outcome) (ez : z ≡ rows_fault size rows) where
-      pub rows-refused : (r : Refusal) → z ≡ Refused r → ForListing cs v ids (λ t. DecidesMember t assignment size rows concept element (reply_refused r))
+      pub rows-refused : (r : Refusal) → z ≡ Err r → ForListing cs v ids (λ t. DecidesMember t assignment size rows concept element (reply_refused r))
       rows-refused r h = refused r (goes_on x _ _ _ refl hx (goes_on y _ _ _ ey hy (stops z _ _ r ez h)))
 
       module _ (hz : z ≡ Done) (w : Outcome) (ew : w ≡ element_fault (count_of cs) size concept element) where
-        pub element-refused : (r : Refusal) → w ≡ Refused r → ForListing cs v ids (λ t. DecidesMember t assignment size rows concept element (reply_refused r))
+        pub element-refused : (r : Refusal) → w ≡ Err r → ForListing cs v ids (λ t. DecidesMember t assignment size rows concept element (reply_refused r))
         element-refused r h = refused r (goes_on x _ _ _ refl hx (goes_on y _ _ _ ey hy (goes_on z _ _ _ ez hz (refuses w _ r ew h))))
 
         module _ (hw : w ≡ Done) where
@@ -117,12 +115,12 @@ module _ (cs : List ℕ) (v : ℕ) (ids assignment : List ℕ) (size : ℕ) (row
           passed is qs rs a = goes_on x _ _ _ refl hx (goes_on y _ _ _ ey hy (goes_on z _ _ _ ez hz (sym hw ∙ ew))) ∙ known-fault is qs rs a
 
           module _ (b : Bool) (R : Right b (IsIn cs ids assignment rows (tree cs concept) element)) where
-            pub known-yes : b ≡ true → ForListing cs v ids (λ t. DecidesMember t assignment size rows concept element (decision_reply Yes))
+            pub known-yes : b ≡ true → ForListing cs v ids (λ t. DecidesMember t assignment size rows concept element (decision_reply (Ok true)))
             known-yes e is qs rs a =
                 told (tables cs is qs rs v) assignment size rows concept element 1 (passed is qs rs a)
                 (given-in (tables cs is qs rs v) ids assignment a.listed size rows (row_last size rows (sym ez ∙ hz)) (low_rows size rows (sym ey ∙ hy) (sym ez ∙ hz)).right (tree cs concept) element (R.yes e))
 
-            pub known-no : b ≡ false → ForListing cs v ids (λ t. DecidesMember t assignment size rows concept element (decision_reply No))
+            pub known-no : b ≡ false → ForListing cs v ids (λ t. DecidesMember t assignment size rows concept element (decision_reply (Ok false)))
             known-no e is qs rs a =
                 told (tables cs is qs rs v) assignment size rows concept element 0 (passed is qs rs a)
                 (λ h. R.no e (given_out (tables cs is qs rs v) ids assignment a.listed size rows (row_last size rows (sym ez ∙ hz)) (low_rows size rows (sym ey ∙ hy) (sym ez ∙ hz)).right (tree cs concept) element h))

@@ -1,5 +1,5 @@
 -- The pass that notes each element's stretches.
-use Prim.Native.Nat.{ℕ, ◌+◌, ◌-◌, ◌<◌, ◌≤◌}
+use Prim.Native.Nat.{ℕ, ◌+◌, ◌<◌, ◌≤◌}
 use mathlib.Core.Path.{◌≡◌, ap, ◌∙◌}
 use mathlib.Core.List.{List}
 use mathlib.Core.Logic.{⊎_elim}
@@ -42,7 +42,7 @@ abbrev pub widened : List ℕ → List ℕ → ℕ → List ℕ
 widened rows ends p = set ends (stretch_of rows p + 1) (p + 1)
 
 abbrev pub begun : List ℕ → List ℕ → ℕ → List ℕ
-begun rows ends p = set (widened rows ends p) (stretch_of rows p) (p + 1 - 1)
+begun rows ends p = set (widened rows ends p) (stretch_of rows p) p
 
 module _ (rows ends : List ℕ) (p : ℕ) (L : LowRows rows) (S : Stretching rows ends p) (l : p < rows_of rows) where
   set_there : get_or (widened rows ends p) (stretch_of rows p + 1) 0 ≡ p + 1
@@ -82,10 +82,10 @@ module _ (rows ends : List ℕ) (p : ℕ) (L : LowRows rows) (S : Stretching row
   module _ (empty : get_or ends (stretch_of rows p + 1) 0 ≡ 0) where
     set_first : get_or (begun rows ends p) (stretch_of rows p) 0 ≡ p
     set_first =
-        get_or-set_same (widened rows ends p) (stretch_of rows p) (p + 1 - 1) 0 (omega (arith, place-known rows p L l, stretching-more.long)) ∙ omega arith
+        get_or-set_same (widened rows ends p) (stretch_of rows p) p 0 (omega (arith, place-known rows p L l, stretching-more.long))
 
     others : (k : ℕ) → (k ≡ stretch_of rows p → ⊥) → get_or (begun rows ends p) k 0 ≡ get_or (widened rows ends p) k 0
-    others k n = get_or-set_other (widened rows ends p) _ k (p + 1 - 1) 0 n
+    others k n = get_or-set_other (widened rows ends p) _ k p 0 n
 
     first-row : (q : ℕ) → q < p + 1 → stretch_of rows q ≡ stretch_of rows p → q ≡ p
     first-row q h e =

@@ -7,11 +7,10 @@ use mathlib.Core.Logic.{⊎_elim}
 use native.Mathlib.Omega.{arith}
 use lib.ListN.{length, get_or, set}
 use borrow.Author.Tests.{eq-eqb}
-use Rattle.subsumption.specs.Tables.{Concept, top, name, exists, and, var, tree, count_of, has_variable}
+use Rattle.subsumption.specs.Tables.{top_at, name_at, exists_at, and_at, var_at, Concept, top, name, exists, and, var, node, tree, count_of, has_variable}
 use Rattle.subsumption.specs.Atoms.{bit, pick}
 use Rattle.subsumption.proofs.Bools.{last-cases}
 use Rattle.subsumption.proofs.Bits.{zero_bit}
-use Rattle.subsumption.proofs.Nodes.{node-name, node-exists, node-and, node-var, node-other}
 use Rattle.subsumption.proofs.Trees.{tree-top, tree-name, tree-exists, tree-and, tree-var}
 use Rattle.subsumption.proofs.Picks.{ChosenBelow, picked-at, at-picked}
 use Rattle.subsumption.proofs.Membership.{member-ground}
@@ -31,47 +30,39 @@ module _ (concepts atoms assignment rows : List ℕ) (W : Walkable concepts atom
     as-tree : (answer : Bool) (c : Concept) → tree concepts i ≡ c → Right answer (IsIn concepts atoms assignment rows c x) → Right answer (IsIn concepts atoms assignment rows (tree concepts i) x)
     as-tree answer c e r = subst (λ (d : Concept). Right answer (IsIn concepts atoms assignment rows d x)) (sym e) r
 
-    pub in_top :
-        (get_or concepts (i * 3) 0 ≡ 1 → ⊥) → (get_or concepts (i * 3) 0 ≡ 2 → ⊥) → (get_or concepts (i * 3) 0 ≡ 3 → ⊥) → (get_or concepts (i * 3) 0 ≡ 4 → ⊥)
-        → Right true (IsIn concepts atoms assignment rows (tree concepts i) x)
-    in_top p q r s = as-tree true top (tree-top concepts W.rising i (node-other concepts i p q r s)) (right-yes tt)
+    pub in_top : node concepts i ≡ top_at → Right true (IsIn concepts atoms assignment rows (tree concepts i) x)
+    in_top e = as-tree true top (tree-top concepts W.rising i e) (right-yes tt)
 
     pub in-name :
-        (answer : Bool) → get_or concepts (i * 3) 0 ≡ 1 → Right answer (Bears rows x (get_or concepts (i * 3 + 1) 0))
+        (n : ℕ) (answer : Bool) → node concepts i ≡ name_at n → Right answer (Bears rows x n)
         → Right answer (IsIn concepts atoms assignment rows (tree concepts i) x)
-    in-name answer e r = as-tree answer (name _) (tree-name concepts W.rising i _ (node-name concepts i e)) r
+    in-name n answer e r = as-tree answer (name _) (tree-name concepts W.rising i _ e) r
 
     pub in-exists :
-        (answer : Bool) → get_or concepts (i * 3) 0 ≡ 2
-        → Right answer (IsIn concepts atoms assignment rows (exists (get_or concepts (i * 3 + 1) 0) (tree concepts (get_or concepts (i * 3 + 2) 0))) x)
+        (r j : ℕ) (answer : Bool) → node concepts i ≡ exists_at r j → Right answer (IsIn concepts atoms assignment rows (exists r (tree concepts j)) x)
         → Right answer (IsIn concepts atoms assignment rows (tree concepts i) x)
-    in-exists answer e r = as-tree answer _ (tree-exists concepts W.rising i _ _ (node-exists concepts i e)) r
+    in-exists r j answer e a = as-tree answer _ (tree-exists concepts W.rising i _ _ e) a
 
     pub in-first :
-        (first : Bool) → get_or concepts (i * 3) 0 ≡ 3 → Right first (IsIn concepts atoms assignment rows (tree concepts (get_or concepts (i * 3 + 1) 0)) x)
-        → first ≡ false → Right false (IsIn concepts atoms assignment rows (tree concepts i) x)
-    in-first first e r f =
-        as-tree false (and _ _) (tree-and concepts W.rising i _ _ (node-and concepts i e)) (right-no (λ h. r.no f h.0))
+        (j k : ℕ) (first : Bool) → node concepts i ≡ and_at j k → Right first (IsIn concepts atoms assignment rows (tree concepts j) x) → first ≡ false
+        → Right false (IsIn concepts atoms assignment rows (tree concepts i) x)
+    in-first j k first e r f = as-tree false (and _ _) (tree-and concepts W.rising i _ _ e) (right-no (λ h. r.no f h.0))
 
     pub in_both :
-        (first second : Bool) → get_or concepts (i * 3) 0 ≡ 3
-        → Right first (IsIn concepts atoms assignment rows (tree concepts (get_or concepts (i * 3 + 1) 0)) x) → first ≡ true
-        → Right second (IsIn concepts atoms assignment rows (tree concepts (get_or concepts (i * 3 + 2) 0)) x)
+        (j k : ℕ) (first second : Bool) → node concepts i ≡ and_at j k → Right first (IsIn concepts atoms assignment rows (tree concepts j) x)
+        → first ≡ true → Right second (IsIn concepts atoms assignment rows (tree concepts k) x)
         → Right second (IsIn concepts atoms assignment rows (tree concepts i) x)
-    in_both first second e r f s =
-        as-tree second (and _ _) (tree-and concepts W.rising i _ _ (node-and concepts i e)) (right-as second (λ h. (r.yes f, h)) (λ h. h.1) s)
+    in_both j k first second e r f s =
+        as-tree second (and _ _) (tree-and concepts W.rising i _ _ e) (right-as second (λ h. (r.yes f, h)) (λ h. h.1) s)
 
     -- atoms hold no variable
     pub in-var :
-        (answer : Bool) → get_or concepts (i * 3) 0 ≡ 4 → Right answer (IsInAll concepts atoms assignment rows (get_or assignment (get_or concepts (i * 3 + 1) 0) 0) x)
+        (k : ℕ) (answer : Bool) → node concepts i ≡ var_at k → Right answer (IsInAll concepts atoms assignment rows (get_or assignment k 0) x)
         → Right answer (IsIn concepts atoms assignment rows (tree concepts i) x)
-    in-var answer e r =
-        as-tree answer (var k) (tree-var concepts W.rising i k (node-var concepts i e))
+    in-var k answer e r =
+        as-tree answer (var k) (tree-var concepts W.rising i k e)
         (right-as answer (λ h p m. member-ground _ _ _ (tree concepts p) (ground p m) x (h p m)) (λ h p m. member-ground _ _ _ (tree concepts p) (ground p m) x (h p m)) r)
       where
-        k : ℕ
-        k = get_or concepts (i * 3 + 1) 0
-
         ground : (p : ℕ) → Memᴰ p (pick atoms (get_or assignment k 0)) → has_variable (tree concepts p) ≡ false
         ground p m =
             let c : ChosenBelow (length atoms) atoms (get_or assignment k 0) p = at-picked atoms (get_or assignment k 0) p m in

@@ -5,9 +5,8 @@ use mathlib.Core.List.{List}
 use mathlib.Core.Bool.{Bool, true, false, false≢true}
 use native.Mathlib.Omega.{arith}
 use lib.ListN.{length, get_or}
-use Rattle.subsumption.specs.Tables.{count_of, tree, has_variable}
+use Rattle.subsumption.specs.Tables.{exists_at, and_at, var_at, node, count_of, tree, has_variable}
 use Rattle.subsumption.proofs.Bools.{or-first, or-second}
-use Rattle.subsumption.proofs.Nodes.{node-exists, node-and, node-var}
 use Rattle.subsumption.proofs.Trees.{inner-exists, inner-and, variable-exists, variable-and, variable-var}
 use Rattle.countermodel.specs.Inner.Membership.{Walkable}
 
@@ -38,38 +37,34 @@ module _ (concepts atoms assignment rows : List ℕ) (W : Walkable concepts atom
   atom-falls q l =
       omega (arith, light (has_variable (tree concepts (get_or atoms q 0))) (get_or atoms q 0) (W.atoms-ground q l), W.atoms-known q l, W.few)
 
-  module _ (i : ℕ) where
-    pub link-falls : get_or concepts (i * 3) 0 ≡ 2 → 2 * weight concepts (get_or concepts (i * 3 + 2) 0) + 2 < 2 * weight concepts i + 1
+  module _ (i r j : ℕ) (e : node concepts i ≡ exists_at r j) where
+    pub link-falls : 2 * weight concepts j + 2 < 2 * weight concepts i + 1
     unfolding weight
-    link-falls e =
-        let n = node-exists concepts i e in
-        omega (arith, lighter (has_variable (tree concepts i)) (has_variable (tree concepts (get_or concepts (i * 3 + 2) 0))) i (get_or concepts (i * 3 + 2) 0) (inner-exists concepts W.rising i _ _ n) (λ h. variable-exists concepts W.rising i _ _ n ∙ h))
+    link-falls =
+        omega (arith, lighter (has_variable (tree concepts i)) (has_variable (tree concepts j)) i j (inner-exists concepts W.rising i _ _ e) (λ h. variable-exists concepts W.rising i _ _ e ∙ h))
 
-    pub first-falls : get_or concepts (i * 3) 0 ≡ 3 → 2 * weight concepts (get_or concepts (i * 3 + 1) 0) + 1 < 2 * weight concepts i + 1
+    -- the inner ids are ids
+    pub link-known : i < count_of concepts → j < count_of concepts
+    link-known l = omega (arith, inner-exists concepts W.rising i r j e)
+
+  module _ (i j k : ℕ) (e : node concepts i ≡ and_at j k) where
+    pub first-falls : 2 * weight concepts j + 1 < 2 * weight concepts i + 1
     unfolding weight
-    first-falls e =
-        let n = node-and concepts i e in
-        omega (arith, lighter (has_variable (tree concepts i)) (has_variable (tree concepts (get_or concepts (i * 3 + 1) 0))) i (get_or concepts (i * 3 + 1) 0) (inner-and concepts W.rising i _ _ n).0 (λ h. variable-and concepts W.rising i _ _ n ∙ or-first _ _ h))
+    first-falls =
+        omega (arith, lighter (has_variable (tree concepts i)) (has_variable (tree concepts j)) i j (inner-and concepts W.rising i _ _ e).0 (λ h. variable-and concepts W.rising i _ _ e ∙ or-first _ _ h))
 
-    pub second-falls : get_or concepts (i * 3) 0 ≡ 3 → 2 * weight concepts (get_or concepts (i * 3 + 2) 0) + 1 < 2 * weight concepts i + 1
+    pub second-falls : 2 * weight concepts k + 1 < 2 * weight concepts i + 1
     unfolding weight
-    second-falls e =
-        let n = node-and concepts i e in
-        omega (arith, lighter (has_variable (tree concepts i)) (has_variable (tree concepts (get_or concepts (i * 3 + 2) 0))) i (get_or concepts (i * 3 + 2) 0) (inner-and concepts W.rising i _ _ n).1 (λ h. variable-and concepts W.rising i _ _ n ∙ or-second _ _ h))
+    second-falls =
+        omega (arith, lighter (has_variable (tree concepts i)) (has_variable (tree concepts k)) i k (inner-and concepts W.rising i _ _ e).1 (λ h. variable-and concepts W.rising i _ _ e ∙ or-second _ _ h))
 
-    pub variable-falls : get_or concepts (i * 3) 0 ≡ 4 → 384 < 2 * weight concepts i + 1
+    pub first-known : i < count_of concepts → j < count_of concepts
+    first-known l = omega (arith, (inner-and concepts W.rising i j k e).0)
+
+    pub second-known : i < count_of concepts → k < count_of concepts
+    second-known l = omega (arith, (inner-and concepts W.rising i j k e).1)
+
+  module _ (i k : ℕ) (e : node concepts i ≡ var_at k) where
+    pub variable-falls : 384 < 2 * weight concepts i + 1
     unfolding weight
-    variable-falls e = omega (arith, heavy (has_variable (tree concepts i)) i (variable-var concepts W.rising i _ (node-var concepts i e)))
-
-    -- the inner ids are ids, and a variable has a choice
-    pub link-known : get_or concepts (i * 3) 0 ≡ 2 → i < count_of concepts → get_or concepts (i * 3 + 2) 0 < count_of concepts
-    link-known e l = omega (arith, inner-exists concepts W.rising i _ (get_or concepts (i * 3 + 2) 0) (node-exists concepts i e))
-
-    pub first-known : get_or concepts (i * 3) 0 ≡ 3 → i < count_of concepts → get_or concepts (i * 3 + 1) 0 < count_of concepts
-    first-known e l = omega (arith, (inner-and concepts W.rising i (get_or concepts (i * 3 + 1) 0) _ (node-and concepts i e)).0)
-
-    pub second-known : get_or concepts (i * 3) 0 ≡ 3 → i < count_of concepts → get_or concepts (i * 3 + 2) 0 < count_of concepts
-    second-known e l = omega (arith, (inner-and concepts W.rising i _ (get_or concepts (i * 3 + 2) 0) (node-and concepts i e)).1)
-
-    pub choice-known : get_or concepts (i * 3) 0 ≡ 4 → get_or concepts (i * 3 + 1) 0 < length assignment
-    choice-known e = W.numbered i _ (node-var concepts i e)
+    variable-falls = omega (arith, heavy (has_variable (tree concepts i)) i (variable-var concepts W.rising i k e))

@@ -1,10 +1,8 @@
 -- What judging a pair and the walk over its marks promise (src/show.rt, marks.rt, roles.rt, rows.rt, elements.rt).
 use Rattle.std.specs.Prelude.{ℕ, zero, suc, ◌+◌, ◌<◌, ◌≤◌, ◌≡◌, List, [], ◌∷◌, ◌++◌, Bool, true, false, eqb, length}
 use Rattle.std.proofs.lemmas.List.Edits.{sets}
-use Rattle.subsumption.specs.declared.refusal.Outcome.{Outcome}
-use Rattle.subsumption.specs.declared.refusal.Outcome.TheVariants.{Done}
 use Rattle.subsumption.specs.Tables.{Tables, both, any_below, Node, top_at, name_at, exists_at, and_at, var_at, node, count_of}
-use Rattle.subsumption.specs.Refusal.{Reply, reply_with, or_else}
+use Rattle.subsumption.specs.Refusal.{Reply, reply_with, or_else, Outcome, Done}
 use Rattle.subsumption.specs.Check.{buffer_fault}
 use Rattle.subsumption.specs.Decide.{deciding_fault}
 use Rattle.subsumption.specs.Table.{marked}

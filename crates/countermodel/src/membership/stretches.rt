@@ -9,18 +9,15 @@ pub fn note_stretches(rows: &[u16], ends: &mut [usize])
     ensures { Stretches rows.now ends.new }
 {
     let count = rows.len() / 4;
-    let mut p: usize = 0;
-    while p < count {
+    for p in 0..count {
         let at = p * 4;
         let kind = rows[at] as usize;
         let element = rows[at + 1] as usize;
         let place = element * 4 + kind * 2;
         let past = ends[place + 1];
-        p += 1;
-        ends[place + 1] = p;
-        if past != 0 {
-            continue;
+        ends[place + 1] = p + 1;
+        if past == 0 {
+            ends[place] = p;
         }
-        ends[place] = p - 1;
     }
 }

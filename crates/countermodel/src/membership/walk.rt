@@ -5,7 +5,7 @@ ghost use Rattle.subsumption.specs.Tables.{count_of, exists, tree};
 ghost use Rattle.countermodel.specs.Inner.Membership.{LowRows, Stretches, Walkable, Right, noted, Remembers, Walked, IsIn, IsInAll, Bears};
 
 use crate::membership::stretches::note_stretches;
-use subsumption::kinds::{CONJUNCTION, EXISTENTIAL, NAME, VARIABLE};
+use subsumption::helpers::{Node, node_at};
 use subsumption::limits::CONCEPTS;
 
 // Both ends of an element's names and of its links.
@@ -23,10 +23,8 @@ fn bears(rows: &[u16], ends: &[usize], element: u16, name: u16) -> bool
 {
     let own = element as usize * 4;
     let past = ends[own + 1];
-    let mut p = ends[own];
-    while p < past {
+    for p in ends[own]..past {
         let at = p * 4;
-        p += 1;
         if rows[at + 1] != element {
             continue;
         }
@@ -80,32 +78,32 @@ fn member_at(
     if known == 2 {
         return false;
     }
-    let at = id as usize * 3;
-    let kind = concepts[at];
-    let a = concepts[at + 1];
-    let b = concepts[at + 2];
-    if kind == NAME {
-        let named = bears(rows, ends, element, a);
-        return note(memo, cell, named);
-    }
-    if kind == EXISTENTIAL {
-        let linked = some_link(concepts, ids, assignment, rows, ends, memo, element, a, b);
-        return note(memo, cell, linked);
-    }
-    if kind == CONJUNCTION {
-        let first = member_at(concepts, ids, assignment, rows, ends, memo, element, a);
-        if !first {
-            return note(memo, cell, false);
+    match node_at(concepts, id as usize) {
+        Node::Top => true,
+        Node::Name(name) => {
+            let named = bears(rows, ends, element, name);
+            note(memo, cell, named)
         }
-        let second = member_at(concepts, ids, assignment, rows, ends, memo, element, b);
-        return note(memo, cell, second);
+        Node::Exists(role, inner) => {
+            let linked = some_link(
+                concepts, ids, assignment, rows, ends, memo, element, role, inner,
+            );
+            note(memo, cell, linked)
+        }
+        Node::And(a, b) => {
+            let first = member_at(concepts, ids, assignment, rows, ends, memo, element, a);
+            if !first {
+                return note(memo, cell, false);
+            }
+            let second = member_at(concepts, ids, assignment, rows, ends, memo, element, b);
+            note(memo, cell, second)
+        }
+        Node::Variable(k) => {
+            let choice = assignment[k as usize];
+            let chosen = in_all(concepts, ids, assignment, rows, ends, memo, element, choice);
+            note(memo, cell, chosen)
+        }
     }
-    if kind == VARIABLE {
-        let choice = assignment[a as usize];
-        let chosen = in_all(concepts, ids, assignment, rows, ends, memo, element, choice);
-        return note(memo, cell, chosen);
-    }
-    true
 }
 
 // Some link of the element by the role leads to a member of the inner concept.
@@ -131,10 +129,8 @@ fn some_link(
 {
     let own = element as usize * 4;
     let past = ends[own + 3];
-    let mut p = ends[own + 2];
-    while p < past {
+    for p in ends[own + 2]..past {
         let at = p * 4;
-        p += 1;
         if rows[at + 1] != element {
             continue;
         }
@@ -171,11 +167,8 @@ fn in_all(
     ensures { Walked concepts.now ids.now assignment.now rows.now
         (IsInAll concepts.now ids.now assignment.now rows.now choice element) memo.new result }
 {
-    let mut q: usize = 0;
-    while q < ids.len() {
-        let atom = ids[q];
+    for (q, &atom) in ids.iter().enumerate() {
         let picked = (choice >> q) % 2;
-        q += 1;
         if picked == 0 {
             continue;
         }

@@ -7,7 +7,7 @@ use Rattle.hermitcasket.proofs.PlanLaws.{whole-within, parts_within, parts_held,
 use Rattle.hermitcasket.proofs.main.Goals as goal
 
 pub answer-plan-requires : goal.answer-plan-requires
-answer-plan-requires c = record { in_bounds = omega arith; into_value = refl; table_len = length-replicate {A = ℕ} 4608 0; in_bounds_2 = omega (arith, length-replicate {A = ℕ} 4096 0) }
+answer-plan-requires c = record { in_bounds = omega arith; into_value = refl; in_bounds_2 = omega (arith, length-replicate {A = ℕ} 4096 0) }
 
 pub slice_bounds-out-end : goal.slice_bounds-out-end
 slice_bounds-out-end c = whole-within _ c.answer-plan.result _ _ _ _ _ c.answer-plan.ensures _ c.in-Whole.is

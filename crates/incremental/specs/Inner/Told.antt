@@ -1,10 +1,9 @@
 -- Reading told pairs (src/told.rt): the check given the atoms, an id's place among them, and the choices that the pairs tell.
 use Rattle.std.specs.Prelude.{ℕ, ◌%◌, ◌<◌, ◌≤◌, ◌≡◌, List, Bool, true, not, eqb, ltb, length, get_or}
 use Rattle.subsumption.specs.declared.refusal.Refusal.TheVariants.{BadAssignment}
-use Rattle.subsumption.specs.declared.refusal.Outcome.{Outcome}
 use Rattle.subsumption.specs.Tables.{or, both, any_below, pairs_of, left_of, right_of}
 use Rattle.subsumption.specs.Rules.{contains}
-use Rattle.subsumption.specs.Refusal.{or_else, refuse_if, first_at}
+use Rattle.subsumption.specs.Refusal.{or_else, refuse_if, first_at, Outcome}
 use Rattle.incremental.specs.Told.{tells, coded}
 
 -- a variable that is not below the count, or an id that is no atom

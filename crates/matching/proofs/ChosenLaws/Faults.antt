@@ -1,4 +1,5 @@
 -- The checks of listing a variable's chosen ids, put together from the tables' own.
+use Rattle.std.specs.Prelude.{Err, Ok, Result}
 use Prim.Native.Nat.{ℕ, zero, suc, ◌<◌, ◌≤◌, ◌^◌}
 use mathlib.Core.Path.{◌≡◌, refl, sym, ap, ◌∙◌, subst}
 use mathlib.Core.List.{List}
@@ -11,33 +12,29 @@ use lib.Count.{ones}
 use borrow.Author.Tests.{eqb-true, eq-eqb, ne_eqb, lt-ltb, le-ltb, ltb-true, not-false}
 use Rattle.subsumption.specs.declared.refusal.Refusal.{Refusal}
 use Rattle.subsumption.specs.declared.refusal.Refusal.TheVariants.{Malformed, BufferTooShort}
-use Rattle.subsumption.specs.declared.refusal.Outcome.{Outcome}
-use Rattle.subsumption.specs.declared.refusal.Outcome.TheVariants.{Done, Refused}
 use Rattle.subsumption.specs.declared.refusal.Code.{Code}
 use Rattle.subsumption.specs.Tables.{Tables}
 use Rattle.subsumption.specs.Atoms.{atoms, pick, chosen}
-use Rattle.subsumption.specs.Refusal.{code_of, reply_done, reply_refused, reply_with, reply_of, or_else, refuse_if, first_at}
+use Rattle.subsumption.specs.Refusal.{code_of, reply_done, reply_refused, reply_with, reply_of, or_else, refuse_if, first_at, value_reply, Outcome, Done}
 use Rattle.subsumption.specs.Check.{limit_fault, malformed_fault, forward_fault, pairs_fault, inclusion_fault, sides_fault, roles_fault, atoms_fault, concept_fault, id_fault, use_fault, table_fault, assignment_fault_at, assignment_fault, buffer_fault}
 use Rattle.subsumption.specs.Inner.Listing.{Accepted}
 use Rattle.subsumption.specs.Inner.Atoms.{in_front}
 use Rattle.subsumption.proofs.Refusals.{stops, goes_on, refused-lt, done-le, passed_first, passed-second, passed-if, passed-at}
 use Rattle.subsumption.proofs.Replies.{same-value, same-refusal, not_done}
-use Rattle.matching.specs.declared.chosen.Chosen.{Chosen}
-use Rattle.matching.specs.declared.chosen.Chosen.TheVariants.{Ids, Rejected}
 use Rattle.matching.specs.declared.chosen.Told.{Told}
-use Rattle.matching.specs.Chosen.{variable_fault, choosing_fault, chosen_reply, chosen_in, handed_back, Chooses}
+use Rattle.matching.specs.Chosen.{variable_fault, choosing_fault, chosen_in, handed_back, Chooses}
 use Rattle.matching.proofs.ChosenLaws.Picked.{pick-length}
 use Rattle.matching.specs.Inner.Chosen.{known_fault, earlier_of, told_of}
 
 -- ---- only check 1 refuses with number 1
 abbrev Refuses : (Refusal → Type 0) → Outcome → Type 0
-Refuses P o = (r : Refusal) → o ≡ Refused r → P r
+Refuses P o = (r : Refusal) → o ≡ Err r → P r
 
 module _ (P : Refusal → Type 0) where
   refuses-or : (a b : Outcome) → Refuses P a → Refuses P b → Refuses P (or_else a b)
   unfolding or_else
-  refuses-or Done b p q = q
-  refuses-or (Refused r) b p q = p
+  refuses-or (Ok tt) b p q = q
+  refuses-or (Err r) b p q = p
 
   refuses-if : (b : Bool) (r : Refusal) → P r → Refuses P (refuse_if b r)
   unfolding refuse_if
@@ -85,8 +82,8 @@ rest-later t =
 
 or_assoc : (a b c : Outcome) → or_else (or_else a b) c ≡ or_else a (or_else b c)
 unfolding or_else
-or_assoc Done b c = refl
-or_assoc (Refused r) b c = refl
+or_assoc (Ok tt) b c = refl
+or_assoc (Err r) b c = refl
 
 table-split : (t : Tables) → table_fault t ≡ or_else (limit_fault t) (or_else (or_else (malformed_fault t.concepts t.variables) (forward_fault t.concepts)) (or_else (id_fault t) (use_fault t)))
 unfolding table_fault concept_fault
@@ -95,25 +92,25 @@ table-split t = or_assoc _ _ _
 -- ---- the whole
 module _ (t : Tables) (assignment : List ℕ) (k size : ℕ) where
   -- the tables are refused
-  pub choosing-refused : (r : Refusal) → table_fault t ≡ Refused r → Refused (earlier_of r (ltb k t.variables)) ≡ choosing_fault t assignment k size
+  pub choosing-refused : (r : Refusal) → table_fault t ≡ Err r → Err (earlier_of r (ltb k t.variables)) ≡ choosing_fault t assignment k size
   unfolding choosing_fault variable_fault or_else refuse_if
   choosing-refused r h = go (limit_fault t) refl
     where
       later : (limit_fault t ≡ Done) → IsLater r
       later e = rest-later t r (sym (table-split t ∙ ap (λ (o : Outcome). or_else o (or_else (or_else (malformed_fault t.concepts t.variables) (forward_fault t.concepts)) (or_else (id_fault t) (use_fault t)))) e) ∙ h)
 
-      on : (b : Bool) → limit_fault t ≡ Done → ltb k t.variables ≡ b → Refused (earlier_of r (ltb k t.variables)) ≡ choosing_fault t assignment k size
+      on : (b : Bool) → limit_fault t ≡ Done → ltb k t.variables ≡ b → Err (earlier_of r (ltb k t.variables)) ≡ choosing_fault t assignment k size
       on true e s = rw (e, s, h) refl
       on false e s = rw (e, s, ne_eqb (code_of r).number 1 (later e)) refl
 
-      stop : (b : Bool) → limit_fault t ≡ Refused r → ltb k t.variables ≡ b → Refused (earlier_of r (ltb k t.variables)) ≡ choosing_fault t assignment k size
+      stop : (b : Bool) → limit_fault t ≡ Err r → ltb k t.variables ≡ b → Err (earlier_of r (ltb k t.variables)) ≡ choosing_fault t assignment k size
       stop true e s = rw (e, s) refl
       stop false e s = rw (e, s, eq-eqb (code_of r).number 1 (limit-first t r e)) refl
 
-      go : (o : Outcome) → limit_fault t ≡ o → Refused (earlier_of r (ltb k t.variables)) ≡ choosing_fault t assignment k size
-      go Done e = on (ltb k t.variables) e refl
-      go (Refused q) e =
-          let s : table_fault t ≡ Refused q = table-split t ∙ ap (λ (o : Outcome). or_else o (or_else (or_else (malformed_fault t.concepts t.variables) (forward_fault t.concepts)) (or_else (id_fault t) (use_fault t)))) e in
+      go : (o : Outcome) → limit_fault t ≡ o → Err (earlier_of r (ltb k t.variables)) ≡ choosing_fault t assignment k size
+      go (Ok tt) e = on (ltb k t.variables) e refl
+      go (Err q) e =
+          let s : table_fault t ≡ Err q = table-split t ∙ ap (λ (o : Outcome). or_else o (or_else (or_else (malformed_fault t.concepts t.variables) (forward_fault t.concepts)) (or_else (id_fault t) (use_fault t)))) e in
           stop (ltb k t.variables) (e ∙ sym s ∙ h) refl
 
   -- the tables are accepted
@@ -135,7 +132,7 @@ module _ (atomCount variables : ℕ) (assignment : List ℕ) where
       (passed-at _ (λ k. not (ltb (get_or assignment k 0) (2 ^ atomCount))) 0 variables (passed-second _ _ h) k (omega arith) (omega arith)))
 
   module _ (k size : ℕ) where
-    pub known-unknown : variables ≤ k → Refused (Malformed 0) ≡ known_fault atomCount variables assignment k size
+    pub known-unknown : variables ≤ k → Err (Malformed 0) ≡ known_fault atomCount variables assignment k size
     unfolding known_fault variable_fault or_else refuse_if
     known-unknown l = rw (le-ltb k variables l) refl
 
@@ -143,11 +140,11 @@ module _ (atomCount variables : ℕ) (assignment : List ℕ) where
     unfolding variable_fault refuse_if
     variable-passes l = rw (lt-ltb k variables l) refl
 
-    pub known-choices : (o : Outcome) (r : Refusal) → k < variables → o ≡ assignment_fault_at atomCount variables assignment → o ≡ Refused r → Refused r ≡ known_fault atomCount variables assignment k size
+    pub known-choices : (o : Outcome) (r : Refusal) → k < variables → o ≡ assignment_fault_at atomCount variables assignment → o ≡ Err r → Err r ≡ known_fault atomCount variables assignment k size
     unfolding known_fault
-    known-choices o r l e f = goes_on Done _ _ (Refused r) (variable-passes l) refl (stops o _ _ r e f)
+    known-choices o r l e f = goes_on Done _ _ (Err r) (variable-passes l) refl (stops o _ _ r e f)
 
-    pub known-short : k < variables → assignment_fault_at atomCount variables assignment ≡ Done → size < 64 → Refused (BufferTooShort 64) ≡ known_fault atomCount variables assignment k size
+    pub known-short : k < variables → assignment_fault_at atomCount variables assignment ≡ Done → size < 64 → Err (BufferTooShort 64) ≡ known_fault atomCount variables assignment k size
     unfolding known_fault buffer_fault
     known-short l e h = goes_on Done _ _ _ (variable-passes l) refl (goes_on Done _ _ _ (sym e) refl (refused-lt size 64 (BufferTooShort 64) h))
 
@@ -163,7 +160,7 @@ choosing-done t assignment k size h e l s = known-done (length (atoms t)) t.vari
 
 -- ---- the answer
 module _ (ids before : List ℕ) where
-  pub chosen-refused : (r : Refusal) (fault : Outcome) → Refused r ≡ fault → (reply_refused r ≡ reply_with fault (length ids)) × (before ≡ chosen_in fault ids before)
+  pub chosen-refused : (r : Refusal) (fault : Outcome) → Err r ≡ fault → (reply_refused r ≡ reply_with fault (length ids)) × (before ≡ chosen_in fault ids before)
   unfolding chosen_in
   chosen-refused r fault e = (ap (λ (f : Outcome). reply_with f (length ids)) e, rw (← e) refl)
 
@@ -185,17 +182,17 @@ earlier-other r known code h e f = rw (h, ne_eqb (code_of r).number 1 (λ z. f (
 
 module _ (t : Tables) (assignment before : List ℕ) (k : ℕ) where
   pub choosing-rejected :
-      (r q : Refusal) → Refused r ≡ table_fault t → q ≡ earlier_of r (ltb k t.variables)
+      (r q : Refusal) → Err r ≡ table_fault t → q ≡ earlier_of r (ltb k t.variables)
       → Chooses t assignment k before before (reply_refused q)
   choosing-rejected r q e h =
-      let (x, y) = chosen-refused (chosen t assignment k) before q _ (ap Refused h ∙ choosing-refused t assignment k (length before) r (sym e)) in
+      let (x, y) = chosen-refused (chosen t assignment k) before q _ (ap Err h ∙ choosing-refused t assignment k (length before) r (sym e)) in
       record { replied = x; written = y }
 
   pub choosing-found :
-      (ids after : List ℕ) (answer : Chosen) → Accepted t ids
-      → chosen_reply answer ≡ reply_with (known_fault (length ids) t.variables assignment k (length before)) (length (pick ids (get_or assignment k 0)))
+      (ids after : List ℕ) (answer : (Result ℕ Refusal)) → Accepted t ids
+      → value_reply answer ≡ reply_with (known_fault (length ids) t.variables assignment k (length before)) (length (pick ids (get_or assignment k 0)))
       → after ≡ chosen_in (known_fault (length ids) t.variables assignment k (length before)) (pick ids (get_or assignment k 0)) before
-      → Chooses t assignment k before after (chosen_reply answer)
+      → Chooses t assignment k before after (value_reply answer)
   unfolding chosen
   choosing-found ids after answer a f g =
       let u = choosing-known t assignment k (length before) a.passed in
@@ -209,17 +206,17 @@ pub record Handed (fault : Outcome) (ids before after : List ℕ) (told : Told) 
   pub place : told.place ≡ (reply_of fault).place
 
 pub handed :
-    (fault : Outcome) (ids before after : List ℕ) (answer : Chosen) (told : Told) → chosen_reply answer ≡ reply_with fault (length ids)
+    (fault : Outcome) (ids before after : List ℕ) (answer : (Result ℕ Refusal)) (told : Told) → value_reply answer ≡ reply_with fault (length ids)
     → after ≡ chosen_in fault ids before → told ≡ told_of answer (length before) → Handed fault ids before after told
 unfolding chosen_in handed_back
-handed Done ids before after (Ids m) told e f g =
+handed (Ok tt) ids before after (Ok m) told e f g =
     let n : told.count ≡ length ids = ap (λ (z : Told). z.count) g ∙ same-value _ _ e in
     let b : take told.count after ≡ ids = rw (n, f) (take-append_seam ids _) in
     record { back = b; long = n ∙ sym (ap length b); number = ap (λ (z : Told). z.number) g; place = ap (λ (z : Told). z.place) g }
-handed Done ids before after (Rejected q) told e f g = not_done q _ e
-handed (Refused r) ids before after (Ids m) told e f g = not_done r m (sym e)
-handed (Refused r) ids before after (Rejected q) told e f g =
-    let h : told ≡ told_of (Rejected r) (length before) = g ∙ ap (λ (z : Refusal). told_of (Rejected z) (length before)) (same-refusal q r e) in
+handed (Ok tt) ids before after (Err q) told e f g = not_done q _ e
+handed (Err r) ids before after (Ok m) told e f g = not_done r m (sym e)
+handed (Err r) ids before after (Err q) told e f g =
+    let h : told ≡ told_of (Err r) (length before) = g ∙ ap (λ (z : Refusal). told_of (Err z) (length before)) (same-refusal q r e) in
     let n : told.count ≡ length before = ap (λ (z : Told). z.count) h in
     let b : take told.count after ≡ before = rw (n, f) (take-length before) in
     record { back = b; long = n ∙ sym (ap length b); number = ap (λ (z : Told). z.number) h; place = ap (λ (z : Told). z.place) h }

@@ -99,9 +99,6 @@ pub record Writing (ids : List ℕ) (choice : ℕ) (before out : List ℕ) (rest
   pub buffer : out ≡ in_front (take listed (pick ids choice)) before
 
 module _ (ids : List ℕ) (choice : ℕ) (before : List ℕ) where
-  pub writing-none : choice < 2 ^ length ids → Writing ids choice before before choice 0
-  writing-none h = record { low = h; left = refl; within = omega arith; buffer = refl }
-
   module _ (out : List ℕ) (rest listed : ℕ) (w : Writing ids choice before out rest listed) (more : listed < length (pick ids choice)) where
     pub writing-rest : 0 < rest
     writing-rest = ⊎_elim (λ (e : rest ≡ 0). absurd (none e)) (λ n. omega arith) (eq-or-ne rest 0)

@@ -7,20 +7,15 @@ use native.Mathlib.Omega.{arith}
 use lib.Dec.{eqb, ltb}
 use lib.ListN.{length, get_or}
 use borrow.Author.Tests.{ne_eqb}
-use Rattle.subsumption.specs.declared.tables.Row.{Row}
 use Rattle.subsumption.specs.Tables.{or, both, Node, top_at, name_at, exists_at, and_at, var_at, node, count_of, pairs_of, left_of, right_of}
-use Rattle.subsumption.specs.Inner.Tables.{row_of, Rising}
+use Rattle.subsumption.specs.Inner.Tables.{Rising}
 use Rattle.subsumption.specs.Atoms.{atoms, chosen, pick}
 use Rattle.subsumption.specs.Inner.Closure.{Ready}
 use Rattle.subsumption.specs.Inner.Atoms.{Known}
 use Rattle.subsumption.specs.Roles.{wider}
 use Rattle.subsumption.specs.Inner.Roles.{in_set}
 use Rattle.subsumption.specs.Rules.{every, contains, same_name, is_top, on_picked, on_both, on_inner, on_variable, by_rule}
-use Rattle.matching.specs.Inner.Derivation.{LowRole, seen, node_of, KnownAtoms, Numbered, ByRule}
-
-row-node : (concepts : List ℕ) (i : ℕ) (row : Row) → row ≡ row_of concepts i → node_of row ≡ node concepts i
-unfolding node
-row-node concepts i row e = ap node_of e
+use Rattle.matching.specs.Inner.Derivation.{LowRole, seen, KnownAtoms, Numbered, ByRule}
 
 rising-up : (count i : ℕ) (m : Node) → i < count → Rising i m → Rising count m
 rising-up count i top_at h r = tt
@@ -52,11 +47,11 @@ inner-agree wide wide' same test (and_at i j) m u w = refl
 inner-agree wide wide' same test (var_at k) m u w = refl
 
 module _ (concepts inclusions ids assignment : List ℕ) (ready : Ready concepts inclusions ids assignment) where
-  pub row-rising : (i : ℕ) (row : Row) → i < count_of concepts → row ≡ row_of concepts i → Rising (count_of concepts) (node_of row)
-  row-rising i row h e = subst (Rising (count_of concepts)) (sym (row-node concepts i row e)) (rising-up (count_of concepts) i (node concepts i) h (ready.rising i h))
+  pub row-rising : (i : ℕ) (m : Node) → i < count_of concepts → m ≡ node concepts i → Rising (count_of concepts) m
+  row-rising i m h e = subst (Rising (count_of concepts)) (sym e) (rising-up (count_of concepts) i (node concepts i) h (ready.rising i h))
 
-  pub row_low : (i : ℕ) (row : Row) → row ≡ row_of concepts i → LowRole (node_of row)
-  row_low i row e = subst LowRole (sym (row-node concepts i row e)) (go (node concepts i) refl)
+  pub row_low : (i : ℕ) (m : Node) → m ≡ node concepts i → LowRole m
+  row_low i m e = subst LowRole (sym e) (go (node concepts i) refl)
     where
       go : (m : Node) → node concepts i ≡ m → LowRole m
       go top_at e = tt
@@ -65,8 +60,8 @@ module _ (concepts inclusions ids assignment : List ℕ) (ready : Ready concepts
       go (and_at j k) e = tt
       go (var_at k) e = tt
 
-  pub row-numbered : (i : ℕ) (row : Row) → row ≡ row_of concepts i → Numbered assignment (node_of row)
-  row-numbered i row e = subst (Numbered assignment) (sym (row-node concepts i row e)) (numbered_of assignment (node concepts i) (ready.numbered i))
+  pub row-numbered : (i : ℕ) (m : Node) → m ≡ node concepts i → Numbered assignment m
+  row-numbered i m e = subst (Numbered assignment) (sym e) (numbered_of assignment (node concepts i) (ready.numbered i))
 
   pub atoms-in : KnownAtoms (count_of concepts) ids
   atoms-in = record { few-atoms = ready.few-atoms; atoms-known = ready.atoms-known }
@@ -78,11 +73,11 @@ module _ (concepts inclusions into ids assignment : List ℕ) (marks : List Bool
   proved : ℕ → ℕ → Bool
   proved = seen (count_of concepts) marks
 
-  module _ (rule : ℕ) (l r : Row) (x : Bool) (p : l ≡ row_of concepts left) (q : r ≡ row_of concepts right) where
-    pub rule-member : rule ≡ 3 → x ≡ on_picked extra (λ i. seen (count_of concepts) marks i right) (node_of l) → ByRule concepts inclusions into ids assignment marks rule left right extra x
+  module _ (rule : ℕ) (l r : Node) (x : Bool) (p : l ≡ node concepts left) (q : r ≡ node concepts right) where
+    pub rule-member : rule ≡ 3 → x ≡ on_picked extra (λ i. seen (count_of concepts) marks i right) l → ByRule concepts inclusions into ids assignment marks rule left right extra x
     unfolding by_rule
     rule-member e h t of =
-        rw (e, of.concepts-are) (h ∙ ap (on_picked extra (λ i. seen (count_of concepts) marks i right)) (row-node concepts left l p))
+        rw (e, of.concepts-are) (h ∙ ap (on_picked extra (λ i. seen (count_of concepts) marks i right)) p)
 
     pub rule-inclusion :
         rule ≡ 6 → x ≡ both (ltb extra (pairs_of inclusions)) (both (seen (count_of concepts) marks left (left_of inclusions extra)) (seen (count_of concepts) marks (right_of inclusions extra) right))
@@ -91,46 +86,46 @@ module _ (concepts inclusions into ids assignment : List ℕ) (marks : List Bool
     rule-inclusion e h t of = rw (e, of.inclusions-are) h
 
     pub rule-choice :
-        rule ≡ 7 → x ≡ on_variable (λ k. both (contains extra (pick ids (get_or assignment k 0))) (seen (count_of concepts) marks extra right)) (node_of l)
+        rule ≡ 7 → x ≡ on_variable (λ k. both (contains extra (pick ids (get_or assignment k 0))) (seen (count_of concepts) marks extra right)) l
         → ByRule concepts inclusions into ids assignment marks rule left right extra x
     unfolding by_rule chosen
     rule-choice e h t of =
         rw e
         (subst (λ (z : List ℕ). x ≡ on_variable (λ k. both (contains extra (pick (atoms t) (get_or assignment k 0))) (seen (count_of concepts) marks extra right)) (node z left)) (sym of.concepts-are)
         (subst (λ (z : List ℕ). x ≡ on_variable (λ k. both (contains extra (pick z (get_or assignment k 0))) (seen (count_of concepts) marks extra right)) (node concepts left)) (sym of.atoms_are)
-        (h ∙ ap (on_variable (λ k. both (contains extra (pick ids (get_or assignment k 0))) (seen (count_of concepts) marks extra right))) (row-node concepts left l p))))
+        (h ∙ ap (on_variable (λ k. both (contains extra (pick ids (get_or assignment k 0))) (seen (count_of concepts) marks extra right))) p)))
 
-    pub rule-name : rule ≡ 1 → extra ≡ 0 → x ≡ or (eqb left right) (same_name (node_of l) (node_of r)) → ByRule concepts inclusions into ids assignment marks rule left right extra x
+    pub rule-name : rule ≡ 1 → extra ≡ 0 → x ≡ or (eqb left right) (same_name l r) → ByRule concepts inclusions into ids assignment marks rule left right extra x
     unfolding by_rule both
     rule-name e f h t of =
-        rw (e, f, of.concepts-are) (h ∙ ap₂ (λ a b. or (eqb left right) (same_name a b)) (row-node concepts left l p) (row-node concepts right r q))
+        rw (e, f, of.concepts-are) (h ∙ ap₂ (λ a b. or (eqb left right) (same_name a b)) p q)
 
-    pub rule-top : rule ≡ 2 → extra ≡ 0 → x ≡ is_top (node_of r) → ByRule concepts inclusions into ids assignment marks rule left right extra x
+    pub rule-top : rule ≡ 2 → extra ≡ 0 → x ≡ is_top r → ByRule concepts inclusions into ids assignment marks rule left right extra x
     unfolding by_rule both
-    rule-top e f h t of = rw (e, f, of.concepts-are) (h ∙ ap is_top (row-node concepts right r q))
+    rule-top e f h t of = rw (e, f, of.concepts-are) (h ∙ ap is_top q)
 
-    pub rule-both : rule ≡ 4 → extra ≡ 0 → x ≡ on_both (λ j. seen (count_of concepts) marks left j) (node_of r) → ByRule concepts inclusions into ids assignment marks rule left right extra x
+    pub rule-both : rule ≡ 4 → extra ≡ 0 → x ≡ on_both (λ j. seen (count_of concepts) marks left j) r → ByRule concepts inclusions into ids assignment marks rule left right extra x
     unfolding by_rule both
-    rule-both e f h t of = rw (e, f, of.concepts-are) (h ∙ ap (on_both (λ j. seen (count_of concepts) marks left j)) (row-node concepts right r q))
+    rule-both e f h t of = rw (e, f, of.concepts-are) (h ∙ ap (on_both (λ j. seen (count_of concepts) marks left j)) q)
 
     pub rule-inner :
-        LowRole (node_of l) → LowRole (node_of r) → rule ≡ 5 → extra ≡ 0 → x ≡ on_inner (in_set into) (seen (count_of concepts) marks) (node_of l) (node_of r)
+        LowRole l → LowRole r → rule ≡ 5 → extra ≡ 0 → x ≡ on_inner (in_set into) (seen (count_of concepts) marks) l r
         → ByRule concepts inclusions into ids assignment marks rule left right extra x
     unfolding by_rule both
     rule-inner u w e f h t of =
         rw (e, f, of.concepts-are)
-        (h ∙ inner-agree (in_set into) (wider t.roles) of.roles-are.each (seen (count_of concepts) marks) (node_of l) (node_of r) u w
-        ∙ ap₂ (on_inner (wider t.roles) (seen (count_of concepts) marks)) (row-node concepts left l p) (row-node concepts right r q))
+        (h ∙ inner-agree (in_set into) (wider t.roles) of.roles-are.each (seen (count_of concepts) marks) l r u w
+        ∙ ap₂ (on_inner (wider t.roles) (seen (count_of concepts) marks)) p q)
 
     pub rule-all :
-        rule ≡ 8 → extra ≡ 0 → x ≡ on_variable (λ k. every (λ p. seen (count_of concepts) marks left p) (pick ids (get_or assignment k 0))) (node_of r)
+        rule ≡ 8 → extra ≡ 0 → x ≡ on_variable (λ k. every (λ p. seen (count_of concepts) marks left p) (pick ids (get_or assignment k 0))) r
         → ByRule concepts inclusions into ids assignment marks rule left right extra x
     unfolding by_rule both chosen
     rule-all e f h t of =
         rw (e, f)
         (subst (λ (z : List ℕ). x ≡ on_variable (λ k. every (λ p. seen (count_of concepts) marks left p) (pick (atoms t) (get_or assignment k 0))) (node z right)) (sym of.concepts-are)
         (subst (λ (z : List ℕ). x ≡ on_variable (λ k. every (λ p. seen (count_of concepts) marks left p) (pick z (get_or assignment k 0))) (node concepts right)) (sym of.atoms_are)
-        (h ∙ ap (on_variable (λ k. every (λ p. seen (count_of concepts) marks left p) (pick ids (get_or assignment k 0)))) (row-node concepts right r q))))
+        (h ∙ ap (on_variable (λ k. every (λ p. seen (count_of concepts) marks left p) (pick ids (get_or assignment k 0)))) q)))
 
   -- the other rules ask that the extra is 0
   pub rule-extra :

@@ -1,4 +1,5 @@
 -- Checking lines one after the other, the pairs passed marked.
+use Rattle.std.specs.Prelude.{Err}
 use Prim.Native.Nat.{ℕ, ◌+◌, ◌-◌, ◌*◌, ◌%◌, ◌<◌, ◌≤◌}
 use mathlib.Core.Path.{◌≡◌, refl, sym, ap, ◌∙◌, subst}
 use mathlib.Core.List.{List}
@@ -12,11 +13,9 @@ use lib.Seq.{get_or-take, length-take-le}
 use borrow.Author.Tests.{eq-eqb, ne_eqb, lt-ltb, le-ltb, eqb-true, eqb-false, not-false}
 use Rattle.subsumption.specs.declared.refusal.Refusal.{Refusal}
 use Rattle.subsumption.specs.declared.refusal.Refusal.TheVariants.{BadDerivation}
-use Rattle.subsumption.specs.declared.refusal.Outcome.{Outcome}
-use Rattle.subsumption.specs.declared.refusal.Outcome.TheVariants.{Done, Refused}
 use Rattle.subsumption.specs.Tables.{Tables, or, both, any_below, count_of}
 use Rattle.subsumption.specs.Inner.Closure.{Ready}
-use Rattle.subsumption.specs.Refusal.{refuse_if}
+use Rattle.subsumption.specs.Refusal.{refuse_if, Outcome, Done}
 use Rattle.subsumption.specs.Inner.Roles.{RoleSets}
 use Rattle.subsumption.specs.Check.{pair_fault}
 use Rattle.subsumption.specs.Inner.Listing.{Accepted}
@@ -144,7 +143,7 @@ module _ (concepts inclusions into ids assignment lines : List ℕ) where
 
   pub rules-broken :
       (k : ℕ) (answer : Bool) → Passed k → k < lines_of lines → LineTest concepts inclusions into ids assignment lines k answer → answer ≡ false
-      → RulesTest concepts inclusions into ids assignment lines (Refused (BadDerivation k))
+      → RulesTest concepts inclusions into ids assignment lines (Err (BadDerivation k))
   unfolding rule_fault
   rules-broken k answer p h test e = record { tells = λ t of. scan-found _ _ _ k (p.scan t of) h (ap not (sym (test.tells t of) ∙ e)) }
 
@@ -157,11 +156,11 @@ pub accepted-of : (t : Tables) (into ids : List ℕ) → Accepted t ids → Role
 accepted-of t into ids a s = record { concepts-are = refl; inclusions-are = refl; roles-are = s; atoms_are = sym a.listed }
 
 -- ---- the list as a whole
-pub shape-empty : (lines : List ℕ) → length lines ≡ 0 → Refused (BadDerivation 0) ≡ refuse_if (no_lines lines) (BadDerivation 0)
+pub shape-empty : (lines : List ℕ) → length lines ≡ 0 → Err (BadDerivation 0) ≡ refuse_if (no_lines lines) (BadDerivation 0)
 unfolding no_lines
 shape-empty lines e = refused-if _ _ (or-first _ _ (eq-eqb _ _ e))
 
-pub shape-ragged : (lines : List ℕ) → (length lines % 4 ≡ 0 → ⊥) → Refused (BadDerivation 0) ≡ refuse_if (no_lines lines) (BadDerivation 0)
+pub shape-ragged : (lines : List ℕ) → (length lines % 4 ≡ 0 → ⊥) → Err (BadDerivation 0) ≡ refuse_if (no_lines lines) (BadDerivation 0)
 unfolding no_lines
 shape-ragged lines h = refused-if _ _ (or-second _ _ (ap not (ne_eqb _ _ h)))
 
@@ -177,11 +176,11 @@ some-lines lines h = go (or-false (eqb (length lines) 0) (not (eqb (length lines
     go w = omega (arith, eqb-true (length lines % 4) 0 (not-false _ w.1), eqb-false (length lines) 0 w.0)
 
 module _ (left right : ℕ) (lines : List ℕ) where
-  pub last-left : (left_at lines (lines_of lines - 1) ≡ left → ⊥) → Refused (BadDerivation (lines_of lines)) ≡ last_fault left right lines
+  pub last-left : (left_at lines (lines_of lines - 1) ≡ left → ⊥) → Err (BadDerivation (lines_of lines)) ≡ last_fault left right lines
   unfolding last_fault
   last-left h = refused-if _ _ (ap not (pair_left lines left right (lines_of lines - 1) (λ e. h (sym e))))
 
-  pub last-right : left_at lines (lines_of lines - 1) ≡ left → (right_at lines (lines_of lines - 1) ≡ right → ⊥) → Refused (BadDerivation (lines_of lines)) ≡ last_fault left right lines
+  pub last-right : left_at lines (lines_of lines - 1) ≡ left → (right_at lines (lines_of lines - 1) ≡ right → ⊥) → Err (BadDerivation (lines_of lines)) ≡ last_fault left right lines
   unfolding last_fault
   last-right e h = refused-if _ _ (ap not (pair-right lines left right (lines_of lines - 1) (sym e) (λ e. h (sym e))))
 
@@ -191,23 +190,23 @@ module _ (left right : ℕ) (lines : List ℕ) where
 
 -- the whole check, in its order
 pub pair-stops :
-    (t : Tables) (assignment : List ℕ) (left right : ℕ) (lines : List ℕ) (r : Refusal) → Refused r ≡ pair_fault t left right
-    → Refused r ≡ checking_fault t assignment left right lines
+    (t : Tables) (assignment : List ℕ) (left right : ℕ) (lines : List ℕ) (r : Refusal) → Err r ≡ pair_fault t left right
+    → Err r ≡ checking_fault t assignment left right lines
 unfolding checking_fault deciding_fault
-pair-stops t assignment left right lines r e = stops (Refused r) _ _ r (stops (Refused r) _ _ r e refl) refl
+pair-stops t assignment left right lines r e = stops (Err r) _ _ r (stops (Err r) _ _ r e refl) refl
 
 module _ (t : Tables) (assignment : List ℕ) (left right : ℕ) (lines : List ℕ) (w x y z : Outcome) (a : w ≡ deciding_fault t assignment left right) where
-  pub asked-stops : (r : Refusal) → w ≡ Refused r → Refused r ≡ checking_fault t assignment left right lines
+  pub asked-stops : (r : Refusal) → w ≡ Err r → Err r ≡ checking_fault t assignment left right lines
   unfolding checking_fault
   asked-stops r e = stops _ _ _ r a e
 
   module _ (f : w ≡ Done) (b : x ≡ refuse_if (no_lines lines) (BadDerivation 0)) where
-    pub shape-stops : (r : Refusal) → x ≡ Refused r → Refused r ≡ checking_fault t assignment left right lines
+    pub shape-stops : (r : Refusal) → x ≡ Err r → Err r ≡ checking_fault t assignment left right lines
     unfolding checking_fault derivation_fault
     shape-stops r e = goes_on _ _ _ _ a f (stops _ _ _ r b e)
 
     module _ (g : x ≡ Done) (c : y ≡ rule_fault t assignment lines) where
-      pub rules-stops : (r : Refusal) → y ≡ Refused r → Refused r ≡ checking_fault t assignment left right lines
+      pub rules-stops : (r : Refusal) → y ≡ Err r → Err r ≡ checking_fault t assignment left right lines
       unfolding checking_fault derivation_fault
       rules-stops r e = goes_on _ _ _ _ a f (goes_on _ _ _ _ b g (stops _ _ _ r c e))
 

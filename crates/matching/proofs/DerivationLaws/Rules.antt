@@ -1,168 +1,29 @@
 -- The tests of the rules, as the code goes through them: one law for each branch.
-use Prim.Native.Nat.{ℕ, zero, suc, ◌+◌, ◌/◌, ◌%◌, ◌^◌, ◌<◌, ◌≤◌}
+use Prim.Native.Nat.{ℕ, ◌+◌, ◌/◌, ◌%◌, ◌^◌, ◌<◌, ◌≤◌}
 use mathlib.Core.Path.{◌≡◌, refl, sym, ap, ◌∙◌, subst}
 use mathlib.Core.List.{List, Memᴰ}
 use mathlib.Core.Bool.{Bool, true, false, false≢true}
 use mathlib.Core.Logic.{⊎_elim}
 use native.Mathlib.Omega.{arith}
-use lib.Dec.{eqb, ltb}
+use lib.Dec.{ltb}
 use lib.ListN.{length, get_or}
-use borrow.Author.Tests.{eqb-true, eq-eqb, ne_eqb, lt-ltb, le-ltb}
+use borrow.Author.Tests.{eqb-true, eq-eqb, lt-ltb, le-ltb}
 use Rattle.subsumption.specs.declared.tables.Pair.{Pair}
-use Rattle.subsumption.specs.Tables.{or, both, and_at, decode, pairs_of, left_of, right_of}
-use Rattle.subsumption.specs.Inner.Tables.{pair_of, Rising}
+use Rattle.subsumption.specs.Tables.{both, decode, pairs_of, left_of, right_of}
+use Rattle.subsumption.specs.Inner.Tables.{pair_of}
 use Rattle.subsumption.specs.Atoms.{bit, pick}
 use Rattle.subsumption.specs.Inner.Atoms.{Known}
-use Rattle.subsumption.specs.Rules.{every, contains, same_name, is_top, on_picked, on_both, on_inner, on_variable}
-use Rattle.subsumption.proofs.Bools.{both-none, both-skip, last-cases}
+use Rattle.subsumption.specs.Rules.{every, contains, on_both}
+use Rattle.subsumption.proofs.Bools.{both-none, last-cases}
 use Rattle.subsumption.proofs.Chosen.{pick-member, pick_intro}
 use Rattle.subsumption.proofs.RuleTests.{every-elim, every-intro, contains-elim, contains-intro}
-use Rattle.matching.specs.Inner.Derivation.{LowRole, KnownAtoms, Numbered}
+use Rattle.matching.specs.Inner.Derivation.{KnownAtoms}
 
--- ---- rule 1
-module _ (left right lk la lb rk ra rb : ℕ) where
-  pub name-same : left ≡ right → true ≡ or (eqb left right) (same_name (decode lk la lb) (decode rk ra rb))
-  unfolding or
-  name-same e = rw (eq-eqb left right e)
-
-  pub name-left : (left ≡ right → ⊥) → (lk ≡ 1 → ⊥) → false ≡ or (eqb left right) (same_name (decode lk la lb) (decode rk ra rb))
-  unfolding or decode same_name
-  name-left ne h = rw (ne_eqb left right ne) (go lk h)
-    where
-      go : (k : ℕ) → (k ≡ 1 → ⊥) → false ≡ same_name (decode k la lb) (decode rk ra rb)
-      go zero h = refl
-      go (suc zero) h = absurd (h refl)
-      go (suc (suc zero)) h = refl
-      go (suc (suc (suc zero))) h = refl
-      go (suc (suc (suc (suc zero)))) h = refl
-      go (suc (suc (suc (suc (suc k))))) h = refl
-
-  pub name-right : (left ≡ right → ⊥) → lk ≡ 1 → (rk ≡ 1 → ⊥) → false ≡ or (eqb left right) (same_name (decode lk la lb) (decode rk ra rb))
-  unfolding or decode same_name
-  name-right ne e h = rw (ne_eqb left right ne, e) (go rk h)
-    where
-      go : (k : ℕ) → (k ≡ 1 → ⊥) → false ≡ same_name (decode 1 la lb) (decode k ra rb)
-      go zero h = refl
-      go (suc zero) h = absurd (h refl)
-      go (suc (suc zero)) h = refl
-      go (suc (suc (suc zero))) h = refl
-      go (suc (suc (suc (suc zero)))) h = refl
-      go (suc (suc (suc (suc (suc k))))) h = refl
-
-  pub name-both : (left ≡ right → ⊥) → lk ≡ 1 → rk ≡ 1 → eqb la ra ≡ or (eqb left right) (same_name (decode lk la lb) (decode rk ra rb))
-  unfolding or decode same_name
-  name-both ne e f = rw (ne_eqb left right ne, e, f)
-
--- ---- rule 2
-pub top-zero : (k a b : ℕ) → k ≡ 0 → true ≡ is_top (decode k a b)
-unfolding decode is_top
-top-zero k a b e = rw e
-
-pub top-other : (k a b : ℕ) → (k ≡ 0 → ⊥) → ltb 4 k ≡ is_top (decode k a b)
-unfolding decode is_top
-top-other zero a b h = absurd (h refl)
-top-other (suc zero) a b h = le-ltb 4 1 (omega arith)
-top-other (suc (suc zero)) a b h = le-ltb 4 2 (omega arith)
-top-other (suc (suc (suc zero))) a b h = le-ltb 4 3 (omega arith)
-top-other (suc (suc (suc (suc zero)))) a b h = le-ltb 4 4 (omega arith)
-top-other (suc (suc (suc (suc (suc k))))) a b h = lt-ltb 4 (suc (suc (suc (suc (suc k))))) (omega arith)
-
--- ---- rules 3 and 4
+-- ---- rule 4
 module _ (k a b : ℕ) where
-  pub and-rising : (count : ℕ) → k ≡ 3 → Rising count (decode k a b) → (a < count) × (b < count)
-  unfolding decode
-  and-rising count e h = subst (λ (z : ℕ). Rising count (decode z a b)) e h
-
-  pub member-none : (extra : ℕ) (test : ℕ → Bool) → (k ≡ 3 → ⊥) → false ≡ on_picked extra test (decode k a b)
-  unfolding decode on_picked
-  member-none extra test h = go k h
-    where
-      go : (k : ℕ) → (k ≡ 3 → ⊥) → false ≡ on_picked extra test (decode k a b)
-      go zero h = refl
-      go (suc zero) h = refl
-      go (suc (suc zero)) h = refl
-      go (suc (suc (suc zero))) h = absurd (h refl)
-      go (suc (suc (suc (suc zero)))) h = refl
-      go (suc (suc (suc (suc (suc k))))) h = refl
-
-  pub member-first : (extra : ℕ) (test : ℕ → Bool) (r : Bool) → k ≡ 3 → extra ≡ 0 → r ≡ test a → r ≡ on_picked extra test (decode k a b)
-  unfolding decode on_picked
-  member-first extra test r e f h = rw (e, f) h
-
-  pub member-second : (extra : ℕ) (test : ℕ → Bool) (r : Bool) → k ≡ 3 → extra ≡ 1 → r ≡ test b → r ≡ on_picked extra test (decode k a b)
-  unfolding decode on_picked
-  member-second extra test r e f h = rw (e, f) h
-
-  pub member-past : (extra : ℕ) (test : ℕ → Bool) → k ≡ 3 → (extra ≡ 0 → ⊥) → (extra ≡ 1 → ⊥) → false ≡ on_picked extra test (decode k a b)
-  unfolding decode on_picked
-  member-past extra test e f g = rw e (go extra f g)
-    where
-      go : (extra : ℕ) → (extra ≡ 0 → ⊥) → (extra ≡ 1 → ⊥) → false ≡ on_picked extra test (and_at a b)
-      go zero f g = absurd (f refl)
-      go (suc zero) f g = absurd (g refl)
-      go (suc (suc extra)) f g = refl
-
-  pub both-kind : (test : ℕ → Bool) → (k ≡ 3 → ⊥) → false ≡ on_both test (decode k a b)
-  unfolding decode on_both
-  both-kind test h = go k h
-    where
-      go : (k : ℕ) → (k ≡ 3 → ⊥) → false ≡ on_both test (decode k a b)
-      go zero h = refl
-      go (suc zero) h = refl
-      go (suc (suc zero)) h = refl
-      go (suc (suc (suc zero))) h = absurd (h refl)
-      go (suc (suc (suc (suc zero)))) h = refl
-      go (suc (suc (suc (suc (suc k))))) h = refl
-
-  pub both-second : (test : ℕ → Bool) (x y : Bool) → k ≡ 3 → x ≡ test a → x ≡ true → y ≡ test b → y ≡ on_both test (decode k a b)
-  unfolding decode on_both
-  both-second test x y e f g h = rw e (rw (both-skip (test a) (test b) (sym f ∙ g)) h)
-
   pub both_first : (test : ℕ → Bool) (x : Bool) → k ≡ 3 → x ≡ test a → x ≡ false → false ≡ on_both test (decode k a b)
   unfolding decode on_both
   both_first test x e f g = rw e (rw (both-none (test a) (test b) (sym f ∙ g)) refl)
-
--- ---- rule 5
-module _ (wide test : ℕ → ℕ → Bool) (lk la lb rk ra rb : ℕ) where
-  pub inner-left : (lk ≡ 2 → ⊥) → false ≡ on_inner wide test (decode lk la lb) (decode rk ra rb)
-  unfolding decode on_inner
-  inner-left h = go lk h
-    where
-      go : (k : ℕ) → (k ≡ 2 → ⊥) → false ≡ on_inner wide test (decode k la lb) (decode rk ra rb)
-      go zero h = refl
-      go (suc zero) h = refl
-      go (suc (suc zero)) h = absurd (h refl)
-      go (suc (suc (suc zero))) h = refl
-      go (suc (suc (suc (suc zero)))) h = refl
-      go (suc (suc (suc (suc (suc k))))) h = refl
-
-  pub inner-right : lk ≡ 2 → (rk ≡ 2 → ⊥) → false ≡ on_inner wide test (decode lk la lb) (decode rk ra rb)
-  unfolding decode on_inner
-  inner-right e h = rw e (go rk h)
-    where
-      go : (k : ℕ) → (k ≡ 2 → ⊥) → false ≡ on_inner wide test (decode 2 la lb) (decode k ra rb)
-      go zero h = refl
-      go (suc zero) h = refl
-      go (suc (suc zero)) h = absurd (h refl)
-      go (suc (suc (suc zero))) h = refl
-      go (suc (suc (suc (suc zero)))) h = refl
-      go (suc (suc (suc (suc (suc k))))) h = refl
-
-  pub inner-role : (c : Bool) → lk ≡ 2 → rk ≡ 2 → c ≡ wide la ra → c ≡ false → false ≡ on_inner wide test (decode lk la lb) (decode rk ra rb)
-  unfolding decode on_inner both
-  inner-role c e f g h = rw (e, f, ← g, h)
-
-  pub inner-mark : (r c : Bool) → lk ≡ 2 → rk ≡ 2 → c ≡ wide la ra → c ≡ true → r ≡ test lb rb → r ≡ on_inner wide test (decode lk la lb) (decode rk ra rb)
-  unfolding decode on_inner both
-  inner-mark r c e f g h k = rw (e, f, ← g, h) k
-
-pub exists-low : (k a b : ℕ) → k ≡ 2 → LowRole (decode k a b) → a < 100
-unfolding decode
-exists-low k a b e h = subst (λ (z : ℕ). LowRole (decode z a b)) e h
-
-pub exists-rising : (count k a b : ℕ) → k ≡ 2 → Rising count (decode k a b) → b < count
-unfolding decode
-exists-rising count k a b e h = subst (λ (z : ℕ). Rising count (decode z a b)) e h
 
 -- ---- rule 6
 module _ (test : ℕ → ℕ → Bool) (inclusions : List ℕ) (left right extra : ℕ) where
@@ -194,27 +55,6 @@ module _ (count : ℕ) (inclusions : List ℕ) (extra : ℕ) (pair : Pair) (know
   pair-right = subst (λ (z : Pair). z.right < count) (sym e) (known.right-known extra h)
 
 -- ---- rules 7 and 8
-module _ (k a b : ℕ) where
-  pub variable-none : (test : ℕ → Bool) → (k ≡ 4 → ⊥) → false ≡ on_variable test (decode k a b)
-  unfolding decode on_variable
-  variable-none test h = go k h
-    where
-      go : (k : ℕ) → (k ≡ 4 → ⊥) → false ≡ on_variable test (decode k a b)
-      go zero h = refl
-      go (suc zero) h = refl
-      go (suc (suc zero)) h = refl
-      go (suc (suc (suc zero))) h = refl
-      go (suc (suc (suc (suc zero)))) h = absurd (h refl)
-      go (suc (suc (suc (suc (suc k))))) h = refl
-
-  pub variable-test : (test : ℕ → Bool) (r : Bool) → k ≡ 4 → r ≡ test a → r ≡ on_variable test (decode k a b)
-  unfolding decode on_variable
-  variable-test test r e h = rw e h
-
-  pub variable-numbered : (assignment : List ℕ) → k ≡ 4 → Numbered assignment (decode k a b) → a < length assignment
-  unfolding decode
-  variable-numbered assignment e h = subst (λ (z : ℕ). Numbered assignment (decode z a b)) e h
-
 pub skipped : (choice q : ℕ) → choice / 2 ^ q % 2 ≡ 0 → bit choice q ≡ true → ⊥
 unfolding bit
 skipped choice q e h = omega (arith, eqb-true (choice / 2 ^ q % 2) 1 h)
@@ -274,31 +114,7 @@ pub marked-not :
 marked-not ids choice test q x r l ne e f g =
     refuted _ (λ h. false≢true (sym g ∙ f ∙ every-elim test _ h x (picked-member ids choice q x l ne e)))
 
--- rule 7, once the row is a variable
-module _ (ids assignment : List ℕ) (proved : ℕ → ℕ → Bool) (count k a b right extra : ℕ) where
-  pub choice-none : (k ≡ 4 → ⊥) → false ≡ on_variable (λ v. both (contains extra (pick ids (get_or assignment v 0))) (proved extra right)) (decode k a b)
-  choice-none h = variable-none k a b (λ v. both (contains extra (pick ids (get_or assignment v 0))) (proved extra right)) h
-
-  pub choice-past :
-      KnownAtoms count ids → k ≡ 4 → count ≤ extra → false ≡ on_variable (λ v. both (contains extra (pick ids (get_or assignment v 0))) (proved extra right)) (decode k a b)
-  choice-past known e h = variable-test k a b (λ v. both (contains extra (pick ids (get_or assignment v 0))) (proved extra right)) false e (sym (both-none _ _ (sym none)))
-    where
-      none : false ≡ contains extra (pick ids (get_or assignment a 0))
-      none = refuted _ (λ u. let c = pick-member ids (get_or assignment a 0) extra (contains-elim extra _ u) in absurd (omega (arith, known.atoms-known c.place c.known, c.here)))
-
-  pub choice-unmarked :
-      (x : Bool) → k ≡ 4 → x ≡ proved extra right → x ≡ false → false ≡ on_variable (λ v. both (contains extra (pick ids (get_or assignment v 0))) (proved extra right)) (decode k a b)
-  choice-unmarked x e f g = variable-test k a b (λ v. both (contains extra (pick ids (get_or assignment v 0))) (proved extra right)) false e (sym (both-last _ _ (sym f ∙ g)))
-    where
-      both-last : (u v : Bool) → v ≡ false → both u v ≡ false
-      both-last true v e = both-skip true v refl ∙ e
-      both-last false v e = both-none false v refl
-
-  pub choice-chosen :
-      (x y : Bool) → k ≡ 4 → x ≡ proved extra right → x ≡ true → y ≡ contains extra (pick ids (get_or assignment a 0))
-      → y ≡ on_variable (λ v. both (contains extra (pick ids (get_or assignment v 0))) (proved extra right)) (decode k a b)
-  choice-chosen x y e f g h = variable-test k a b (λ v. both (contains extra (pick ids (get_or assignment v 0))) (proved extra right)) y e (h ∙ sym (both_right _ _ (sym f ∙ g)))
-    where
-      both_right : (u v : Bool) → v ≡ true → both u v ≡ u
-      both_right true v e = both-skip true v refl ∙ e
-      both_right false v e = both-none false v refl
+-- rule 7: past the ids, no extra is chosen
+pub chosen-past : (count : ℕ) (ids : List ℕ) (choice extra : ℕ) → KnownAtoms count ids → count ≤ extra → false ≡ contains extra (pick ids choice)
+chosen-past count ids choice extra known h =
+    refuted _ (λ u. let c = pick-member ids choice extra (contains-elim extra _ u) in absurd (omega (arith, known.atoms-known c.place c.known, c.here)))

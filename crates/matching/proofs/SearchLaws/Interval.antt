@@ -1,4 +1,5 @@
 -- Why the search is right: what a test of either side tells of a whole interval, and how an interval is split.
+use Rattle.subsumption.specs.Refusal.{Done}
 use Prim.Native.Nat.{ℕ, ◌+◌, ◌*◌, ◌/◌, ◌%◌, ◌<◌, ◌≤◌}
 use mathlib.Core.Path.{◌≡◌, refl, sym, ap, ◌∙◌, subst}
 use mathlib.Core.List.{List}
@@ -7,7 +8,6 @@ use mathlib.Core.Logic.{◌⊎◌, inl, inr, ⊎_elim}
 use native.Mathlib.Omega.{arith}
 use lib.ListN.{length, take}
 use lib.Seq.{length-take-le}
-use Rattle.subsumption.specs.declared.refusal.Outcome.TheVariants.{Done}
 use Rattle.subsumption.specs.Tables.{Tables, pairs_of, right_of, tree, has_variable}
 use Rattle.subsumption.specs.Table.{counted}
 use Rattle.subsumption.specs.Check.{table_fault, assignment_fault}
@@ -18,10 +18,8 @@ use Rattle.matching.specs.Solving.{takes}
 use Rattle.matching.specs.Inner.Search.{Decided, HoldsAt, Within, SolutionIn, NoSolution}
 use Rattle.matching.specs.Inner.Search.Problem.{AskedAt}
 use Rattle.matching.specs.Inner.Search.Pairs.{Changed}
-use Rattle.matching.specs.Inner.Search.Interval.{IntervalOf, undecided, open_pairs, Picked}
+use Rattle.matching.specs.Inner.Search.Interval.{IntervalOf, undecided, open_pairs}
 use Rattle.matching.specs.Inner.Search.Solve.{Refuted}
-use Rattle.matching.specs.declared.search.interval.Pick.{Pick}
-use Rattle.matching.specs.declared.search.interval.Pick.TheVariants.{At, Nothing}
 use Rattle.matching.proofs.SearchLaws.Fronts.{front-known, front-takes, front-within, accepted-bits, within-accepted}
 use Rattle.matching.proofs.SearchLaws.Monotone.{monotone, antitone, left-free}
 
@@ -206,10 +204,3 @@ decided-true P b x e = subst (Decided P) e x
 
 pub decided-false : (P : Type 0) (b : Bool) → Decided P b → b ≡ false → P → ⊥
 decided-false P b x e = subst (Decided P) e x
-
--- ---- answers
-pub picked-at : (low high : List ℕ) (r : Pick) (p : ℕ) → Picked low high r → r ≡ At p → (p < 512) × (undecided low high p ≡ true)
-picked-at low high r p x e = subst (Picked low high) e x
-
-pub picked_none : (low high : List ℕ) (r : Pick) → Picked low high r → r ≡ Nothing → (p : ℕ) → p < 512 → undecided low high p ≡ false
-picked_none low high r x e = subst (Picked low high) e x

@@ -1,4 +1,5 @@
 -- Narrowing: an asked question with variables on the right that fails with one pair alone fails with every assignment that takes the pair.
+use Rattle.subsumption.specs.Refusal.{Done}
 use Prim.Native.Nat.{ℕ, ◌+◌, ◌<◌, ◌≤◌}
 use mathlib.Core.Path.{◌≡◌, refl, sym, ap, ◌∙◌, subst}
 use mathlib.Core.List.{List}
@@ -7,7 +8,6 @@ use mathlib.Core.Logic.{⊎_elim}
 use native.Mathlib.Omega.{arith}
 use lib.ListN.{length, get_or, take}
 use lib.Seq.{length-take-le}
-use Rattle.subsumption.specs.declared.refusal.Outcome.TheVariants.{Done}
 use Rattle.subsumption.specs.Tables.{Tables, pairs_of, right_of, tree, has_variable}
 use Rattle.subsumption.specs.Atoms.{bit}
 use Rattle.subsumption.specs.Check.{table_fault, assignment_fault}

@@ -1,4 +1,5 @@
 -- Needs: nogoods that want one of some pairs of one variable, counted.
+use Rattle.subsumption.specs.Refusal.{Done}
 use Prim.Native.Nat.{ℕ, ◌+◌, ◌*◌, ◌^◌, ◌<◌, ◌≤◌}
 use mathlib.Core.Path.{◌≡◌, refl, sym, ap, ◌∙◌, subst}
 use mathlib.Core.List.{List}
@@ -8,7 +9,6 @@ use native.Mathlib.Omega.{arith}
 use lib.Bits.{bit_and, bit_or, bit_xor}
 use lib.ListN.{length, get_or, set, take, replicate, length-set, get_or-replicate, get_or-eq_default}
 use lib.Seq.{get_or-set_same, get_or-set_other}
-use Rattle.subsumption.specs.declared.refusal.Outcome.TheVariants.{Done}
 use Rattle.subsumption.specs.Tables.{Tables, both, any_below}
 use Rattle.subsumption.specs.Atoms.{bit}
 use Rattle.subsumption.specs.Table.{counted}
@@ -25,7 +25,7 @@ use Rattle.matching.specs.Inner.Search.Problem.{most_at}
 use Rattle.matching.specs.Inner.Search.Pairs.{Joined, Met}
 use Rattle.matching.specs.Inner.Search.Interval.{IntervalOf}
 use Rattle.matching.specs.Inner.Search.Nogoods.{used, low_at, high_at, Nogoods}
-use Rattle.matching.specs.Inner.Search.Needs.{Need, NeedAt, Kept, WantedOver}
+use Rattle.matching.specs.Inner.Search.Needs.{Need, NeedAt, Kept, Overdrawn}
 use Rattle.matching.proofs.SearchLaws.Fronts.{bit_below, front-known, front-takes}
 use Rattle.matching.proofs.SearchLaws.Nogoods.{words-at}
 
@@ -118,11 +118,7 @@ module _ (problem store full low high : List ℕ) (k : ℕ) where
           (eq-or-ne l k)
 
   module _ (about allowed : List ℕ) (met sum c : ℕ) (w : Wanting problem store full low high k about allowed met sum c) where
-    pub wanting-skip : Wanting problem store full low high k about allowed met sum (c + 1)
-    wanting-skip =
-        record { low-long = w.low-long; high-long = w.high-long; within = w.within; around = w.around; few = omega (arith, w.few); least = w.least }
-
-    pub wanting-over : most_at problem k < sum → WantedOver problem store full low high true about allowed
+    pub wanting-over : most_at problem k < sum → Overdrawn problem store full low high about allowed
     unfolding size
     wanting-over h t i j n =
         record {

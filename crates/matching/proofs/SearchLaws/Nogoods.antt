@@ -2,7 +2,7 @@
 use Prim.Native.Nat.{ℕ, ◌+◌, ◌*◌, ◌<◌, ◌≤◌}
 use mathlib.Core.Path.{◌≡◌, refl, sym, ap, ◌∙◌, subst}
 use mathlib.Core.List.{List}
-use mathlib.Core.Logic.{◌⊎◌, inl, inr, ⊎_elim}
+use mathlib.Core.Logic.{inl, inr, ⊎_elim}
 use native.Mathlib.Omega.{arith}
 use lib.ListN.{length, get_or, set, drop, length-set, length-drop}
 use lib.Seq.{get_or-set_same, get_or-set_other, get_or-take, get_or-drop, length-take-le, ext_get_or}
@@ -26,62 +26,6 @@ pub words_same :
     (a b : List ℕ) (at : ℕ) → at + 8 ≤ length a → at + 8 ≤ length b → ((p : ℕ) → at ≤ p → p < at + 8 → get_or a p 0 ≡ get_or b p 0) → words a at ≡ words b at
 words_same a b at h l f =
     words_are b (words a at) at l (words_long a at h) (λ k m. words-at a at k m ∙ f (at + k) (omega arith) (omega arith))
-
--- ---- reading
-pub record Fetching (store : List ℕ) (at : ℕ) (set : List ℕ) (n : ℕ) : Type 0 where
-  pub long : length set ≡ 8
-  pub read : (k : ℕ) → k < n → get_or set k 0 ≡ get_or store (at + k) 0
-
-pub fetching-none : (store : List ℕ) (at : ℕ) (set : List ℕ) → length set ≡ 8 → Fetching store at set 0
-fetching-none store at set e = record { long = e; read = λ k l. absurd (omega arith) }
-
-pub fetching-more : (store : List ℕ) (at : ℕ) (set' : List ℕ) (n : ℕ) → n < 8 → Fetching store at set' n → Fetching store at (set set' n (get_or store (at + n) 0)) (n + 1)
-fetching-more store at set' n h c =
-    record {
-      long = length-set set' n _ ∙ c.long;
-      read =
-          λ k l.
-          ⊎_elim (λ (x : k ≡ n). ap (λ (z : ℕ). get_or (set set' n (get_or store (at + n) 0)) z 0) x ∙ get_or-set_same set' n _ 0 (omega (arith, c.long)) ∙ ap (λ (z : ℕ). get_or store (at + z) 0) (sym x))
-          (λ x. get_or-set_other set' n k _ 0 (λ y. omega arith) ∙ c.read k x) (last-cases k n (omega arith));
-    }
-
-pub fetching-done : (store : List ℕ) (at : ℕ) (set : List ℕ) (n : ℕ) → at + 8 ≤ length store → 8 ≤ n → Fetching store at set n → set ≡ words store at
-fetching-done store at set n h l c = words_are store set at h c.long (λ k m. c.read k (omega arith))
-
--- ---- writing
-pub record Putting (at : ℕ) (set before after : List ℕ) (n : ℕ) : Type 0 where
-  pub within : n ≤ 8
-  pub size : length after ≡ length before
-  pub here : (k : ℕ) → k < n → get_or after (at + k) 0 ≡ get_or set k 0
-  pub there : (p : ℕ) → (p < at) ⊎ (at + n ≤ p) → get_or after p 0 ≡ get_or before p 0
-
-pub putting-none : (at : ℕ) (set before : List ℕ) → Putting at set before before 0
-putting-none at set before = record { within = omega arith; size = refl; here = λ k l. absurd (omega arith); there = λ p l. refl }
-
-pub putting-more :
-    (at : ℕ) (words before after : List ℕ) (n : ℕ) → n < 8 → at + 8 ≤ length before → Putting at words before after n
-    → Putting at words before (set after (at + n) (get_or words n 0)) (n + 1)
-putting-more at words before after n h l c =
-    record {
-      within = omega arith;
-      size = length-set after (at + n) _ ∙ c.size;
-      here =
-          λ k m.
-          ⊎_elim (λ (x : k ≡ n). ap (λ (z : ℕ). get_or (set after (at + n) (get_or words n 0)) (at + z) 0) x ∙ get_or-set_same after (at + n) _ 0 (omega (arith, c.size)) ∙ ap (λ (z : ℕ). get_or words z 0) (sym x))
-          (λ x. get_or-set_other after (at + n) (at + k) _ 0 (λ y. omega arith) ∙ c.here k x) (last-cases k n (omega arith));
-      there =
-          λ p o.
-          ⊎_elim (λ x. get_or-set_other after (at + n) p _ 0 (λ y. omega arith) ∙ c.there p (inl x))
-          (λ x. get_or-set_other after (at + n) p _ 0 (λ y. omega arith) ∙ c.there p (inr (omega arith))) o;
-    }
-
-pub putting-done : (at : ℕ) (set before after : List ℕ) (n : ℕ) → 8 ≤ n → Putting at set before after n → Put at set before after
-putting-done at set before after n h c =
-    record {
-      size = c.size;
-      here = λ k l. c.here k (omega arith);
-      there = λ p o. ⊎_elim (λ x. c.there p (inl x)) (λ x. c.there p (inr (omega (arith, c.within)))) o;
-    }
 
 -- ---- one more
 pub added_none : (low high store : List ℕ) → Room store → Added low high store store

@@ -1,4 +1,5 @@
 -- The walk over the pairs in their order: all before a place are decided, and every solution is still between or comes later.
+use Rattle.subsumption.specs.Refusal.{Done}
 use Prim.Native.Nat.{ℕ, ◌+◌, ◌*◌, ◌/◌, ◌%◌, ◌<◌, ◌≤◌}
 use mathlib.Core.Path.{◌≡◌, refl, sym, ap, ◌∙◌, subst}
 use mathlib.Core.List.{List}
@@ -7,7 +8,6 @@ use mathlib.Core.Logic.{◌⊎◌, inl, inr, ⊎_elim}
 use native.Mathlib.Omega.{arith}
 use lib.ListN.{length, take}
 use lib.Seq.{length-take-le}
-use Rattle.subsumption.specs.declared.refusal.Outcome.TheVariants.{Done}
 use Rattle.subsumption.specs.Tables.{Tables}
 use Rattle.subsumption.specs.Check.{table_fault, assignment_fault}
 use Rattle.subsumption.proofs.Bools.{same_bool, last-cases}
@@ -18,11 +18,11 @@ use Rattle.matching.specs.Inner.Search.Pairs.{Changed}
 use Rattle.matching.specs.Inner.Search.Interval.{IntervalOf, undecided}
 use Rattle.matching.specs.Inner.Search.Problem.{Problem}
 use Rattle.matching.specs.Inner.Search.Nogoods.{Room, Nogoods}
-use Rattle.matching.specs.Inner.Search.Solve.{Answers, Searched}
+use Rattle.matching.specs.Inner.Search.Solve.{Refuted, Searched}
 use Rattle.matching.specs.Inner.Search.Order.{FirstIn, FirstOf}
 use Rattle.matching.proofs.SearchLaws.Fronts.{front-known, front-takes, front-within, accepted-bits, within-accepted, same_taken}
 use Rattle.matching.proofs.SearchLaws.Interval.{open-high, open-low, open-intro, at_pair, grown, grown-cases, shrunk, shrunk-cases, take-keeps, leave-keeps}
-use Rattle.matching.proofs.SearchLaws.Solve.{answers-found, answers-none, refuted-none}
+use Rattle.matching.proofs.SearchLaws.Solve.{refuted-none}
 
 abbrev at : List ℕ → ℕ → Bool
 at a p = takes a (p / 64) (p % 64)
@@ -362,12 +362,13 @@ module _ (sets problem low₀ high₀ store₀ known : List ℕ) where
                   let (v, m) = w.walk t c i n s in (walk-witness t problem c.passed low₀ high₀ low high witness p v l u high₁ d low₁ e x, m);
             }
 
-        module _ (after : List ℕ) (room : Room after) (found : Bool) (choice rest : List ℕ)
-            (s : Searched sets problem high₀ low₁ high₁ store after (λ t. Answers t problem low₁ high₁ found choice rest)) where
+        module _ (after : List ℕ) (room : Room after) where
           searched :
-              (t : Tables) → Problem t sets problem → IntervalOf t low₀ high₀ → Walk t problem low₀ high₀ low high witness p → Nogoods t problem store
-              → Answers t problem low₁ high₁ found choice rest × Nogoods t problem after
-          searched t c i v m =
+              (Given : Tables → Type 0) → Searched sets problem high₀ low₁ high₁ store after Given
+              → (t : Tables) → Problem t sets problem → IntervalOf t low₀ high₀ → Walk t problem low₀ high₀ low high witness p
+              → Nogoods t problem store
+              → Given t × Nogoods t problem after
+          searched Given s t c i v m =
               s t c (leave-keeps t c.passed low high v.interval p u low₁ high₁ e d)
               (record {
                 low-long = d.long;
@@ -378,8 +379,11 @@ module _ (sets problem low₀ high₀ store₀ known : List ℕ) where
               })
               m
 
-          pub walking-leave : found ≡ true → length choice ≡ 8 → Walking low₁ high₁ choice after (p + 1)
-          walking-leave f g =
+          pub walking-leave :
+              (choice : List ℕ) → Searched sets problem high₀ low₁ high₁ store after (λ t. SolutionIn t problem low₁ high₁ choice)
+              → length choice ≡ 8
+              → Walking low₁ high₁ choice after (p + 1)
+          walking-leave choice s g =
               record {
                 low-long = ap length e ∙ w.low-long;
                 high-long = d.long;
@@ -388,14 +392,15 @@ module _ (sets problem low₀ high₀ store₀ known : List ℕ) where
                 walk =
                     λ t c i n x.
                     let (v, m) = w.walk t c i n x in
-                    let (a, o) = searched t c i v m in
-                    (walk-leave t problem c.passed low₀ high₀ low high witness p v l u high₁ d low₁ choice e (answers-found t problem low₁ high₁ found choice rest a f), o);
+                    let (a, o) = searched _ s t c i v m in
+                    (walk-leave t problem c.passed low₀ high₀ low high witness p v l u high₁ d low₁ choice e a, o);
               }
 
           pub walking-take :
-              found ≡ false → (low₂ high₂ : List ℕ) → high₂ ≡ high → Changed low low₂ (p / 64) (p % 64) true → at witness p ≡ true
+              (below above : List ℕ) → Searched sets problem high₀ low₁ high₁ store after (λ t. Refuted t problem low₁ high₁ below above)
+              → (low₂ high₂ : List ℕ) → high₂ ≡ high → Changed low low₂ (p / 64) (p % 64) true → at witness p ≡ true
               → Walking low₂ high₂ witness after (p + 1)
-          walking-take f low₂ high₂ g y x =
+          walking-take below above s low₂ high₂ g y x =
               record {
                 low-long = y.long;
                 high-long = ap length g ∙ w.high-long;
@@ -404,9 +409,9 @@ module _ (sets problem low₀ high₀ store₀ known : List ℕ) where
                 walk =
                     λ t c i n z.
                     let (v, m) = w.walk t c i n z in
-                    let (a, o) = searched t c i v m in (
+                    let (a, o) = searched _ s t c i v m in (
                       walk-take t problem c.passed low₀ high₀ low high witness p v l u high₁ d low₁ low₂ high₂ e g y x
-                          (refuted-none t problem low₁ high₁ choice rest (answers-none t problem low₁ high₁ found choice rest a f)),
+                          (refuted-none t problem low₁ high₁ below above a),
                       o,
                     );
               }

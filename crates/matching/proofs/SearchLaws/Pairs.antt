@@ -8,12 +8,15 @@ use native.Mathlib.Omega.{arith}
 use lib.Bits.{bit_and, bit_or}
 use lib.ListN.{length, get_or, set, length-set, get_or-eq_default}
 use lib.Seq.{get_or-set_same, get_or-set_other}
+use Rattle.std.specs.Prelude.{MatchBool, HoldsAt, zip}
+use Rattle.std.specs.List.{AllWithin}
+use Rattle.std.proofs.lemmas.Slice.Zip.{get_or-zip, length-zip}
 use Rattle.subsumption.specs.Tables.{or, both}
 use Rattle.subsumption.specs.Atoms.{bit}
 use Rattle.subsumption.proofs.Bools.{last-cases, le-or-lt, same_bool, both_true, both-intro}
 use Rattle.subsumption.proofs.Bits.{bit-or, bit-and, bit_or_left, bit_or_right, bit-or-cases, bit-of-zero}
 use Rattle.matching.specs.Solving.{takes}
-use Rattle.matching.specs.Inner.Search.{Within}
+use Rattle.matching.specs.Inner.Search.{Decided, Within}
 use Rattle.matching.specs.Inner.Search.Pairs.{Joined, Met}
 use Rattle.matching.specs.Inner.Search.Widen.{Mixed}
 use Rattle.matching.proofs.SearchLaws.Choices.{same_bits}
@@ -28,20 +31,6 @@ module _ (f : ℕ → ℕ → ℕ) (a b : List ℕ) where
     pub long : length r ≡ 8
     pub done : (k : ℕ) → k < n → get_or r k 0 ≡ f (get_or a k 0) (get_or b k 0)
     pub rest : (k : ℕ) → n ≤ k → get_or r k 0 ≡ get_or a k 0
-
-  pub combined-more : (r : List ℕ) (n v : ℕ) → n < 8 → v ≡ f (get_or a n 0) (get_or b n 0) → Combined r n → Combined (set r n v) (n + 1)
-  combined-more r n v h e c =
-      record {
-        long = length-set r n v ∙ c.long;
-        done =
-            λ k l.
-            ⊎_elim (λ (x : k ≡ n). ap (λ (z : ℕ). get_or (set r n v) z 0) x ∙ get_or-set_same r n v 0 (omega (arith, c.long)) ∙ e ∙ ap (λ (z : ℕ). f (get_or a z 0) (get_or b z 0)) (sym x))
-            (λ x. get_or-set_other r n k v 0 (λ y. omega arith) ∙ c.done k x) (last-cases k n (omega arith));
-        rest = λ k l. get_or-set_other r n k v 0 (λ y. omega arith) ∙ c.rest k (omega arith);
-      }
-
-pub combined-none : (f : ℕ → ℕ → ℕ) (a b : List ℕ) → length a ≡ 8 → Combined f a b a 0
-combined-none f a b e = record { long = e; done = λ k l. absurd (omega arith); rest = λ k l. refl }
 
 module _ (a b r : List ℕ) (n : ℕ) (ea : length a ≡ 8) (eb : length b ≡ 8) (h : 8 ≤ n) where
   no_bits : (q : ℕ) → bit 0 q ≡ false
@@ -95,12 +84,32 @@ unfolding WithinTo
 within_all a b n e h w k q x =
     ⊎_elim (λ (l : 8 ≤ k). absurd (bit-of-zero q (sym (ap (λ (z : ℕ). bit z q) (past-none a k q e l)) ∙ x))) (λ l. w k q (omega arith) x) (le-or-lt 8 k)
 
--- a number that differs from its union with the other is not within it
-pub within-not : (a b : List ℕ) (n : ℕ) → (bit_or (get_or a n 0) (get_or b n 0) ≡ get_or b n 0 → ⊥) → Within a b → ⊥
-within-not a b n o w =
-    o
-    (same_bits _ _
-    (λ q. same_bool _ _ (λ e. ⊎_elim (λ x. w n q x) (λ x. x) (bit-or-cases (get_or a n 0) (get_or b n 0) q e)) (λ e. bit_or_right (get_or a n 0) (get_or b n 0) q e)))
+abbrev pub Covered : ℕ × ℕ → Type 0
+Covered p = bit_or p.0 p.1 ≡ p.1
+
+within-each : (a b : List ℕ) → length a ≡ 8 → ((k : ℕ) → k < 8 → bit_or (get_or a k 0) (get_or b k 0) ≡ get_or b k 0) → Within a b
+within-each a b e each k q x =
+    ⊎_elim (λ (l : 8 ≤ k). absurd (bit-of-zero q (sym (ap (λ z. bit z q) (past-none a k q e l)) ∙ x)))
+    (λ l. sym (ap (λ z. bit z q) (each k l)) ∙ bit_or_left (get_or a k 0) (get_or b k 0) q x) (le-or-lt 8 k)
+
+-- a number is its union with one within it
+union-within : (a b : List ℕ) → Within a b → (k : ℕ) → bit_or (get_or a k 0) (get_or b k 0) ≡ get_or b k 0
+union-within a b w k =
+    same_bits _ _
+    (λ q. same_bool _ _ (λ e. ⊎_elim (λ x. w k q x) (λ x. x) (bit-or-cases (get_or a k 0) (get_or b k 0) q e)) (λ e. bit_or_right (get_or a k 0) (get_or b k 0) q e))
+
+pub within-cases :
+    (a b : List ℕ) → length a ≡ 8 → length b ≡ 8 → (r : Bool)
+    → MatchBool r (AllWithin Covered (zip a b) 0 (length (zip a b))) ((k : ℕ) × (k < length (zip a b)) × HoldsAt (λ p. Covered p → ⊥) (zip a b) k)
+    → Decided (Within a b) r
+within-cases a b ea eb true h =
+    within-each a b ea
+    (λ k l.
+    subst Covered (get_or-zip a b k (0, 0) (omega arith) (omega arith)) (h k (0, 0) (omega arith) (omega (arith, length-zip a b))))
+within-cases a b ea eb false h =
+    λ w.
+    let l : h.0 < 8 = omega (arith, length-zip a b, h.1) in
+    h.2 (0, 0) (subst Covered (sym (get_or-zip a b h.0 (0, 0) (omega arith) (omega arith))) (union-within a b w h.0))
 
 -- ---- mixing
 abbrev pub mix_word : ℕ → ℕ → ℕ → ℕ → ℕ
@@ -122,9 +131,6 @@ pub record MixedTo (a b r : List ℕ) (n : ℕ) : Type 0 where
   pub upper : (k q : ℕ) → k < n → takes r k q ≡ true → (takes a k q ≡ true) ⊎ (takes b k q ≡ true)
   pub lower : (k q : ℕ) → k < n → takes a k q ≡ true → takes b k q ≡ true → takes r k q ≡ true
   pub rest : (k : ℕ) → n ≤ k → get_or r k 0 ≡ get_or a k 0
-
-pub mixed-none : (a b : List ℕ) → length a ≡ 8 → MixedTo a b a 0
-mixed-none a b e = record { long = e; upper = λ k q l. absurd (omega arith); lower = λ k q l. absurd (omega arith); rest = λ k l. refl }
 
 pub mixed-more :
     (a b r : List ℕ) (i x y : ℕ) → i < 8 → MixedTo a b r i
@@ -153,14 +159,6 @@ mixed-more a b r i x y h c =
   where
     v : ℕ
     v = mix_word (get_or a i 0) (get_or b i 0) x y
-
-pub mixed-all : (a b r : List ℕ) (n : ℕ) → length a ≡ 8 → 8 ≤ n → MixedTo a b r n → Mixed a b r
-mixed-all a b r n ea h c =
-    record {
-      long = c.long;
-      upper = λ k q e. ⊎_elim (λ (l : 8 ≤ k). absurd (bit-of-zero q (sym (ap (λ (z : ℕ). bit z q) (past-none r k q c.long l)) ∙ e))) (λ l. c.upper k q (omega arith) e) (le-or-lt 8 k);
-      lower = λ k q e f. ⊎_elim (λ (l : 8 ≤ k). absurd (bit-of-zero q (sym (ap (λ (z : ℕ). bit z q) (past-none a k q ea l)) ∙ e))) (λ l. c.lower k q (omega arith) e f) (le-or-lt 8 k);
-    }
 
 -- a mix of a mix with the same other
 pub mixed-again : (a b r s : List ℕ) → Mixed a b r → Mixed r b s → Mixed a b s

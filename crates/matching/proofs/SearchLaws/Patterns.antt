@@ -1,20 +1,20 @@
 -- The value of an id by its kind, all values of a cone, and the test of a question (src/search/patterns.rt).
+use Rattle.subsumption.specs.Refusal.{Done}
 use Prim.Native.Nat.{ℕ, ◌+◌, ◌*◌, ◌/◌, ◌%◌, ◌<◌, ◌≤◌}
-use mathlib.Core.Path.{◌≡◌, sym, ap, ◌∙◌, subst}
+use mathlib.Core.Path.{◌≡◌, refl, sym, ap, ◌∙◌, subst}
 use mathlib.Core.List.{List}
 use mathlib.Core.Bool.{Bool, true, false, true≢false}
 use mathlib.Core.Logic.{◌↔◌, inl, ⊎_elim}
 use native.Mathlib.Omega.{arith}
 use lib.ListN.{length, get_or, take}
 use borrow.Author.Tests.{eq-eqb, ne_eqb}
-use Rattle.subsumption.specs.declared.refusal.Outcome.TheVariants.{Done}
-use Rattle.subsumption.specs.Tables.{Tables, both, exists_at, and_at, node, count_of, pairs_of, left_of, right_of, tree, has_variable}
+use Rattle.subsumption.specs.Tables.{Tables, both, Node, top_at, name_at, exists_at, and_at, var_at, node, count_of, pairs_of, left_of, right_of, tree, has_variable}
 use Rattle.subsumption.specs.Atoms.{bit}
 use Rattle.subsumption.specs.Check.{assignment_fault}
-use Rattle.subsumption.proofs.Bools.{both_first, eq-or-ne}
+use Rattle.subsumption.proofs.Bools.{both_first}
 use Rattle.subsumption.proofs.WellFormed.{WellFormed}
 use Rattle.subsumption.proofs.Accepted.{well_formed}
-use Rattle.subsumption.proofs.Nodes.{node-name, node-exists, node-and, node-var, node-other}
+use Rattle.subsumption.proofs.Nodes.{node-exists, exists-node}
 use Rattle.subsumption.proofs.Trees.{variable-top, variable-name, variable-exists, inner-exists, inner-and}
 use Rattle.square.specs.Inner.Square.{on_line}
 use Rattle.matching.specs.declared.search.sets.Words.{Words}
@@ -28,26 +28,20 @@ use Rattle.matching.proofs.SearchLaws.Values.{row-above, above-row, exact_same, 
 
 -- ---- one id
 module _ (sets problem values choice : List ℕ) (j : ℕ) (w : Words) where
-  pub right-by-var : get_or problem (j * 3) 0 ≡ 4 → BelowAll sets problem (get_or choice (get_or problem (j * 3 + 1) 0) 0) w → Valued sets problem values choice true j w
-  right-by-var k B t C a l has I = var-exact t sets problem C choice a j _ l (sym (C.rows j l) ∙ node-var problem j k) w B
+  pub right-by-var : (k : ℕ) → node problem j ≡ var_at k → BelowAll sets problem (get_or choice k 0) w → Valued sets problem values choice true j w
+  right-by-var k n B t C a l has I = var-exact t sets problem C choice a j _ l (sym (C.rows j l) ∙ n) w B
 
-  pub left-by-var : get_or problem (j * 3) 0 ≡ 4 → AboveSome sets problem (get_or choice (get_or problem (j * 3 + 1) 0) 0) w → Valued sets problem values choice false j w
-  left-by-var k A t C a l has I = var-generates t sets problem C choice a j _ l (sym (C.rows j l) ∙ node-var problem j k) w A
+  pub left-by-var : (k : ℕ) → node problem j ≡ var_at k → AboveSome sets problem (get_or choice k 0) w → Valued sets problem values choice false j w
+  left-by-var k n A t C a l has I = var-generates t sets problem C choice a j _ l (sym (C.rows j l) ∙ n) w A
 
-  module _ (a b : Words) (kind : get_or problem (j * 3) 0 ≡ 3) where
-    abbrev first : ℕ
-    first = get_or problem (j * 3 + 1) 0
-
-    abbrev second : ℕ
-    second = inner_at problem j
-
+  module _ (a b : Words) (first second : ℕ) (row : node problem j ≡ and_at first second) where
     -- both members have their values
     members :
         (right : Bool) (t : Tables) (C : Problem t sets problem) → j < count_of t.concepts → InnerValued right t (take t.variables choice) values j
         → ValueRead sets problem values right first a → ValueRead sets problem values right second b
         → ValueOf right t (take t.variables choice) first (in_words a) × ValueOf right t (take t.variables choice) second (in_words b)
     members right t C l I A B =
-        let n : node t.concepts j ≡ and_at first second = sym (C.rows j l) ∙ node-and problem j kind in
+        let n : node t.concepts j ≡ and_at first second = sym (C.rows j l) ∙ row in
         let wf = well_formed t C.passed in (
           read-value t sets problem C (take t.variables choice) right values first a ((known-inward t wf).first j first second n l) (I.first first second n) A,
           read-value t sets problem C (take t.variables choice) right values second b ((known-inward t wf).second j first second n l) (I.second first second n) B,
@@ -58,35 +52,34 @@ module _ (sets problem values choice : List ℕ) (j : ℕ) (w : Words) where
         → ((c : ℕ) → c < 192 → in_words w c ≡ both (in_words a c) (in_words b c)) → Valued sets problem values choice true j w
     right-by-and A B M t C ok l has I =
         let (E, F) = members true t C l I A B in
-        and-exact t sets problem C (take t.variables choice) j first second l (sym (C.rows j l) ∙ node-and problem j kind) a b w E F M
+        and-exact t sets problem C (take t.variables choice) j first second l (sym (C.rows j l) ∙ row) a b w E F M
 
     pub left-by-and :
         ValueRead sets problem values false first a → ValueRead sets problem values false second b → Joined a b w → Valued sets problem values choice false j w
     left-by-and A B J t C ok l has I =
         let (E, F) = members false t C l I A B in
-        and-generates t sets problem C (take t.variables choice) j first second l (sym (C.rows j l) ∙ node-and problem j kind) a b w E F J
+        and-generates t sets problem C (take t.variables choice) j first second l (sym (C.rows j l) ∙ row) a b w E F J
 
-  module _ (other : get_or problem (j * 3) 0 ≡ 4 → ⊥) (another : get_or problem (j * 3) 0 ≡ 3 → ⊥) where
+  module _ (other : (k : ℕ) → node problem j ≡ var_at k → ⊥) (another : (x y : ℕ) → node problem j ≡ and_at x y → ⊥) where
     -- what holds a variable and is neither is an existential
     existential :
         (t : Tables) → Problem t sets problem → j < count_of t.concepts → has_variable (tree t.concepts j) ≡ true
         → node t.concepts j ≡ exists_at (get_or problem (j * 3 + 1) 0) (inner_at problem j)
     existential t C l has =
-        ⊎_elim (λ (k : get_or problem (j * 3) 0 ≡ 2). back ∙ node-exists problem j k)
-        (λ (p : get_or problem (j * 3) 0 ≡ 2 → ⊥).
-        ⊎_elim
-        (λ (k : get_or problem (j * 3) 0 ≡ 1).
-        absurd (true≢false (sym has ∙ variable-name t.concepts wf.rising j _ (back ∙ node-name problem j k))))
-        (λ (q : get_or problem (j * 3) 0 ≡ 1 → ⊥).
-        absurd (true≢false (sym has ∙ variable-top t.concepts wf.rising j (back ∙ node-other problem j q p another other))))
-        (eq-or-ne (get_or problem (j * 3) 0) 1))
-        (eq-or-ne (get_or problem (j * 3) 0) 2)
+        go (node problem j) refl
       where
         wf : WellFormed t
         wf = well_formed t C.passed
 
         back : node t.concepts j ≡ node problem j
         back = sym (C.rows j l)
+
+        go : (n : Node) → node problem j ≡ n → node t.concepts j ≡ exists_at (get_or problem (j * 3 + 1) 0) (inner_at problem j)
+        go top_at e = absurd (true≢false (sym has ∙ variable-top t.concepts wf.rising j (back ∙ e)))
+        go (name_at n) e = absurd (true≢false (sym has ∙ variable-name t.concepts wf.rising j n (back ∙ e)))
+        go (exists_at r x) e = back ∙ node-exists problem j (exists-node problem j r x e).0
+        go (and_at x y) e = absurd (another x y e)
+        go (var_at k) e = absurd (other k e)
 
     inner-has :
         (t : Tables) (C : Problem t sets problem) → j < count_of t.concepts → has_variable (tree t.concepts j) ≡ true

@@ -106,9 +106,6 @@ pub record WalkedTo (sets : List ℕ) (at from w start : ℕ) : Type 0 where
   pub between : (k : ℕ) → from ≤ k → k < w * 64 + start → on_line sets at k ≡ false
 
 module _ (sets : List ℕ) (at from : ℕ) where
-  pub walked-first : from ≤ 192 → WalkedTo sets at from (from / 64) (from % 64)
-  walked-first h = record { within = omega arith; low = omega arith; after = omega arith; between = λ k l m. absurd (omega arith) }
-
   module _ (w start place : ℕ) (h : w < 3) (W : WalkedTo sets at from w start) (N : NextBit (get_or sets (at + w) 0) start place) where
     passed : (k : ℕ) → from ≤ k → k < w * 64 + place → on_line sets at k ≡ false
     passed k l m =
@@ -135,15 +132,6 @@ module _ (sets : List ℕ) (at from : ℕ) where
           after = omega (arith, W.after, W.low);
           between = λ k m n. passed k m (omega arith);
         }
-
-  pub walked-done : (w start : ℕ) → 3 ≤ w → WalkedTo sets at from w start → NextIn sets at from 192
-  walked-done w start h W =
-      record {
-        after = omega (arith, W.after, W.within);
-        within = omega arith;
-        here = λ l. absurd (omega arith);
-        between = λ k l m. W.between k l (omega arith);
-      }
 
 -- ---- three words
 pub same_at : (sets : List ℕ) (at a b c : ℕ) → a ≡ get_or sets at 0 → b ≡ get_or sets (at + 1) 0 → c ≡ get_or sets (at + 2) 0

@@ -1,4 +1,5 @@
 -- The values of a pattern, by the rows of the tables: exact on the right, enough on the left.
+use Rattle.subsumption.specs.Refusal.{Done}
 use Prim.Native.Nat.{ℕ, zero, suc, ◌*◌, ◌<◌}
 use mathlib.Core.Path.{◌≡◌, refl, sym, ap, ◌∙◌, subst}
 use mathlib.Core.List.{List, Memᴰ}
@@ -8,7 +9,6 @@ use native.Mathlib.Omega.{arith}
 use lib.ListN.{length, get_or, take}
 use lib.Seq.{get_or-take}
 use borrow.Author.Tests.{not-true}
-use Rattle.subsumption.specs.declared.refusal.Outcome.TheVariants.{Done}
 use Rattle.subsumption.specs.Tables.{Tables, both, or, Node, top_at, exists_at, and_at, var_at, node, count_of, pairs_of, tree, has_variable}
 use Rattle.subsumption.specs.Atoms.{atoms, bit, chosen}
 use Rattle.subsumption.specs.Roles.{wider}

@@ -9,8 +9,8 @@ use lib.ListN.{get_or}
 use borrow.Author.Tests.{eq-eqb, ne_eqb}
 use Rattle.subsumption.specs.Tables.{both, Node, top_at, name_at, exists_at, and_at, var_at, node}
 use Rattle.subsumption.specs.Atoms.{bit}
-use Rattle.subsumption.proofs.Bools.{or_cases, or-first, or-second, both_true, both-intro, last-cases, le-or-lt, eq-or-ne}
-use Rattle.subsumption.proofs.Nodes.{node-name, node-exists, node-and, node-var, node-other, and-node}
+use Rattle.subsumption.proofs.Bools.{or_cases, or-first, or-second, both_true, both-intro, last-cases, le-or-lt}
+use Rattle.subsumption.proofs.Nodes.{and-node, var-node}
 use Rattle.square.specs.Inner.Square.{on_line}
 use Rattle.matching.specs.declared.search.sets.Words.{Words}
 use Rattle.matching.specs.Inner.Search.{Decided}
@@ -188,42 +188,37 @@ module _ (problem : List ℕ) (numbers : Numbers problem) (e : ℕ) (low : e < 1
       let (k, p, q) = and-node problem e i j n in
       (omega (arith, numbers.first-low e low k, p), omega (arith, numbers.inner-low e low, q))
 
-  pub members-top : (P : ℕ → Type 0) → get_or problem (e * 3) 0 ≡ 0 → MembersOf P (node problem e)
-  members-top P k =
-      subst (MembersOf P) (sym (node-other problem e (λ u. omega arith) (λ u. omega arith) (λ u. omega arith) (λ u. omega arith))) tt
+  pub variable-low : (k : ℕ) → node problem e ≡ var_at k → k < 8
+  variable-low k n = let (u, v) = var-node problem e k n in omega (arith, numbers.variable-low e low u, v)
+
+  pub members-top : (P : ℕ → Type 0) → node problem e ≡ top_at → MembersOf P (node problem e)
+  members-top P n = subst (MembersOf P) (sym n) tt
 
   module _ (x : Words) where
     abbrev In : ℕ → Type 0
     In c = in_words x c ≡ true
 
     pub members-and :
-        (a b : Bool) → get_or problem (e * 3) 0 ≡ 3 → a ≡ in_words x (get_or problem (e * 3 + 1) 0) → a ≡ true → b ≡ in_words x (inner_at problem e)
-        → Decided (MembersOf In (node problem e)) b
-    members-and a b k p u q =
-        subst (λ (n : Node). Decided (MembersOf In n) b) (sym (node-and problem e k)) (go b q)
+        (i j : ℕ) (a b : Bool) → node problem e ≡ and_at i j → a ≡ in_words x i → a ≡ true → b ≡ in_words x j → Decided (MembersOf In (node problem e)) b
+    members-and i j a b n p u q = subst (λ (n : Node). Decided (MembersOf In n) b) (sym n) (go b q)
       where
-        go : (b : Bool) → b ≡ in_words x (inner_at problem e) → Decided (In (get_or problem (e * 3 + 1) 0) × In (inner_at problem e)) b
+        go : (b : Bool) → b ≡ in_words x j → Decided (In i × In j) b
         go true q = (sym p ∙ u, sym q)
         go false q = λ (i, j). true≢false (sym j ∙ sym q)
 
     pub members-out :
-        (a : Bool) → get_or problem (e * 3) 0 ≡ 3 → a ≡ in_words x (get_or problem (e * 3 + 1) 0) → a ≡ false → MembersOf In (node problem e) → ⊥
-    members-out a k p u m = go (subst (MembersOf In) (node-and problem e k) m)
+        (i j : ℕ) (a : Bool) → node problem e ≡ and_at i j → a ≡ in_words x i → a ≡ false → MembersOf In (node problem e) → ⊥
+    members-out i j a n p u m = go (subst (MembersOf In) n m)
       where
-        go : In (get_or problem (e * 3 + 1) 0) × In (inner_at problem e) → ⊥
+        go : In i × In j → ⊥
         go (i, j) = true≢false (sym i ∙ sym p ∙ u)
 
-  pub members-other :
-      (P : ℕ → Type 0) → (get_or problem (e * 3) 0 ≡ 0 → ⊥) → (get_or problem (e * 3) 0 ≡ 3 → ⊥) → MembersOf P (node problem e) → ⊥
-  members-other P n m h =
-      ⊎_elim (λ (k : get_or problem (e * 3) 0 ≡ 1). subst (MembersOf P) (node-name problem e k) h)
-      (λ (a : get_or problem (e * 3) 0 ≡ 1 → ⊥).
-      ⊎_elim (λ (k : get_or problem (e * 3) 0 ≡ 2). subst (MembersOf P) (node-exists problem e k) h)
-      (λ (b : get_or problem (e * 3) 0 ≡ 2 → ⊥).
-      ⊎_elim (λ (k : get_or problem (e * 3) 0 ≡ 4). subst (MembersOf P) (node-var problem e k) h)
-      (λ (d : get_or problem (e * 3) 0 ≡ 4 → ⊥). omega (arith, numbers.kind-low e low)) (eq-or-ne (get_or problem (e * 3) 0) 4))
-      (eq-or-ne (get_or problem (e * 3) 0) 2))
-      (eq-or-ne (get_or problem (e * 3) 0) 1)
+  pub members-other : (P : ℕ → Type 0) (n : Node) → (n ≡ top_at → ⊥) → ((i j : ℕ) → n ≡ and_at i j → ⊥) → MembersOf P n → ⊥
+  members-other P top_at t a m = t refl
+  members-other P (name_at n) t a m = m
+  members-other P (exists_at r j) t a m = m
+  members-other P (and_at i j) t a m = a i j refl
+  members-other P (var_at k) t a m = m
 
   pub members-more : (P Q : ℕ → Type 0) → ((i : ℕ) → i < 192 → P i → Q i) → MembersOf P (node problem e) → MembersOf Q (node problem e)
   members-more P Q h m = go (node problem e) refl m

@@ -1,4 +1,5 @@
 -- Locality: if a substitution solves, then it is not impossible that an assignment of atoms does. Each variable takes the atoms that its concept is below.
+use Rattle.subsumption.specs.Refusal.{Done}
 use Prim.Native.Nat.{ℕ, ◌+◌, ◌-◌, ◌<◌, ◌≤◌}
 use mathlib.Core.Path.{◌≡◌, refl, sym, ap, ◌∙◌, subst}
 use mathlib.Core.List.Memᴰ
@@ -9,7 +10,6 @@ use native.Mathlib.Omega.{arith}
 use lib.Dec.{ltb}
 use lib.ListN.{length, get_or, get_or-eq_default}
 use borrow.Author.Tests.{lt-ltb, le-ltb}
-use Rattle.subsumption.specs.declared.refusal.Outcome.TheVariants.{Done}
 use Rattle.subsumption.specs.Tables.{Tables, both, any_below, Node, top_at, name_at, exists_at, and_at, var_at, node, count_of, pairs_of, left_of, right_of, Concept, tree, has_variable}
 use Rattle.subsumption.specs.Atoms.{occurs, is_atomic, in_inclusion, in_question, stands, atoms, bit, chosen}
 use Rattle.subsumption.specs.Subsumption.{Interpretation, Included, no_variables, assigned, Obeys, SubsumedBy, Subsumed}

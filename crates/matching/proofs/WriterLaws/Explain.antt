@@ -5,22 +5,14 @@ use mathlib.Core.List.{List}
 use mathlib.Core.Bool.{Bool, true, false, true≢false}
 use mathlib.Core.Logic.{⊎_elim}
 use native.Mathlib.Omega.{arith}
-use native.Mathlib.Nat.{mod-lt, div-lt_iff_lt-mul, zero-mul}
 use borrow.Author.Tests.{ne_eqb, le-ltb}
-use Rattle.subsumption.specs.declared.tables.Row.{Row}
 use Rattle.subsumption.specs.Tables.{Tables, Node, top_at, name_at, exists_at, and_at, var_at, node, count_of, pairs_of}
-use Rattle.subsumption.specs.Inner.Tables.{row_of}
 use Rattle.subsumption.specs.Rules.{on_picked, by_rule}
 use Rattle.subsumption.proofs.Bools.{both_true, both-none, last-cases, le-or-lt}
 use Rattle.subsumption.proofs.Chosen.{chosen-known}
 use Rattle.subsumption.proofs.RuleTests.{on_variable-elim, contains-elim}
-use Rattle.subsumption.proofs.Nodes.{var-node}
 use Rattle.matching.specs.Inner.Derivation.{seen, Of, ByRule}
-use Rattle.matching.specs.declared.writer.explain.Extra.{Extra}
-use Rattle.matching.specs.declared.writer.explain.Extra.TheVariants.{At, None}
-use Rattle.matching.specs.declared.writer.explain.Why.{Why}
-use Rattle.matching.specs.declared.writer.explain.Why.TheVariants.{By, Unknown}
-use Rattle.matching.specs.Inner.Writer.Explain.{ExtraBound, NoExtra, NoRule, Gives, Quiet, QuietFrom, New, Tried, Explained}
+use Rattle.matching.specs.Inner.Writer.Explain.{ExtraBound, NoRule, Quiet, QuietFrom, New}
 use Rattle.matching.proofs.DerivationLaws.Cells.{cell_row, cell-column}
 
 refuted : (x : Bool) → (x ≡ true → ⊥) → x ≡ false
@@ -96,49 +88,22 @@ module _ (concepts inclusions : List ℕ) (rule left : ℕ) where
             absurd (omega (arith, subst (λ (z : List ℕ). extra < count_of z) c k))));
       }
 
-  pub variable-bound : (row : Row) → rule ≡ 7 → row ≡ row_of concepts left → (row.kind ≡ 4 → ⊥) → ExtraBound concepts inclusions rule left 0
+  pub variable-bound : rule ≡ 7 → ((k : ℕ) → node concepts left ≡ var_at k → ⊥) → ExtraBound concepts inclusions rule left 0
   unfolding by_rule
-  variable-bound row e f ne =
+  variable-bound e ne =
       record {
         low = omega arith;
         past = λ t c i a p right extra h.
             rw e
             (refuted _
             (λ u. let (v, q, _) = on_variable-elim _ _ u in
-            ne (ap (λ (z : Row). z.kind) f ∙ (var-node concepts left v (subst (λ (z : List ℕ). node z left ≡ var_at v) c q)).0)));
+            ne v (subst (λ (z : List ℕ). node z left ≡ var_at v) c q)));
       }
 
   pub zero-bound : (rule ≡ 3 → ⊥) → (rule ≡ 6 → ⊥) → (rule ≡ 7 → ⊥) → ExtraBound concepts inclusions rule left 1
   zero-bound a b d = record { low = omega arith; past = λ t c i z p right extra h. extra-past t z p left right extra (omega arith) rule a b d }
 
 module _ (concepts inclusions into ids assignment : List ℕ) (marks : List Bool) where
-  -- ---- one rule
-  module _ (rule left right : ℕ) where
-    pub extra-none : NoExtra concepts inclusions into ids assignment marks rule left right 0
-    extra-none = record { none = λ t of extra h. absurd (omega arith) }
-
-    pub extra-more :
-        (extra : ℕ) (x : Bool) → NoExtra concepts inclusions into ids assignment marks rule left right extra → ByRule concepts inclusions into ids assignment marks rule left right extra x → x ≡ false
-        → NoExtra concepts inclusions into ids assignment marks rule left right (extra + 1)
-    extra-more extra x n h e =
-        record {
-          none = λ t of m l.
-              ⊎_elim
-              (λ (u : m ≡ extra). subst (λ (z : ℕ). by_rule t assignment (seen (count_of concepts) marks) rule left right z ≡ false) (sym u) (sym (h t of) ∙ e))
-              (λ u. n.none t of m u) (last-cases m extra (omega arith));
-        }
-
-    pub extra-found :
-        (extra bound : ℕ) (x : Bool) → rule < 9 → extra < bound → ExtraBound concepts inclusions rule left bound → ByRule concepts inclusions into ids assignment marks rule left right extra x → x ≡ true
-        → Gives concepts inclusions into ids assignment marks rule left right extra
-    extra-found extra bound x l h b g e = record { rule-low = l; extra-low = omega (arith, b.low); by = λ t of. sym e ∙ g t of }
-
-    pub extra-done :
-        (extra bound : ℕ) → NoExtra concepts inclusions into ids assignment marks rule left right extra → bound ≤ extra → ExtraBound concepts inclusions rule left bound
-        → (t : Tables) → Of t concepts inclusions into ids → (e : ℕ) → by_rule t assignment (seen (count_of concepts) marks) rule left right e ≡ false
-    extra-done extra bound n h b t of e =
-        ⊎_elim (λ u. b.past t of.concepts-are of.inclusions-are assignment _ right e (omega arith)) (λ u. n.none t of e u) (le-or-lt extra e)
-
   -- ---- one pair
   module _ (left right : ℕ) where
     pub rule-none : NoRule concepts inclusions into ids assignment marks left right 1
@@ -161,23 +126,6 @@ module _ (concepts inclusions into ids assignment : List ℕ) (marks : List Bool
         → (t : Tables) → Of t concepts inclusions into ids → (r extra : ℕ) → by_rule t assignment (seen (count_of concepts) marks) r left right extra ≡ false
     rule-done rule n h t of r extra =
         ⊎_elim (λ u. rule-past t assignment _ left right extra r u) (λ u. n.none t of r extra (omega arith)) (le-or-lt 9 r)
-
-  module _ (rule left right : ℕ) (x : Extra) (h : Tried concepts inclusions into ids assignment marks rule left right x) where
-    pub tried-at : (extra : ℕ) → x ≡ At extra → Gives concepts inclusions into ids assignment marks rule left right extra
-    tried-at extra e = subst (Tried concepts inclusions into ids assignment marks rule left right) e h
-
-    pub tried-none : x ≡ None → (t : Tables) → Of t concepts inclusions into ids → (e : ℕ) → by_rule t assignment (seen (count_of concepts) marks) rule left right e ≡ false
-    tried-none e = subst (Tried concepts inclusions into ids assignment marks rule left right) e h
-
-  module _ (left right : ℕ) (x : Why) (h : Explained concepts inclusions into ids assignment marks left right x) where
-    pub explained-new :
-        (rule extra : ℕ) (y : Bool) → left < count_of concepts → right < count_of concepts → y ≡ seen (count_of concepts) marks left right → y ≡ false → x ≡ By rule extra
-        → New concepts inclusions into ids assignment marks rule left right extra
-    explained-new rule extra y l k f g e =
-        record { left-known = l; right-known = k; fresh = sym f ∙ g; gives = subst (Explained concepts inclusions into ids assignment marks left right) e h }
-
-    pub explained-not : x ≡ Unknown → (t : Tables) → Of t concepts inclusions into ids → (r extra : ℕ) → by_rule t assignment (seen (count_of concepts) marks) r left right extra ≡ false
-    explained-not e = subst (Explained concepts inclusions into ids assignment marks left right) e h
 
   -- ---- a proposed line
   pub tested-new :
@@ -215,17 +163,3 @@ module _ (concepts inclusions into ids assignment : List ℕ) (marks : List Bool
         ((t : Tables) → Of t concepts inclusions into ids → (r extra : ℕ) → by_rule t assignment (seen (count_of concepts) marks) r (p / count_of concepts) (p % count_of concepts) extra ≡ false)
         → QuietFrom concepts inclusions into ids assignment marks from (p + 1)
     quiet-unknown h = quiet-more (record { none = λ z t of r extra. h t of r extra })
-
-  pub quiet-done : (from p : ℕ) → QuietFrom concepts inclusions into ids assignment marks from p → count_of concepts * count_of concepts ≤ p → QuietFrom concepts inclusions into ids assignment marks from (count_of concepts * count_of concepts)
-  quiet-done from p q h = record { each = λ i j a b u v. q.each i j a b u (omega arith) }
-
--- where a cell's pair is
-pub positive : (p count : ℕ) → p < count * count → 0 < count
-positive p zero h = absurd (omega (arith, zero-mul 0))
-positive p (suc count) h = omega arith
-
-pub cell-left : (p count : ℕ) → p < count * count → p / count < count
-cell-left p count h = (div-lt_iff_lt-mul {k = count} {x = p} {y = count} (positive p count h)).1 h
-
-pub cell-right : (p count : ℕ) → p < count * count → p % count < count
-cell-right p count h = mod-lt p (positive p count h)

@@ -14,11 +14,9 @@ use Rattle.subsumption.specs.Rules.{follows}
 use Rattle.subsumption.proofs.Bools.{both_true, last-cases, or-skip}
 use Rattle.subsumption.proofs.Accepted.{well_formed}
 use Rattle.subsumption.proofs.RuleCompleteness.{follows-complete}
-use Rattle.matching.specs.declared.writer.explain.Next.{Next}
-use Rattle.matching.specs.declared.writer.explain.Next.TheVariants.{Line, Nothing}
 use Rattle.matching.specs.Derivation.{left_at, right_at, pair_at, proved_by, line_follows}
 use Rattle.matching.specs.Inner.Derivation.{seen, MarksOf, LineTest}
-use Rattle.matching.specs.Inner.Writer.Explain.{QuietFrom, New, Tested, Found}
+use Rattle.matching.specs.Inner.Writer.Explain.{QuietFrom, New}
 use Rattle.matching.specs.Inner.Writer.{LineWritten, RestKept, unset, Blank, Asked, Written, WrittenTo, Begun}
 use Rattle.matching.proofs.DerivationLaws.Cells.{cell_room, cell_below, square-small}
 use Rattle.matching.proofs.DerivationLaws.Lines.{marks-none, marks-more, line-rule, proved-more, empty-square, empty-seen}
@@ -168,16 +166,6 @@ module _ (concepts inclusions into ids assignment : List ℕ) where
       → Begun concepts inclusions into ids assignment left right marks out n
   begun-last left right marks out n d = record { written = d.written; asked = λ e. d }
 
-  pub begun-open :
-      (left right : ℕ) (marks : List Bool) (out : List ℕ) (n : ℕ) → Written concepts inclusions into ids assignment marks out n → seen (count_of concepts) marks left right ≡ false
-      → Begun concepts inclusions into ids assignment left right marks out n
-  begun-open left right marks out n d f = record { written = d; asked = λ e. absurd (true≢false (sym e ∙ f)) }
-
-  pub tested-line :
-      (marks : List Bool) (x : Next) → Tested concepts inclusions into ids assignment marks x → (rule left right extra : ℕ) → x ≡ Line rule left right extra
-      → New concepts inclusions into ids assignment marks rule left right extra
-  tested-line marks x h rule left right extra e = subst (Tested concepts inclusions into ids assignment marks) e h
-
   -- a whole scan found nothing: the marks are closed under the rules
   pub scan-closed :
       (left right : ℕ) (marks : List Bool) (asked : Asked concepts inclusions into ids assignment left right) → QuietFrom concepts inclusions into ids assignment marks 0 (count_of concepts * count_of concepts)
@@ -200,16 +188,12 @@ module _ (concepts inclusions into ids assignment : List ℕ) where
               let kj = subst (λ (z : List ℕ). j < count_of z) asked.of.concepts-are (ltb-true j (count_of asked.t.concepts) k) in
               absurd (true≢false (sym s ∙ (q.each i j li kj (omega arith) (cell_below (count_of concepts) i j li kj)).none e asked.t asked.of rule extra))
 
-  module _ (marks : List Bool) (from : ℕ) (x : Next) (h : Found concepts inclusions into ids assignment marks from x) where
-    pub found-line : (rule left right extra : ℕ) → x ≡ Line rule left right extra → New concepts inclusions into ids assignment marks rule left right extra
-    found-line rule left right extra e = subst (Found concepts inclusions into ids assignment marks from) e h
-
-    found_nothing : x ≡ Nothing → QuietFrom concepts inclusions into ids assignment marks from (count_of concepts * count_of concepts)
-    found_nothing e = subst (Found concepts inclusions into ids assignment marks from) e h
-
-    -- no scan from the first cell on finds nothing
-    pub scan-stops :
-        (left right : ℕ) → Asked concepts inclusions into ids assignment left right → seen (count_of concepts) marks left right ≡ false → x ≡ Nothing → from ≡ 0 → ⊥
-    scan-stops left right asked g e f =
-        true≢false
-        (sym (scan-closed left right marks asked (subst (λ (z : ℕ). QuietFrom concepts inclusions into ids assignment marks z (count_of concepts * count_of concepts)) f (found_nothing e))) ∙ g)
+  -- no scan from the first cell on finds nothing
+  pub scan-stops :
+      (marks : List Bool) (from : ℕ) → QuietFrom concepts inclusions into ids assignment marks from (count_of concepts * count_of concepts)
+      → (left right : ℕ) → Asked concepts inclusions into ids assignment left right → seen (count_of concepts) marks left right ≡ false
+      → from ≡ 0 → ⊥
+  scan-stops marks from q left right asked g f =
+      true≢false
+      (sym (scan-closed left right marks asked (subst (λ (z : ℕ). QuietFrom concepts inclusions into ids assignment marks z
+      (count_of concepts * count_of concepts)) f q)) ∙ g)

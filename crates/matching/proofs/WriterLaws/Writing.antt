@@ -1,4 +1,5 @@
 -- Writing a derivation, from the checks to the lines.
+use Rattle.std.specs.Prelude.{Err, Ok, true, false, Result}
 use Prim.Native.Nat.{ℕ, ◌*◌, ◌<◌, ◌≤◌}
 use mathlib.Core.Path.{◌≡◌, refl, sym, ◌∙◌, subst}
 use mathlib.Core.List.{List}
@@ -8,13 +9,9 @@ use native.Mathlib.Omega.{arith}
 use lib.ListN.{length}
 use Rattle.subsumption.specs.declared.refusal.Refusal.{Refusal}
 use Rattle.subsumption.specs.declared.refusal.Refusal.TheVariants.{BufferTooShort, NotSubsumed}
-use Rattle.subsumption.specs.declared.refusal.Outcome.{Outcome}
-use Rattle.subsumption.specs.declared.refusal.Outcome.TheVariants.{Done, Refused}
-use Rattle.subsumption.specs.declared.decide.Decision.{Decision}
-use Rattle.subsumption.specs.declared.decide.Decision.TheVariants.{Yes, No, Rejected as Undecided}
 use Rattle.subsumption.specs.Tables.{Tables, tables, count_of}
 use Rattle.subsumption.specs.Subsumption.{Subsumed}
-use Rattle.subsumption.specs.Refusal.{Reply, reply_done, reply_refused, Replies}
+use Rattle.subsumption.specs.Refusal.{Reply, reply_done, reply_refused, Replies, Outcome, Done}
 use Rattle.subsumption.specs.Inner.Roles.{RoleSets}
 use Rattle.subsumption.specs.Check.{buffer_fault, pair_fault, assignment_fault_at}
 use Rattle.subsumption.specs.Decide.{deciding_fault, decision_reply, Tells, Decides}
@@ -58,15 +55,15 @@ module _ (cs is rs : List ℕ) (v : ℕ) (ids assignment : List ℕ) (p : Prepar
 
 -- ---- the answers
 module _ (t : Tables) (assignment : List ℕ) (left right : ℕ) (before : List ℕ) where
-  derives-refused : (r : Refusal) → Refused r ≡ deriving_fault t assignment left right (length before) → Derives t assignment left right before before (reply_refused r)
+  derives-refused : (r : Refusal) → Err r ≡ deriving_fault t assignment left right (length before) → Derives t assignment left right before before (reply_refused r)
   derives-refused r e = subst (λ (z : Outcome). DerivesAfter z t assignment left right before before (reply_refused r)) e (refl, refl)
 
-  pub derive-refused : (r : Refusal) → Refused r ≡ pair_fault t left right → Derives t assignment left right before before (reply_refused r)
+  pub derive-refused : (r : Refusal) → Err r ≡ pair_fault t left right → Derives t assignment left right before before (reply_refused r)
   unfolding deriving_fault deciding_fault
-  derive-refused r e = derives-refused r (stops (Refused r) _ _ r (stops (Refused r) _ _ r e refl) refl)
+  derive-refused r e = derives-refused r (stops (Err r) _ _ r (stops (Err r) _ _ r e refl) refl)
 
   module _ (w : Outcome) (a : w ≡ deciding_fault t assignment left right) where
-    derive-stops : (r : Refusal) → w ≡ Refused r → Derives t assignment left right before before (reply_refused r)
+    derive-stops : (r : Refusal) → w ≡ Err r → Derives t assignment left right before before (reply_refused r)
     unfolding deriving_fault
     derive-stops r e = derives-refused r (stops _ _ _ r a e)
 
@@ -98,7 +95,7 @@ module _ (cs is rs : List ℕ) (v : ℕ) (ids assignment : List ℕ) (left right
   fault-is : (qs : List ℕ) (a : Accepted (tables cs is qs rs v) ids) → x ≡ deciding_fault (tables cs is qs rs v) assignment left right
   fault-is qs a = known-fault cs is rs v ids assignment left right l k x e qs a
 
-  pub known-stops : (r : Refusal) → x ≡ Refused r → ForAccepted cs is rs v ids (λ t. Derives t assignment left right before before (reply_refused r))
+  pub known-stops : (r : Refusal) → x ≡ Err r → ForAccepted cs is rs v ids (λ t. Derives t assignment left right before before (reply_refused r))
   known-stops r h qs a = derive-stops _ assignment left right before x (fault-is qs a) r h
 
   module _ (h : x ≡ Done) where
@@ -107,21 +104,21 @@ module _ (cs is rs : List ℕ) (v : ℕ) (ids assignment : List ℕ) (left right
         → ForAccepted cs is rs v ids (λ t. Derives t assignment left right before before (reply_refused (BufferTooShort (count_of cs * count_of cs * 4))))
     known-short s qs a = derive-short _ assignment left right before x (fault-is qs a) h s
 
-    module _ (room : count_of cs * count_of cs * 4 ≤ length before) (d : Decision) (dec : ForAccepted cs is rs v ids (λ t. Decides t assignment left right (decision_reply d))) where
-      said : (qs : List ℕ) (a : Accepted (tables cs is qs rs v) ids) (y : Decision) → d ≡ y → Replies Done (Tells (tables cs is qs rs v) assignment left right) (decision_reply y)
-      said qs a y s = subst (λ (z : Decision). Replies Done (Tells (tables cs is qs rs v) assignment left right) (decision_reply z)) s (decided _ assignment left right before x (fault-is qs a) h _ (dec qs a))
+    module _ (room : count_of cs * count_of cs * 4 ≤ length before) (d : (Result Bool Refusal)) (dec : ForAccepted cs is rs v ids (λ t. Decides t assignment left right (decision_reply d))) where
+      said : (qs : List ℕ) (a : Accepted (tables cs is qs rs v) ids) (y : (Result Bool Refusal)) → d ≡ y → Replies Done (Tells (tables cs is qs rs v) assignment left right) (decision_reply y)
+      said qs a y s = subst (λ (z : (Result Bool Refusal)). Replies Done (Tells (tables cs is qs rs v) assignment left right) (decision_reply z)) s (decided _ assignment left right before x (fault-is qs a) h _ (dec qs a))
 
-      pub known-subsumed : d ≡ Yes → ForAccepted cs is rs v ids (λ t. Subsumed t assignment left right)
-      known-subsumed s qs a = (said qs a Yes s).1
+      pub known-subsumed : d ≡ (Ok true) → ForAccepted cs is rs v ids (λ t. Subsumed t assignment left right)
+      known-subsumed s qs a = (said qs a (Ok true) s).1
 
       pub known-lines :
-          (into : List ℕ) → RoleSets rs into → (after : List ℕ) (n : ℕ) → d ≡ Yes → WrittenFor cs is into ids assignment left right before after n
+          (into : List ℕ) → RoleSets rs into → (after : List ℕ) (n : ℕ) → d ≡ (Ok true) → WrittenFor cs is into ids assignment left right before after n
           → ForAccepted cs is rs v ids (λ t. Derives t assignment left right before after (reply_done n))
       known-lines into S after n s w qs a =
           derive-lines _ assignment left right before x (fault-is qs a) h room after n (known-subsumed s qs a) (w.each _ (accepted-of _ into ids a S))
 
-      pub known-not : d ≡ No → ForAccepted cs is rs v ids (λ t. Derives t assignment left right before before (reply_refused NotSubsumed))
-      known-not s qs a = derive-not _ assignment left right before x (fault-is qs a) h room (said qs a No s).1
+      pub known-not : d ≡ (Ok false) → ForAccepted cs is rs v ids (λ t. Derives t assignment left right before before (reply_refused NotSubsumed))
+      known-not s qs a = derive-not _ assignment left right before x (fault-is qs a) h room (said qs a (Ok false) s).1
 
-      pub known-never : (r : Refusal) → d ≡ Undecided r → ForAccepted cs is rs v ids (λ t. Derives t assignment left right before before (reply_refused r))
-      known-never r s qs a = not_done r _ (said qs a (Undecided r) s).0
+      pub known-never : (r : Refusal) → d ≡ Err r → ForAccepted cs is rs v ids (λ t. Derives t assignment left right before before (reply_refused r))
+      known-never r s qs a = not_done r _ (said qs a (Err r) s).0

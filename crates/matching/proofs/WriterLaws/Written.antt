@@ -8,10 +8,9 @@ use lib.ListN.{length, take, length-drop}
 use lib.Seq.{length-take-le, get_or-take, get_or-drop, ext_get_or}
 use borrow.Author.Tests.{eqb-true, eq-eqb}
 use Rattle.subsumption.specs.declared.refusal.Refusal.{Refusal}
-use Rattle.subsumption.specs.declared.refusal.Outcome.TheVariants.{Done}
 use Rattle.subsumption.specs.Tables.{Tables}
 use Rattle.subsumption.specs.Inner.Closure.{Ready}
-use Rattle.subsumption.specs.Refusal.{first_at}
+use Rattle.subsumption.specs.Refusal.{first_at, Done}
 use Rattle.subsumption.proofs.Bools.{both_true, both-intro, any_below-intro}
 use Rattle.subsumption.proofs.Refusals.{both-done, done-if}
 use Rattle.matching.specs.Derivation.{lines_of, left_at, right_at, pair_at, proved_by, line_follows, rule_fault, derivation_fault}

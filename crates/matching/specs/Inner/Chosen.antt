@@ -1,12 +1,9 @@
 -- What the parts of listing a variable's chosen ids promise.
-use Rattle.std.specs.Prelude.{ℕ, List, Bool, true, false, eqb}
+use Rattle.std.specs.Prelude.{ℕ, List, Bool, true, false, eqb, Ok, Err, Result}
 use Rattle.subsumption.specs.declared.refusal.Refusal.{Refusal}
 use Rattle.subsumption.specs.declared.refusal.Refusal.TheVariants.{Malformed}
-use Rattle.subsumption.specs.declared.refusal.Outcome.{Outcome}
-use Rattle.subsumption.specs.Refusal.{code_of, or_else}
+use Rattle.subsumption.specs.Refusal.{code_of, or_else, Outcome}
 use Rattle.subsumption.specs.Check.{assignment_fault_at, buffer_fault}
-use Rattle.matching.specs.declared.chosen.Chosen.{Chosen}
-use Rattle.matching.specs.declared.chosen.Chosen.TheVariants.{Ids, Rejected}
 use Rattle.matching.specs.declared.chosen.Told.{Told}
 use Rattle.matching.specs.Chosen.{variable_fault}
 
@@ -25,6 +22,6 @@ earlier_of r true = r
 earlier_of r false = limit_or (eqb (code_of r).number 1) r
 
 -- What an answer tells beside the list, given the buffer's size.
-abbrev pub told_of : Chosen → ℕ → Told
-told_of (Ids n) size = record { number = 0; place = 0; count = n }
-told_of (Rejected r) size = record { number = (code_of r).number; place = (code_of r).place; count = size }
+abbrev pub told_of : (Result ℕ Refusal) → ℕ → Told
+told_of (Ok n) size = record { number = 0; place = 0; count = n }
+told_of (Err r) size = record { number = (code_of r).number; place = (code_of r).place; count = size }

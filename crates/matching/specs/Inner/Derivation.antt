@@ -1,11 +1,10 @@
 -- What checking a derivation, its rules and the marks of pairs promise.
+use Rattle.subsumption.specs.Refusal.{Outcome}
 use Rattle.std.specs.Prelude.{ℕ, ◌+◌, ◌*◌, ◌<◌, ◌≤◌, ◌≡◌, List, Bool, true, false, length, get_or}
-use Rattle.subsumption.specs.declared.tables.Row.{Row}
-use Rattle.subsumption.specs.Tables.{Tables, Node, top_at, name_at, exists_at, and_at, var_at, decode, count_of}
+use Rattle.subsumption.specs.Tables.{Tables, Node, top_at, name_at, exists_at, and_at, var_at, count_of}
 use Rattle.subsumption.specs.Atoms.{atoms}
 use Rattle.subsumption.specs.Inner.Roles.{RoleSets}
 use Rattle.subsumption.specs.Rules.{by_rule}
-use Rattle.subsumption.specs.declared.refusal.Outcome.{Outcome}
 use Rattle.matching.specs.Derivation.{left_at, right_at, proved_by, line_follows, rule_fault}
 
 -- one mark a pair of ids, row by row
@@ -15,9 +14,6 @@ pub record Square (count : ℕ) (marks : List Bool) : Type 0 where
 
 unfoldable pub seen : ℕ → List Bool → ℕ → ℕ → Bool
 seen count marks i j = get_or marks (i * count + j) false
-
-abbrev pub node_of : Row → Node
-node_of row = decode row.kind row.a row.b
 
 -- what the tests on a variable's choice ask of the atoms
 pub record KnownAtoms (count : ℕ) (ids : List ℕ) : Type 0 where

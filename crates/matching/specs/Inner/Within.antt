@@ -1,10 +1,8 @@
 -- What the parts of finding an assignment within settings promise.
-use Rattle.std.specs.Prelude.{ℕ, ◌+◌, ◌/◌, ◌%◌, ◌^◌, ◌<◌, ◌≤◌, ◌≡◌, List, Bool, true, false, ◌⊎◌, length, take, get_or}
+use Rattle.std.specs.Prelude.{ℕ, ◌+◌, ◌/◌, ◌%◌, ◌^◌, ◌<◌, ◌≤◌, ◌≡◌, List, true, ◌⊎◌, length, take, get_or, Option, Some, None, Err, Ok}
 use Rattle.subsumption.specs.declared.refusal.Refusal.TheVariants.{NoAssignment}
-use Rattle.subsumption.specs.declared.refusal.Outcome.{Outcome}
-use Rattle.subsumption.specs.declared.refusal.Outcome.TheVariants.{Done, Refused}
 use Rattle.subsumption.specs.Tables.{Tables}
-use Rattle.subsumption.specs.Refusal.{Reply, reply_done, reply_refused}
+use Rattle.subsumption.specs.Refusal.{Reply, reply_done, reply_refused, Outcome, Done}
 use Rattle.subsumption.specs.Check.{assignment_fault}
 use Rattle.settings.specs.Settings.{Settings}
 use Rattle.matching.specs.Solving.{takes, Earlier}
@@ -34,32 +32,32 @@ pub record Found (t : Tables) (problem permitted choice : List ℕ) : Type 0 whe
       (other : List ℕ) → assignment_fault t other ≡ Done → Within other (take t.variables permitted) → Meets t problem other
       → (other ≡ take t.variables choice) ⊎ Earlier (take t.variables choice) other
 
-abbrev pub FoundBy : Tables → List ℕ → List ℕ → Bool → List ℕ → Type 0
-FoundBy t problem permitted true choice = Found t problem permitted choice
-FoundBy t problem permitted false choice =
+abbrev pub FoundBy : Tables → List ℕ → List ℕ → Option (List ℕ) → Type 0
+FoundBy t problem permitted (Some choice) = Found t problem permitted choice
+FoundBy t problem permitted None =
     (other : List ℕ) → assignment_fault t other ≡ Done → Within other (take t.variables permitted) → Meets t problem other → ⊥
 
 -- The same of whatever tables the sets and numbers are.
-abbrev pub FoundIn : List ℕ → List ℕ → List ℕ → Bool → List ℕ → Type 0
-FoundIn sets problem permitted found choice =
+abbrev pub FoundIn : List ℕ → List ℕ → List ℕ → Option (List ℕ) → Type 0
+FoundIn sets problem permitted found =
     (t : Tables) → Problem t sets problem → assignment_fault t (take t.variables permitted) ≡ Done
-    → ((k q : ℕ) → t.variables ≤ k → takes permitted k q ≡ true → ⊥) → FoundBy t problem permitted found choice
+    → ((k q : ℕ) → t.variables ≤ k → takes permitted k q ≡ true → ⊥) → FoundBy t problem permitted found
 
 -- The first assignment within the settings that makes the asked questions hold, or there is none.
 pub record FirstFound (asked : ℕ → Type 0) (t : Tables) (s : Settings) (choice : List ℕ) : Type 0 where
   pub long : length choice ≡ 8
   pub first : FirstAmong asked t s (take t.variables choice)
 
-abbrev pub FoundAmong : (ℕ → Type 0) → Tables → Settings → Bool → List ℕ → Type 0
-FoundAmong asked t s true choice = FirstFound asked t s choice
-FoundAmong asked t s false choice = NoneAmong asked t s
+abbrev pub FoundAmong : (ℕ → Type 0) → Tables → Settings → Option (List ℕ) → Type 0
+FoundAmong asked t s (Some choice) = FirstFound asked t s choice
+FoundAmong asked t s None = NoneAmong asked t s
 
 -- What a finder of the asked questions answers, where nothing is refused and where something is.
 abbrev pub FindsAmongAfter : Outcome → (ℕ → Type 0) → Tables → Settings → List ℕ → List ℕ → Reply → Type 0
-FindsAmongAfter Done asked t s before after reply =
+FindsAmongAfter (Ok tt) asked t s before after reply =
     ((reply ≡ reply_done 0) × FilledAmong asked t s before after)
     ⊎ ((reply ≡ reply_refused NoAssignment) × UnfilledAmong asked t s before after)
-FindsAmongAfter (Refused r) asked t s before after reply = (reply ≡ reply_refused r) × (after ≡ before)
+FindsAmongAfter (Err r) asked t s before after reply = (reply ≡ reply_refused r) × (after ≡ before)
 
 abbrev pub FindsAmong : (ℕ → Type 0) → Tables → Settings → List ℕ → List ℕ → Reply → Type 0
 FindsAmong asked t s before after reply = FindsAmongAfter (within_fault t s (length before)) asked t s before after reply

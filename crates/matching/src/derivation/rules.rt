@@ -6,95 +6,82 @@ ghost use Rattle.subsumption.specs.Inner.Atoms.{Known};
 ghost use Rattle.subsumption.specs.Inner.Tables.{Rising};
 ghost use Rattle.subsumption.specs.Inner.Closure.{Ready};
 ghost use Rattle.subsumption.specs.Rules.{every, contains, same_name, is_top, on_picked, on_both, on_inner, on_variable};
-ghost use Rattle.matching.specs.Inner.Derivation.{Square, seen, node_of, KnownAtoms, Numbered, LowRole, ByRule};
+ghost use Rattle.matching.specs.Inner.Derivation.{Square, seen, KnownAtoms, Numbered, LowRole, ByRule};
 ghost use Rattle.subsumption.specs.Inner.Roles.{in_set};
 ghost use Rattle.subsumption.specs.Inner.Sizes.{roles_size};
 
-use crate::derivation::marks::{has_mark, number_at};
-use subsumption::helpers::{Row, counts, pair_at, row_at};
-use subsumption::kinds::{CONJUNCTION, EXISTENTIAL, NAME, TOP, VARIABLE};
+use crate::derivation::marks::has_mark;
+use subsumption::helpers::{Node, counts, node_at, pair_at};
+use subsumption::limits::ROLE_WORDS;
 
 // Rule 1.
-fn by_name(left: usize, right: usize, l: Row, r: Row) -> bool
-    ensures { result ≡ or (eqb left right) (same_name (node_of l) (node_of r)) }
+#[tactic(auto, unfolding(subsumption::specs::Rules::same_name, subsumption::specs::Tables::or))]
+fn by_name(left: usize, right: usize, l: Node, r: Node) -> bool
+    ensures { result ≡ or (eqb left right) (same_name l r) }
 {
     if left == right {
         return true;
     }
-    if l.kind != NAME {
-        return false;
+    match (l, r) {
+        (Node::Name(a), Node::Name(b)) => a == b,
+        _ => false,
     }
-    if r.kind != NAME {
-        return false;
-    }
-    l.a == r.a
 }
 
 // Rule 2.
-fn by_top(r: Row) -> bool
-    ensures { result ≡ is_top (node_of r) }
+#[tactic(auto, unfolding(subsumption::specs::Rules::is_top))]
+fn by_top(r: Node) -> bool
+    ensures { result ≡ is_top r }
 {
-    if r.kind == TOP {
-        return true;
-    }
-    4 < r.kind
+    matches!(r, Node::Top)
 }
 
 // Rule 3.
-fn by_member(marks: &[bool], count: usize, l: Row, right: usize, extra: usize) -> bool
+#[tactic(auto, unfolding(subsumption::specs::Rules::on_picked))]
+fn by_member(marks: &[bool], count: usize, l: Node, right: usize, extra: usize) -> bool
     requires square { Square count marks.now }
-    requires rising { Rising count (node_of l) }
+    requires rising { Rising count l }
     requires right_lt_count { right < count }
-    ensures { result ≡ on_picked extra (λ i. seen count marks.now i right) (node_of l) }
+    ensures { result ≡ on_picked extra (λ i. seen count marks.now i right) l }
 {
-    if l.kind != CONJUNCTION {
-        return false;
+    match (l, extra) {
+        (Node::And(a, _), 0) => has_mark(marks, count, a as usize, right),
+        (Node::And(_, b), 1) => has_mark(marks, count, b as usize, right),
+        _ => false,
     }
-    if extra == 0 {
-        return has_mark(marks, count, l.a as usize, right);
-    }
-    if extra == 1 {
-        return has_mark(marks, count, l.b as usize, right);
-    }
-    false
 }
 
 // Rule 4.
-fn by_both(marks: &[bool], count: usize, left: usize, r: Row) -> bool
+#[tactic(auto, unfolding(subsumption::specs::Rules::on_both, subsumption::specs::Tables::both))]
+fn by_both(marks: &[bool], count: usize, left: usize, r: Node) -> bool
     requires square { Square count marks.now }
-    requires rising { Rising count (node_of r) }
+    requires rising { Rising count r }
     requires left_lt_count { left < count }
-    ensures { result ≡ on_both (λ j. seen count marks.now left j) (node_of r) }
+    ensures { result ≡ on_both (λ j. seen count marks.now left j) r }
 {
-    if r.kind != CONJUNCTION {
+    let Node::And(a, b) = r else {
         return false;
-    }
-    if has_mark(marks, count, left, r.a as usize) {
-        return has_mark(marks, count, left, r.b as usize);
-    }
-    false
+    };
+    has_mark(marks, count, left, a as usize) && has_mark(marks, count, left, b as usize)
 }
 
 // Rule 5.
-fn by_inner(into: &[u64], marks: &[bool], count: usize, l: Row, r: Row) -> bool
-    requires into_len { length into.now ≡ roles_size }
-    requires low_role { LowRole (node_of l) }
-    requires low_role_2 { LowRole (node_of r) }
+#[tactic(auto, unfolding(subsumption::specs::Rules::on_inner, subsumption::specs::Tables::both))]
+fn by_inner(into: &[u64; ROLE_WORDS], marks: &[bool], count: usize, l: Node, r: Node) -> bool
+    requires low_role { LowRole l }
+    requires low_role_2 { LowRole r }
     requires square { Square count marks.now }
-    requires rising { Rising count (node_of l) }
-    requires rising_2 { Rising count (node_of r) }
-    ensures { result ≡ on_inner (in_set into.now) (seen count marks.now) (node_of l) (node_of r) }
+    requires rising { Rising count l }
+    requires rising_2 { Rising count r }
+    ensures { result ≡ on_inner (in_set into.now) (seen count marks.now) l r }
 {
-    if l.kind != EXISTENTIAL {
-        return false;
+    match (l, r) {
+        (Node::Exists(narrow, i), Node::Exists(wide, j)) => {
+            counts(into, narrow as usize, wide as usize)
+                && has_mark(marks, count, i as usize, j as usize)
+        }
+        _ => false,
     }
-    if r.kind != EXISTENTIAL {
-        return false;
-    }
-    if counts(into, l.a as usize, r.a as usize) {
-        return has_mark(marks, count, l.b as usize, r.b as usize);
-    }
-    false
 }
 
 // Rule 6.
@@ -128,15 +115,12 @@ fn is_chosen(atoms: &[u16], choice: u64, id: usize) -> bool
     requires { length atoms.now ≤ 64 }
     ensures { result ≡ contains id (pick atoms.now choice) }
 {
-    let mut q = 0;
-    while q < atoms.len() {
+    for (q, &atom) in atoms.iter().enumerate() {
         let picked = (choice >> q) % 2;
-        let atom = number_at(atoms, q);
-        q += 1;
         if picked == 0 {
             continue;
         }
-        if atom == id {
+        if atom as usize == id {
             return true;
         }
     }
@@ -144,32 +128,32 @@ fn is_chosen(atoms: &[u16], choice: u64, id: usize) -> bool
 }
 
 // Rule 7.
+#[tactic(auto, unfolding(subsumption::specs::Rules::on_variable, subsumption::specs::Tables::both))]
 fn by_choice(
     atoms: &[u16],
     assignment: &[u64],
     marks: &[bool],
     count: usize,
-    l: Row,
+    l: Node,
     right: usize,
     extra: usize,
 ) -> bool
     requires square { Square count marks.now }
     requires known_atoms { KnownAtoms count atoms.now }
-    requires numbered { Numbered assignment.now (node_of l) }
+    requires numbered { Numbered assignment.now l }
     requires right_lt_count { right < count }
     ensures { result ≡ on_variable
         (λ k. both (contains extra (pick atoms.now (get_or assignment.now k 0))) (seen count marks.now extra right))
-        (node_of l) }
+        l }
 {
-    if l.kind != VARIABLE {
+    let Node::Variable(k) = l else {
         return false;
-    }
+    };
     if count <= extra {
         return false;
     }
     if has_mark(marks, count, extra, right) {
-        let k = l.a as usize;
-        return is_chosen(atoms, assignment[k], extra);
+        return is_chosen(atoms, assignment[k as usize], extra);
     }
     false
 }
@@ -181,50 +165,46 @@ fn all_marked(atoms: &[u16], choice: u64, marks: &[bool], count: usize, left: us
     requires left_lt_count { left < count }
     ensures { result ≡ every (λ p. seen count marks.now left p) (pick atoms.now choice) }
 {
-    let mut q = 0;
-    while q < atoms.len() {
+    for (q, &atom) in atoms.iter().enumerate() {
         let picked = (choice >> q) % 2;
-        let atom = number_at(atoms, q);
-        q += 1;
         if picked == 0 {
             continue;
         }
-        if has_mark(marks, count, left, atom) {
-            continue;
+        if !has_mark(marks, count, left, atom as usize) {
+            return false;
         }
-        return false;
     }
     true
 }
 
 // Rule 8.
+#[tactic(auto, unfolding(subsumption::specs::Rules::on_variable))]
 fn by_all(
     atoms: &[u16],
     assignment: &[u64],
     marks: &[bool],
     count: usize,
     left: usize,
-    r: Row,
+    r: Node,
 ) -> bool
     requires square { Square count marks.now }
     requires known_atoms { KnownAtoms count atoms.now }
-    requires numbered { Numbered assignment.now (node_of r) }
+    requires numbered { Numbered assignment.now r }
     requires left_lt_count { left < count }
     ensures { result ≡ on_variable
-        (λ k. every (λ p. seen count marks.now left p) (pick atoms.now (get_or assignment.now k 0))) (node_of r) }
+        (λ k. every (λ p. seen count marks.now left p) (pick atoms.now (get_or assignment.now k 0))) r }
 {
-    if r.kind != VARIABLE {
+    let Node::Variable(k) = r else {
         return false;
-    }
-    let k = r.a as usize;
-    all_marked(atoms, assignment[k], marks, count, left)
+    };
+    all_marked(atoms, assignment[k as usize], marks, count, left)
 }
 
 // What the rule asks of a line whose left and right are ids.
 pub fn by_rule(
     concepts: &[u16],
     inclusions: &[u16],
-    into: &[u64],
+    into: &[u64; ROLE_WORDS],
     atoms: &[u16],
     assignment: &[u64],
     marks: &[bool],
@@ -234,15 +214,14 @@ pub fn by_rule(
     extra: usize,
 ) -> bool
     requires ready { Ready concepts.now inclusions.now atoms.now assignment.now }
-    requires into_len { length into.now ≡ roles_size }
     requires square { Square (count_of concepts.now) marks.now }
     requires left_bound { (left < count_of concepts.now) × (right < count_of concepts.now) }
     ensures { ByRule concepts.now inclusions.now into.now atoms.now assignment.now
         marks.now rule left right extra result }
 {
     let count = concepts.len() / 3;
-    let l = row_at(concepts, left);
-    let r = row_at(concepts, right);
+    let l = node_at(concepts, left);
+    let r = node_at(concepts, right);
     if rule == 3 {
         return by_member(marks, count, l, right, extra);
     }

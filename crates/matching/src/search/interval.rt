@@ -16,13 +16,6 @@ pub struct Interval {
     pub high: [u64; 8],
 }
 
-// A pair of variable and position, counted through with 64 positions a variable.
-#[derive(Clone, Copy)]
-pub enum Pick {
-    At(usize),
-    Nothing,
-}
-
 pub fn has_bit(x: u64, q: usize) -> bool
     requires { q < 64 }
     ensures { result ≡ bit x q }
@@ -83,27 +76,25 @@ impl Interval {
     }
 }
 
-// The first pair that may be taken or left.
-pub fn first_undecided(interval: Interval) -> Pick
+// The first pair that may be taken or left. The pairs of variable and position are counted through, 64 positions a variable.
+pub fn first_undecided(interval: Interval) -> Option<usize>
     ensures { Picked interval.low interval.high result }
 {
-    let mut p: usize = 0;
-    while p < PAIRS {
+    for p in 0..PAIRS {
         if interval.is_undecided(p) {
-            return Pick::At(p);
+            return Some(p);
         }
-        p += 1;
     }
-    Pick::Nothing
+    None
 }
 
 // The pair at the hint if it may be taken or left, else the first such.
-pub fn pick_undecided(interval: Interval, hint: usize) -> Pick
+pub fn pick_undecided(interval: Interval, hint: usize) -> Option<usize>
     ensures { Picked interval.low interval.high result }
 {
     if hint < PAIRS {
         if interval.is_undecided(hint) {
-            return Pick::At(hint);
+            return Some(hint);
         }
     }
     first_undecided(interval)

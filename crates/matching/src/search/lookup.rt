@@ -37,8 +37,7 @@ pub fn note(scratch: &mut [u64], c: usize, full: [u64; 8], nogood: Interval)
 {
     let low = nogood.low;
     let high = nogood.high;
-    let mut k: usize = 0;
-    while k < 8 {
+    for k in 0..8 {
         let taken = low[k];
         let left = full[k] & (ALL ^ high[k]);
         let from = MASKS + k * 2048;
@@ -46,7 +45,6 @@ pub fn note(scratch: &mut [u64], c: usize, full: [u64; 8], nogood: Interval)
         note_word(scratch, c, left, from + LEFT);
         scratch[WANTED + k] = scratch[WANTED + k] | taken;
         scratch[WANTED + 8 + k] = scratch[WANTED + 8 + k] | left;
-        k += 1;
     }
 }
 
@@ -153,10 +151,8 @@ fn weigh(scratch: &[u64], w: usize, interval: Interval) -> Weights
         once: 0,
         twice: 0,
     };
-    let mut k: usize = 0;
-    while k < 8 {
+    for k in 0..8 {
         weights = weigh_variable(scratch, w, interval, k, weights);
-        k += 1;
     }
     weights
 }
@@ -170,28 +166,30 @@ pub struct Hint {
 }
 
 // The better of what was found and of what the word w has.
-fn better(found: Hint, w: usize, unit: u64, around: u64, none: usize) -> Hint
+fn better(found: Option<Hint>, w: usize, unit: u64, around: u64) -> Option<Hint>
     requires { w < 16 }
 {
-    if found.spare {
-        return found;
+    if let Some(hint) = found {
+        if hint.spare {
+            return found;
+        }
     }
     if unit != 0 {
-        return Hint {
+        return Some(Hint {
             place: w * 64 + next_bit(unit, 0),
             spare: true,
-        };
+        });
     }
-    if found.place < none {
+    if found.is_some() {
         return found;
     }
     if around != 0 {
-        return Hint {
+        return Some(Hint {
             place: w * 64 + next_bit(around, 0),
             spare: false,
-        };
+        });
     }
-    found
+    None
 }
 
 // The nogoods of the word w that are there.
@@ -207,30 +205,25 @@ fn present(w: usize, count: usize) -> u64
     ALL >> (64 - (count - w * 64))
 }
 
-pub fn choose(store: &[u64], scratch: &[u64], interval: Interval) -> Hint
+pub fn choose(store: &[u64], scratch: &[u64], interval: Interval) -> Option<Hint>
     requires room { Room store.now }
     requires scratch_len { length scratch.now ≡ scratch_size }
 {
     let count = store[0] as usize;
-    let mut found = Hint {
-        place: count,
-        spare: false,
-    };
-    let mut w: usize = 0;
-    while w * 64 < count {
+    let mut found: Option<Hint> = None;
+    for w in 0..count.div_ceil(64) {
         let weights = weigh(scratch, w, interval);
         let alive = present(w, count) & (ALL ^ weights.dead);
         let around = alive & (ALL ^ weights.want);
         let shut = around & (ALL ^ weights.once);
         if shut != 0 {
-            return Hint {
+            return Some(Hint {
                 place: w * 64 + next_bit(shut, 0),
                 spare: false,
-            };
+            });
         }
         let unit = alive & (ALL ^ weights.twice) & (ALL ^ (weights.want & weights.once));
-        found = better(found, w, unit, around, count);
-        w += 1;
+        found = better(found, w, unit, around);
     }
     found
 }
@@ -256,12 +249,10 @@ pub fn open_pair(nogood: Interval, interval: Interval) -> usize {
     let below = nogood.low;
     let above = nogood.high;
     let mut pair: usize = PAIRS;
-    let mut k: usize = 0;
-    while k < 8 {
+    for k in 0..8 {
         let open = high[k] & (ALL ^ low[k]);
         let wanted = below[k] | (ALL ^ above[k]);
         pair = some_pair(open & wanted, k, pair);
-        k += 1;
     }
     pair
 }

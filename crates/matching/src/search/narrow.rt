@@ -65,14 +65,11 @@ fn narrow_question(
     }
     let held = problem[HOLDS + m];
     let mut high = full;
-    let mut k: usize = 0;
-    while k < 8 {
-        let v = k;
-        k += 1;
-        if (held >> v) % 2 == 0 {
+    for k in 0..8 {
+        if (held >> k) % 2 == 0 {
             continue;
         }
-        let fewer = narrow_variable(sets, problem, scratch, m, v, high);
+        let fewer = narrow_variable(sets, problem, scratch, m, k, high);
         high = fewer;
     }
     high
@@ -86,11 +83,9 @@ pub fn narrow(sets: &[u64], problem: &[u16], scratch: &mut [u64], full: [u64; 8]
 {
     let count = problem[QUESTION_COUNT] as usize;
     let mut high = full;
-    let mut m: usize = 0;
-    while m < count {
+    for m in 0..count {
         let fewer = narrow_question(sets, problem, scratch, m, high);
         high = fewer;
-        m += 1;
     }
     high
 }

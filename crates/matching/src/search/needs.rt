@@ -58,27 +58,18 @@ fn with_above(allowed: [u64; 8], nogood: Interval, high: [u64; 8]) -> [u64; 8]
     meet(allowed, upper)
 }
 
-// Whether more is wanted than the largest count of a variable, and then an interval around the asked one that holds no solution.
-#[derive(Clone, Copy)]
-pub struct Wanted {
-    pub over: bool,
-    pub low: [u64; 8],
-    pub high: [u64; 8],
-}
-
-// Of variable k.
+// An interval around the asked one that holds no solution, if more is wanted of variable k than its largest count.
 fn count_needs(
     problem: &[u16],
     store: &[u64],
     full: [u64; 8],
     interval: Interval,
     k: usize,
-) -> Wanted
+) -> Option<Interval>
     requires problem_len { length problem.now ≡ problem_size }
     requires room { Room store.now }
     requires full_len { (length full ≡ 8) × (length interval.low ≡ 8) × (length interval.high ≡ 8) × (k < 8) }
-    ensures low_len { (length result.low ≡ 8) × (length result.high ≡ 8) }
-    ensures wanted_over { WantedOver problem.now store.now full interval.low interval.high result.over result.low result.high }
+    ensures { WantedOver problem.now store.now full interval.low interval.high result }
 {
     let low = interval.low;
     let high = interval.high;
@@ -89,15 +80,12 @@ fn count_needs(
     let mut allowed = full;
     let mut met = low[k];
     let mut sum = size_of(low[k]);
-    let mut c: usize = 0;
-    while c < count {
-        let at = c;
-        c += 1;
-        let wanted = need_at(store, at, high, low, k, met);
+    for c in 0..count {
+        let wanted = need_at(store, c, high, low, k, met);
         if wanted == 0 {
             continue;
         }
-        let nogood = nogood_at(store, at);
+        let nogood = nogood_at(store, c);
         let more = with_below(about, nogood);
         let fewer = with_above(allowed, nogood, high);
         about = more;
@@ -105,18 +93,13 @@ fn count_needs(
         met = met | wanted;
         sum += 1;
         if sum > most {
-            return Wanted {
-                over: true,
+            return Some(Interval {
                 low: about,
                 high: allowed,
-            };
+            });
         }
     }
-    Wanted {
-        over: false,
-        low: about,
-        high: allowed,
-    }
+    None
 }
 
 // The largest count of the variable may stop an interval with these sides, and has not been reached. A hint only.
@@ -127,31 +110,28 @@ fn is_counted(most: u16, low: u64, high: u64) -> bool {
     size_of(high) > most as u32
 }
 
-// Of the first variable of which more is wanted.
-pub fn count_all(problem: &[u16], store: &[u64], full: [u64; 8], interval: Interval) -> Wanted
+// The same of the first variable of which more is wanted.
+pub fn count_all(
+    problem: &[u16],
+    store: &[u64],
+    full: [u64; 8],
+    interval: Interval,
+) -> Option<Interval>
     requires problem_len { length problem.now ≡ problem_size }
     requires room { Room store.now }
     requires full_len { (length full ≡ 8) × (length interval.low ≡ 8) × (length interval.high ≡ 8) }
-    ensures low_len { (length result.low ≡ 8) × (length result.high ≡ 8) }
-    ensures wanted_over { WantedOver problem.now store.now full interval.low interval.high result.over result.low result.high }
+    ensures { WantedOver problem.now store.now full interval.low interval.high result }
 {
     let low = interval.low;
     let high = interval.high;
-    let mut k: usize = 0;
-    while k < 8 {
-        let v = k;
-        k += 1;
-        if !is_counted(problem[MOST + v], low[v], high[v]) {
+    for k in 0..8 {
+        if !is_counted(problem[MOST + k], low[k], high[k]) {
             continue;
         }
-        let wanted = count_needs(problem, store, full, interval, v);
-        if wanted.over {
+        let wanted = count_needs(problem, store, full, interval, k);
+        if wanted.is_some() {
             return wanted;
         }
     }
-    Wanted {
-        over: false,
-        low,
-        high,
-    }
+    None
 }

@@ -12,11 +12,7 @@ pub fn fetch(store: &[u64], at: usize) -> [u64; 8]
     ensures { result ≡ words store.now at }
 {
     let mut set = [0u64; 8];
-    let mut k: usize = 0;
-    while k < 8 {
-        set[k] = store[at + k];
-        k += 1;
-    }
+    set.copy_from_slice(&store[at..at + 8]);
     set
 }
 
@@ -24,11 +20,7 @@ pub fn put(store: &mut [u64], at: usize, set: [u64; 8])
     requires { at + 8 ≤ length store.old }
     ensures { Put at set store.old store.new }
 {
-    let mut k: usize = 0;
-    while k < 8 {
-        store[at + k] = set[k];
-        k += 1;
-    }
+    store[at..at + 8].copy_from_slice(&set);
 }
 
 // Keeps one more, while there are fewer than `most`, and notes it for the look-up.

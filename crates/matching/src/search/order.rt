@@ -5,7 +5,7 @@ ghost use Rattle.matching.specs.Inner.Search.Order.{FirstOf};
 
 use crate::limits::PAIRS;
 use crate::search::interval::{Interval, has_bit};
-use crate::search::solve::some_solution;
+use crate::search::solve::{Answer, some_solution};
 use subsumption::limits::ATOMS;
 
 // `known` is any solution; the last one found is kept, so that a pair it leaves out costs nothing.
@@ -24,26 +24,22 @@ pub fn first_solution(
     let full = start.high;
     let mut interval = start;
     let mut witness = known;
-    let mut p: usize = 0;
-    while p < PAIRS {
-        let at = p;
-        p += 1;
-        if !interval.is_undecided(at) {
+    for p in 0..PAIRS {
+        if !interval.is_undecided(p) {
             continue;
         }
-        let without = interval.leave(at / ATOMS, at % ATOMS);
-        if !has_bit(witness[at / ATOMS], at % ATOMS) {
+        let without = interval.leave(p / ATOMS, p % ATOMS);
+        if !has_bit(witness[p / ATOMS], p % ATOMS) {
             interval = without;
             continue;
         }
         let s = some_solution(sets, problem, store, scratch, full, without);
-        if s.found {
-            let choice = s.low;
+        if let Answer::Solution(choice) = s {
             interval = without;
             witness = choice;
             continue;
         }
-        interval = interval.take(at / ATOMS, at % ATOMS);
+        interval = interval.take(p / ATOMS, p % ATOMS);
     }
     witness
 }

@@ -30,10 +30,8 @@ pub fn join(a: [u64; 8], b: [u64; 8]) -> [u64; 8]
     ensures { Joined a b result }
 {
     let mut sum = a;
-    let mut k: usize = 0;
-    while k < 8 {
+    for k in 0..8 {
         sum[k] = sum[k] | b[k];
-        k += 1;
     }
     sum
 }
@@ -43,10 +41,8 @@ pub fn meet(a: [u64; 8], b: [u64; 8]) -> [u64; 8]
     ensures { Met a b result }
 {
     let mut common = a;
-    let mut k: usize = 0;
-    while k < 8 {
+    for k in 0..8 {
         common[k] = common[k] & b[k];
-        k += 1;
     }
     common
 }
@@ -56,12 +52,5 @@ pub fn is_within(a: [u64; 8], b: [u64; 8]) -> bool
     requires { (length a ≡ 8) × (length b ≡ 8) }
     ensures { Decided (Within a b) result }
 {
-    let mut k: usize = 0;
-    while k < 8 {
-        if (a[k] | b[k]) != b[k] {
-            return false;
-        }
-        k += 1;
-    }
-    true
+    a.iter().zip(b.iter()).all(|(x, y)| *x | *y == *y)
 }

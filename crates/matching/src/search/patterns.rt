@@ -11,7 +11,7 @@ use crate::search::sets::{
     Words, fit_at, is_in, is_same, join, meet, next_bit, next_in, put_words, words_at,
 };
 use square::helpers::has;
-use subsumption::kinds::{CONJUNCTION, TOP, VARIABLE};
+use subsumption::helpers::{Node, node_at};
 
 const ALL: u64 = 18446744073709551615;
 
@@ -106,16 +106,11 @@ fn has_members(problem: &[u16], x: Words, e: usize) -> bool
     requires e_bound { e < 192 }
     ensures { Members problem.now x e result }
 {
-    let kind = problem[e * 3];
-    if kind == TOP {
-        return true;
+    match node_at(problem, e) {
+        Node::Top => true,
+        Node::Name(_) | Node::Exists(_, _) | Node::Variable(_) => false,
+        Node::And(i, j) => is_in(x, i as usize) && is_in(x, j as usize),
     }
-    if kind == CONJUNCTION {
-        if is_in(x, problem[e * 3 + 1] as usize) {
-            return is_in(x, problem[e * 3 + 2] as usize);
-        }
-    }
-    false
 }
 
 // One walk through the tops and conjunctions that stand at a word.
@@ -159,19 +154,18 @@ fn right_value(sets: &[u64], problem: &[u16], values: &[u64], choice: [u64; 8], 
     requires in_bounds { (576 ≤ length values.now) × (j < 192) }
     ensures { Valued sets.now problem.now values.now choice true j result }
 {
-    let kind = problem[j * 3];
-    let inner = problem[j * 3 + 2] as usize;
-    if kind == VARIABLE {
-        let k = problem[j * 3 + 1] as usize;
-        return below_all(sets, problem, choice[k]);
+    match node_at(problem, j) {
+        Node::Variable(k) => below_all(sets, problem, choice[k as usize]),
+        Node::And(first, second) => {
+            let a = value_of(sets, problem, values, true, first as usize);
+            let b = value_of(sets, problem, values, true, second as usize);
+            meet(a, b)
+        }
+        _ => {
+            let own = words_at(values, problem[j * 3 + 2] as usize * 3);
+            linked(sets, problem, own, true, j)
+        }
     }
-    if kind == CONJUNCTION {
-        let a = value_of(sets, problem, values, true, problem[j * 3 + 1] as usize);
-        let b = value_of(sets, problem, values, true, inner);
-        return meet(a, b);
-    }
-    let own = words_at(values, inner * 3);
-    linked(sets, problem, own, true, j)
 }
 
 // The value of an id with a variable on the left side: variable-free ids above it, from which the others follow. Only under an existential
@@ -188,19 +182,19 @@ fn left_value(
     requires in_bounds { (576 ≤ length values.now) × (j < 192) × (m < 32) }
     ensures { ValuedIn sets.now problem.now values.now choice m false j result }
 {
-    let kind = problem[j * 3];
-    let inner = problem[j * 3 + 2] as usize;
-    if kind == VARIABLE {
-        let k = problem[j * 3 + 1] as usize;
-        return above_some(sets, problem, choice[k]);
+    match node_at(problem, j) {
+        Node::Variable(k) => above_some(sets, problem, choice[k as usize]),
+        Node::And(first, second) => {
+            let a = value_of(sets, problem, values, false, first as usize);
+            let b = value_of(sets, problem, values, false, second as usize);
+            join(a, b)
+        }
+        _ => {
+            let inner = words_at(values, problem[j * 3 + 2] as usize * 3);
+            let own = close_up(sets, problem, CLOSERS + m * 3, inner);
+            linked(sets, problem, own, false, j)
+        }
     }
-    if kind == CONJUNCTION {
-        let a = value_of(sets, problem, values, false, problem[j * 3 + 1] as usize);
-        let b = value_of(sets, problem, values, false, inner);
-        return join(a, b);
-    }
-    let own = close_up(sets, problem, CLOSERS + m * 3, words_at(values, inner * 3));
-    linked(sets, problem, own, false, j)
 }
 
 // The values of the cone of question m.

@@ -3,10 +3,10 @@
 // variable the variable-free ones that fit it by their roles; the cone of each question, the ids of its sides that hold a variable;
 // and the variable-free tops and conjunctions that bring what is asked of its left values. The search knows neither inclusions nor
 // pairs of roles.
+ghost use Rattle.subsumption.specs.Refusal.{Done};
 ghost use Rattle.std.specs.Prelude.{◌≡◌, true, false, ℕ, ◌+◌, ◌<◌, ◌≤◌, ltb, length, replicate};
 ghost use Rattle.subsumption.specs.Lent.{lent};
 ghost use Rattle.subsumption.specs.Inner.Lent.{given};
-ghost use Rattle.subsumption.specs.declared.refusal.Outcome.TheVariants.{Done};
 ghost use Rattle.subsumption.specs.Tables.{both, node};
 ghost use Rattle.subsumption.specs.Check.{table_fault};
 ghost use Rattle.subsumption.specs.Inner.Atoms.{Layered};
@@ -23,20 +23,18 @@ use crate::limits::{
 };
 use crate::search::sets::{Words, fit_at, is_same, join, meet, next_in, words_at};
 use square::helpers::{has, insert, load};
-use subsumption::helpers::{counts, mark_variables, note_roles};
+use subsumption::helpers::{Node, counts, mark_variables, node_at, note_roles};
 use subsumption::kinds::{CONJUNCTION, EXISTENTIAL, VARIABLE};
 use subsumption::limits::{CONCEPTS, ROLE_WORDS};
-use subsumption::write_table;
+use subsumption::{Tables, write_table};
 
 // ---- the numbers
 pub fn copy_at(from: &[u16], to: &mut [u16], at: usize)
     requires { at + length from.now ≤ length to.old }
     ensures { CopiedAt from.now at to.old to.new }
 {
-    let mut p: usize = 0;
-    while p < from.len() {
+    for p in 0..from.len() {
         to[at + p] = from[p];
-        p += 1;
     }
 }
 
@@ -48,10 +46,8 @@ fn note_held(concepts: &[u16], problem: &mut [u16])
 {
     let mut marks = [false; CONCEPTS];
     mark_variables(concepts, &mut marks);
-    let mut i: usize = 0;
-    while i < CONCEPTS {
-        problem[HELD + i] = marks[i] as u16;
-        i += 1;
+    for (i, &mark) in marks.iter().enumerate() {
+        problem[HELD + i] = mark as u16;
     }
 }
 
@@ -86,10 +82,8 @@ fn variables_of(problem: &[u16], sets: &[u16], i: usize) -> u16
 fn note_variables(problem: &[u16], sets: &mut [u16])
     requires { (length problem.now ≡ problem_size) × (length sets.old ≡ 192) }
 {
-    let mut i: usize = 0;
-    while i < CONCEPTS {
+    for i in 0..CONCEPTS {
         sets[i] = variables_of(problem, sets, i);
-        i += 1;
     }
 }
 
@@ -100,19 +94,16 @@ fn note_holds(problem: &mut [u16])
 {
     let mut sets = [0u16; CONCEPTS];
     note_variables(problem, &mut sets);
-    let mut m: usize = 0;
-    while m < 32 {
-        let at = m;
-        m += 1;
-        let left = problem[SIDES + at * 2] as usize;
-        let right = problem[SIDES + at * 2 + 1] as usize;
+    for m in 0..32 {
+        let left = problem[SIDES + m * 2] as usize;
+        let right = problem[SIDES + m * 2 + 1] as usize;
         if left >= CONCEPTS {
             continue;
         }
         if right >= CONCEPTS {
             continue;
         }
-        problem[HOLDS + at] = sets[left] | sets[right];
+        problem[HOLDS + m] = sets[left] | sets[right];
     }
 }
 
@@ -132,37 +123,29 @@ fn note_numbers(concepts: &[u16], questions: &[u16], ids: &[u16], problem: &mut 
 
 // ---- the sets
 // The rows and columns, of the subsumption table under the assignment that chooses nothing.
-fn note_lines(
-    concepts: &[u16],
-    inclusions: &[u16],
-    questions: &[u16],
-    roles: &[u16],
-    variables: u16,
-    square: &mut [u64],
-)
-    requires variables_value { table_fault (given concepts inclusions questions roles variables) ≡ Done }
+fn note_lines(tables: Tables, square: &mut [u64])
+    requires variables_value { table_fault (given tables) ≡ Done }
     requires square_len { length square.old ≡ 1152 }
-    ensures { LinesOf (lent concepts inclusions questions roles variables) square.new }
+    ensures { LinesOf (lent tables) square.new }
 {
     let mut table = [0u8; TABLE];
     let nothing = [0u64; 8];
-    let n = variables as usize;
-    write_table(
-        concepts,
-        inclusions,
-        questions,
-        roles,
-        variables,
-        &nothing[..n],
-        &mut table,
-    );
-    load(&table, concepts.len() / 3, square);
+    let n = tables.variables as usize;
+    // the tables passed, so this refuses nothing
+    let _ = write_table(tables, &nothing[..n], &mut table);
+    load(&table, tables.concepts.len() / 3, square);
 }
 
 // Whether the existential e holds no variable and fits the existential j.
-fn is_fitting(problem: &[u16], into: &[u64], count: usize, right: bool, j: usize, e: usize) -> bool
+fn is_fitting(
+    problem: &[u16],
+    into: &[u64; ROLE_WORDS],
+    count: usize,
+    right: bool,
+    j: usize,
+    e: usize,
+) -> bool
     requires readable { Readable problem.now count }
-    requires into_len { length into.now ≡ roles_size }
     requires j_lt_count { (j < count) × (e < count) × (kind_at problem.now j ≡ 2) }
     ensures { result ≡ fits_by problem.now into.now right j e }
 {
@@ -180,40 +163,39 @@ fn is_fitting(problem: &[u16], into: &[u64], count: usize, right: bool, j: usize
     counts(into, own, free)
 }
 
-fn note_fit(problem: &[u16], into: &[u64], count: usize, right: bool, j: usize, sets: &mut [u64])
+fn note_fit(
+    problem: &[u16],
+    into: &[u64; ROLE_WORDS],
+    count: usize,
+    right: bool,
+    j: usize,
+    sets: &mut [u64],
+)
     requires readable { Readable problem.now count }
-    requires into_len { length into.now ≡ roles_size }
     requires j_lt_count { (j < count) × (kind_at problem.now j ≡ 2) }
     requires sets_len { length sets.old ≡ 2496 }
     ensures { Filled (fit_at right j) (λ q. both (ltb q count) (fits_by problem.now into.now right j q))
         sets.old sets.new }
 {
     let at = fit_at(right, j);
-    let mut e: usize = 0;
-    while e < count {
-        let f = e;
-        e += 1;
-        if is_fitting(problem, into, count, right, j, f) {
-            insert(sets, at, f);
+    for e in 0..count {
+        if is_fitting(problem, into, count, right, j, e) {
+            insert(sets, at, e);
         }
     }
 }
 
-fn note_fits(problem: &[u16], into: &[u64], count: usize, right: bool, sets: &mut [u64])
+fn note_fits(problem: &[u16], into: &[u64; ROLE_WORDS], count: usize, right: bool, sets: &mut [u64])
     requires readable { Readable problem.now count }
-    requires into_len { length into.now ≡ roles_size }
     requires sets_len { length sets.old ≡ 2496 }
     ensures { FitsNoted problem.now into.now count right sets.old sets.new }
 {
-    let mut j: usize = 0;
-    while j < count {
-        let i = j;
-        j += 1;
-        if problem[i * 3] != 2 {
+    for j in 0..count {
+        if problem[j * 3] != 2 {
             continue;
         }
-        if problem[HELD + i] == 1 {
-            note_fit(problem, into, count, right, i, sets);
+        if problem[HELD + j] == 1 {
+            note_fit(problem, into, count, right, j, sets);
         }
     }
 }
@@ -251,14 +233,15 @@ fn mark_inside(problem: &[u16], sets: &mut [u64], at: usize, i: usize)
     requires i_bound { (i < 192) × Rising i (node problem.now i) }
     ensures { Filled at (held_inside problem.now i) sets.old sets.new }
 {
-    let kind = problem[i * 3];
-    if kind == CONJUNCTION {
-        mark_held(problem, sets, at, problem[i * 3 + 1] as usize);
-        mark_held(problem, sets, at, problem[i * 3 + 2] as usize);
-        return;
-    }
-    if kind == EXISTENTIAL {
-        mark_held(problem, sets, at, problem[i * 3 + 2] as usize);
+    match node_at(problem, i) {
+        Node::Top | Node::Name(_) | Node::Variable(_) => {}
+        Node::Exists(_, j) => {
+            mark_held(problem, sets, at, j as usize);
+        }
+        Node::And(j, k) => {
+            mark_held(problem, sets, at, j as usize);
+            mark_held(problem, sets, at, k as usize);
+        }
     }
 }
 
@@ -273,9 +256,7 @@ fn note_cone(problem: &[u16], count: usize, m: usize, sets: &mut [u64])
     let at = CONES + m * 3;
     mark_held(problem, sets, at, problem[SIDES + m * 2] as usize);
     mark_held(problem, sets, at, problem[SIDES + m * 2 + 1] as usize);
-    let mut i = count;
-    while 0 < i {
-        i -= 1;
+    for i in (0..count).rev() {
         if has(sets, at, i) {
             mark_inside(problem, sets, at, i);
         }
@@ -289,10 +270,8 @@ fn note_cones(problem: &[u16], count: usize, sets: &mut [u64])
     ensures { ConesNoted problem.now count sets.old sets.new }
 {
     let rows = problem[QUESTION_COUNT] as usize;
-    let mut m: usize = 0;
-    while m < rows {
+    for m in 0..rows {
         note_cone(problem, count, m, sets);
-        m += 1;
     }
 }
 
@@ -337,9 +316,9 @@ fn is_covered(sets: &[u64], problem: &[u16], wanted: &[u64], e: usize) -> bool
 {
     let row = words_at(sets, e * 3);
     let asked = meet(row, words_at(wanted, 0));
-    if problem[e * 3] == 3 {
-        let a = words_at(sets, problem[e * 3 + 1] as usize * 3);
-        let b = words_at(sets, problem[e * 3 + 2] as usize * 3);
+    if let Node::And(i, j) = node_at(problem, e) {
+        let a = words_at(sets, i as usize * 3);
+        let b = words_at(sets, j as usize * 3);
         let own = join(a, b);
         return is_same(join(own, asked), own);
     }
@@ -384,12 +363,10 @@ fn next_new(
     requires at_bound { at + 3 ≤ 2496 }
     ensures { NextNew sets.now problem.now count at wanted.now from result }
 {
-    let mut e = from;
-    while e < count {
+    for e in from..count {
         if is_new(sets, problem, at, wanted, e) {
             return e;
         }
-        e += 1;
     }
     count
 }
@@ -402,9 +379,9 @@ fn keep(sets: &mut [u64], problem: &[u16], at: usize, wanted: &mut [u64], e: usi
     ensures { Kept problem.now at e sets.old sets.new wanted.old wanted.new }
 {
     insert(sets, at, e);
-    if problem[e * 3] == 3 {
-        insert(wanted, 0, problem[e * 3 + 1] as usize);
-        insert(wanted, 0, problem[e * 3 + 2] as usize);
+    if let Node::And(i, j) = node_at(problem, e) {
+        insert(wanted, 0, i as usize);
+        insert(wanted, 0, j as usize);
     }
 }
 
@@ -450,42 +427,24 @@ fn note_closers(problem: &[u16], count: usize, sets: &mut [u64])
     ensures { AllClosers problem.now count sets.old sets.new }
 {
     let rows = problem[QUESTION_COUNT] as usize;
-    let mut m: usize = 0;
-    while m < rows {
+    for m in 0..rows {
         note_closers_of(sets, problem, count, m);
-        m += 1;
     }
 }
 
 // All of it. The ids are the atoms.
-pub fn make_problem(
-    concepts: &[u16],
-    inclusions: &[u16],
-    questions: &[u16],
-    roles: &[u16],
-    variables: u16,
-    ids: &[u16],
-    sets: &mut [u64],
-    problem: &mut [u16],
-)
-    requires accepted { Accepted (given concepts inclusions questions roles variables) ids.now }
+pub fn make_problem(tables: Tables, ids: &[u16], sets: &mut [u64], problem: &mut [u16])
+    requires accepted { Accepted (given tables) ids.now }
     requires sets_value { sets.old ≡ replicate 2496 0 }
     requires problem_value { problem.old ≡ replicate problem_size 0 }
     ensures shaped { Shaped sets.new problem.new }
-    ensures problem { Problem (lent concepts inclusions questions roles variables) sets.new problem.new }
+    ensures problem { Problem (lent tables) sets.new problem.new }
 {
-    note_numbers(concepts, questions, ids, problem);
-    note_lines(
-        concepts,
-        inclusions,
-        questions,
-        roles,
-        variables,
-        &mut sets[..1152],
-    );
+    note_numbers(tables.concepts, tables.questions, ids, problem);
+    note_lines(tables, &mut sets[..1152]);
     let mut into = [0u64; ROLE_WORDS];
-    note_roles(roles, &mut into);
-    let count = concepts.len() / 3;
+    note_roles(tables.roles, &mut into);
+    let count = tables.concepts.len() / 3;
     note_fits(problem, &into, count, true, sets);
     note_fits(problem, &into, count, false, sets);
     note_cones(problem, count, sets);

@@ -45,14 +45,12 @@ pub fn next_in(sets: &[u64], at: usize, from: usize) -> usize
     requires from_bound { from ≤ 192 }
     ensures { NextIn sets.now at from result }
 {
-    let mut w = from / 64;
     let mut start = from % 64;
-    while w < 3 {
+    for w in from / 64..3 {
         let place = next_bit(sets[at + w], start);
         if place < 64 {
             return w * 64 + place;
         }
-        w += 1;
         start = 0;
     }
     192

@@ -7,18 +7,18 @@ ghost use Rattle.matching.specs.Solving.{takes};
 ghost use Rattle.matching.specs.Inner.Search.Problem.{Shaped, question_count};
 ghost use Rattle.matching.specs.Inner.Search.Lent.{Lent};
 ghost use Rattle.matching.specs.Inner.Search.Nogoods.{Room};
-ghost use Rattle.matching.specs.Inner.Search.Solve.{FailingOf, Failing, RefutedBy, Searched, Answers, Stepped, CanSplit, Recalled, Merged};
+ghost use Rattle.matching.specs.Inner.Search.Solve.{FailingOf, Failing, RefutedBy, Searched, Long, Answers, Stepped, CanSplit, Recalled, Shutting, Merged};
 ghost use Rattle.matching.specs.Inner.Sizes.{problem_size, scratch_size};
 
 use crate::limits::{ASKED, HELD, HINT, MOST, PAIRS, QUESTION_COUNT, SIDES};
-use crate::search::interval::{Interval, Pick, has_bit, pick_undecided};
+use crate::search::interval::{Interval, has_bit, pick_undecided};
 use crate::search::lookup::{choose, open_pair, some_pair};
 use crate::search::needs::count_all;
 use crate::search::nogoods::{add, nogood_at};
 use crate::search::pairs::{is_within, join, meet, with_pair, without_pair};
 use crate::search::patterns::question_holds;
 use crate::search::widen::widen;
-use settings::helpers::{Sides, clamp, is_few, unclamp};
+use settings::helpers::{clamp, is_few, unclamp};
 use subsumption::limits::ATOMS;
 
 const ALL: u64 = 18446744073709551615;
@@ -30,12 +30,11 @@ const MERGED: u64 = 640;
 // No nogood stands there.
 const NONE: usize = 1024;
 
-// A solution, as the low side, or an interval around the asked one that holds none.
+// A solution, or an interval around the asked one that holds none.
 #[derive(Clone, Copy)]
-pub struct Answer {
-    pub found: bool,
-    pub low: [u64; 8],
-    pub high: [u64; 8],
+pub enum Answer {
+    Solution([u64; 8]),
+    Nogood(Interval),
 }
 
 // The first asked question that does not hold, of those whose right side holds a variable just where `right` says so, or the number of all.
@@ -51,21 +50,18 @@ pub fn failing_of(
     ensures { FailingOf sets.now problem.now choice right result }
 {
     let count = problem[QUESTION_COUNT] as usize;
-    let mut m: usize = 0;
-    while m < count {
-        let at = m;
-        m += 1;
-        if problem[ASKED + at] != 1 {
+    for m in 0..count {
+        if problem[ASKED + m] != 1 {
             continue;
         }
-        let side = problem[SIDES + at * 2 + 1] as usize;
+        let side = problem[SIDES + m * 2 + 1] as usize;
         if (problem[HELD + side] == 1) != right {
             continue;
         }
-        if question_holds(sets, problem, scratch, at, choice) {
+        if question_holds(sets, problem, scratch, m, choice) {
             continue;
         }
-        return at;
+        return m;
     }
     count
 }
@@ -125,90 +121,46 @@ fn try_low(
 ) -> Answer
     requires lent { Lent sets.now problem.now store.old scratch.old }
     requires full_len { (length full ≡ 8) × (length low ≡ 8) }
-    ensures low_len { (length result.low ≡ 8) × (length result.high ≡ 8) }
+    ensures long { Long result }
     ensures room { Room store.new }
     ensures searched { Searched sets.now problem.now full low low store.old store.new
-        (λ t. Answers t problem.now low low result.found result.low result.high) }
+        (λ t. Answers t problem.now low low result) }
 {
     if !is_few(&problem[MOST..ASKED], low) {
-        return Answer {
-            found: false,
-            low,
-            high: full,
-        };
+        return Answer::Nogood(Interval { low, high: full });
     }
     let m = failing(sets, problem, scratch, low);
     if m < problem[QUESTION_COUNT] as usize {
         let nogood = refute(sets, problem, scratch, full, low, m);
-        let below = nogood.low;
-        let above = nogood.high;
         add(store, scratch, TESTED, full, nogood);
-        return Answer {
-            found: false,
-            low: below,
-            high: above,
-        };
+        return Answer::Nogood(nogood);
     }
-    Answer {
-        found: true,
-        low,
-        high: low,
-    }
+    Answer::Solution(low)
 }
 
 // A pair of the one that the other leaves out, if there is one. A hint only.
 fn pair_outside(a: [u64; 8], b: [u64; 8]) -> usize {
     let mut pair: usize = PAIRS;
-    let mut k: usize = 0;
-    while k < 8 {
+    for k in 0..8 {
         let word = a[k] & (ALL ^ b[k]);
         pair = some_pair(word, k, pair);
-        k += 1;
     }
     pair
 }
 
-// One step at an interval: an answer, or a pair to split at, with the place of the nogood that proposed it, and whether the pair
-// was its last open one.
+// A pair to split at, with the place of the nogood that proposed it, and whether the pair was its last open one.
 #[derive(Clone, Copy)]
-pub struct Step {
-    pub done: bool,
-    pub found: bool,
-    pub low: [u64; 8],
-    pub high: [u64; 8],
+pub struct Split {
     pub pair: usize,
     pub place: usize,
     pub spare: bool,
 }
 
-fn answered(found: bool, low: [u64; 8], high: [u64; 8]) -> Step
-    ensures { (result.done ≡ true) × (result.found ≡ found) × (result.low ≡ low) × (result.high ≡ high) }
-{
-    Step {
-        done: true,
-        found,
-        low,
-        high,
-        pair: PAIRS,
-        place: NONE,
-        spare: false,
-    }
-}
-
-fn splitting(interval: Interval, pair: usize, place: usize, spare: bool) -> Step
-    ensures { (result.done ≡ false) × (result.low ≡ interval.low) × (result.high ≡ interval.high) × (result.pair ≡ pair) }
-{
-    let low = interval.low;
-    let high = interval.high;
-    Step {
-        done: false,
-        found: false,
-        low,
-        high,
-        pair,
-        place,
-        spare,
-    }
+// One step at an interval.
+#[derive(Clone, Copy)]
+pub enum Step {
+    Answered(Answer),
+    Splits(Split),
 }
 
 // By testing the low side.
@@ -222,56 +174,52 @@ fn step_by_test(
 ) -> Step
     requires lent { Lent sets.now problem.now store.old scratch.old }
     requires full_len { (length full ≡ 8) × (length interval.low ≡ 8) × (length interval.high ≡ 8) }
-    ensures { Stepped sets.now problem.now full interval.low interval.high store.old store.new result }
+    ensures room { Room store.new }
+    ensures stepped { Stepped sets.now problem.now full interval.low interval.high store.old store.new result }
 {
     let low = interval.low;
     let high = interval.high;
     let tried = try_low(sets, problem, store, scratch, full, low);
-    let found = tried.found;
-    let below = tried.low;
-    let above = tried.high;
-    if found | is_within(high, above) {
-        return answered(found, below, above);
+    let Answer::Nogood(nogood) = tried else {
+        return Step::Answered(tried);
+    };
+    let above = nogood.high;
+    if is_within(high, above) {
+        return Step::Answered(tried);
     }
     let pick = pick_undecided(interval, pair_outside(high, above));
     match pick {
-        Pick::At(pair) => splitting(interval, pair, NONE, false),
-        Pick::Nothing => answered(false, low, high),
+        Some(pair) => Step::Splits(Split {
+            pair,
+            place: NONE,
+            spare: false,
+        }),
+        None => Step::Answered(Answer::Nogood(interval)),
     }
 }
 
-// The nogood at a place, and whether it shuts the interval.
-#[derive(Clone, Copy)]
-pub struct Nogood {
-    pub shut: bool,
-    pub low: [u64; 8],
-    pub high: [u64; 8],
+// The nogood at a place, if one stands there.
+fn look_up(store: &[u64], place: usize) -> Option<Interval>
+    requires { Room store.now }
+    ensures { Recalled store.now result }
+{
+    if place < store[0] as usize {
+        return Some(nogood_at(store, place));
+    }
+    None
 }
 
-fn look_up(store: &[u64], place: usize, interval: Interval) -> Nogood
-    requires room { Room store.now }
+// The interval is inside the nogood.
+fn is_shut(interval: Interval, nogood: Interval) -> bool
     requires low_len { (length interval.low ≡ 8) × (length interval.high ≡ 8) }
-    ensures low_len_2 { (length result.low ≡ 8) × (length result.high ≡ 8) }
-    ensures recalled { Recalled store.now interval.low interval.high result.shut result.low result.high }
+    requires low_len_2 { (length nogood.low ≡ 8) × (length nogood.high ≡ 8) }
+    ensures { Shutting interval.low interval.high nogood.low nogood.high result }
 {
     let low = interval.low;
     let high = interval.high;
-    if place < store[0] as usize {
-        let nogood = nogood_at(store, place);
-        let below = nogood.low;
-        let above = nogood.high;
-        let shut = is_within(below, low) & is_within(high, above);
-        return Nogood {
-            shut,
-            low: below,
-            high: above,
-        };
-    }
-    Nogood {
-        shut: false,
-        low,
-        high,
-    }
+    let below = nogood.low;
+    let above = nogood.high;
+    is_within(below, low) & is_within(high, above)
 }
 
 fn can_split(interval: Interval, pair: usize) -> bool
@@ -294,18 +242,21 @@ fn step_by_choice(
 ) -> Step
     requires lent { Lent sets.now problem.now store.old scratch.old }
     requires full_len { (length full ≡ 8) × (length interval.low ≡ 8) × (length interval.high ≡ 8) }
-    ensures { Stepped sets.now problem.now full interval.low interval.high store.old store.new result }
+    ensures room { Room store.new }
+    ensures stepped { Stepped sets.now problem.now full interval.low interval.high store.old store.new result }
 {
-    let hint = choose(store, scratch, interval);
-    let known = look_up(store, hint.place, interval);
-    let low = known.low;
-    let high = known.high;
-    if known.shut {
-        return answered(false, low, high);
-    }
-    let pair = open_pair(Interval { low, high }, interval);
-    if can_split(interval, pair) {
-        return splitting(interval, pair, hint.place, hint.spare);
+    if let Some(hint) = choose(store, scratch, interval) {
+        let place = hint.place;
+        if let Some(nogood) = look_up(store, place) {
+            if is_shut(interval, nogood) {
+                return Step::Answered(Answer::Nogood(nogood));
+            }
+            let pair = open_pair(nogood, interval);
+            if can_split(interval, pair) {
+                let spare = hint.spare;
+                return Step::Splits(Split { pair, place, spare });
+            }
+        }
     }
     step_by_test(sets, problem, store, scratch, full, interval)
 }
@@ -321,13 +272,13 @@ fn step_by_hint(
 ) -> Step
     requires lent { Lent sets.now problem.now store.old scratch.old }
     requires full_len { (length full ≡ 8) × (length interval.low ≡ 8) × (length interval.high ≡ 8) }
-    ensures { Stepped sets.now problem.now full interval.low interval.high store.old store.new result }
+    ensures room { Room store.new }
+    ensures stepped { Stepped sets.now problem.now full interval.low interval.high store.old store.new result }
 {
-    let known = look_up(store, scratch[HINT] as usize, interval);
-    let low = known.low;
-    let high = known.high;
-    if known.shut {
-        return answered(false, low, high);
+    if let Some(nogood) = look_up(store, scratch[HINT] as usize) {
+        if is_shut(interval, nogood) {
+            return Step::Answered(Answer::Nogood(nogood));
+        }
     }
     step_by_choice(sets, problem, store, scratch, full, interval)
 }
@@ -343,7 +294,8 @@ fn step_by_clamp(
 ) -> Step
     requires lent { Lent sets.now problem.now store.old scratch.old }
     requires full_len { (length full ≡ 8) × (length interval.low ≡ 8) × (length interval.high ≡ 8) }
-    ensures { Stepped sets.now problem.now full interval.low interval.high store.old store.new result }
+    ensures room { Room store.new }
+    ensures stepped { Stepped sets.now problem.now full interval.low interval.high store.old store.new result }
 {
     let low = interval.low;
     let high = interval.high;
@@ -356,33 +308,21 @@ fn step_by_clamp(
         full,
         Interval { low, high: inner },
     );
-    if !step.done | step.found {
+    let Step::Answered(answer) = step else {
         return step;
-    }
-    let below = step.low;
-    let above = step.high;
-    let inside = Sides {
-        low: below,
-        high: above,
     };
-    let nogood = unclamp(full, low, high, inner, inside);
-    let fewer = nogood.low;
-    let more = nogood.high;
-    answered(false, fewer, more)
+    let Answer::Nogood(inside) = answer else {
+        return step;
+    };
+    let (low, high) = unclamp(full, low, high, inner, inside.low, inside.high);
+    Step::Answered(Answer::Nogood(Interval { low, high }))
 }
 
 // A largest count may stop a variable that has something to take. A hint only.
 fn is_bounded(problem: &[u16], full: [u64; 8]) -> bool
     requires { length problem.now ≡ problem_size }
 {
-    let mut k: usize = 0;
-    while k < 8 {
-        if (full[k] != 0) & (problem[MOST + k] < 64) {
-            return true;
-        }
-        k += 1;
-    }
-    false
+    (0..8).any(|k| full[k] != 0 && problem[MOST + k] < 64)
 }
 
 // By counting needs, if more is wanted than a largest count; without such counts there is nothing to clamp.
@@ -396,16 +336,14 @@ fn next_step(
 ) -> Step
     requires lent { Lent sets.now problem.now store.old scratch.old }
     requires full_len { (length full ≡ 8) × (length interval.low ≡ 8) × (length interval.high ≡ 8) }
-    ensures { Stepped sets.now problem.now full interval.low interval.high store.old store.new result }
+    ensures room { Room store.new }
+    ensures stepped { Stepped sets.now problem.now full interval.low interval.high store.old store.new result }
 {
     if !is_bounded(problem, full) {
         return step_by_hint(sets, problem, store, scratch, full, interval);
     }
-    let wanted = count_all(problem, store, full, interval);
-    let low = wanted.low;
-    let high = wanted.high;
-    if wanted.over {
-        return answered(false, low, high);
+    if let Some(nogood) = count_all(problem, store, full, interval) {
+        return Step::Answered(Answer::Nogood(nogood));
     }
     step_by_clamp(sets, problem, store, scratch, full, interval)
 }
@@ -418,7 +356,7 @@ fn note_hint(scratch: &mut [u64], place: usize)
 }
 
 // Of the nogoods with a pair and without it, one that speaks of either.
-fn merge(with: Answer, without: Answer, k: usize, q: usize) -> Interval
+fn merge(with: Interval, without: Interval, k: usize, q: usize) -> Interval
     requires low_len { (length with.low ≡ 8) × (length with.high ≡ 8) }
     requires low_len_2 { (length without.low ≡ 8) × (length without.high ≡ 8) }
     requires k_bound { (k < 8) × (q < 64) }
@@ -448,49 +386,42 @@ pub fn some_solution(
 ) -> Answer
     requires lent { Lent sets.now problem.now store.old scratch.old }
     requires full_len { (length full ≡ 8) × (length interval.low ≡ 8) × (length interval.high ≡ 8) }
-    ensures low_len { (length result.low ≡ 8) × (length result.high ≡ 8) }
+    ensures long { Long result }
     ensures room { Room store.new }
     ensures searched { Searched sets.now problem.now full interval.low interval.high store.old store.new
-        (λ t. Answers t problem.now interval.low interval.high result.found result.low result.high) }
+        (λ t. Answers t problem.now interval.low interval.high result) }
 {
     let step = next_step(sets, problem, store, scratch, full, interval);
-    if step.done {
-        let found = step.found;
-        let low = step.low;
-        let high = step.high;
-        return Answer { found, low, high };
-    }
-    let k = step.pair / ATOMS;
-    let q = step.pair % ATOMS;
-    let place = step.place;
-    note_hint(scratch, place);
+    let split = match step {
+        Step::Answered(answer) => return answer,
+        Step::Splits(split) => split,
+    };
+    let k = split.pair / ATOMS;
+    let q = split.pair % ATOMS;
+    note_hint(scratch, split.place);
     let taken = interval.take(k, q);
     let with = some_solution(sets, problem, store, scratch, full, taken);
-    let needs = with.low;
-    if with.found | !has_bit(needs[k], q) {
+    let Answer::Nogood(first) = with else {
+        return with;
+    };
+    let needs = first.low;
+    if !has_bit(needs[k], q) {
         return with;
     }
-    note_hint(scratch, place);
+    note_hint(scratch, split.place);
     let left = interval.leave(k, q);
     let without = some_solution(sets, problem, store, scratch, full, left);
-    let allows = without.high;
-    if without.found | has_bit(allows[k], q) {
+    let Answer::Nogood(second) = without else {
+        return without;
+    };
+    let allows = second.high;
+    if has_bit(allows[k], q) {
         return without;
     }
-    let both = merge(with, without, k, q);
-    let low = both.low;
-    let high = both.high;
-    if step.spare {
-        return Answer {
-            found: false,
-            low,
-            high,
-        };
+    let both = merge(first, second, k, q);
+    if split.spare {
+        return Answer::Nogood(both);
     }
     add(store, scratch, MERGED, full, both);
-    Answer {
-        found: false,
-        low,
-        high,
-    }
+    Answer::Nogood(both)
 }

@@ -42,24 +42,15 @@ fn with_run(choice: [u64; 8], target: [u64; 8], from: usize, size: usize) -> [u6
     ensures { Mixed choice target result }
 {
     let mut mix = choice;
-    let mut k: usize = 0;
-    while k < 8 {
+    for k in 0..8 {
         let out = outside(k, from, size);
         mix[k] = (choice[k] | (target[k] & (ALL ^ out))) & (target[k] | out);
-        k += 1;
     }
     mix
 }
 
 fn is_same(a: [u64; 8], b: [u64; 8]) -> bool {
-    let mut k: usize = 0;
-    while k < 8 {
-        if a[k] != b[k] {
-            return false;
-        }
-        k += 1;
-    }
-    true
+    a == b
 }
 
 fn twice(size: usize) -> usize
@@ -90,14 +81,11 @@ fn with_others(choice: [u64; 8], target: [u64; 8], held: u16) -> [u64; 8]
     ensures { Mixed choice target result }
 {
     let mut mix = choice;
-    let mut k: usize = 0;
-    while k < 8 {
-        let v = k;
-        k += 1;
-        if (held >> v) % 2 == 1 {
+    for k in 0..8 {
+        if (held >> k) % 2 == 1 {
             continue;
         }
-        mix[v] = target[v];
+        mix[k] = target[k];
     }
     mix
 }

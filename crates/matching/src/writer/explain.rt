@@ -9,27 +9,16 @@ ghost use Rattle.matching.specs.Inner.Writer.Explain.{ExtraBound, Tried, Explain
 use crate::derivation::marks::has_mark;
 use crate::derivation::rules::by_rule;
 use crate::writer::propose::{extra_of, left_of, right_of, rule_of};
-use subsumption::helpers::row_at;
-use subsumption::kinds::VARIABLE;
+use subsumption::helpers::{Node, node_at};
+use subsumption::limits::ROLE_WORDS;
 
+// The rule gives the pair of left and right, with the extra.
 #[derive(Clone, Copy)]
-pub enum Extra {
-    At(usize),
-    None,
-}
-
-// By a rule, with an extra.
-#[derive(Clone, Copy)]
-pub enum Why {
-    By(usize, usize),
-    Unknown,
-}
-
-// Rule, left, right and extra.
-#[derive(Clone, Copy)]
-pub enum Next {
-    Line(usize, usize, usize, usize),
-    Nothing,
+pub struct Line {
+    pub rule: usize,
+    pub left: usize,
+    pub right: usize,
+    pub extra: usize,
 }
 
 // How many extras the rule may have.
@@ -45,10 +34,9 @@ fn extras(concepts: &[u16], inclusions: &[u16], rule: usize, left: usize) -> usi
         return inclusions.len() / 2;
     }
     if rule == 7 {
-        let row = row_at(concepts, left);
-        if row.kind != VARIABLE {
+        let Node::Variable(_) = node_at(concepts, left) else {
             return 0;
-        }
+        };
         return concepts.len() / 3;
     }
     1
@@ -58,16 +46,15 @@ fn extras(concepts: &[u16], inclusions: &[u16], rule: usize, left: usize) -> usi
 fn try_rule(
     concepts: &[u16],
     inclusions: &[u16],
-    into: &[u64],
+    into: &[u64; ROLE_WORDS],
     atoms: &[u16],
     assignment: &[u64],
     marks: &[bool],
     rule: usize,
     left: usize,
     right: usize,
-) -> Extra
+) -> Option<usize>
     requires grounds { Grounds concepts.now inclusions.now atoms.now assignment.now }
-    requires into_len { length into.now ≡ roles_size }
     requires square { Square (count_of concepts.now) marks.now }
     requires left_bound { (left < count_of concepts.now) × (right < count_of concepts.now) }
     requires rule_bound { rule < 9 }
@@ -75,61 +62,55 @@ fn try_rule(
         marks.now rule left right result }
 {
     let bound = extras(concepts, inclusions, rule, left);
-    let mut extra = 0;
-    while extra < bound {
+    for extra in 0..bound {
         if by_rule(
             concepts, inclusions, into, atoms, assignment, marks, rule, left, right, extra,
         ) {
-            return Extra::At(extra);
+            return Some(extra);
         }
-        extra += 1;
     }
-    Extra::None
+    None
 }
 
-// The lowest rule that gives the pair.
+// The lowest rule that gives the pair, and the extra.
 fn explain(
     concepts: &[u16],
     inclusions: &[u16],
-    into: &[u64],
+    into: &[u64; ROLE_WORDS],
     atoms: &[u16],
     assignment: &[u64],
     marks: &[bool],
     left: usize,
     right: usize,
-) -> Why
+) -> Option<(usize, usize)>
     requires grounds { Grounds concepts.now inclusions.now atoms.now assignment.now }
-    requires into_len { length into.now ≡ roles_size }
     requires square { Square (count_of concepts.now) marks.now }
     requires left_bound { (left < count_of concepts.now) × (right < count_of concepts.now) }
     ensures { Explained concepts.now inclusions.now into.now atoms.now assignment.now
         marks.now left right result }
 {
-    let mut rule = 1;
-    while rule < 9 {
+    for rule in 1..9 {
         let tried = try_rule(
             concepts, inclusions, into, atoms, assignment, marks, rule, left, right,
         );
-        if let Extra::At(extra) = tried {
-            return Why::By(rule, extra);
+        if let Some(extra) = tried {
+            return Some((rule, extra));
         }
-        rule += 1;
     }
-    Why::Unknown
+    None
 }
 
 // The proposed line, if its pair is not marked and follows from the marks.
 pub fn test_line(
     concepts: &[u16],
     inclusions: &[u16],
-    into: &[u64],
+    into: &[u64; ROLE_WORDS],
     atoms: &[u16],
     assignment: &[u64],
     marks: &[bool],
     line: u64,
-) -> Next
+) -> Option<Line>
     requires grounds { Grounds concepts.now inclusions.now atoms.now assignment.now }
-    requires into_len { length into.now ≡ roles_size }
     requires square { Square (count_of concepts.now) marks.now }
     ensures { Tested concepts.now inclusions.now into.now atoms.now assignment.now marks.now result }
 {
@@ -139,59 +120,66 @@ pub fn test_line(
     let right = right_of(line) as usize;
     let extra = extra_of(line) as usize;
     if 9 <= rule {
-        return Next::Nothing;
+        return None;
     }
     if count <= left {
-        return Next::Nothing;
+        return None;
     }
     if count <= right {
-        return Next::Nothing;
+        return None;
     }
     if 192 <= extra {
-        return Next::Nothing;
+        return None;
     }
     if has_mark(marks, count, left, right) {
-        return Next::Nothing;
+        return None;
     }
     if by_rule(
         concepts, inclusions, into, atoms, assignment, marks, rule, left, right, extra,
     ) {
-        return Next::Line(rule, left, right, extra);
+        return Some(Line {
+            rule,
+            left,
+            right,
+            extra,
+        });
     }
-    Next::Nothing
+    None
 }
 
 // The first pair from a cell on that is not marked and follows from the marks.
 pub fn next_line(
     concepts: &[u16],
     inclusions: &[u16],
-    into: &[u64],
+    into: &[u64; ROLE_WORDS],
     atoms: &[u16],
     assignment: &[u64],
     marks: &[bool],
     from: usize,
-) -> Next
+) -> Option<Line>
     requires grounds { Grounds concepts.now inclusions.now atoms.now assignment.now }
-    requires into_len { length into.now ≡ roles_size }
     requires square { Square (count_of concepts.now) marks.now }
     ensures { Found concepts.now inclusions.now into.now atoms.now assignment.now marks.now from result }
 {
     let count = concepts.len() / 3;
     let size = count * count;
-    let mut p = from;
-    while p < size {
+    for p in from..size {
         let left = p / count;
         let right = p % count;
-        p += 1;
         if has_mark(marks, count, left, right) {
             continue;
         }
         let why = explain(
             concepts, inclusions, into, atoms, assignment, marks, left, right,
         );
-        if let Why::By(rule, extra) = why {
-            return Next::Line(rule, left, right, extra);
+        if let Some((rule, extra)) = why {
+            return Some(Line {
+                rule,
+                left,
+                right,
+                extra,
+            });
         }
     }
-    Next::Nothing
+    None
 }

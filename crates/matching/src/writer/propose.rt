@@ -7,6 +7,7 @@ use crate::writer::sets::{
     TO, UNDER, UPPER, USED, WANTED, has, is_within, next, number, put, store, word,
 };
 use subsumption::kinds::{NAME, TOP, VARIABLE};
+use subsumption::limits::ROLE_WORDS;
 
 // The lines are found by: 1 names, 2 top, 3 a member on the left, 4 all members on the right, 5 inner ids, 6 and 7 an inclusion, 8 an empty
 // choice. With 4, 5 and 6 the left side is given and the right side is new; with the others it is the other way round.
@@ -145,14 +146,12 @@ fn follow(work: &mut [u64], left: u16, right: u16) {
 
 // A new round: the pairs of the last one may be used.
 fn settle(work: &mut [u64], from: u16, to: u16) {
-    let mut k = from;
-    while k < to {
+    for k in from..to {
         let line = line_at(work, k);
         let left = left_of(line);
         let right = right_of(line);
         put(work, OVER, left, right);
         put(work, UNDER, right, left);
-        k += 1;
     }
 }
 
@@ -168,8 +167,7 @@ fn begin(work: &mut [u64], k: u16, end: u16, n: u16) -> u16 {
 // Rounds, until the asked pair is found.
 fn find_lines(work: &mut [u64], left: u16, right: u16) {
     let mut end = 0;
-    let mut k: u16 = 0;
-    while k < 36864 {
+    for k in 0..36864 {
         let n = number(work, LINES, 0, 0);
         if n <= k {
             return;
@@ -180,7 +178,6 @@ fn find_lines(work: &mut [u64], left: u16, right: u16) {
         end = begin(work, k, end, n);
         let line = line_at(work, k);
         follow(work, left_of(line), right_of(line));
-        k += 1;
     }
 }
 
@@ -205,24 +202,19 @@ fn start_at(work: &mut [u64], right: u16) {
 }
 
 fn start(work: &mut [u64]) {
-    let mut k: u16 = 0;
-    while k < 192 {
-        let id = k;
-        k += 1;
-        if has(work, ALL, 0, id) {
-            start_at(work, id);
+    for k in 0..192 {
+        if has(work, ALL, 0, k) {
+            start_at(work, k);
         }
     }
 }
 
 // The left id is wanted below every member of the right one.
 fn want_members(work: &mut [u64], left: u16, right: u16) {
-    let mut w: u16 = 0;
-    while w < 3 {
+    for w in 0..3 {
         let x = word(work, WANTED, left, w);
         let y = word(work, MEMBERS, right, w);
         store(work, WANTED, left, w, x | y);
-        w += 1;
     }
 }
 
@@ -272,10 +264,9 @@ fn proposed(work: &[u64], way: u16, left: u16, right: u16, extra: u16) -> u64 {
 // Backwards from the asked pair, the wanted lines are moved to the end; answers where they begin.
 fn keep_wanted(work: &mut [u64], left: u16, right: u16) -> u16 {
     put(work, WANTED, left, right);
-    let mut k = number(work, LINES, 0, 0);
-    let mut to = k;
-    while 0 < k {
-        k -= 1;
+    let count = number(work, LINES, 0, 0);
+    let mut to = count;
+    for k in (0..count).rev() {
         let line = line_at(work, k);
         let i = left_of(line);
         let j = right_of(line);
@@ -297,7 +288,7 @@ fn keep_wanted(work: &mut [u64], left: u16, right: u16) -> u16 {
 pub fn propose(
     concepts: &[u16],
     inclusions: &[u16],
-    into: &[u64],
+    into: &[u64; ROLE_WORDS],
     atoms: &[u16],
     assignment: &[u64],
     left: u16,

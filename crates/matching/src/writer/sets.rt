@@ -101,15 +101,13 @@ pub fn next(work: &[u64], s: u16, a: u16, t: u16, b: u16, from: u16) -> u16
     requires { from ≤ 192 }
     ensures { from ≤ result }
 {
-    let mut w = from / 64;
     let mut low = from % 64;
-    while w < 3 {
+    for w in from / 64..3 {
         let rest = fresh(work, s, a, t, b, w) >> low;
         if rest != 0 {
             return w * 64 + low + u64::trailing_zeros(rest) as u16;
         }
         low = 0;
-        w += 1;
     }
     192
 }

@@ -1,10 +1,9 @@
 -- The state of the judgement as the code holds it (src/frames.rt): three numbers a frame (kind, role, where its members start), the
 -- members' ids of all frames one behind the other, and the tables so far in front of their buffers.
-use Rattle.std.specs.Prelude.{ℕ, zero, suc, ◌+◌, ◌-◌, ◌*◌, ◌<◌, ◌≤◌, ◌≡◌, List, [], ◌∷◌, Bool, length, get_or, take, drop}
+use Rattle.std.specs.Prelude.{ℕ, zero, suc, ◌+◌, ◌-◌, ◌*◌, ◌<◌, ◌≤◌, ◌≡◌, List, [], ◌∷◌, Bool, length, get_or, take, drop, Result, Ok, Err}
 use Rattle.owl.specs.declared.words.Word.{Word}
 use Rattle.owl.specs.declared.frames.Reader.{Reader}
-use Rattle.owl.specs.declared.frames.Next.{Next}
-use Rattle.owl.specs.declared.frames.Next.TheVariants.{Go, Stop}
+use Rattle.subsumption.specs.declared.refusal.Refusal.{Refusal}
 use Rattle.subsumption.specs.declared.refusal.Refusal.TheVariants.{BadSyntax}
 use Rattle.owl.specs.Tokens.{opening}
 use Rattle.owl.specs.Judgement.{Kind, subclass, meet, exist, Frame, Want, item, bracket, role, State, Step, go, stop, go_if, first, closed, shut, has_room, begun, outside, of_role, step}
@@ -74,11 +73,11 @@ pub record Holds (s : State) (r : Reader) (frames pending rows inclusions : List
   pub fits : Fits r frames pending rows inclusions
 
 -- what a step of the judgement comes to in the code
-abbrev pub NextOf : Step → Next → List ℕ → List ℕ → List ℕ → List ℕ → Type 0
-NextOf (go s) (Go r) frames pending rows inclusions = Holds s r frames pending rows inclusions
-NextOf (go s) (Stop q) frames pending rows inclusions = ⊥
-NextOf (stop p) (Go r) frames pending rows inclusions = ⊥
-NextOf (stop p) (Stop q) frames pending rows inclusions = q ≡ p
+abbrev pub NextOf : Step → Result Reader Refusal → List ℕ → List ℕ → List ℕ → List ℕ → Type 0
+NextOf (go s) (Ok r) frames pending rows inclusions = Holds s r frames pending rows inclusions
+NextOf (go s) (Err q) frames pending rows inclusions = ⊥
+NextOf (stop p) (Ok r) frames pending rows inclusions = ⊥
+NextOf (stop p) (Err q) frames pending rows inclusions = q ≡ p
 
 -- ---- what the functions do to a state that is held, whatever stands in the buffers that they are not lent
 abbrev pub waiting : Reader → ℕ → Reader
@@ -93,29 +92,29 @@ pub record FirstOf (kind want : ℕ) : Type 0 where
   pub behind : 2 < want
   pub is-first : want_of want ≡ first (kind_of kind)
 
-abbrev pub Opens : Reader → ℕ → List ℕ → List ℕ → Next → Type 0
+abbrev pub Opens : Reader → ℕ → List ℕ → List ℕ → Result Reader Refusal → Type 0
 Opens r place frames frames' next =
     (pending rows inclusions : List ℕ) → Fits r frames pending rows inclusions
     → NextOf (step (state_of r frames pending rows inclusions) (record { place = place; token = opening })) next frames' pending rows
     inclusions
 
-abbrev pub Roles : Reader → ℕ → Word → List ℕ → List ℕ → Next → Type 0
+abbrev pub Roles : Reader → ℕ → Word → List ℕ → List ℕ → Result Reader Refusal → Type 0
 Roles r place word frames frames' next =
     (pending rows inclusions : List ℕ) → Fits r frames pending rows inclusions
     → NextOf (of_role place (state_of r frames pending rows inclusions) word) next frames' pending rows inclusions
 
-abbrev pub Starts : Reader → ℕ → Word → Next → Type 0
+abbrev pub Starts : Reader → ℕ → Word → Result Reader Refusal → Type 0
 Starts r place word next =
     (frames pending rows inclusions : List ℕ) → r.depth ≡ 0 → Fits r frames pending rows inclusions
     → NextOf (outside place (state_of r frames pending rows inclusions) word) next frames pending rows inclusions
 
-abbrev pub Closes : Reader → List ℕ → List ℕ → List ℕ → List ℕ → List ℕ → Next → Type 0
+abbrev pub Closes : Reader → List ℕ → List ℕ → List ℕ → List ℕ → List ℕ → Result Reader Refusal → Type 0
 Closes r row pending pending' rows rows' next =
     (frames inclusions : List ℕ) → Fits r frames pending rows inclusions
     → NextOf (closed row (frames_of r.depth r.used frames pending) (state_of r frames pending rows inclusions)) next frames
     pending' rows' inclusions
 
-abbrev pub Begins : Reader → ℕ → Word → List ℕ → List ℕ → List ℕ → List ℕ → Next → Type 0
+abbrev pub Begins : Reader → ℕ → Word → List ℕ → List ℕ → List ℕ → List ℕ → Result Reader Refusal → Type 0
 Begins r place word pending pending' rows rows' next =
     (frames inclusions : List ℕ) → Fits r frames pending rows inclusions
     → NextOf (begun place (state_of r frames pending rows inclusions) word) next frames pending' rows' inclusions
@@ -128,7 +127,7 @@ closing-frame kind r outer used pending = record { kind = kind; role = r; member
 abbrev pub TellsRoom : Reader → List ℕ → Bool → Type 0
 TellsRoom r frames answer = (pending : List ℕ) → length pending ≡ 192 → r.used ≤ 192 → answer ≡ room_at r frames pending
 
-abbrev pub Shuts : ℕ → Frame → Reader → List ℕ → List ℕ → List ℕ → List ℕ → List ℕ → List ℕ → List ℕ → Next → Type 0
+abbrev pub Shuts : ℕ → Frame → Reader → List ℕ → List ℕ → List ℕ → List ℕ → List ℕ → List ℕ → List ℕ → Result Reader Refusal → Type 0
 Shuts place f outer frames pending pending' rows rows' inclusions inclusions' next =
     Fits outer frames pending rows inclusions
     → NextOf (shut place f (frames_of outer.depth outer.used frames pending) (state_of outer frames pending rows inclusions))
@@ -143,12 +142,12 @@ word_step place s (bracket kind) fs word = stop (BadSyntax place)
 word_step place s role fs word = of_role place s word
 
 -- a closing bracket whose frame has that kind; frames, and the rows or the inclusions, are not lent
-abbrev pub ShutsAxiom : Reader → ℕ → ℕ → List ℕ → List ℕ → List ℕ → Next → Type 0
+abbrev pub ShutsAxiom : Reader → ℕ → ℕ → List ℕ → List ℕ → List ℕ → Result Reader Refusal → Type 0
 ShutsAxiom outer used place pending inclusions inclusions' next =
     (frames rows : List ℕ)
     → Shuts place (closing-frame subclass 0 outer used pending) outer frames pending pending rows rows inclusions inclusions' next
 
-abbrev pub ShutsClass : Kind → ℕ → Reader → ℕ → ℕ → List ℕ → List ℕ → List ℕ → List ℕ → Next → Type 0
+abbrev pub ShutsClass : Kind → ℕ → Reader → ℕ → ℕ → List ℕ → List ℕ → List ℕ → List ℕ → Result Reader Refusal → Type 0
 ShutsClass kind r outer used place pending pending' rows rows' next =
     (frames inclusions : List ℕ)
     → Shuts place (closing-frame kind r outer used pending) outer frames pending pending' rows rows' inclusions inclusions next

@@ -1,7 +1,6 @@
 -- What the checks leave behind for whoever lists the atoms (src/check.rt).
+use Rattle.subsumption.specs.Refusal.{Outcome, Done}
 use Rattle.std.specs.Prelude.{◌≡◌, List, Bool}
-use Rattle.subsumption.specs.declared.refusal.Outcome.{Outcome}
-use Rattle.subsumption.specs.declared.refusal.Outcome.TheVariants.{Done}
 use Rattle.subsumption.specs.Tables.{Tables}
 use Rattle.subsumption.specs.Check.{use_fault}
 use Rattle.subsumption.specs.Inner.Atoms.{AtomMarks}

@@ -1,10 +1,6 @@
 -- What a function is lent, as a `requires` reads it: before its body.
-use Rattle.std.specs.Prelude.{ℕ, List}
-use Rattle.std.specs.Borrow.{Bor}
+use Rattle.subsumption.specs.declared.tables.Tables.{Tables as Lent}
 use Rattle.subsumption.specs.Tables.{Tables, tables}
 
-abbrev pub Slice : Type 0
-Slice = Bor (List ℕ)
-
-abbrev pub given : Slice → Slice → Slice → Slice → ℕ → Tables
-given concepts inclusions questions roles variables = tables concepts.now inclusions.now questions.now roles.now variables
+abbrev pub given : Lent → Tables
+given t = tables t.concepts.now t.inclusions.now t.questions.now t.roles.now t.variables

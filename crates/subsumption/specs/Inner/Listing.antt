@@ -1,10 +1,8 @@
 -- What the operations know once the atoms are listed, and the checks of those that list them on the way (src/listing.rt).
 use Rattle.std.specs.Prelude.{ℕ, ◌≡◌, List}
-use Rattle.subsumption.specs.declared.refusal.Outcome.{Outcome}
-use Rattle.subsumption.specs.declared.refusal.Outcome.TheVariants.{Done}
 use Rattle.subsumption.specs.Tables.{Tables, tables}
 use Rattle.subsumption.specs.Atoms.{atoms}
-use Rattle.subsumption.specs.Refusal.{or_else}
+use Rattle.subsumption.specs.Refusal.{or_else, Outcome, Done}
 use Rattle.subsumption.specs.Check.{use_fault, table_fault, pair_fault, buffer_fault}
 
 -- The tables are accepted, and these are their atoms.

@@ -5,6 +5,8 @@ ghost use Rattle.subsumption.specs.Atoms.{pick};
 ghost use Rattle.subsumption.specs.Inner.Columns.{has, Absorbs, Takes, InThree, Known, Common};
 ghost use Rattle.subsumption.specs.Inner.Sizes.{columns_size};
 
+use crate::limits::WORDS;
+
 const ALL: u64 = 18446744073709551615;
 
 // The one place that changes a column.
@@ -18,8 +20,7 @@ fn absorb(columns: &mut [u64], at: usize, add: u64) -> bool
     old != new
 }
 
-pub fn take(columns: &mut [u64], to: usize, first: u64, second: u64, third: u64) -> bool
-    requires columns_len { length columns.old ≡ columns_size }
+pub fn take(columns: &mut [u64; WORDS], to: usize, first: u64, second: u64, third: u64) -> bool
     requires to_bound { to < 192 }
     ensures { Takes columns.old columns.new (λ j. j ≡ to) (InThree first second third) result }
 {
@@ -30,8 +31,7 @@ pub fn take(columns: &mut [u64], to: usize, first: u64, second: u64, third: u64)
 }
 
 // Everything known to be below `from` is below `to`.
-pub fn flow(columns: &mut [u64], from: usize, to: usize) -> bool
-    requires columns_len { length columns.old ≡ columns_size }
+pub fn flow(columns: &mut [u64; WORDS], from: usize, to: usize) -> bool
     requires from_bound { (from < 192) × (to < 192) }
     ensures { Takes columns.old columns.new (λ j. j ≡ to) (λ i. has columns.old i from ≡ true) result }
 {
@@ -42,8 +42,7 @@ pub fn flow(columns: &mut [u64], from: usize, to: usize) -> bool
 }
 
 // Everything known to be below both `left` and `right` is below `to`.
-pub fn meet(columns: &mut [u64], left: usize, right: usize, to: usize) -> bool
-    requires columns_len { length columns.old ≡ columns_size }
+pub fn meet(columns: &mut [u64; WORDS], left: usize, right: usize, to: usize) -> bool
     requires left_bound { (left < 192) × (right < 192) × (to < 192) }
     ensures { Takes columns.old columns.new (λ j. j ≡ to)
         (λ i. (has columns.old i left ≡ true) × (has columns.old i right ≡ true)) result }
@@ -55,8 +54,7 @@ pub fn meet(columns: &mut [u64], left: usize, right: usize, to: usize) -> bool
 }
 
 // Every id is below `to`.
-pub fn fill(columns: &mut [u64], to: usize) -> bool
-    requires columns_len { length columns.old ≡ columns_size }
+pub fn fill(columns: &mut [u64; WORDS], to: usize) -> bool
     requires to_bound { to < 192 }
     ensures { Takes columns.old columns.new (λ j. j ≡ to) (λ i. Unit {0}) result }
 {
@@ -64,8 +62,7 @@ pub fn fill(columns: &mut [u64], to: usize) -> bool
 }
 
 // An id is below itself.
-pub fn mark(columns: &mut [u64], id: usize) -> bool
-    requires columns_len { length columns.old ≡ columns_size }
+pub fn mark(columns: &mut [u64; WORDS], id: usize) -> bool
     requires id_bound { id < 192 }
     ensures { Takes columns.old columns.new (λ j. j ≡ id) (λ i. i ≡ id) result }
 {
@@ -73,8 +70,7 @@ pub fn mark(columns: &mut [u64], id: usize) -> bool
 }
 
 // Whether i is known to be below j.
-pub fn below(columns: &[u64], i: usize, j: usize) -> bool
-    requires columns_len { length columns.now ≡ columns_size }
+pub fn below(columns: &[u64; WORDS], i: usize, j: usize) -> bool
     requires i_bound { (i < 192) × (j < 192) }
     ensures { result ≡ has columns.now i j }
 {
@@ -90,8 +86,7 @@ pub struct Words {
 }
 
 // The bits that the columns of all chosen atoms have.
-fn common(atoms: &[u16], choice: u64, columns: &[u64]) -> Words
-    requires columns_len { length columns.now ≡ columns_size }
+fn common(atoms: &[u16], choice: u64, columns: &[u64; WORDS]) -> Words
     requires known { Known atoms.now }
     ensures common { Common (length atoms.now) atoms.now choice columns.now 0 result.first }
     ensures common_2 { Common (length atoms.now) atoms.now choice columns.now 1 result.second }
@@ -100,11 +95,9 @@ fn common(atoms: &[u16], choice: u64, columns: &[u64]) -> Words
     let mut first = ALL;
     let mut second = ALL;
     let mut third = ALL;
-    let mut q = 0;
-    while q < atoms.len() {
+    for q in 0..atoms.len() {
         let at = atoms[q] as usize * 3;
         let picked = (choice >> q) % 2;
-        q += 1;
         if picked == 0 {
             continue;
         }
@@ -120,8 +113,7 @@ fn common(atoms: &[u16], choice: u64, columns: &[u64]) -> Words
 }
 
 // Everything known to be below all chosen atoms is below the variable `to`.
-pub fn gather(atoms: &[u16], choice: u64, columns: &mut [u64], to: usize) -> bool
-    requires columns_len { length columns.old ≡ columns_size }
+pub fn gather(atoms: &[u16], choice: u64, columns: &mut [u64; WORDS], to: usize) -> bool
     requires known { Known atoms.now }
     requires to_bound { to < 192 }
     ensures { Takes columns.old columns.new (λ j. j ≡ to)
@@ -132,19 +124,16 @@ pub fn gather(atoms: &[u16], choice: u64, columns: &mut [u64], to: usize) -> boo
 }
 
 // Everything known to be below the variable `from` is below all chosen atoms.
-pub fn spread(atoms: &[u16], choice: u64, columns: &mut [u64], from: usize) -> bool
-    requires columns_len { length columns.old ≡ columns_size }
+pub fn spread(atoms: &[u16], choice: u64, columns: &mut [u64; WORDS], from: usize) -> bool
     requires known { Known atoms.now }
     requires from_bound { from < 192 }
     ensures { Takes columns.old columns.new (λ p. Memᴰ p (pick atoms.now choice))
         (λ i. has columns.old i from ≡ true) result }
 {
     let mut changed = false;
-    let mut q = 0;
-    while q < atoms.len() {
+    for q in 0..atoms.len() {
         let atom = atoms[q] as usize;
         let picked = (choice >> q) % 2;
-        q += 1;
         if picked == 0 {
             continue;
         }

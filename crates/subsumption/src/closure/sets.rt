@@ -5,6 +5,7 @@ ghost use Rattle.subsumption.specs.Inner.Links.{Inserted, Put, Joins, Union};
 ghost use Rattle.subsumption.specs.Inner.Sizes.{columns_size};
 
 use crate::closure::columns::Words;
+use crate::limits::WORDS;
 
 pub fn insert(sets: &mut [u64], to: usize, id: usize)
     requires id_bound { id < 192 }
@@ -50,8 +51,7 @@ fn join(sets: &[u64], from: usize, word: u64, set: Words) -> Words
 }
 
 // The union of all sets whose numbers the three words hold.
-pub fn union(sets: &[u64], first: u64, second: u64, third: u64) -> Words
-    requires { length sets.now ≡ columns_size }
+pub fn union(sets: &[u64; WORDS], first: u64, second: u64, third: u64) -> Words
     ensures { Union sets.now (InThree first second third) (InThree result.first result.second result.third) }
 {
     let none = Words {

@@ -7,39 +7,36 @@ ghost use Rattle.subsumption.specs.Inner.Closure.{SettlePass};
 ghost use Rattle.subsumption.specs.Inner.Sizes.{columns_size};
 
 use crate::closure::columns::{fill, flow, gather, mark, meet, spread};
-use crate::kinds::{CONJUNCTION, EXISTENTIAL, NAME, VARIABLE};
+use crate::limits::{CONCEPTS, WORDS};
+use crate::tables::{Node, node_at};
 
 // The steps at the row j that lead to itself and to smaller ids.
 pub fn descend(
     concepts: &[u16],
     atoms: &[u16],
     assignment: &[u64],
-    columns: &mut [u64],
+    columns: &mut [u64; WORDS],
     j: usize,
 ) -> bool
     requires settleable { Settleable concepts.now atoms.now assignment.now }
-    requires columns_len { length columns.old ≡ columns_size }
     requires j_bound { j < count_of concepts.now }
     ensures { SettlePass concepts.now (choose_from atoms.now assignment.now)
         (Descended concepts.now (choose_from atoms.now assignment.now) j)
         columns.old columns.new result }
 {
-    let at = j * 3;
-    let kind = concepts[at];
-    let x = concepts[at + 1] as usize;
     let own = mark(columns, j);
-    if kind == CONJUNCTION {
-        let y = concepts[at + 2] as usize;
-        let a = flow(columns, j, x);
-        let b = flow(columns, j, y);
-        return own | a | b;
+    match node_at(concepts, j) {
+        Node::Top | Node::Name(_) | Node::Exists(_, _) => own,
+        Node::And(x, y) => {
+            let a = flow(columns, j, x as usize);
+            let b = flow(columns, j, y as usize);
+            own | a | b
+        }
+        Node::Variable(k) => {
+            let a = spread(atoms, assignment[k as usize], columns, j);
+            own | a
+        }
     }
-    if kind == VARIABLE {
-        let choice = assignment[x];
-        let a = spread(atoms, choice, columns, j);
-        return own | a;
-    }
-    own
 }
 
 // The steps at the row j that lead from smaller ids to it, and those between twins of a name.
@@ -47,37 +44,27 @@ pub fn ascend(
     concepts: &[u16],
     atoms: &[u16],
     assignment: &[u64],
-    firsts: &[u16],
-    columns: &mut [u64],
+    firsts: &[u16; CONCEPTS],
+    columns: &mut [u64; WORDS],
     j: usize,
 ) -> bool
     requires settleable { Settleable concepts.now atoms.now assignment.now }
     requires firsts { Firsts concepts.now firsts.now }
-    requires columns_len { length columns.old ≡ columns_size }
     requires j_bound { j < count_of concepts.now }
     ensures { SettlePass concepts.now (choose_from atoms.now assignment.now)
         (Ascended concepts.now firsts.now (choose_from atoms.now assignment.now) j)
         columns.old columns.new result }
 {
-    let at = j * 3;
-    let kind = concepts[at];
-    let x = concepts[at + 1] as usize;
-    if kind == NAME {
-        let first = firsts[j] as usize;
-        let a = flow(columns, j, first);
-        let b = flow(columns, first, j);
-        return a | b;
+    match node_at(concepts, j) {
+        Node::Top => fill(columns, j),
+        Node::Name(_) => {
+            let first = firsts[j] as usize;
+            let a = flow(columns, j, first);
+            let b = flow(columns, first, j);
+            a | b
+        }
+        Node::Exists(_, _) => false,
+        Node::And(x, y) => meet(columns, x as usize, y as usize, j),
+        Node::Variable(k) => gather(atoms, assignment[k as usize], columns, j),
     }
-    if kind == EXISTENTIAL {
-        return false;
-    }
-    if kind == CONJUNCTION {
-        let y = concepts[at + 2] as usize;
-        return meet(columns, x, y, j);
-    }
-    if kind == VARIABLE {
-        let choice = assignment[x];
-        return gather(atoms, choice, columns, j);
-    }
-    fill(columns, j)
 }

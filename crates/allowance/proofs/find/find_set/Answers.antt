@@ -8,11 +8,17 @@ returns-then-out-wanted c = buffer-refuses _ _ _ c.args.out.now _ c.refused.ensu
 pub write_choice-requires : goal.write_choice-requires
 write_choice-requires c = record { count_bound = (well_formed _ c.requires.accepted.passed).few-variables; count_in_bounds = c.if-out-wanted.false }
 
-pub returns-then-walked : goal.returns-then-walked
-returns-then-walked c = counted-filled _ _ _ _ c.requires.accepted.passed c.requires.largest_value c.if-out-wanted.false c.walk_known-walked.result.found c.walk_known-walked.result.spent c.walk_known-walked.result.choice _ c.walk_known-walked.ensures _ c.if-walked.true c.write_choice.ensures
+pub returns-in-Found : goal.returns-in-Found
+returns-in-Found c =
+    counted-filled _ _ _ _ c.requires.accepted.passed c.requires.largest_value c.if-out-wanted.false _ _ _
+    (rw c.in-Found.is at c.walk_known-walked.ensures) c.write_choice.ensures
 
-pub returns-then-walked-2 : goal.returns-then-walked-2
-returns-then-walked-2 c = counted-spent _ _ _ c.args.out.now c.requires.accepted.passed c.requires.largest_value c.if-out-wanted.false c.walk_known-walked.result.found c.walk_known-walked.result.spent c.walk_known-walked.result.choice _ c.walk_known-walked.ensures c.if-walked.false c.if-walked-2.true
+pub returns-in-Spent : goal.returns-in-Spent
+returns-in-Spent c =
+    counted-spent _ _ _ c.args.out.now c.requires.accepted.passed c.requires.largest_value c.if-out-wanted.false _
+    (rw c.in-Spent.is at c.walk_known-walked.ensures)
 
-pub returns : goal.returns
-returns c = counted_none _ _ _ c.args.out.now c.requires.accepted.passed c.requires.largest_value c.if-out-wanted.false c.walk_known-walked.result.found c.walk_known-walked.result.spent c.walk_known-walked.result.choice _ c.walk_known-walked.ensures c.if-walked.false c.if-walked-2.false
+pub returns-in-Absent : goal.returns-in-Absent
+returns-in-Absent c =
+    counted_none _ _ _ c.args.out.now c.requires.accepted.passed c.requires.largest_value c.if-out-wanted.false _
+    (rw c.in-Absent.is at c.walk_known-walked.ensures)

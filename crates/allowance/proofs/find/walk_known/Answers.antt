@@ -26,4 +26,7 @@ pub walk-requires : goal.walk-requires
 walk-requires c = record { shaped = shaped-kept _ _ (written-front _ _ _ _ _ c.put_counts.ensures c.put_asked.ensures) _ (written-long _ _ _ _ _ c.put_counts.ensures c.put_asked.ensures) c.make_problem.ensures.shaped; permitted_len = (c.load_permitted-high.ensures.long, ids-few _ _ c.requires.accepted, pairs-few _ _ c.requires.accepted) }
 
 pub returns : goal.returns
-returns c = let lends = lent _ _ _ _ _ _ _ _ c.requires.accepted c.requires.largest_value c.make_problem.ensures.problem c.put_counts.ensures c.put_asked.ensures c.load_permitted-high.ensures in walked_by _ _ _ _ _ _ _ lends c.walk.result.found c.walk.result.spent _ _ (c.walk.ensures _ _ lends refl)
+returns c =
+    let lends = lent _ _ _ _ _ _ _ _ c.requires.accepted c.requires.largest_value c.make_problem.ensures.problem c.put_counts.ensures
+    c.put_asked.ensures c.load_permitted-high.ensures in walked_by _ _ _ _ _ _ _ lends c.walk.result.ending _
+    (c.walk.ensures _ _ lends refl)

@@ -1,9 +1,8 @@
-use borrow.Author.Tests.{not-true, not-false}
-use mathlib.Core.Path.{refl, sym, ◌∙◌}
+use mathlib.Core.Path.{refl, sym}
 use native.Mathlib.Omega.{arith}
 use lib.ListN.{replicate}
 use Rattle.allowance.proofs.KeptLaws.{kept-none}
-use Rattle.allowance.proofs.WalkLaws.{standing-none, leave-standing, leave-read, leave-less, next-has, next-standing, next-read, next-less, goes_none, goes-leave, goes-next, walked-spent, walked-found, walked_none}
+use Rattle.allowance.proofs.WalkLaws.{standing-none, leave-standing, leave-read, leave-less, next_none, next-has, next-standing, next-read, next-less, goes_none, goes-leave, goes-next, walked-spent, walked-found, walked_none}
 use Rattle.allowance.proofs.walk.walk.Goals as goal
 
 pub loop-permitted-init : goal.loop-permitted-init
@@ -36,11 +35,23 @@ loop-permitted-preserved-then-is_open c = (leave-standing _ _ _ _ _ _ c.loop-per
 pub next_sibling-next-requires : goal.next_sibling-next-requires
 next_sibling-next-requires c = record { low_len = (c.loop-permitted.invariant.0.words.low-side.long, c.loop-permitted.invariant.0.words.high-side.long); count_bound = (c.requires.permitted_len.1, omega (arith, c.loop-permitted.invariant.0.few, c.requires.permitted_len.2)) }
 
-pub returns-then-not-next : goal.returns-then-not-next
-returns-then-not-next c = walked_none _ _ _ _ _ _ _ _ _ c.loop-permitted.invariant.0 _ _ c.loop-permitted.invariant.4 c.is_open.result c.is_open.ensures.opened_by _ c.if-is_open.false c.loop-permitted.invariant.1 (sym (next-has _ _ _ _ _ _ c.loop-permitted.invariant.0 _ _ _ c.next_sibling-next.result.found c.next_sibling-next.ensures.next_from) ∙ not-true _ c.if-not-next.true)
+pub returns-in_default : goal.returns-in_default
+returns-in_default c =
+    walked_none _ _ _ _ _ _ _ _ _ c.loop-permitted.invariant.0 _ _ c.loop-permitted.invariant.4 c.is_open.result
+    c.is_open.ensures.opened_by _ c.if-is_open.false c.loop-permitted.invariant.1
+    (next_none _ _ _ _ _ _ c.loop-permitted.invariant.0 c.in_default.ensures)
 
 pub loop-permitted-smaller : goal.loop-permitted-smaller
-loop-permitted-smaller c = next-less _ _ _ _ _ _ c.loop-permitted.invariant.0 _ _ _ c.next_sibling-next.result.found c.next_sibling-next.ensures.next_from (not-false _ c.if-not-next.false)
+loop-permitted-smaller c = next-less _ _ _ _ _ _ c.loop-permitted.invariant.0 _ _ _ c.in-Some.ensures.1
 
 pub loop-permitted-preserved : goal.loop-permitted-preserved
-loop-permitted-preserved c = (next-standing _ _ _ _ _ _ c.loop-permitted.invariant.0 _ _ _ c.next_sibling-next.result.found c.next_sibling-next.ensures.next_from (not-false _ c.if-not-next.false), c.loop-permitted.invariant.1, omega arith, c.is_open.ensures.kept_len, goes-next _ _ _ _ _ _ _ _ _ c.loop-permitted.invariant.0 _ _ c.loop-permitted.invariant.4 c.is_open.result c.is_open.ensures.opened_by c.if-is_open.false c.next_sibling-next.result.place.low c.next_sibling-next.result.place.settled (sym (next-has _ _ _ _ _ _ c.loop-permitted.invariant.0 _ _ _ c.next_sibling-next.result.found c.next_sibling-next.ensures.next_from) ∙ not-false _ c.if-not-next.false) (next-read _ _ _ _ _ _ c.loop-permitted.invariant.0 _ _ _ c.next_sibling-next.result.found c.next_sibling-next.ensures.next_from (not-false _ c.if-not-next.false)))
+loop-permitted-preserved c = (
+  next-standing _ _ _ _ _ _ c.loop-permitted.invariant.0 _ _ _ c.in-Some.ensures.1,
+  c.loop-permitted.invariant.1,
+  omega arith,
+  c.is_open.ensures.kept_len,
+  goes-next _ _ _ _ _ _ _ _ _ c.loop-permitted.invariant.0 _ _ c.loop-permitted.invariant.4 c.is_open.result
+      c.is_open.ensures.opened_by c.if-is_open.false c.in-Some.sibling.low c.in-Some.sibling.settled
+      (next-has _ _ _ _ _ _ c.loop-permitted.invariant.0 _ _ _ c.in-Some.ensures.1)
+      (next-read _ _ _ _ _ _ c.loop-permitted.invariant.0 _ _ _ c.in-Some.ensures.1),
+)

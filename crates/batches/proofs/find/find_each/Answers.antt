@@ -1,13 +1,10 @@
 use native.Mathlib.Omega.{arith}
 use Rattle.batches.proofs.BatchLaws.{few-tables, same_number, share-few, ends-within}
-use Rattle.batches.proofs.RunLaws.{ran-none, used, ran-more, ran-all}
+use Rattle.batches.proofs.RunLaws.{ran-none, ran-more, ran-all}
 use Rattle.batches.proofs.find.find_each.Goals as goal
 
 pub loop-k-init : goal.loop-k-init
 loop-k-init c = ran-none _ _ _ _
-
-pub overflow_cast-end : goal.overflow_cast-end
-overflow_cast-end c = omega (arith, c.type_inv.lengths c.loop-k.k)
 
 pub overflow_add-end : goal.overflow_add-end
 overflow_add-end c = omega (arith, ends-within _ _ _ c.requires c.loop-k.k c.loop-k-test.true, c.loop-k.invariant.started)
@@ -18,8 +15,8 @@ bounds-shares-k c = omega (arith, same_number _ _ _ c.requires)
 pub overflow_add-amount : goal.overflow_add-amount
 overflow_add-amount c = omega (arith, few-tables _ _ _ c.requires, share-few _ _ _ c.requires c.loop-k.k c.loop-k-test.true, c.loop-k.invariant.few)
 
-pub offset_bounds-questions-start : goal.offset_bounds-questions-start
-offset_bounds-questions-start c = omega (arith, ends-within _ _ _ c.requires c.loop-k.k c.loop-k-test.true, c.loop-k.invariant.started)
+pub offset_bounds-tables-start : goal.offset_bounds-tables-start
+offset_bounds-tables-start c = omega (arith, ends-within _ _ _ c.requires c.loop-k.k c.loop-k-test.true, c.loop-k.invariant.started)
 
 pub slice_bounds-find_at-end : goal.slice_bounds-find_at-end
 slice_bounds-find_at-end c = omega (arith, ends-within _ _ _ c.requires c.loop-k.k c.loop-k-test.true, c.loop-k.invariant.started)
@@ -39,14 +36,8 @@ bounds-places-k c = omega (arith, few-tables _ _ _ c.requires)
 pub bounds-counts-k : goal.bounds-counts-k
 bounds-counts-k c = omega (arith, few-tables _ _ _ c.requires)
 
-pub overflow_sub-left : goal.overflow_sub-left
-overflow_sub-left c = omega (arith, used _ _ _ _ _ _ _ _ _ _ _ c.loop-k.invariant c.loop-k-test.true (few-tables _ _ _ c.requires) _ _ _ _ _ (c.code_in-code.ensures _) c.find_at-counted.ensures)
-
 pub loop-k-preserved : goal.loop-k-preserved
 loop-k-preserved c = ran-more _ _ _ _ _ _ _ _ _ _ _ c.loop-k.invariant c.loop-k-test.true (few-tables _ _ _ c.requires) _ _ _ _ _ (c.code_in-code.ensures _) c.find_at-counted.ensures (share-few _ _ _ c.requires c.loop-k.k c.loop-k-test.true)
-
-pub overflow_cast-result : goal.overflow_cast-result
-overflow_cast-result c = omega (arith, few-tables _ _ _ c.requires, c.loop-k.invariant.few, c.loop-k.invariant.within)
 
 pub returns : goal.returns
 returns c = ran-all _ _ _ _ _ _ _ _ _ _ _ c.loop-k.invariant c.loop-k-test.false

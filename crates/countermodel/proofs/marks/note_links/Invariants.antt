@@ -1,7 +1,3 @@
-use Prim.Native.Nat.{◌-◌}
-use mathlib.Core.Path.{◌≡◌}
-use lib.ListN.{length}
-use Rattle.subsumption.specs.Tables.{count_of}
 use Rattle.subsumption.specs.Table.{marked}
 use Rattle.countermodel.specs.Countermodel.{leads_to}
 use Rattle.countermodel.specs.Inner.Show.{ForRoles}
@@ -9,7 +5,4 @@ use Rattle.countermodel.proofs.NotingLaws.{NotedTo}
 use Rattle.countermodel.proofs.marks.note_links.Given as goal
 
 abbrev pub invariant-loop-j : goal.invariant-loop-j
-invariant-loop-j l = (length l.links ≡ 192) × ForRoles l.into (λ roles. NotedTo 192 (leads_to roles l.role) l.concepts (marked l.table) l.i l.links l.j)
-
-abbrev pub decreases-loop-j : goal.decreases-loop-j
-decreases-loop-j l = count_of l.concepts - l.j
+invariant-loop-j l = ForRoles l.into (λ roles. NotedTo 192 (leads_to roles l.role) l.concepts (marked l.table) l.i l.links l.j)

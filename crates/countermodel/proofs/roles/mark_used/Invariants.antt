@@ -1,9 +1,5 @@
-use Prim.Native.Nat.{◌-◌}
 use Rattle.countermodel.proofs.UsedLaws.{UsedTo}
 use Rattle.countermodel.proofs.roles.mark_used.Given as goal
 
 abbrev pub invariant-loop-r : goal.invariant-loop-r
 invariant-loop-r l = UsedTo l.into l.own l.used l.r
-
-abbrev pub decreases-loop-r : goal.decreases-loop-r
-decreases-loop-r l = 100 - l.r

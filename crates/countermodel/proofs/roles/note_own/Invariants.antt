@@ -1,5 +1,3 @@
-use Prim.Native.Nat.{◌-◌}
-use Rattle.subsumption.specs.Tables.{count_of}
 use Rattle.subsumption.specs.Table.{marked}
 use Rattle.countermodel.specs.Inner.Show.{is_of}
 use Rattle.countermodel.proofs.NotingLaws.{NotedTo}
@@ -7,6 +5,3 @@ use Rattle.countermodel.proofs.roles.note_own.Given as goal
 
 abbrev pub invariant-loop-j : goal.invariant-loop-j
 invariant-loop-j l = NotedTo 100 is_of l.concepts (marked l.table) l.i l.own l.j
-
-abbrev pub decreases-loop-j : goal.decreases-loop-j
-decreases-loop-j l = count_of l.concepts - l.j

@@ -8,18 +8,9 @@ use Rattle.groups.proofs.group.gather.Goals.{then-is_among, else-is_among}
 pub loop-n-init : goal.loop-n-init
 loop-n-init c = gathered_none _ _
 
-pub set_of-set-requires : goal.set_of-set-requires
-set_of-set-requires c = record { known = c.requires.known; m_bound = omega arith }
-
-pub overflow_shl-group : goal.overflow_shl-group
-overflow_shl-group c = omega (arith, c.requires.questions_bound)
-
 pub loop-n-preserved : goal.loop-n-preserved
 loop-n-preserved c =
     elim c.if-is_among.branch [
       | then-is_among w ↦ rw w.group-is (gathered-more _ _ _ _ c.loop-n.invariant (omega arith) (sym w.if-is_among.true ∙ c.is_among.ensures ∙ ap (belongs _) c.set_of-set.ensures))
       | else-is_among w ↦ rw w.group-is (gathered-past _ _ _ _ c.loop-n.invariant (sym w.if-is_among.false ∙ c.is_among.ensures ∙ ap (belongs _) c.set_of-set.ensures))
     ]
-
-pub returns : goal.returns
-returns c n l = c.loop-n.invariant.seen n (omega arith)

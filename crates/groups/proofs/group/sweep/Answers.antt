@@ -1,6 +1,4 @@
-use mathlib.Core.Path.{◌≡◌, refl, ◌∙◌}
-use native.Mathlib.Omega.{arith}
-use Rattle.subsumption.specs.Tables.{pairs_of}
+use mathlib.Core.Path.{refl, ◌∙◌}
 use Rattle.groups.specs.Inner.Group.{swept}
 use Rattle.groups.proofs.GroupLaws.{swept-meeting, swept-apart}
 use Rattle.groups.proofs.group.sweep.Goals as goal
@@ -8,21 +6,11 @@ use Rattle.groups.proofs.group.sweep.Goals.{then-reached-set-ne0, else-reached-s
 
 pub loop-m-init : goal.loop-m-init
 unfolding swept
-loop-m-init c = (omega arith, refl)
-
-pub set_of-set-requires : goal.set_of-set-requires
-set_of-set-requires c = record { known = c.requires; m_bound = omega arith }
+loop-m-init c = refl
 
 pub loop-m-preserved : goal.loop-m-preserved
-loop-m-preserved c = (
-  omega arith,
-  elim c.if-reached-set-ne0.branch [
-    | then-reached-set-ne0 w ↦ w.reached-is ∙ swept-meeting _ _ _ _ _ c.loop-m.invariant.1 c.set_of-set.ensures w.if-reached-set-ne0.true
-    | else-reached-set-ne0 w ↦ w.reached-is ∙ swept-apart _ _ _ _ _ c.loop-m.invariant.1 c.set_of-set.ensures w.if-reached-set-ne0.false
-  ],
-)
-
-pub returns : goal.returns
-returns c =
-    let e : c.loop-m.m ≡ pairs_of c.args.questions.now = omega (arith, c.loop-m.invariant.0) in
-    rw (← e) c.loop-m.invariant.1
+loop-m-preserved c =
+    elim c.if-reached-set-ne0.branch [
+      | then-reached-set-ne0 w ↦ w.reached-is ∙ swept-meeting _ _ _ _ _ c.loop-m.invariant c.set_of-set.ensures w.if-reached-set-ne0.true
+      | else-reached-set-ne0 w ↦ w.reached-is ∙ swept-apart _ _ _ _ _ c.loop-m.invariant c.set_of-set.ensures w.if-reached-set-ne0.false
+    ]

@@ -1,5 +1,5 @@
 use lib.ListN.{length}
-use Rattle.subsumption.specs.Tables.{tables}
+use Rattle.subsumption.specs.Inner.Lent.{given}
 use Rattle.subsumption.specs.Atoms.{atoms}
 use Rattle.numerals.specs.Printing.{number_text}
 use Rattle.numerals.specs.Lines.{variables_key}
@@ -11,25 +11,25 @@ pub put_bytes-a-requires : goal.put_bytes-a-requires
 unfolding filled_text
 put_bytes-a-requires c =
     let blanks = number_text variables_key (length c.args.assignment.now) in
-    let fills = fills_text (atoms (tables c.args.concepts.now c.args.inclusions.now c.args.questions.now c.args.roles.now c.args.variables)) c.args.assignment.now in
+    let fills = fills_text (atoms (given c.args.tables)) c.args.assignment.now in
     room-1 c.args.out.now 0 filled_line blanks fills c.requires.assignment_in_bounds
 
 pub put_line-b-requires : goal.put_line-b-requires
 unfolding filled_text
 put_line-b-requires c =
     let blanks = number_text variables_key (length c.args.assignment.now) in
-    let fills = fills_text (atoms (tables c.args.concepts.now c.args.inclusions.now c.args.questions.now c.args.roles.now c.args.variables)) c.args.assignment.now in
+    let fills = fills_text (atoms (given c.args.tables)) c.args.assignment.now in
     room-2 _ 0 filled_line blanks fills c.requires.assignment_in_bounds _ _ c.put_bytes-a.ensures
 
 pub put_fills-requires : goal.put_fills-requires
 unfolding filled_text
 put_fills-requires c =
     let blanks = number_text variables_key (length c.args.assignment.now) in
-    let fills = fills_text (atoms (tables c.args.concepts.now c.args.inclusions.now c.args.questions.now c.args.roles.now c.args.variables)) c.args.assignment.now in record { variables_value = c.requires.variables_value; assignment_value = c.requires.assignment_value; assignment_in_bounds = room-3 _ 0 filled_line blanks fills c.requires.assignment_in_bounds _ _ c.put_bytes-a.ensures _ _ c.put_line-b.ensures }
+    let fills = fills_text (atoms (given c.args.tables)) c.args.assignment.now in record { variables_value = c.requires.variables_value; assignment_value = c.requires.assignment_value; assignment_in_bounds = room-3 _ 0 filled_line blanks fills c.requires.assignment_in_bounds _ _ c.put_bytes-a.ensures _ _ c.put_line-b.ensures }
 
 pub returns : goal.returns
 unfolding filled_text
 returns c =
     let blanks = number_text variables_key (length c.args.assignment.now) in
-    let fills = fills_text (atoms (tables c.args.concepts.now c.args.inclusions.now c.args.questions.now c.args.roles.now c.args.variables)) c.args.assignment.now in
+    let fills = fills_text (atoms (given c.args.tables)) c.args.assignment.now in
     wrote-three _ 0 filled_line blanks fills c.requires.assignment_in_bounds _ _ c.put_bytes-a.ensures _ _ c.put_line-b.ensures _ _ c.put_fills.ensures

@@ -12,11 +12,11 @@ behind-digits-requires c = search key-within
 
 pub overflow_add-result : goal.overflow_add-result
 overflow_add-result c =
-    let h : length c.args.key.now + c.in-Value.n ≤ length c.args.rest.now = search value-within in
+    let h : length c.args.key.now + c.in_ok-found.found.length ≤ length c.args.rest.now = search (value-within, c.in_ok-found.was) in
     omega (arith, c.well_formed)
 
-pub returns-in-Value : goal.returns-in-Value
-returns-in-Value c = search value_line
-
 pub returns : goal.returns
-returns c = search none-line
+returns c = search (value_line, c.in_ok-found.was)
+
+pub returns-in_err-found : goal.returns-in_err-found
+returns-in_err-found c = rw c.from_residual.ensures (search (none-line, c.in_err-found.was))

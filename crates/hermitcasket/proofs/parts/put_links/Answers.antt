@@ -5,7 +5,7 @@ use Rattle.hermitcasket.proofs.ShownLaws.{output-links}
 use Rattle.hermitcasket.proofs.parts.put_links.Goals as goal
 
 pub note_links-requires : goal.note_links-requires
-note_links-requires c = record { checked = c.requires.checked; into_len = c.requires.into_len; table_len = c.requires.table_len; i_bound = c.requires.i_bound; links_value = refl }
+note_links-requires c = record { checked = c.requires.checked; i_bound = c.requires.i_bound; links_value = refl }
 
 pub put_marks-requires : goal.put_marks-requires
 put_marks-requires c = record { count_in_bounds = omega (arith, c.requires.checked.layered.few, c.note_links.auto); count_in_bounds_2 = search links-short }

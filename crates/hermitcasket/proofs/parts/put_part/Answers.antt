@@ -10,13 +10,13 @@ pub returns-then-k-eq0 : goal.returns-then-k-eq0
 returns-then-k-eq0 c = part-first _ _ _ _ _ _ _ c.if-k-eq0.true c.put_line.ensures
 
 pub put_names-requires : goal.put_names-requires
-put_names-requires c = record { checked = held-checked _ _ _ c.requires.held; table_len = c.requires.held.1.table-long; i_bound = omega arith; in_bounds = c.requires.in_bounds }
+put_names-requires c = record { checked = held-checked _ _ _ c.requires.held; i_bound = omega arith; in_bounds = c.requires.in_bounds }
 
 pub returns-then-k-count : goal.returns-then-k-count
 returns-then-k-count c = part-names _ _ _ _ _ _ _ c.if-k-eq0.false c.if-k-count.true c.put_names.ensures
 
 pub put_links-requires : goal.put_links-requires
-put_links-requires c = record { checked = held-checked _ _ _ c.requires.held; into_len = c.requires.held.1.sets-long; table_len = c.requires.held.1.table-long; i_bound = (omega (arith, c.requires.k_bound), omega arith); in_bounds = c.requires.in_bounds }
+put_links-requires c = record { checked = held-checked _ _ _ c.requires.held; i_bound = (omega (arith, c.requires.k_bound), omega arith); in_bounds = c.requires.in_bounds }
 
 pub returns : goal.returns
 returns c = part-links _ _ _ _ _ _ _ c.if-k-eq0.false c.if-k-count.false c.put_links.ensures

@@ -4,8 +4,8 @@ use Rattle.hermitcasket.proofs.text.read_count.Goals as goal
 pub returns-in_default : goal.returns-in_default
 returns-in_default c = search count_none
 
-pub returns-then-limit-count : goal.returns-then-limit-count
-returns-then-limit-count c = search count-over
+pub returns-then-limit-found : goal.returns-then-limit-found
+returns-then-limit-found c = search count-over
 
 pub returns : goal.returns
 returns c = search count-through

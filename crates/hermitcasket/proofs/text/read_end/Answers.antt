@@ -7,8 +7,8 @@ returns-then-rest-eq0 c = search end_none
 pub returns-in_default : goal.returns-in_default
 returns-in_default c = search end-off
 
-pub returns-then-n-rest : goal.returns-then-n-rest
-returns-then-n-rest c = search end_more
+pub returns-then-line-rest : goal.returns-then-line-rest
+returns-then-line-rest c = search end_more
 
 pub returns : goal.returns
 returns c = search end-shown

@@ -1,26 +1,25 @@
-use mathlib.Core.Path.{refl}
+use Prim.Native.Nat.{◌+◌, ◌≤◌}
 use native.Mathlib.Omega.{arith}
-use lib.ListN.{length-set}
+use lib.ListN.{length}
 use Rattle.hermitcasket.proofs.PartLaws.{lined-none, lined-done, pairs-off, pairs-within, pairs-used, pairs-more}
 use Rattle.hermitcasket.proofs.text.read_pairs.Goals as goal
 
 pub loop-i-init : goal.loop-i-init
-loop-i-init c = (refl, lined-none _ _ _ _ _ _)
+loop-i-init c = lined-none _ _ _ _ _ _
 
 pub returns-in_default : goal.returns-in_default
-returns-in_default c = record { part_value = search pairs-off; part_fits = tt }
+returns-in_default c = search pairs-off
 
-pub bounds-out-m-in-loop-i : goal.bounds-out-m-in-loop-i
-bounds-out-m-in-loop-i c = simp length-set (omega arith)
-
-pub behind-next-requires : goal.behind-next-requires
-behind-next-requires c = search pairs-within
+pub behind-rest-requires : goal.behind-rest-requires
+behind-rest-requires c = search pairs-within
 
 pub overflow_add-used : goal.overflow_add-used
-overflow_add-used c = omega (arith, pairs-used _ _ _ _ _ _ _ c.loop-i-test.true _ _ c.loop-i.invariant.1 c.pair_line-line.ensures _ _ _ c.in-Two.is, c.requires)
+overflow_add-used c =
+    let h : c.loop-i.used + c.in-Some.line.length ≤ length c.args.part.now = search pairs-used in
+    omega (arith, c.requires)
 
 pub loop-i-preserved : goal.loop-i-preserved
-loop-i-preserved c = (simp length-set c.loop-i.invariant.0, search pairs-more)
+loop-i-preserved c = search pairs-more
 
 pub returns : goal.returns
-returns c = record { part_value = search lined-done; part_fits = omega arith }
+returns c = search lined-done

@@ -1,12 +1,6 @@
-use Prim.Native.Nat.{◌-◌}
-use mathlib.Core.Path.{◌≡◌}
-use Rattle.subsumption.specs.Tables.{count_of}
 use Rattle.numerals.proofs.PieceLaws.{Printed}
 use Rattle.hermitcasket_owl.proofs.CardLaws.{rows_left}
 use Rattle.hermitcasket_owl.proofs.card.put_rows.Given as goal
 
 abbrev pub invariant-loop-i : goal.invariant-loop-i
-invariant-loop-i l = (l.count ≡ count_of l.concepts) × Printed (rows_left l.concepts) l.initial.out l.at l.out l.end l.i
-
-abbrev pub decreases-loop-i : goal.decreases-loop-i
-decreases-loop-i l = l.count - l.i
+invariant-loop-i l = Printed (rows_left l.concepts) l.initial.out l.at l.out l.end l.i

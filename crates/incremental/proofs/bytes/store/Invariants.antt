@@ -1,9 +1,5 @@
 use Rattle.incremental.proofs.ByteLaws.{StoredTo}
-use Prim.Native.Nat.{◌-◌}
 use Rattle.incremental.proofs.bytes.store.Given as goal
 
 abbrev pub invariant-loop-i : goal.invariant-loop-i
 invariant-loop-i l = StoredTo l.square l.count l.initial.table l.i l.table
-
-abbrev pub decreases-loop-i : goal.decreases-loop-i
-decreases-loop-i l = l.count - l.i

@@ -20,7 +20,7 @@ pub note_existentials-requires : goal.note_existentials-requires
 note_existentials-requires c = record { inner = ready-inner c.requires.ready; outer_value = refl; inners_value = refl; roles_value = refl }
 
 pub rounds-requires : goal.rounds-requires
-rounds-requires c = record { ready = c.requires.ready; inclusions_bound = c.requires.inclusions_bound; chain = c.note_chain.ensures; idle = c.note_idle.ensures; into_len = c.note_roles.ensures.long; existentials = c.note_existentials.ensures; square = c.start.ensures.grown.square }
+rounds-requires c = record { ready = c.requires.ready; inclusions_bound = c.requires.inclusions_bound; chain = c.note_chain.ensures; idle = c.note_idle.ensures; existentials = c.note_existentials.ensures; square = c.start.ensures.grown.square }
 
 pub shape_of-square : goal.shape_of-square
 shape_of-square c = omega (arith, c.rounds.ensures.grown.square.long, c.requires.square.long)

@@ -9,7 +9,7 @@ close_rows-a-requires c = record { settleable = ready-settleable c.requires.read
 
 -- src/closing.rt:66:9
 pub rise-b-requires : goal.rise-b-requires
-rise-b-requires c = record { settleable = ready-settleable c.requires.ready; pairs = ready-includable c.requires.ready c.requires.inclusions_bound; inner = ready-inner c.requires.ready; into_len = c.requires.into_len; existentials = c.requires.existentials; square = c.close_rows-a.ensures.square }
+rise-b-requires c = record { settleable = ready-settleable c.requires.ready; pairs = ready-includable c.requires.ready c.requires.inclusions_bound; inner = ready-inner c.requires.ready; existentials = c.requires.existentials; square = c.close_rows-a.ensures.square }
 
 -- src/closing.rt:32:1
 pub returns : goal.returns

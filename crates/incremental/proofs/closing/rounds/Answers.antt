@@ -13,7 +13,7 @@ pub slice_bounds-round-end : goal.slice_bounds-round-end
 slice_bounds-round-end c = omega (arith, c.loop-busy.invariant.0)
 
 pub round-busy-requires : goal.round-busy-requires
-round-busy-requires c = record { ready = c.requires.ready; inclusions_bound = c.requires.inclusions_bound; chain = c.requires.chain; idle = c.requires.idle; order_len = c.loop-busy.invariant.0; into_len = c.requires.into_len; existentials = c.requires.existentials; square = c.loop-busy.invariant.1.grown.square }
+round-busy-requires c = record { ready = c.requires.ready; inclusions_bound = c.requires.inclusions_bound; chain = c.requires.chain; idle = c.requires.idle; order_len = c.loop-busy.invariant.0; existentials = c.requires.existentials; square = c.loop-busy.invariant.1.grown.square }
 
 pub loop-busy-smaller : goal.loop-busy-smaller
 loop-busy-smaller c = rounding-less _ _ _ _ _ _ _ _ c.loop-busy-test.true c.round-busy.ensures

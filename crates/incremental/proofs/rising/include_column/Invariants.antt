@@ -1,10 +1,5 @@
-use Prim.Native.Nat.{◌-◌}
-use Rattle.subsumption.specs.Tables.{pairs_of}
 use Rattle.incremental.specs.Inner.Rising.{ColumnGains}
 use Rattle.incremental.proofs.rising.include_column.Given as goal
 
 abbrev pub invariant-loop-m : goal.invariant-loop-m
 invariant-loop-m l = ColumnGains l.count l.inclusions l.initial.square l.square l.changed
-
-abbrev pub decreases-loop-m : goal.decreases-loop-m
-decreases-loop-m l = pairs_of l.inclusions - l.m

@@ -1,5 +1,3 @@
-use Prim.Native.Nat.{◌-◌}
-use Rattle.subsumption.specs.Tables.{count_of}
 use Rattle.subsumption.specs.Inner.Roles.{in_set}
 use Rattle.subsumption.specs.Inner.Settling.{choose_from}
 use Rattle.incremental.proofs.RisingLaws.{RisenTo}
@@ -7,6 +5,3 @@ use Rattle.incremental.proofs.rising.rise.Given as goal
 
 abbrev pub invariant-loop-j : goal.invariant-loop-j
 invariant-loop-j l = RisenTo l.concepts l.inclusions (in_set l.into) (choose_from l.atoms l.choices) l.j l.initial.square l.square l.changed
-
-abbrev pub decreases-loop-j : goal.decreases-loop-j
-decreases-loop-j l = count_of l.concepts - l.j

@@ -3,7 +3,7 @@ use Rattle.incremental.proofs.rising.rise_column.Goals as goal
 
 -- src/rising.rt:67:9
 pub link_to-b-requires : goal.link_to-b-requires
-link_to-b-requires c = record { inner = c.requires.inner; existentials = c.requires.existentials; into_len = c.requires.into_len; square = c.settle_column-a.ensures.square; f_bound = c.requires.j_bound }
+link_to-b-requires c = record { inner = c.requires.inner; existentials = c.requires.existentials; square = c.settle_column-a.ensures.square; f_bound = c.requires.j_bound }
 
 -- src/rising.rt:69:9
 pub returns-then-not-a-b : goal.returns-then-not-a-b

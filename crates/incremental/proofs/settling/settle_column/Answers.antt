@@ -1,32 +1,12 @@
-use native.Mathlib.Omega.{arith}
+use Rattle.std.proofs.Common.{rules, sym, ◌∙◌}
 use Rattle.incremental.proofs.SettlingLaws.{meet-and, meet-var, meet-none}
-use Rattle.subsumption.proofs.Settling.{settle-known, and_low, var-low}
-use Prim.Native.Nat.{◌+◌, ◌*◌}
 use Rattle.incremental.proofs.settling.settle_column.Goals as goal
 
-pub overflow_cast-x : goal.overflow_cast-x
-overflow_cast-x c = omega (arith, c.type_inv.concepts (c.args.j * 3 + 1))
+pub returns-in-Top : goal.returns-in-Top
+returns-in-Top c = meet-none _ _ _ _ c.requires.square (search rules)
 
-pub overflow_cast-y : goal.overflow_cast-y
-overflow_cast-y c = omega (arith, c.type_inv.concepts (c.args.j * 3 + 2))
+pub returns-in-And : goal.returns-in-And
+returns-in-And c = meet-and _ _ _ c.requires.settleable _ c.requires.j_bound _ _ _ _ _ (sym c.node_at.ensures ∙ c.in-And.is) c.meet.ensures
 
-pub meet-requires : goal.meet-requires
-meet-requires c = record { square = c.requires.square; left_bound = ((and_low c.requires.settleable c.args.j c.requires.j_bound c.if-kind-eq-CONJUNCTION.true).0, (and_low c.requires.settleable c.args.j c.requires.j_bound c.if-kind-eq-CONJUNCTION.true).1, omega (arith, c.requires.settleable.few)) }
-
-pub returns-then-kind-eq-CONJUNCTION : goal.returns-then-kind-eq-CONJUNCTION
-returns-then-kind-eq-CONJUNCTION c = meet-and _ _ _ c.requires.settleable _ c.requires.j_bound _ _ _ c.if-kind-eq-CONJUNCTION.true c.meet.ensures
-
-pub returns-then-kind-ne-VARIABLE : goal.returns-then-kind-ne-VARIABLE
-returns-then-kind-ne-VARIABLE c = meet-none _ _ _ _ c.requires.square c.if-kind-eq-CONJUNCTION.false c.if-kind-ne-VARIABLE.true
-
-pub offset_bounds-choices-x : goal.offset_bounds-choices-x
-offset_bounds-choices-x c = omega (arith, var-low c.requires.settleable c.args.j c.requires.j_bound c.if-kind-ne-VARIABLE.false)
-
-pub bounds-choices-x : goal.bounds-choices-x
-bounds-choices-x c = omega (arith, var-low c.requires.settleable c.args.j c.requires.j_bound c.if-kind-ne-VARIABLE.false)
-
-pub gather-requires : goal.gather-requires
-gather-requires c = record { square = c.requires.square; known = settle-known c.requires.settleable; to_bound = omega (arith, c.requires.settleable.few) }
-
-pub returns : goal.returns
-returns c = meet-var _ _ _ c.requires.settleable _ c.requires.j_bound _ _ _ c.if-kind-ne-VARIABLE.false c.gather.ensures
+pub returns-in-Variable : goal.returns-in-Variable
+returns-in-Variable c = meet-var _ _ _ c.requires.settleable _ c.requires.j_bound _ _ _ _ (sym c.node_at.ensures ∙ c.in-Variable.is) c.gather.ensures

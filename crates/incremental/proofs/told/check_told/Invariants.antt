@@ -4,11 +4,8 @@ use Rattle.subsumption.specs.Tables.{pairs_of, left_of, right_of}
 use Rattle.subsumption.specs.declared.refusal.Refusal.TheVariants.{BadAssignment}
 use lib.ListN.{length}
 use mathlib.Core.Path.{◌≡◌}
-use Prim.Native.Nat.{◌-◌, ◌%◌}
+use Prim.Native.Nat.{◌%◌}
 use Rattle.incremental.proofs.told.check_told.Given as goal
 
 abbrev pub invariant-loop-m : goal.invariant-loop-m
 invariant-loop-m l = (length l.told % 2 ≡ 0) × Scan BadAssignment (λ n. bad_pair l.atoms l.variables (left_of l.told n) (right_of l.told n)) (pairs_of l.told) l.m
-
-abbrev pub decreases-loop-m : goal.decreases-loop-m
-decreases-loop-m l = pairs_of l.told - l.m

@@ -4,19 +4,20 @@ use Rattle.subsumption.proofs.ListingLaws.{tables-rejected, tables-listed, table
 use mathlib.Core.Path.{refl, sym}
 use lib.Seq.{length-take-le}
 use lib.ListN.{replicate}
+use Rattle.subsumption.proofs.Refusals.{handed_up}
 use Rattle.incremental.proofs.update.update_table.Goals as goal
 
 pub slice_bounds-ids-end : goal.slice_bounds-ids-end
-slice_bounds-ids-end c = omega (arith, tables-few _ (replicate 64 0) _ c.list_atoms-listed.result refl c.list_atoms-listed.ensures.replied c.list_atoms-listed.ensures.written _ c.in-Atoms.is)
+slice_bounds-ids-end c = omega (arith, tables-few _ (replicate 64 0) _ c.list_atoms.result refl c.list_atoms.ensures.replied c.list_atoms.ensures.written _ c.in_ok-count.was)
 
 pub slice_bounds-put_update-end : goal.slice_bounds-put_update-end
-slice_bounds-put_update-end c = sym (length-take-le _ _ (omega (arith, tables-few _ (replicate 64 0) _ c.list_atoms-listed.result refl c.list_atoms-listed.ensures.replied c.list_atoms-listed.ensures.written _ c.in-Atoms.is)))
+slice_bounds-put_update-end c = sym (length-take-le _ _ (omega (arith, tables-few _ (replicate 64 0) _ c.list_atoms.result refl c.list_atoms.ensures.replied c.list_atoms.ensures.written _ c.in_ok-count.was)))
 
 pub put_update-requires : goal.put_update-requires
-put_update-requires c = prepared _ _ _ _ _ _ (tables-listed _ (replicate 64 0) _ c.list_atoms-listed.result refl c.list_atoms-listed.ensures.replied c.list_atoms-listed.ensures.written _ c.in-Atoms.is)
+put_update-requires c = prepared _ _ _ _ _ _ (tables-listed _ (replicate 64 0) _ c.list_atoms.result refl c.list_atoms.ensures.replied c.list_atoms.ensures.written _ c.in_ok-count.was)
 
-pub returns-in-Rejected : goal.returns-in-Rejected
-returns-in-Rejected c = update-refused _ _ _ _ (tables-rejected _ (replicate 64 0) _ c.list_atoms-listed.result refl c.list_atoms-listed.ensures.replied c.list_atoms-listed.ensures.written _ c.in-Rejected.is)
+pub returns-in_err-count : goal.returns-in_err-count
+returns-in_err-count c = rw (handed_up _ c.from_residual.ensures) (update-refused _ _ _ _ (tables-rejected _ (replicate 64 0) _ c.list_atoms.result refl c.list_atoms.ensures.replied c.list_atoms.ensures.written _ c.in_err-count.was))
 
-pub returns-in-Atoms : goal.returns-in-Atoms
-returns-in-Atoms c = c.put_update.ensures _ (tables-listed _ (replicate 64 0) _ c.list_atoms-listed.result refl c.list_atoms-listed.ensures.replied c.list_atoms-listed.ensures.written _ c.in-Atoms.is)
+pub returns : goal.returns
+returns c = c.put_update.ensures _ (tables-listed _ (replicate 64 0) _ c.list_atoms.result refl c.list_atoms.ensures.replied c.list_atoms.ensures.written _ c.in_ok-count.was)

@@ -10,13 +10,13 @@ use lib.ListN.{length}
 use borrow.Author.Tests.{eq-eqb, ne_eqb, eqb-true, not-true}
 use Rattle.subsumption.specs.Tables.{or, both, Node, top_at, name_at, exists_at, and_at, var_at, node, decode}
 use Rattle.subsumption.proofs.Bools.{or-first, or-second, or-skip, or_cases, both_true, both-intro, last-cases, eq-or-ne}
-use Rattle.subsumption.proofs.Nodes.{node-and, and-node}
+use Rattle.subsumption.proofs.Nodes.{and-node}
 use Rattle.square.specs.Inner.Square.{on_line}
 use Rattle.square.specs.Inner.Sets.{Inserted}
 use Rattle.matching.specs.declared.search.sets.Words.{Words}
 use Rattle.matching.specs.Inner.Search.Sets.{in_words, NextIn, Same, Joined}
 use Rattle.matching.specs.Inner.Search.Problem.{line_at, fit_at, cone_at, closers_at, held_at, right_at, inner_at, question_count, Numbers, closes, in_members, Covered, Closers}
-use Rattle.matching.specs.Inner.Search.Making.{kind_at, first_at, Outside, is_closer, Grew, WantsInner, AskedFor, NewAt, NextNew, Kept, KeptAll, ClosersNoted, NoClosers, AllClosers}
+use Rattle.matching.specs.Inner.Search.Making.{kind_at, Outside, is_closer, Grew, WantsInner, AskedFor, NewAt, NextNew, Kept, KeptAll, ClosersNoted}
 use Rattle.matching.proofs.SearchLaws.Sets.{none_in}
 use Rattle.matching.proofs.SearchLaws.Walks.{passed-cases, passed_none, members-low}
 use Rattle.matching.proofs.SearchLaws.Making.Filling.{filled-one}
@@ -95,13 +95,13 @@ module _ (sets problem wanted : List ℕ) (e : ℕ) (row want asked : Words) (R 
   in-asked d l r u = M d l ∙ both-intro _ _ (R d l ∙ r) (W d l ∙ u)
 
   pub covered-and :
-      (a b own sum : Words) (answer : Bool) → kind_at problem e ≡ 3 → Same a sets (first_at problem e * 3) → Same b sets (inner_at problem e * 3) → Joined a b own
+      (i j : ℕ) (a b own sum : Words) (answer : Bool) → node problem e ≡ and_at i j → Same a sets (i * 3) → Same b sets (j * 3) → Joined a b own
       → Joined own asked sum → (answer ≡ true → sum ≡ own) → answer ≡ true → Covered sets problem (on_line wanted 0) e
   unfolding in_members
-  covered-and a b own sum answer k A B J S same t d l r u =
+  covered-and i j a b own sum answer k A B J S same t d l r u =
       let x : in_words sum d ≡ true = S.bits d l ∙ or-second _ _ (in-asked d l r u) in
       let y : in_words own d ≡ true = subst (λ (z : Words). in_words z d ≡ true) (same t) x in
-      subst (λ (n : Node). in_members sets n d ≡ true) (sym (node-and problem e k)) (sym (ap₂ or (A d l) (B d l)) ∙ sym (J.bits d l) ∙ y)
+      subst (λ (n : Node). in_members sets n d ≡ true) (sym k) (sym (ap₂ or (A d l) (B d l)) ∙ sym (J.bits d l) ∙ y)
 
   pub covered_none :
       (answer : Bool) → (answer ≡ true → asked ≡ record { first = 0; second = 0; third = 0 }) → answer ≡ true → Covered sets problem (on_line wanted 0) e
@@ -138,9 +138,6 @@ module _ (sets problem : List ℕ) (count at : ℕ) (wanted : List ℕ) (from : 
     pub within : e ≤ count
     pub quiet : (k : ℕ) → from ≤ k → k < e → is_closer problem k ≡ true → on_line sets at k ≡ false → Covered sets problem (on_line wanted 0) k
 
-  pub next-first : from ≤ count → NextTo from
-  next-first h = record { after = omega arith; within = h; quiet = λ k l u. absurd (omega arith) }
-
   module _ (e : ℕ) (answer : Bool) (T : NextTo e) (low : e < count) (N : NewAt sets problem at wanted e answer) where
     pub next_more : answer ≡ false → NextTo (e + 1)
     next_more h =
@@ -156,41 +153,28 @@ module _ (sets problem : List ℕ) (count at : ℕ) (wanted : List ℕ) (from : 
               (λ v. T.quiet k l v c f) (last-cases k e (omega arith));
         }
 
-    pub next-found : answer ≡ true → NextNew sets problem count at wanted from e
-    next-found h =
-        record { after = T.after; within = T.within; closer = λ _. N.closer h; fresh = λ _. N.fresh h; quiet = T.quiet }
-
-  pub next-none : (e : ℕ) → NextTo e → count ≤ e → NextNew sets problem count at wanted from count
-  next-none e T h =
-      record {
-        after = omega (arith, T.after, T.within);
-        within = omega arith;
-        closer = λ u. absurd (omega arith);
-        fresh = λ u. absurd (omega arith);
-        quiet = λ k l u c f. T.quiet k l (omega arith) c f;
-      }
-
 -- ---- keeping one
 module _ (problem : List ℕ) (at e : ℕ) (before after wanted : List ℕ) (I : Inserted before after at e) where
   pub kept_and :
-      (mid more : List ℕ) → kind_at problem e ≡ 3 → Inserted wanted mid 0 (first_at problem e) → Inserted mid more 0 (inner_at problem e)
+      (x y : ℕ) (mid more : List ℕ) → node problem e ≡ and_at x y → Inserted wanted mid 0 x → Inserted mid more 0 y
       → Kept problem at e before after wanted more
-  kept_and mid more k J L =
+  kept_and x y mid more k J L =
       record {
         filled = filled-one at e before after I;
         grew = grew_then wanted mid more (grew-one wanted mid _ J) (grew-one mid more _ L);
         members =
             λ i j n.
-            let (_, p, q) = and-node problem e i j n in
+            let p : x ≡ i = cc in
+            let q : y ≡ j = cc in
             (subst (λ (z : ℕ). on_line more 0 z ≡ true) p (L.kept 0 _ J.taken), subst (λ (z : ℕ). on_line more 0 z ≡ true) q L.taken);
       }
 
-  pub kept-other : (kind_at problem e ≡ 3 → ⊥) → Kept problem at e before after wanted wanted
+  pub kept-other : ((i j : ℕ) → node problem e ≡ and_at i j → ⊥) → Kept problem at e before after wanted wanted
   kept-other h =
       record {
         filled = filled-one at e before after I;
         grew = grew_none wanted;
-        members = λ i j n. absurd (h (and-node problem e i j n).0);
+        members = λ i j n. absurd (h i j n);
       }
 
 -- ---- how many are not kept
@@ -400,16 +384,6 @@ module _ (problem : List ℕ) (count : ℕ) (before : List ℕ) where
     pub rest : (m q : ℕ) → k ≤ m → m < 32 → q < 192 → on_line sets (closers_at m) q ≡ false
     pub there : Outside (closers_at 0) (closers_at 32) before sets
 
-  pub closers-none : NoClosers before → ClosersTo 0 before
-  closers-none n =
-      record {
-        within = omega arith;
-        long = refl;
-        done = λ m l. absurd (omega arith);
-        rest = λ m q l h u. n m q h u;
-        there = λ x q l o. refl;
-      }
-
   pub closers-more :
       (k : ℕ) (mid after : List ℕ) → Numbers problem → count ≤ 192 → k < question_count problem → ClosersTo k mid → ClosersNoted problem count k mid after
       → ClosersTo (k + 1) after
@@ -429,6 +403,3 @@ module _ (problem : List ℕ) (count : ℕ) (before : List ℕ) where
             λ x q l o.
             N.there x q l (⊎_elim (λ (u : x + 3 ≤ 2400). inl (omega arith)) (λ (u : 2496 ≤ x). inr (omega (arith, numbers.few))) o) ∙ C.there x q l o;
       }
-
-  pub closers-done : (k : ℕ) (sets : List ℕ) → question_count problem ≤ k → ClosersTo k sets → AllClosers problem count before sets
-  closers-done k sets h C = record { long = C.long; closers = λ m l. C.done m (omega arith); there = C.there }

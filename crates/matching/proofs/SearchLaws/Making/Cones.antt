@@ -16,7 +16,7 @@ use Rattle.subsumption.proofs.Nodes.{node-exists, node-and}
 use Rattle.square.specs.Inner.Square.{on_line}
 use Rattle.square.specs.Inner.Sets.{Inserted}
 use Rattle.matching.specs.Inner.Search.Problem.{cone_at, closers_at, held_at, left_at, right_at, question_count}
-use Rattle.matching.specs.Inner.Search.Making.{kind_at, first_at, Readable, Outside, Filled, held_id, held_inside, ConeOf, ConeNoted, NoCones, ConesNoted}
+use Rattle.matching.specs.Inner.Search.Making.{kind_at, first_at, Readable, Outside, Filled, held_id, held_inside, ConeOf, ConeNoted}
 use Rattle.matching.proofs.SearchLaws.Making.Filling.{filled_none, filled-as, filled-then, filled-one}
 
 -- ---- one id
@@ -81,26 +81,23 @@ module _ (problem : List ℕ) (i : ℕ) where
   second_below e h = (both_below e h).1
 
   module _ (at : ℕ) (a : List ℕ) where
-    pub inside-exists : (b : List ℕ) → kind_at problem i ≡ 2 → Filled at (held_id problem (get_or problem (i * 3 + 2) 0)) a b → Filled at (held_inside problem i) a b
+    pub inside-exists :
+        (r j : ℕ) (b : List ℕ) → node problem i ≡ exists_at r j → Filled at (held_id problem j) a b → Filled at (held_inside problem i) a b
     unfolding inside
-    inside-exists b e F =
-        filled-as at _ (held_inside problem i) a b (λ q. sym (ap (λ (n : Node). both (inside (eqb q) n) (held_at problem q)) (node-exists problem i e))) F
+    inside-exists r j b e F =
+        filled-as at _ (held_inside problem i) a b (λ q. sym (ap (λ (n : Node). both (inside (eqb q) n) (held_at problem q)) e)) F
 
     pub inside-and :
-        (b c : List ℕ) → kind_at problem i ≡ 3 → Filled at (held_id problem (first_at problem i)) a b → Filled at (held_id problem (get_or problem (i * 3 + 2) 0)) b c
+        (j k : ℕ) (b c : List ℕ) → node problem i ≡ and_at j k → Filled at (held_id problem j) a b → Filled at (held_id problem k) b c
         → Filled at (held_inside problem i) a c
     unfolding inside
-    inside-and b c e F G =
+    inside-and j k b c e F G =
         filled-as at _ (held_inside problem i) a c
-        (λ q.
-        both-or (eqb q (first_at problem i)) (eqb q (get_or problem (i * 3 + 2) 0)) (held_at problem q)
-        ∙ sym (ap (λ (n : Node). both (inside (eqb q) n) (held_at problem q)) (node-and problem i e)))
-        (filled-then at (held_id problem (first_at problem i)) (held_id problem (get_or problem (i * 3 + 2) 0)) a b c F G)
+        (λ q. both-or (eqb q j) (eqb q k) (held_at problem q) ∙ sym (ap (λ (n : Node). both (inside (eqb q) n) (held_at problem q)) e))
+        (filled-then at (held_id problem j) (held_id problem k) a b c F G)
 
-    pub inside-rest : (kind_at problem i ≡ 3 → ⊥) → (kind_at problem i ≡ 2 → ⊥) → Filled at (held_inside problem i) a a
-    unfolding node
-    inside-rest h3 h2 =
-        filled-as at (λ q. false) (held_inside problem i) a a (λ q. sym (both-none _ _ (none_inside (eqb q) _ _ _ h3 h2))) (filled_none at a)
+    pub inside-rest : ((q : ℕ) → inside (eqb q) (node problem i) ≡ false) → Filled at (held_inside problem i) a a
+    inside-rest h = filled-as at (λ q. false) (held_inside problem i) a a (λ q. sym (both-none _ _ (h q))) (filled_none at a)
 
 -- an inner id of an id of the numbers
 low-inside : (problem : List ℕ) (count i q : ℕ) → Readable problem count → i < count → held_inside problem i q ≡ true → q < i
@@ -119,21 +116,6 @@ module _ (problem : List ℕ) (count m : ℕ) (before : List ℕ) where
 
   module _ (R : Readable problem count) (asked : m < question_count problem) where
     module _ (i : ℕ) (mid : List ℕ) (C : ConeTo i mid) (low : 0 < i) where
-      pub cone-skip : on_line mid (cone_at m) (i - 1) ≡ false → ConeTo (i - 1) mid
-      cone-skip n =
-          record {
-            within = omega (arith, C.within);
-            long = C.long;
-            known = C.known;
-            left = C.left;
-            right = C.right;
-            inner =
-                λ k q l h e u.
-                ⊎_elim (λ (v : k ≡ i - 1). absurd (false≢true (sym n ∙ subst (λ (z : ℕ). on_line mid (cone_at m) z ≡ true) v e)))
-                (λ (v : k ≡ i - 1 → ⊥). C.inner k q (omega arith) h e u) (eq-or-ne k (i - 1));
-            there = C.there;
-          }
-
       module _ (after : List ℕ) (F : Filled (cone_at m) (held_inside problem (i - 1)) mid after) where
         stays : (k : ℕ) → k < 192 → on_line mid (cone_at m) k ≡ true → on_line after (cone_at m) k ≡ true
         stays k l e = F.here k l ∙ or-second _ _ e
@@ -204,14 +186,6 @@ module _ (problem : List ℕ) (count m : ℕ) (before mid start : List ℕ) (F :
           there = λ x q l o. refl;
         }
 
-  pub cone-done : (i : ℕ) (sets : List ℕ) → i ≤ 0 → ConeTo problem count m start i sets → ConeNoted problem count m before sets
-  cone-done i sets h C =
-      record {
-        long = C.long ∙ both-sides.long;
-        cone = record { known = C.known; left = C.left; right = C.right; inner = λ k q l e u. C.inner k q (omega arith) l e u };
-        there = λ x q l o. C.there x q l o ∙ both-sides.there x q l o;
-      }
-
 -- ---- all of them
 pub cone-same :
     (problem : List ℕ) (count m : ℕ) (a b : ℕ → Bool) → Readable problem count → m < question_count problem → ((q : ℕ) → q < 192 → b q ≡ a q)
@@ -235,16 +209,6 @@ module _ (problem : List ℕ) (count : ℕ) (before : List ℕ) where
     pub rest : (m q : ℕ) → k ≤ m → m < 32 → q < 192 → on_line sets (cone_at m) q ≡ false
     pub there : Outside (cone_at 0) (closers_at 0) before sets
 
-  pub cones-none : NoCones before → ConesTo 0 before
-  cones-none n =
-      record {
-        within = omega arith;
-        long = refl;
-        done = λ m l. absurd (omega arith);
-        rest = λ m q l h u. n m q h u;
-        there = λ x q l o. refl;
-      }
-
   pub cones-more :
       (k : ℕ) (mid after : List ℕ) → Readable problem count → k < question_count problem → ConesTo k mid → ConeNoted problem count k mid after → ConesTo (k + 1) after
   cones-more k mid after R asked C N =
@@ -265,6 +229,3 @@ module _ (problem : List ℕ) (count : ℕ) (before : List ℕ) where
             (⊎_elim (λ (u : x + 3 ≤ 2304). inl (omega arith)) (λ (u : 2400 ≤ x). inr (omega (arith, R.few-questions))) o)
             ∙ C.there x q l o;
       }
-
-  pub cones-done : (k : ℕ) (sets : List ℕ) → question_count problem ≤ k → ConesTo k sets → ConesNoted problem count before sets
-  cones-done k sets h C = record { long = C.long; cones = λ m l. C.done m (omega arith); there = C.there }

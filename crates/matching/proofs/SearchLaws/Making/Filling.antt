@@ -14,7 +14,7 @@ use Rattle.subsumption.proofs.Bools.{or-first, or-second, or-skip, or_cases, bot
 use Rattle.square.specs.Inner.Square.{on_line}
 use Rattle.square.specs.Inner.Sets.{Inserted}
 use Rattle.matching.specs.Inner.Search.Problem.{fit_at, counting}
-use Rattle.matching.specs.Inner.Search.Making.{kind_at, first_at, Outside, Filled, fits_by, is_open_at, fits_in, FitsNoted, is_closer}
+use Rattle.matching.specs.Inner.Search.Making.{kind_at, first_at, Outside, Filled, fits_by, is_open_at, fits_in, is_closer}
 
 -- ---- one line
 or_assoc : (a b c : Bool) → or a (or b c) ≡ or (or a b) c
@@ -122,10 +122,6 @@ module _ (problem : List ℕ) (e : ℕ) where
         ∙ sym (both-skip _ _ (eq-eqb _ 2 h) ∙ both-skip _ _ (ap not (ne_eqb _ 1 n)))
 
 -- ---- the lines of the existentials that fit
-pub fit-room : (right : Bool) (j : ℕ) → j < 192 → fit_at right j + 3 ≤ 2304
-fit-room true j l = omega arith
-fit-room false j l = omega arith
-
 fits-apart : (right : Bool) (j k : ℕ) → j < k → fit_at right j + 3 ≤ fit_at right k
 fits-apart true j k l = omega arith
 fits-apart false j k l = omega arith
@@ -142,16 +138,6 @@ module _ (problem into : List ℕ) (count : ℕ) (right : Bool) (before : List �
         (j q : ℕ) → j < k → q < 192 → on_line after (fit_at right j) q ≡ or (fits_in problem into count right j q) (on_line before (fit_at right j) q)
     pub rest : (j q : ℕ) → k ≤ j → j < 192 → q < 192 → on_line after (fit_at right j) q ≡ on_line before (fit_at right j) q
     pub there : Outside (fit_at right 0) (fit_at right 192) before after
-
-  pub fits-none : FitsTo 0 before
-  fits-none =
-      record {
-        within = omega arith;
-        long = refl;
-        done = λ j q l h. absurd (omega arith);
-        rest = λ j q l h m. refl;
-        there = λ x q l o. refl;
-      }
 
   module _ (k : ℕ) (mid : List ℕ) (few : count ≤ 192) (F : FitsTo k mid) (low : k < count) where
     pub fits-skip : is_open_at problem k ≡ false → FitsTo (k + 1) mid
@@ -199,9 +185,6 @@ module _ (problem into : List ℕ) (count : ℕ) (right : Bool) (before : List �
                 (λ (u : fit_at right 192 ≤ x). inr (omega (arith, (fits-inside right k (omega arith)).1))) o)
                 ∙ F.there x q l o;
           }
-
-  pub fits-done : (k : ℕ) (after : List ℕ) → count ≤ k → FitsTo k after → FitsNoted problem into count right before after
-  fits-done k after h F = record { long = F.long; here = λ j q l m. F.done j q (omega arith) m; there = F.there }
 
 pub open-held : (problem : List ℕ) (j : ℕ) → kind_at problem j ≡ 2 → get_or problem (576 + j) 0 ≡ 1 → is_open_at problem j ≡ true
 unfolding is_open_at

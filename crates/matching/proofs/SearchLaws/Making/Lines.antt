@@ -9,9 +9,8 @@ use lib.Pow.{pow_pos}
 use lib.ListN.{length, get_or, take, replicate, get_or-replicate}
 use lib.Seq.{length-take-le, get_or-take}
 use borrow.Author.Tests.{lt-ltb}
-use Rattle.subsumption.specs.declared.refusal.Outcome.TheVariants.{Done}
 use Rattle.subsumption.specs.declared.refusal.Refusal.TheVariants.{BadAssignment}
-use Rattle.subsumption.specs.Refusal.{Reply}
+use Rattle.subsumption.specs.Refusal.{Reply, Done}
 use Rattle.subsumption.specs.Tables.{Tables, count_of}
 use Rattle.subsumption.specs.Atoms.{atoms}
 use Rattle.subsumption.specs.Check.{table_fault, assignment_fault, buffer_fault}

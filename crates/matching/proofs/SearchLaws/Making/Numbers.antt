@@ -2,18 +2,17 @@
 use Prim.Native.Nat.{ℕ, zero, suc, ◌+◌, ◌*◌, ◌/◌, ◌<◌, ◌≤◌}
 use mathlib.Core.Path.{◌≡◌, refl, sym, ap, ◌∙◌, subst}
 use mathlib.Core.List.{List, Memᴰ}
-use mathlib.Core.Bool.{Bool, true, false, true≢false}
+use mathlib.Core.Bool.{Bool, false, true≢false}
 use mathlib.Core.Logic.{◌⊎◌, inl, inr, ⊎_elim}
 use native.Mathlib.Omega.{arith}
 use lib.Dec.{eqb}
 use lib.ListN.{length, get_or, set, length-set, replicate, get_or-replicate}
 use lib.Seq.{get_or-set_same, get_or-set_other}
-use mir.Val.{bool_byte}
 use borrow.Author.Tests.{eqb-true, not-false}
 use Rattle.subsumption.specs.Tables.{Tables, node, decode, count_of, pairs_of, left_of, right_of}
 use Rattle.subsumption.specs.Check.{malformed_row, malformed, malformed_fault, concept_fault}
 use Rattle.subsumption.specs.Inner.Tables.{Rising}
-use Rattle.subsumption.specs.Inner.Atoms.{Layered, mark_at, VariableMarks}
+use Rattle.subsumption.specs.Inner.Atoms.{Layered, mark_at}
 use Rattle.subsumption.specs.Inner.Listing.{Accepted}
 use Rattle.subsumption.proofs.Bools.{or-false, le-or-lt, eq-or-ne}
 use Rattle.subsumption.proofs.Refusals.{passed_first, passed-second, passed-at}
@@ -65,10 +64,6 @@ module _ (from : List ℕ) (at : ℕ) (before : List ℕ) where
       }
 
 -- ---- which ids hold a variable
-byte-held : (b : Bool) → eqb (bool_byte b) 1 ≡ b
-byte-held true = refl
-byte-held false = refl
-
 module _ (marks : List Bool) (before : List ℕ) where
   pub record HeldTo (n : ℕ) (after : List ℕ) : Type 0 where
     pub within : n ≤ 192
@@ -78,50 +73,6 @@ module _ (marks : List Bool) (before : List ℕ) where
 
   pub held_none : HeldTo 0 before
   held_none = record { within = omega arith; long = refl; here = λ i l. absurd (omega arith); there = λ p o. refl }
-
-  pub held_more :
-      (n : ℕ) (after : List ℕ) → length before ≡ 971 → n < 192 → HeldTo n after → HeldTo (n + 1) (set after (576 + n) (bool_byte (get_or marks n false)))
-  held_more n after h l C =
-      record {
-        within = omega arith;
-        long = length-set after (576 + n) _ ∙ C.long;
-        here =
-            λ i m.
-            ⊎_elim
-            (λ (u : i ≡ n).
-            ap (λ (z : ℕ). eqb (get_or (set after (576 + n) (bool_byte (get_or marks n false))) (576 + z) 0) 1) u
-            ∙ ap (λ (z : ℕ). eqb z 1) (get_or-set_same after (576 + n) (bool_byte (get_or marks n false)) 0 (omega (arith, C.long)))
-            ∙ byte-held (get_or marks n false) ∙ ap (λ (z : ℕ). get_or marks z false) (sym u))
-            (λ (u : i ≡ n → ⊥).
-            ap (λ (z : ℕ). eqb z 1) (get_or-set_other after (576 + n) (576 + i) (bool_byte (get_or marks n false)) 0 (λ y. u (omega arith)))
-            ∙ C.here i (omega arith))
-            (eq-or-ne i n);
-        there =
-            λ p o.
-            ⊎_elim (λ (u : p < 576). get_or-set_other after (576 + n) p _ 0 (λ y. omega arith) ∙ C.there p (inl u))
-            (λ (u : 576 + (n + 1) ≤ p). get_or-set_other after (576 + n) p _ 0 (λ y. omega arith) ∙ C.there p (inr (omega arith))) o;
-      }
-
-  pub held-done :
-      (concepts : List ℕ) (n : ℕ) (after : List ℕ) → count_of concepts ≤ 192 → 192 ≤ n → VariableMarks concepts marks → HeldTo n after
-      → HeldNoted concepts before after
-  held-done concepts n after few h M C =
-      record {
-        long = C.long;
-        here = λ i l. C.here i (omega arith) ∙ M.holds i l;
-        there = λ p o. C.there p (⊎_elim (λ u. inl u) (λ (u : 768 ≤ p). inr (omega (arith, C.within))) o);
-      }
-
--- ---- the hints stand behind all that is read
-pub hints-none : (problem : List ℕ) → HintsNoted problem problem
-hints-none problem = record { long = refl; front = λ p l. refl }
-
-pub hints-more : (before after : List ℕ) (at value : ℕ) → HintsNoted before after → HintsNoted before (set after (899 + at) value)
-hints-more before after at value H =
-    record {
-      long = length-set after (899 + at) value ∙ H.long;
-      front = λ p l. get_or-set_other after (899 + at) p value 0 (λ y. omega arith) ∙ H.front p l;
-    }
 
 -- ---- all numbers
 module _ (concepts questions ids c0 c1 c2 c3 c4 c6 : List ℕ) (few : count_of concepts ≤ 192) (short : length concepts ≤ 576) (few-questions : length questions ≤ 64)

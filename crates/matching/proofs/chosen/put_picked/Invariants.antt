@@ -1,4 +1,3 @@
-use Prim.Native.Nat.{◌-◌}
 use mathlib.Core.Path.{◌≡◌}
 use lib.ListN.{length}
 use Rattle.matching.proofs.ChosenLaws.Picked.{Writing}
@@ -6,6 +5,3 @@ use Rattle.matching.proofs.chosen.put_picked.Given as goal
 
 abbrev pub invariant-loop-listed : goal.invariant-loop-listed
 invariant-loop-listed l = (length l.out ≡ length l.initial.out) × Writing l.ids l.choice l.initial.out l.out l.rest l.listed
-
-abbrev pub decreases-loop-listed : goal.decreases-loop-listed
-decreases-loop-listed l = l.count - l.listed

@@ -1,4 +1,4 @@
-use Prim.Native.Nat.{◌≤◌, ◌-◌}
+use Prim.Native.Nat.{◌≤◌}
 use mathlib.Core.Path.{◌≡◌}
 use lib.ListN.{length}
 use Rattle.subsumption.specs.Tables.{count_of}
@@ -9,6 +9,3 @@ use Rattle.matching.proofs.derivation.check_lines.Given as goal
 
 abbrev pub invariant-loop-k : goal.invariant-loop-k
 invariant-loop-k l = (l.k ≤ lines_of l.lines) × ((length l.marks ≡ length l.initial.marks) × (MarksOf (count_of l.concepts) l.marks l.lines l.k × Passed l.concepts l.inclusions l.into l.atoms l.assignment l.lines l.k))
-
-abbrev pub decreases-loop-k : goal.decreases-loop-k
-decreases-loop-k l = lines_of l.lines - l.k

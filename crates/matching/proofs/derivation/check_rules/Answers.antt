@@ -14,4 +14,4 @@ pub slice_bounds-check_lines-end : goal.slice_bounds-check_lines-end
 slice_bounds-check_lines-end c = sym (empty-square _ c.requires.ready.few).long
 
 pub check_lines-requires : goal.check_lines-requires
-check_lines-requires c = record { ready = c.requires.ready; into_len = c.requires.into_len; marks_of = marks-none _ _ _ (empty-square _ c.requires.ready.few) (λ i j. empty-seen _ i j c.requires.ready.few) }
+check_lines-requires c = record { ready = c.requires.ready; marks_of = marks-none _ _ _ (empty-square _ c.requires.ready.few) (λ i j. empty-seen _ i j c.requires.ready.few) }

@@ -8,7 +8,7 @@ pub returns-then-count-right : goal.returns-then-count-right
 returns-then-count-right c = line-right _ _ _ _ _ c.args.marks.now _ _ c.requires.ready c.requires.marks_of _ c.number_at-right.ensures c.if-count-right.true
 
 pub by_rule-requires : goal.by_rule-requires
-by_rule-requires c = record { ready = c.requires.ready; into_len = c.requires.into_len; square = c.requires.marks_of.square; left_bound = (c.if-count-left.false, c.if-count-right.false) }
+by_rule-requires c = record { ready = c.requires.ready; square = c.requires.marks_of.square; left_bound = (c.if-count-left.false, c.if-count-right.false) }
 
 pub returns : goal.returns
 returns c = line-rule _ _ _ _ _ c.args.marks.now _ _ c.requires.ready c.requires.marks_of _ _ _ _ _ c.number_at-rule.ensures c.number_at-left.ensures c.number_at-right.ensures c.number_at-extra.ensures c.if-count-left.false c.if-count-right.false c.by_rule.ensures

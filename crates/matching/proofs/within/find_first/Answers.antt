@@ -22,4 +22,9 @@ pub search-requires : goal.search-requires
 search-requires c = record { shaped = shaped-kept _ _ (written-front _ _ _ _ _ c.put_counts.ensures c.put_asked.ensures) _ (written-long _ _ _ _ _ c.put_counts.ensures c.put_asked.ensures) c.make_problem.ensures.shaped; permitted_len = c.load_permitted-high.ensures.long }
 
 pub returns : goal.returns
-returns c = found_among _ _ c.requires.largest_value _ c.load_permitted-high.ensures c.requires.accepted.passed _ _ _ _ c.put_counts.ensures c.put_asked.ensures c.search.result.found _ (c.search.ensures _ (problem-kept _ _ (written-front _ _ _ _ _ c.put_counts.ensures c.put_asked.ensures) _ _ c.make_problem.ensures.problem) (loaded-accepted _ _ c.requires.largest_value _ c.load_permitted-high.ensures c.requires.accepted.passed) (loaded-idle _ _ c.requires.largest_value _ c.load_permitted-high.ensures))
+returns c =
+    found_among _ _ c.requires.largest_value _ c.load_permitted-high.ensures c.requires.accepted.passed _ _ _ _ c.put_counts.ensures
+    c.put_asked.ensures _ (c.search.ensures _ (problem-kept _ _
+    (written-front _ _ _ _ _ c.put_counts.ensures c.put_asked.ensures) _ _ c.make_problem.ensures.problem)
+    (loaded-accepted _ _ c.requires.largest_value _ c.load_permitted-high.ensures c.requires.accepted.passed)
+    (loaded-idle _ _ c.requires.largest_value _ c.load_permitted-high.ensures))

@@ -9,8 +9,12 @@ returns-then-out-count c = buffer-refuses _ _ _ c.args.out.now c.requires.accept
 pub write_choice-requires : goal.write_choice-requires
 write_choice-requires c = record { count_bound = (well_formed _ c.requires.accepted.passed).few-variables; count_in_bounds = c.if-out-count.false }
 
-pub returns-then-first : goal.returns-then-first
-returns-then-first c = finds-filled _ _ _ _ _ c.requires.accepted.passed c.requires.largest_value c.if-out-count.false c.find_first-first.result.found _ c.find_first-first.ensures c.if-first.true c.write_choice.ensures
-
 pub returns : goal.returns
-returns c = finds-nothing _ _ _ c.args.out.now _ c.requires.accepted.passed c.requires.largest_value c.if-out-count.false c.find_first-first.result.found c.find_first-first.result.choice c.find_first-first.ensures c.if-first.false refl
+returns c =
+    finds-filled _ _ _ _ _ c.requires.accepted.passed c.requires.largest_value c.if-out-count.false _ c.in-Some.ensures
+    c.write_choice.ensures
+
+pub returns-in_default : goal.returns-in_default
+returns-in_default c =
+    finds-nothing _ _ _ c.args.out.now _ c.requires.accepted.passed c.requires.largest_value c.if-out-count.false c.in_default.ensures
+    refl

@@ -1,9 +1,5 @@
-use Prim.Native.Nat.{◌-◌}
 use Rattle.matching.proofs.WithinLaws.{AskedTo}
 use Rattle.matching.proofs.within.put_asked.Given as goal
 
 abbrev pub invariant-loop-m : goal.invariant-loop-m
 invariant-loop-m l = AskedTo l.wanted l.initial.problem l.problem l.m
-
-abbrev pub decreases-loop-m : goal.decreases-loop-m
-decreases-loop-m l = 32 - l.m

@@ -15,7 +15,7 @@ pub slice_bounds-write_lines-end : goal.slice_bounds-write_lines-end
 slice_bounds-write_lines-end c = sym (blank-marks _ c.requires.grounds.ready.few).square.long
 
 pub write_lines-requires : goal.write_lines-requires
-write_lines-requires c = record { grounds = c.requires.grounds; into_len = c.requires.into_len; asked = c.requires.asked; blank = blank-marks _ c.requires.grounds.ready.few; concepts_in_bounds = c.requires.concepts_in_bounds }
+write_lines-requires c = record { grounds = c.requires.grounds; asked = c.requires.asked; blank = blank-marks _ c.requires.grounds.ready.few; concepts_in_bounds = c.requires.concepts_in_bounds }
 
 pub returns : goal.returns
 returns c = lines-written _ _ _ _ _ _ _ _ _ _ _ c.requires.grounds c.requires.concepts_in_bounds c.write_lines.ensures.written_to c.write_lines.ensures.rest_kept

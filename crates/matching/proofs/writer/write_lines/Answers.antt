@@ -5,7 +5,7 @@ use Rattle.matching.proofs.writer.write_lines.Goals as goal
 
 -- src/writer.rt:227:9
 pub write_proposed-n-requires : goal.write_proposed-n-requires
-write_proposed-n-requires c = record { grounds = c.requires.grounds; into_len = c.requires.into_len; left_bound = (c.requires.asked.left-known, c.requires.asked.right-known); blank = c.requires.blank; concepts_in_bounds = c.requires.concepts_in_bounds }
+write_proposed-n-requires c = record { grounds = c.requires.grounds; left_bound = (c.requires.asked.left-known, c.requires.asked.right-known); blank = c.requires.blank; concepts_in_bounds = c.requires.concepts_in_bounds }
 
 -- src/writer.rt:239:9
 pub returns-then-has_mark : goal.returns-then-has_mark
@@ -13,7 +13,7 @@ returns-then-has_mark c = record { written_to = c.write_proposed-n.ensures.begun
 
 -- src/writer.rt:241:5
 pub write_more-requires : goal.write_more-requires
-write_more-requires c = record { grounds = c.requires.grounds; into_len = c.requires.into_len; asked = c.requires.asked; written = c.write_proposed-n.ensures.begun.written; right_value = sym c.has_mark.ensures ∙ c.if-has_mark.false; concepts_in_bounds = omega (arith, c.requires.concepts_in_bounds) }
+write_more-requires c = record { grounds = c.requires.grounds; asked = c.requires.asked; written = c.write_proposed-n.ensures.begun.written; right_value = sym c.has_mark.ensures ∙ c.if-has_mark.false; concepts_in_bounds = omega (arith, c.requires.concepts_in_bounds) }
 
 -- src/writer.rt:208:1
 pub returns : goal.returns

@@ -1,4 +1,3 @@
-use Prim.Native.Nat.{◌-◌}
 use mathlib.Core.Path.{◌≡◌}
 use mathlib.Core.Bool.{false}
 use lib.ListN.{length}
@@ -9,6 +8,3 @@ use Rattle.matching.proofs.writer.write_tested.Given as goal
 
 abbrev pub invariant-loop-k : goal.invariant-loop-k
 invariant-loop-k l = (length l.marks ≡ length l.initial.marks) × (RestKept l.initial.out l.out 0 l.n × (Written l.concepts l.inclusions l.into l.atoms l.assignment l.marks l.out l.n × (seen (count_of l.concepts) l.marks l.left l.right ≡ false)))
-
-abbrev pub decreases-loop-k : goal.decreases-loop-k
-decreases-loop-k l = l.end - l.k

@@ -1,10 +1,8 @@
 -- What an interval of assignments is, and what picking an undecided pair of it promises.
-use Rattle.std.specs.Prelude.{ℕ, ◌<◌, ◌≤◌, ◌/◌, ◌%◌, ◌≡◌, List, Bool, true, false, not, length, take}
-use Rattle.subsumption.specs.declared.refusal.Outcome.TheVariants.{Done}
+use Rattle.subsumption.specs.Refusal.{Done}
+use Rattle.std.specs.Prelude.{ℕ, ◌<◌, ◌≤◌, ◌/◌, ◌%◌, ◌≡◌, List, Bool, true, false, not, length, take, Option, Some, None}
 use Rattle.subsumption.specs.Tables.{Tables, both}
 use Rattle.subsumption.specs.Check.{assignment_fault}
-use Rattle.matching.specs.declared.search.interval.Pick.{Pick}
-use Rattle.matching.specs.declared.search.interval.Pick.TheVariants.{At, Nothing}
 use Rattle.subsumption.specs.Table.{counted}
 use Rattle.matching.specs.Solving.{takes}
 use Rattle.matching.specs.Inner.Search.{Within}
@@ -26,6 +24,6 @@ unfoldable pub open_pairs : List ℕ → List ℕ → ℕ
 open_pairs low high = counted (undecided low high) 512
 
 -- The first pair that may be taken or left, if there is one.
-abbrev pub Picked : List ℕ → List ℕ → Pick → Type 0
-Picked low high (At p) = (p < 512) × (undecided low high p ≡ true)
-Picked low high Nothing = (p : ℕ) → p < 512 → undecided low high p ≡ false
+abbrev pub Picked : List ℕ → List ℕ → Option ℕ → Type 0
+Picked low high (Some p) = (p < 512) × (undecided low high p ≡ true)
+Picked low high None = (p : ℕ) → p < 512 → undecided low high p ≡ false

@@ -1,8 +1,9 @@
 -- What counting needs promises (src/search/needs.rt).
-use Rattle.std.specs.Prelude.{ℕ, ◌≡◌, List, Bool, true, false, ◌⊎◌, length}
+use Rattle.std.specs.Prelude.{ℕ, ◌≡◌, List, true, false, ◌⊎◌, length, Option, Some, None}
 use Rattle.subsumption.specs.Tables.{Tables, or, both}
 use Rattle.subsumption.specs.Atoms.{bit}
 use Rattle.matching.specs.Solving.{takes}
+use Rattle.matching.specs.declared.search.interval.Interval.{Interval}
 use Rattle.matching.specs.Inner.Search.{Within}
 use Rattle.matching.specs.Inner.Search.Interval.{IntervalOf}
 use Rattle.matching.specs.Inner.Search.Nogoods.{low_at, high_at, Nogoods}
@@ -24,7 +25,11 @@ pub record Kept (allowed above high fewer : List ℕ) : Type 0 where
   pub bits : (k q : ℕ) → takes fewer k q ≡ both (takes allowed k q) (or (takes above k q) (takes high k q))
 
 -- Where more is wanted than the largest count, the interval around holds no solution.
-abbrev pub WantedOver : List ℕ → List ℕ → List ℕ → List ℕ → List ℕ → Bool → List ℕ → List ℕ → Type 0
-WantedOver problem store full low high true low₁ high₁ =
+abbrev pub Overdrawn : List ℕ → List ℕ → List ℕ → List ℕ → List ℕ → List ℕ → List ℕ → Type 0
+Overdrawn problem store full low high low₁ high₁ =
     (t : Tables) → IntervalOf t low high → IntervalOf t high full → Nogoods t problem store → Refuted t problem low high low₁ high₁
-WantedOver problem store full low high false low₁ high₁ = Unit {0}
+
+abbrev pub WantedOver : List ℕ → List ℕ → List ℕ → List ℕ → List ℕ → Option Interval → Type 0
+WantedOver problem store full low high (Some n) =
+    ((length n.low ≡ 8) × (length n.high ≡ 8)) × Overdrawn problem store full low high n.low n.high
+WantedOver problem store full low high None = Unit {0}

@@ -1,6 +1,6 @@
 -- What the walk to the first solution promises.
+use Rattle.subsumption.specs.Refusal.{Done}
 use Rattle.std.specs.Prelude.{ℕ, ◌≡◌, List, ◌⊎◌, take}
-use Rattle.subsumption.specs.declared.refusal.Outcome.TheVariants.{Done}
 use Rattle.subsumption.specs.Tables.{Tables}
 use Rattle.subsumption.specs.Check.{assignment_fault}
 use Rattle.matching.specs.Solving.{Earlier}

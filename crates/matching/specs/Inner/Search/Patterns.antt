@@ -1,6 +1,6 @@
 -- What the values of a pattern and the test of a question promise (src/search/patterns.rt).
+use Rattle.subsumption.specs.Refusal.{Done}
 use Rattle.std.specs.Prelude.{ℕ, ◌*◌, ◌<◌, ◌≡◌, List, Bool, true, false, ◌↔◌, take}
-use Rattle.subsumption.specs.declared.refusal.Outcome.TheVariants.{Done}
 use Rattle.subsumption.specs.Tables.{Tables, Node, top_at, name_at, exists_at, and_at, var_at, node, count_of, pairs_of, tree, has_variable}
 use Rattle.subsumption.specs.Atoms.{bit}
 use Rattle.subsumption.specs.Subsumption.{Subsumed}

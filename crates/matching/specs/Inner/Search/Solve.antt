@@ -1,15 +1,19 @@
 -- What the steps of the search promise.
-use Rattle.std.specs.Prelude.{ℕ, ◌<◌, ◌≤◌, ◌≡◌, List, Bool, true, false, length, take}
-use Rattle.subsumption.specs.declared.refusal.Outcome.TheVariants.{Done}
+use Rattle.subsumption.specs.Refusal.{Done}
+use Rattle.std.specs.Prelude.{ℕ, ◌<◌, ◌≤◌, ◌≡◌, List, Bool, true, false, length, take, Option, Some, None}
 use Rattle.subsumption.specs.Tables.{Tables, pairs_of, right_of, tree, has_variable}
 use Rattle.subsumption.specs.Check.{assignment_fault}
+use Rattle.matching.specs.declared.search.interval.Interval.{Interval}
+use Rattle.matching.specs.declared.search.solve.Answer.{Answer}
+use Rattle.matching.specs.declared.search.solve.Answer.TheVariants.{Solution, Nogood}
 use Rattle.matching.specs.declared.search.solve.Step.{Step}
+use Rattle.matching.specs.declared.search.solve.Step.TheVariants.{Answered, Splits}
 use Rattle.matching.specs.Among.{SolvesAmong}
 use Rattle.matching.specs.Inner.Search.{HoldsAt, Within, SolutionIn, NoSolution}
 use Rattle.matching.specs.Inner.Search.Problem.{Problem, AskedAt}
 use Rattle.matching.specs.Inner.Search.Pairs.{Changed, Joined, Met}
 use Rattle.matching.specs.Inner.Search.Interval.{IntervalOf, undecided}
-use Rattle.matching.specs.Inner.Search.Nogoods.{used, low_at, high_at, Nogoods, Room}
+use Rattle.matching.specs.Inner.Search.Nogoods.{used, low_at, high_at, Nogoods}
 
 -- The first question of a kind that fails under the assignment, or the number of questions if all of the kind hold.
 pub record FirstFailing (t : Tables) (assignment : List ℕ) (kind : ℕ → Type 0) (m : ℕ) : Type 0 where
@@ -55,9 +59,14 @@ RefutedBy sets problem full low m low₁ high₁ =
     → Refuted t problem low low low₁ high₁
 
 -- A search's answer names no order: a solution between, or an interval around that holds none.
-abbrev pub Answers : Tables → List ℕ → List ℕ → List ℕ → Bool → List ℕ → List ℕ → Type 0
-Answers t problem low high true choice rest = SolutionIn t problem low high choice
-Answers t problem low high false low₁ high₁ = Refuted t problem low high low₁ high₁
+abbrev pub Answers : Tables → List ℕ → List ℕ → List ℕ → Answer → Type 0
+Answers t problem low high (Solution choice) = SolutionIn t problem low high choice
+Answers t problem low high (Nogood n) = Refuted t problem low high n.low n.high
+
+-- It is eight numbers a side, whatever the tables.
+abbrev pub Long : Answer → Type 0
+Long (Solution choice) = length choice ≡ 8
+Long (Nogood n) = (length n.low ≡ 8) × (length n.high ≡ 8)
 
 -- What a search in an interval gives of whatever tables the sets and numbers are: nogoods stay nogoods.
 abbrev pub Searched : List ℕ → List ℕ → List ℕ → List ℕ → List ℕ → List ℕ → List ℕ → (Tables → Type 0) → Type 0
@@ -65,14 +74,12 @@ Searched sets problem full low high before after Given =
     (t : Tables) → Problem t sets problem → IntervalOf t low high → IntervalOf t high full → Nogoods t problem before → Given t
     × Nogoods t problem after
 
--- What a step of it gives: an answer where it is done, else a pair of the interval that is not decided; what is kept stays in its room.
+-- What a step of it gives: an answer, or a pair of the interval that is not decided.
 abbrev pub Stepped : List ℕ → List ℕ → List ℕ → List ℕ → List ℕ → List ℕ → List ℕ → Step → Type 0
-Stepped sets problem full low high before after step =
-    ((length step.low ≡ 8) × (length step.high ≡ 8))
-    × (Room after
-    × ((step.done ≡ false → (step.pair < 512) × (undecided low high step.pair ≡ true))
-    × Searched sets problem full low high before after
-    (λ t. step.done ≡ true → Answers t problem low high step.found step.low step.high)))
+Stepped sets problem full low high before after (Answered answer) =
+    Long answer × Searched sets problem full low high before after (λ t. Answers t problem low high answer)
+Stepped sets problem full low high before after (Splits split) =
+    ((split.pair < 512) × (undecided low high split.pair ≡ true)) × Searched sets problem full low high before after (λ t. Unit {0})
 
 abbrev pub CanSplit : List ℕ → List ℕ → ℕ → Bool → Type 0
 CanSplit low high pair true = (pair < 512) × (undecided low high pair ≡ true)
@@ -87,15 +94,24 @@ pub record Merged (low₁ high₁ low₂ high₂ : List ℕ) (k q : ℕ) (low hi
   pub joined : Joined fewer low₂ low
   pub met : Met high₁ more high
 
--- An interval around that is kept among the nogoods.
-pub record Known (store low high low₁ high₁ : List ℕ) : Type 0 where
+-- An interval that is kept among the nogoods.
+pub record Known (store low₁ high₁ : List ℕ) : Type 0 where
   pub place : ℕ
   pub kept : place < used store
   pub low-here : low₁ ≡ low_at store place
   pub high-here : high₁ ≡ high_at store place
+  pub low-long : length low₁ ≡ 8
+  pub high-long : length high₁ ≡ 8
+
+abbrev pub Recalled : List ℕ → Option Interval → Type 0
+Recalled store (Some n) = Known store n.low n.high
+Recalled store None = Unit {0}
+
+-- The other interval is around.
+pub record Around (low high low₁ high₁ : List ℕ) : Type 0 where
   pub above : Within low₁ low
   pub below : Within high high₁
 
-abbrev pub Recalled : List ℕ → List ℕ → List ℕ → Bool → List ℕ → List ℕ → Type 0
-Recalled store low high true low₁ high₁ = Known store low high low₁ high₁
-Recalled store low high false low₁ high₁ = Unit {0}
+abbrev pub Shutting : List ℕ → List ℕ → List ℕ → List ℕ → Bool → Type 0
+Shutting low high low₁ high₁ true = Around low high low₁ high₁
+Shutting low high low₁ high₁ false = Unit {0}

@@ -1,13 +1,8 @@
 -- What the search for a line promises: a pair that follows from marked pairs, with its rule and extra.
-use Rattle.std.specs.Prelude.{ℕ, ◌+◌, ◌*◌, ◌<◌, ◌≤◌, ◌≡◌, List, Bool, true, false}
+use Rattle.std.specs.Prelude.{ℕ, ◌+◌, ◌*◌, ◌<◌, ◌≤◌, ◌≡◌, List, Bool, true, false, Option, Some, None}
 use Rattle.subsumption.specs.Tables.{Tables, count_of}
 use Rattle.subsumption.specs.Rules.{by_rule}
-use Rattle.matching.specs.declared.writer.explain.Extra.{Extra}
-use Rattle.matching.specs.declared.writer.explain.Extra.TheVariants.{At, None}
-use Rattle.matching.specs.declared.writer.explain.Why.{Why}
-use Rattle.matching.specs.declared.writer.explain.Why.TheVariants.{By, Unknown}
-use Rattle.matching.specs.declared.writer.explain.Next.{Next}
-use Rattle.matching.specs.declared.writer.explain.Next.TheVariants.{Line, Nothing}
+use Rattle.matching.specs.declared.writer.explain.Line.{Line}
 use Rattle.matching.specs.Inner.Derivation.{seen, Of, ByRule}
 
 -- the rule takes no extra from the bound on
@@ -55,22 +50,22 @@ module _ (concepts inclusions into ids assignment : List ℕ) (marks : List Bool
     pub fresh : seen (count_of concepts) marks left right ≡ false
     pub gives : Gives rule left right extra
 
-  abbrev pub Tried : ℕ → ℕ → ℕ → Extra → Type 0
-  Tried rule left right (At extra) = Gives rule left right extra
+  abbrev pub Tried : ℕ → ℕ → ℕ → Option ℕ → Type 0
+  Tried rule left right (Some extra) = Gives rule left right extra
   Tried rule left right None =
       (t : Tables) → Of t concepts inclusions into ids → (extra : ℕ)
       → by_rule t assignment (seen (count_of concepts) marks) rule left right extra ≡ false
 
-  abbrev pub Explained : ℕ → ℕ → Why → Type 0
-  Explained left right (By rule extra) = Gives rule left right extra
-  Explained left right Unknown =
+  abbrev pub Explained : ℕ → ℕ → Option (ℕ × ℕ) → Type 0
+  Explained left right (Some by) = Gives by.0 left right by.1
+  Explained left right None =
       (t : Tables) → Of t concepts inclusions into ids → (rule extra : ℕ)
       → by_rule t assignment (seen (count_of concepts) marks) rule left right extra ≡ false
 
-  abbrev pub Tested : Next → Type 0
-  Tested (Line rule left right extra) = New rule left right extra
-  Tested Nothing = Unit {0}
+  abbrev pub Tested : Option Line → Type 0
+  Tested (Some line) = New line.rule line.left line.right line.extra
+  Tested None = Unit {0}
 
-  abbrev pub Found : ℕ → Next → Type 0
-  Found from (Line rule left right extra) = New rule left right extra
-  Found from Nothing = QuietFrom from (count_of concepts * count_of concepts)
+  abbrev pub Found : ℕ → Option Line → Type 0
+  Found from (Some line) = New line.rule line.left line.right line.extra
+  Found from None = QuietFrom from (count_of concepts * count_of concepts)

@@ -1,5 +1,6 @@
 use native.Mathlib.Omega.{arith}
-use mathlib.Core.Path.{sym, ◌∙◌}
+use mathlib.Core.Path.{◌≡◌, sym, ◌∙◌}
+use lib.ListN.{length}
 use Rattle.numerals.proofs.ReadingLaws.{digit-right, counted_none, counted-end, counted-wrong, counted-more}
 use Rattle.numerals.proofs.reading.read_run.Goals as goal
 
@@ -22,4 +23,6 @@ pub loop-n-preserved : goal.loop-n-preserved
 loop-n-preserved c = search counted-more
 
 pub returns : goal.returns
-returns c = search counted-end
+returns c =
+    let e : c.loop-n.n ≡ length c.args.rest.now = omega arith in
+    rw (← e) (counted-end _ _ _ c.loop-n.invariant c.loop-n-test.false)

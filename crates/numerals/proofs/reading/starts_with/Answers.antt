@@ -1,17 +1,13 @@
-use Rattle.numerals.proofs.ReadingLaws.{agree-none, agree-short, agree_differ, agree-more, agree-done}
+use mathlib.Core.Path.{ap, ◌∙◌}
+use Rattle.std.proofs.lemmas.Bool.Decides.{Decides-eqb, same_from_decides}
+use Rattle.std.proofs.lemmas.Slice.Eq.{starts_is}
+use Rattle.numerals.specs.Bytes.{starts}
+use Rattle.numerals.proofs.ReadingLaws.{starts-front, starts-right}
 use Rattle.numerals.proofs.reading.starts_with.Goals as goal
 
-pub loop-i-init : goal.loop-i-init
-loop-i-init c = agree-none _ _
-
-pub returns-then-rest-i : goal.returns-then-rest-i
-returns-then-rest-i c = search agree-short
-
-pub returns-then-rest-i-2 : goal.returns-then-rest-i-2
-returns-then-rest-i-2 c = search agree_differ
-
-pub loop-i-preserved : goal.loop-i-preserved
-loop-i-preserved c = search agree-more
-
 pub returns : goal.returns
-returns c = search agree-done
+returns c =
+    let key = c.args.key.now in
+    let rest = c.args.rest.now in
+    let by_call = starts_is Decides-eqb rest key c.starts_with.result c.starts_with.ensures.value in
+    same_from_decides _ _ (by_call.0, by_call.1 _) (starts-front key rest, λ e. ap (starts key) e ∙ starts-right key _)

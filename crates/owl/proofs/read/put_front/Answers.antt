@@ -1,14 +1,7 @@
-use Rattle.owl.proofs.ReadLaws.{copied_none, copied-room, copied_more, copied-done}
+use mathlib.Core.Path.{refl}
+use Rattle.owl.specs.Read.{in_front}
 use Rattle.owl.proofs.read.put_front.Goals as goal
 
-pub loop-i-init : goal.loop-i-init
-loop-i-init c = search copied_none
-
-pub bounds-out-i : goal.bounds-out-i
-bounds-out-i c = search copied-room
-
-pub loop-i-preserved : goal.loop-i-preserved
-loop-i-preserved c = search copied_more
-
 pub returns : goal.returns
-returns c = search copied-done
+unfolding in_front
+returns c = rw c.copy_from_slice.ensures.after refl

@@ -1,9 +1,5 @@
-use Prim.Native.Nat.{◌-◌}
 use Rattle.owl.proofs.RowLaws.{Pairing}
 use Rattle.owl.proofs.rows.put_ands.Given as goal
 
 abbrev pub invariant-loop-m : goal.invariant-loop-m
 invariant-loop-m l = Pairing l.start l.used l.count l.pending l.initial.rows l.rows l.left l.next l.m
-
-abbrev pub decreases-loop-m : goal.decreases-loop-m
-decreases-loop-m l = l.used - l.m

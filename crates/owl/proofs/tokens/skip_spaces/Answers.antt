@@ -1,3 +1,6 @@
+use mathlib.Core.Path.{◌≡◌}
+use lib.ListN.{length}
+use native.Mathlib.Omega.{arith}
 use Rattle.owl.proofs.TokenLaws.{skipping-none, skipping-more, skipping-met, skipping-end}
 use Rattle.owl.proofs.tokens.skip_spaces.Goals as goal
 
@@ -11,4 +14,6 @@ pub loop-p-preserved : goal.loop-p-preserved
 loop-p-preserved c = search skipping-more
 
 pub returns : goal.returns
-returns c = search skipping-end
+returns c =
+    let e : c.loop-p.p ≡ length c.args.text.now = omega arith in
+    rw (← e) (search skipping-end)

@@ -1,3 +1,6 @@
+use mathlib.Core.Path.{◌≡◌}
+use lib.ListN.{length}
+use native.Mathlib.Omega.{arith}
 use Rattle.owl.proofs.TokenLaws.{wordy-one, wordy-more, ends-space, ends-bracket, ends-text}
 use Rattle.owl.proofs.tokens.word_end.Goals as goal
 
@@ -14,4 +17,6 @@ pub loop-p-preserved : goal.loop-p-preserved
 loop-p-preserved c = search wordy-more
 
 pub returns : goal.returns
-returns c = search ends-text
+returns c =
+    let e : c.loop-p.p ≡ length c.args.text.now = omega arith in
+    rw (← e) (search ends-text)

@@ -1,4 +1,3 @@
-use Prim.Native.Nat.{◌-◌}
 use Rattle.subsumption.specs.declared.refusal.Refusal.TheVariants.{ForwardInOrder}
 use Rattle.subsumption.specs.Tables.{count_of}
 use Rattle.subsumption.specs.Check.{forward}
@@ -9,6 +8,3 @@ use Rattle.renumbering.proofs.moving.check_rising.Given as goal
 
 abbrev pub invariant-loop-i : goal.invariant-loop-i
 invariant-loop-i l = Scan ForwardInOrder (λ j. forward (new_id l.order j) (moved_node l.order l.concepts j)) (count_of l.concepts) l.i
-
-abbrev pub decreases-loop-i : goal.decreases-loop-i
-decreases-loop-i l = count_of l.concepts - l.i

@@ -6,9 +6,6 @@ use Rattle.renumbering.proofs.order.check_order.Goals as goal
 pub loop-m-init : goal.loop-m-init
 loop-m-init c = (scan-none _ _ _, seen_none _)
 
-pub overflow_cast-id : goal.overflow_cast-id
-overflow_cast-id c = omega (arith, c.type_inv.order c.loop-m.m)
-
 pub returns-then-count-id : goal.returns-then-count-id
 returns-then-count-id c = order-refused _ _ _ (scan-found _ _ _ _ c.loop-m.invariant.0 (omega arith) (bad-high c.args.count c.args.order.now c.loop-m.m (omega arith)))
 

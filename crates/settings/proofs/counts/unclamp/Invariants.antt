@@ -1,9 +1,5 @@
-use Prim.Native.Nat.{◌-◌}
 use Rattle.settings.proofs.CountLaws.{UnclampedTo}
 use Rattle.settings.proofs.counts.unclamp.Given as goal
 
 abbrev pub invariant-loop-k : goal.invariant-loop-k
 invariant-loop-k l = UnclampedTo l.full l.low l.high l.inner l.initial.below l.initial.above l.below l.above l.k
-
-abbrev pub decreases-loop-k : goal.decreases-loop-k
-decreases-loop-k l = 8 - l.k

@@ -1,9 +1,5 @@
 use Rattle.square.proofs.LoadingLaws.{RowsLoadedTo}
-use Prim.Native.Nat.{◌-◌}
 use Rattle.square.proofs.loading.load_rows.Given as goal
 
 abbrev pub invariant-loop-i : goal.invariant-loop-i
 invariant-loop-i l = RowsLoadedTo l.table l.count l.i l.square
-
-abbrev pub decreases-loop-i : goal.decreases-loop-i
-decreases-loop-i l = l.count - l.i

@@ -1,9 +1,5 @@
 use Rattle.square.proofs.TurningLaws.{StagedTo}
-use Prim.Native.Nat.{◌-◌}
 use Rattle.square.proofs.turning.stage.Given as goal
 
 abbrev pub invariant-loop-p : goal.invariant-loop-p
 invariant-loop-p l = StagedTo l.by l.low l.high l.initial.block l.p l.block
-
-abbrev pub decreases-loop-p : goal.decreases-loop-p
-decreases-loop-p l = 32 - l.p

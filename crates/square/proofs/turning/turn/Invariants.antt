@@ -1,11 +1,7 @@
 use Rattle.square.proofs.TurningLaws.{TurnedTo}
 use lib.ListN.{length}
 use mathlib.Core.Path.{◌≡◌}
-use Prim.Native.Nat.{◌-◌}
 use Rattle.square.proofs.turning.turn.Given as goal
 
 abbrev pub invariant-loop-n : goal.invariant-loop-n
 invariant-loop-n l = (length l.block ≡ 64) × TurnedTo l.initial.square l.n l.square
-
-abbrev pub decreases-loop-n : goal.decreases-loop-n
-decreases-loop-n l = 9 - l.n

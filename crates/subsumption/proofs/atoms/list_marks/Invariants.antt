@@ -1,4 +1,4 @@
-use Prim.Native.Nat.{◌-◌, ◌≤◌}
+use Prim.Native.Nat.{◌≤◌}
 use mathlib.Core.Path.{◌≡◌}
 use lib.ListN.{length}
 use Rattle.subsumption.specs.Inner.Atoms.{mark_at}
@@ -7,6 +7,3 @@ use Rattle.subsumption.proofs.atoms.list_marks.Given as goal
 
 abbrev pub invariant-loop-p : goal.invariant-loop-p
 invariant-loop-p l = (l.p ≤ l.count) × (length l.out ≡ length l.initial.out) × ListedTo (mark_at l.marks) l.initial.out l.out l.listed l.p
-
-abbrev pub decreases-loop-p : goal.decreases-loop-p
-decreases-loop-p l = l.count - l.p

@@ -1,11 +1,9 @@
-use mathlib.Core.Path.{ap}
-use lib.ListN.{length}
 use Rattle.subsumption.proofs.AtomMarking.{standing-marked}
 use borrow.Author.Rules.{rules}
 use Rattle.subsumption.proofs.atoms.mark_standing.Goals as goal
 
 pub mark_sides-requires : goal.mark_sides-requires
-mark_sides-requires c = record { known = search rules; count_bound = c.requires.layered.few; marks_len = ap length c.requires.marks_value }
+mark_sides-requires c = record { known = search rules; count_bound = c.requires.layered.few }
 
 pub returns : goal.returns
 returns c = search standing-marked

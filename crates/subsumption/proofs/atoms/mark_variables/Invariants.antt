@@ -1,10 +1,5 @@
-use Prim.Native.Nat.{◌-◌}
-use Rattle.subsumption.specs.Tables.{count_of}
 use Rattle.subsumption.proofs.Marks.{VariablesTo}
 use Rattle.subsumption.proofs.atoms.mark_variables.Given as goal
 
 abbrev pub invariant-loop-i : goal.invariant-loop-i
 invariant-loop-i l = VariablesTo l.concepts l.marks l.i
-
-abbrev pub decreases-loop-i : goal.decreases-loop-i
-decreases-loop-i l = count_of l.concepts - l.i

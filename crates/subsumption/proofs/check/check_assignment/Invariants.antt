@@ -1,4 +1,4 @@
-use Prim.Native.Nat.{◌-◌, ◌^◌}
+use Prim.Native.Nat.{◌^◌}
 use mathlib.Core.Path.{◌≡◌}
 use mathlib.Core.Bool.{not}
 use lib.Dec.{ltb}
@@ -9,6 +9,3 @@ use Rattle.subsumption.proofs.check.check_assignment.Given as goal
 
 abbrev pub invariant-loop-k : goal.invariant-loop-k
 invariant-loop-k l = (length l.assignment ≡ l.variables) × Scan BadAssignment (λ j. not (ltb (get_or l.assignment j 0) (2 ^ l.atoms))) l.variables l.k
-
-abbrev pub decreases-loop-k : goal.decreases-loop-k
-decreases-loop-k l = l.variables - l.k

@@ -1,15 +1,19 @@
 use Rattle.subsumption.specs.Check.{concept_fault}
-use Rattle.subsumption.proofs.Refusals.{stops, goes_on}
+use Rattle.subsumption.proofs.Refusals.{handed_up, stops, goes_on}
 use Rattle.subsumption.proofs.check.check_concepts.Goals as goal
 
-pub returns-in-Refused : goal.returns-in-Refused
+pub returns-in_err-check_limits : goal.returns-in_err-check_limits
 unfolding concept_fault
-returns-in-Refused c = search stops
+returns-in_err-check_limits c = rw (handed_up _ c.from_residual.ensures) (stops _ _ _ _ c.check_limits.ensures c.in_err-check_limits.was)
 
-pub returns-in-Refused-rows : goal.returns-in-Refused-rows
+pub returns-in_err-check_rows : goal.returns-in_err-check_rows
 unfolding concept_fault
-returns-in-Refused-rows c = search (stops, goes_on)
+returns-in_err-check_rows c =
+    rw (handed_up _ c.from_residual-in_err-check_rows.ensures)
+    (goes_on _ _ _ _ c.check_limits.ensures c.in_ok-check_limits.was (stops _ _ _ _ c.check_rows.ensures c.in_err-check_rows.was))
 
 pub returns : goal.returns
 unfolding concept_fault
-returns c = search goes_on
+returns c =
+    goes_on _ _ _ _ c.check_limits.ensures c.in_ok-check_limits.was
+    (goes_on _ _ _ _ c.check_rows.ensures c.in_ok-check_rows.was c.check_inner.ensures)

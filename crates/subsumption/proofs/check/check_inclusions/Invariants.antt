@@ -1,4 +1,3 @@
-use Prim.Native.Nat.{◌-◌}
 use Rattle.subsumption.specs.declared.refusal.Refusal.TheVariants.{VariableInInclusion}
 use Rattle.subsumption.specs.Tables.{pairs_of, left_of, right_of, tree, has_variable, or}
 use Rattle.subsumption.proofs.Scans.{Scan}
@@ -6,6 +5,3 @@ use Rattle.subsumption.proofs.check.check_inclusions.Given as goal
 
 abbrev pub invariant-loop-m : goal.invariant-loop-m
 invariant-loop-m l = Scan VariableInInclusion (λ k. or (has_variable (tree l.concepts (left_of l.inclusions k))) (has_variable (tree l.concepts (right_of l.inclusions k)))) (pairs_of l.inclusions) l.m
-
-abbrev pub decreases-loop-m : goal.decreases-loop-m
-decreases-loop-m l = pairs_of l.inclusions - l.m

@@ -1,8 +1,6 @@
-use mathlib.Core.Path.{◌∙◌}
 use native.Mathlib.Omega.{arith}
 use Rattle.subsumption.specs.Check.{forward_fault}
 use Rattle.subsumption.proofs.Scans.{scan-none, scan-more, scan-found, scan-done}
-use Rattle.subsumption.proofs.Forward.{row-forward}
 use Rattle.subsumption.proofs.check.check_inner.Goals as goal
 
 pub loop-i-init : goal.loop-i-init
@@ -11,13 +9,11 @@ loop-i-init c = scan-none _ _ _
 pub returns-then-is_forward : goal.returns-then-is_forward
 unfolding forward_fault
 returns-then-is_forward c =
-    scan-found _ _ _ _ c.loop-i.invariant (omega arith)
-    (row-forward _ _ _ _ c.row_at-row.ensures c.is_forward.ensures ∙ c.if-is_forward.true)
+    scan-found _ _ _ _ c.loop-i.invariant (omega arith) (cc)
 
 pub loop-i-preserved : goal.loop-i-preserved
 loop-i-preserved c =
-    scan-more _ _ _ _ c.loop-i.invariant (omega arith)
-    (row-forward _ _ _ _ c.row_at-row.ensures c.is_forward.ensures ∙ c.if-is_forward.false)
+    scan-more _ _ _ _ c.loop-i.invariant (omega arith) (cc)
 
 pub returns : goal.returns
 unfolding forward_fault

@@ -1,4 +1,3 @@
-use Prim.Native.Nat.{◌-◌}
 use Rattle.subsumption.specs.declared.refusal.Refusal.TheVariants.{ForwardId}
 use Rattle.subsumption.specs.Tables.{node, count_of}
 use Rattle.subsumption.specs.Check.{forward}
@@ -7,6 +6,3 @@ use Rattle.subsumption.proofs.check.check_inner.Given as goal
 
 abbrev pub invariant-loop-i : goal.invariant-loop-i
 invariant-loop-i l = Scan ForwardId (λ j. forward j (node l.concepts j)) (count_of l.concepts) l.i
-
-abbrev pub decreases-loop-i : goal.decreases-loop-i
-decreases-loop-i l = count_of l.concepts - l.i

@@ -11,8 +11,8 @@ returns-then-is_unfit-2 c = limit-inclusions _ _ _ _ _ _ _ c.is_unfit.ensures c.
 pub returns-then-is_unfit-3 : goal.returns-then-is_unfit-3
 returns-then-is_unfit-3 c = limit-questions _ _ _ _ _ _ _ _ c.is_unfit.ensures c.if-is_unfit.false c.is_unfit-2.ensures c.if-is_unfit-2.false c.is_unfit-3.ensures c.if-is_unfit-3.true
 
-pub returns-then-variables-gt-VARIABLES : goal.returns-then-variables-gt-VARIABLES
-returns-then-variables-gt-VARIABLES c = limit-variables _ _ _ _ _ _ _ _ c.is_unfit.ensures c.if-is_unfit.false c.is_unfit-2.ensures c.if-is_unfit-2.false c.is_unfit-3.ensures c.if-is_unfit-3.false c.if-variables-gt-VARIABLES.true
+pub returns-then-tables-gt-VARIABLES : goal.returns-then-tables-gt-VARIABLES
+returns-then-tables-gt-VARIABLES c = limit-variables _ _ _ _ _ _ _ _ c.is_unfit.ensures c.if-is_unfit.false c.is_unfit-2.ensures c.if-is_unfit-2.false c.is_unfit-3.ensures c.if-is_unfit-3.false c.if-tables-gt-VARIABLES.true
 
 pub returns-then-is_unfit-4 : goal.returns-then-is_unfit-4
 returns-then-is_unfit-4 c = limit-roles _ _ _ _ _ _ _ _ c.is_unfit.ensures c.if-is_unfit.false c.is_unfit-2.ensures c.if-is_unfit-2.false c.is_unfit-3.ensures c.if-is_unfit-3.false (omega arith) _ c.is_unfit-4.ensures c.if-is_unfit-4.true

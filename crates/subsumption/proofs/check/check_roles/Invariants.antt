@@ -1,4 +1,3 @@
-use Prim.Native.Nat.{◌-◌}
 use lib.Dec.{ltb}
 use Rattle.subsumption.specs.declared.refusal.Refusal.TheVariants.{BadRole}
 use Rattle.subsumption.specs.Tables.{pairs_of, left_of, right_of, or}
@@ -7,6 +6,3 @@ use Rattle.subsumption.proofs.check.check_roles.Given as goal
 
 abbrev pub invariant-loop-m : goal.invariant-loop-m
 invariant-loop-m l = Scan BadRole (λ k. or (ltb 99 (left_of l.roles k)) (ltb 99 (right_of l.roles k))) (pairs_of l.roles) l.m
-
-abbrev pub decreases-loop-m : goal.decreases-loop-m
-decreases-loop-m l = pairs_of l.roles - l.m

@@ -1,4 +1,3 @@
-use Prim.Native.Nat.{◌-◌}
 use Rattle.subsumption.specs.declared.refusal.Refusal.TheVariants.{Malformed}
 use Rattle.subsumption.specs.Tables.{count_of}
 use Rattle.subsumption.specs.Check.{malformed}
@@ -7,6 +6,3 @@ use Rattle.subsumption.proofs.check.check_rows.Given as goal
 
 abbrev pub invariant-loop-i : goal.invariant-loop-i
 invariant-loop-i l = Scan Malformed (malformed l.concepts l.variables) (count_of l.concepts) l.i
-
-abbrev pub decreases-loop-i : goal.decreases-loop-i
-decreases-loop-i l = count_of l.concepts - l.i

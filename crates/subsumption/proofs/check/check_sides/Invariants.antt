@@ -1,4 +1,3 @@
-use Prim.Native.Nat.{◌-◌}
 use Rattle.subsumption.specs.declared.refusal.Refusal.TheVariants.{VariablesOnBothSides}
 use Rattle.subsumption.specs.Tables.{pairs_of, left_of, right_of, tree, has_variable, both}
 use Rattle.subsumption.proofs.Scans.{Scan}
@@ -6,6 +5,3 @@ use Rattle.subsumption.proofs.check.check_sides.Given as goal
 
 abbrev pub invariant-loop-m : goal.invariant-loop-m
 invariant-loop-m l = Scan VariablesOnBothSides (λ k. both (has_variable (tree l.concepts (left_of l.questions k))) (has_variable (tree l.concepts (right_of l.questions k)))) (pairs_of l.questions) l.m
-
-abbrev pub decreases-loop-m : goal.decreases-loop-m
-decreases-loop-m l = pairs_of l.questions - l.m

@@ -7,13 +7,10 @@ pub loop-j-init : goal.loop-j-init
 loop-j-init c = (omega arith, omega arith, λ is wide. fall-first (λ k l. Descended c.args.concepts.now (choose_from c.args.atoms.now c.args.assignment.now) k l) _ _)
 
 pub descend-new-requires : goal.descend-new-requires
-descend-new-requires c = record { settleable = c.requires.settleable; columns_len = c.loop-j.invariant.1; j_bound = omega (arith, c.loop-j.invariant.0) }
+descend-new-requires c = record { settleable = c.requires.settleable; j_bound = omega (arith, c.loop-j.invariant.0) }
 
 pub loop-j-preserved : goal.loop-j-preserved
 loop-j-preserved c = (omega (arith, c.loop-j.invariant.0), omega (arith, c.loop-j.invariant.1), λ is wide. fall-more (λ k l. Descended c.args.concepts.now (choose_from c.args.atoms.now c.args.assignment.now) k l) _ _ _ (omega arith) (c.loop-j.invariant.2 is wide) (c.descend-new.ensures is wide))
-
-pub shape_of-columns : goal.shape_of-columns
-shape_of-columns c = omega (arith, c.loop-j.invariant.1, c.requires.columns_len)
 
 pub returns : goal.returns
 returns c = λ is wide. fall-done (λ k l. Descended c.args.concepts.now (choose_from c.args.atoms.now c.args.assignment.now) k l) _ _ (omega arith) (c.loop-j.invariant.2 is wide)

@@ -8,6 +8,3 @@ use Rattle.subsumption.proofs.closure.fall.Given as goal
 
 abbrev pub invariant-loop-j : goal.invariant-loop-j
 invariant-loop-j live = (live.j ≤ count_of live.concepts) × (length live.columns ≡ 576) × SettlePass live.concepts (choose_from live.atoms live.assignment) (λ l. (k : ℕ) → live.j ≤ k → k < count_of live.concepts → Descended live.concepts (choose_from live.atoms live.assignment) k l) live.initial.columns live.columns live.changed
-
-abbrev pub decreases-loop-j : goal.decreases-loop-j
-decreases-loop-j l = l.j

@@ -13,7 +13,7 @@ pub overflow_cast-right : goal.overflow_cast-right
 overflow_cast-right c = omega (arith, c.type_inv.inclusions (c.loop-m.m * 2 + 1))
 
 pub flow-new-requires : goal.flow-new-requires
-flow-new-requires c = record { columns_len = omega arith; from_bound = (c.requires.low_pairs.left c.loop-m.m (omega arith), c.requires.low_pairs.right c.loop-m.m (omega arith)) }
+flow-new-requires c = record { from_bound = (c.requires.low_pairs.left c.loop-m.m (omega arith), c.requires.low_pairs.right c.loop-m.m (omega arith)) }
 
 pub loop-m-preserved : goal.loop-m-preserved
 loop-m-preserved c = included-more _ c.loop-m.invariant (omega arith) c.flow-new.ensures

@@ -1,21 +1,21 @@
 use Rattle.subsumption.proofs.ListingLaws.{asked-concepts, asked-alone, asked-ids, asked-used}
-use Rattle.subsumption.proofs.Refusals.{is-done}
+use Rattle.subsumption.proofs.Refusals.{is-done, handed_up}
 use Rattle.subsumption.proofs.listing.list_asked.Goals as goal
 
-pub returns-in-Refused : goal.returns-in-Refused
-returns-in-Refused c = asked-concepts _ _ _ c.check_concepts-rows.ensures _ _ _ c.in-Refused.is
+pub returns-in_err-check_concepts : goal.returns-in_err-check_concepts
+returns-in_err-check_concepts c = rw (handed_up _ c.from_residual.ensures) (asked-concepts _ _ _ c.check_concepts.ensures _ _ _ c.in_err-check_concepts.was)
 
-pub returns-in-Refused-alone : goal.returns-in-Refused-alone
-returns-in-Refused-alone c = asked-alone _ _ _ c.check_concepts-rows.ensures _ _ c.in_default.is _ c.check_alone-alone.ensures _ c.in-Refused-alone.is
+pub returns-in_err-check_alone : goal.returns-in_err-check_alone
+returns-in_err-check_alone c = rw (handed_up _ c.from_residual-in_err-check_alone.ensures) (asked-alone _ _ _ c.check_concepts.ensures _ _ c.in_ok-check_concepts.was _ c.check_alone.ensures _ c.in_err-check_alone.was)
 
-pub check_ids-ids-requires : goal.check_ids-ids-requires
-check_ids-ids-requires c = is-done _ _ c.check_concepts-rows.ensures c.in_default.is
+pub check_ids-requires : goal.check_ids-requires
+check_ids-requires c = is-done _ _ c.check_concepts.ensures c.in_ok-check_concepts.was
 
-pub returns-in-Refused-ids : goal.returns-in-Refused-ids
-returns-in-Refused-ids c = asked-ids _ _ _ c.check_concepts-rows.ensures _ _ c.in_default.is _ c.check_alone-alone.ensures c.in_default-alone.is _ c.check_ids-ids.ensures _ c.in-Refused-ids.is
+pub returns-in_err-check_ids : goal.returns-in_err-check_ids
+returns-in_err-check_ids c = rw (handed_up _ c.from_residual-in_err-check_ids.ensures) (asked-ids _ _ _ c.check_concepts.ensures _ _ c.in_ok-check_concepts.was _ c.check_alone.ensures c.in_ok-check_alone.was _ c.check_ids.ensures _ c.in_err-check_ids.was)
 
 pub list_used-requires : goal.list_used-requires
-list_used-requires c = record { variables_value = is-done _ _ c.check_concepts-rows.ensures c.in_default.is; variables_value_2 = is-done _ _ c.check_ids-ids.ensures c.in_default-ids.is }
+list_used-requires c = record { variables_value = is-done _ _ c.check_concepts.ensures c.in_ok-check_concepts.was; variables_value_2 = is-done _ _ c.check_ids.ensures c.in_ok-check_ids.was }
 
 pub returns : goal.returns
-returns c = asked-used _ c.args.out.now _ c.check_concepts-rows.ensures _ _ c.in_default.is _ c.check_alone-alone.ensures c.in_default-alone.is _ c.check_ids-ids.ensures _ _ c.in_default-ids.is c.list_used.ensures
+returns c = asked-used _ c.args.out.now _ c.check_concepts.ensures _ _ c.in_ok-check_concepts.was _ c.check_alone.ensures c.in_ok-check_alone.was _ c.check_ids.ensures _ _ c.in_ok-check_ids.was c.list_used.ensures

@@ -16,7 +16,7 @@ pub overflow_cast-wide : goal.overflow_cast-wide
 overflow_cast-wide c = omega (arith, c.requires.low_roles.wide c.loop-m.m (omega arith))
 
 pub widen-requires : goal.widen-requires
-widen-requires c = record { into_len = c.loop-m.invariant.long; narrow_bound = (omega (arith, c.requires.low_roles.narrow c.loop-m.m (omega arith)), omega (arith, c.requires.low_roles.wide c.loop-m.m (omega arith))) }
+widen-requires c = record { narrow_bound = (omega (arith, c.requires.low_roles.narrow c.loop-m.m (omega arith)), omega (arith, c.requires.low_roles.wide c.loop-m.m (omega arith))) }
 
 pub loop-m-preserved : goal.loop-m-preserved
 loop-m-preserved c = sets_more _ _ _ _ _ _ c.requires.low_roles (omega arith) c.loop-m.invariant refl refl c.widen.ensures

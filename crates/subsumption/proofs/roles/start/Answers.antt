@@ -1,6 +1,4 @@
 use native.Mathlib.Omega.{arith}
-use lib.ListN.{length}
-use mathlib.Core.Path.{ap}
 use Rattle.subsumption.proofs.RoleSetLaws.{started_none, started-more, started-done}
 use Rattle.subsumption.proofs.roles.start.Goals as goal
 
@@ -12,9 +10,6 @@ bounds-into-s c = omega (arith, c.loop-s.invariant.long)
 
 pub loop-s-preserved : goal.loop-s-preserved
 loop-s-preserved c = started-more _ _ c.loop-s.invariant (omega arith)
-
-pub shape_of-into : goal.shape_of-into
-shape_of-into c = omega (arith, c.loop-s.invariant.long, ap length c.requires)
 
 pub returns : goal.returns
 returns c = started-done _ _ c.loop-s.invariant (omega arith)

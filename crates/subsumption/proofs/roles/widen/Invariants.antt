@@ -1,9 +1,5 @@
-use Prim.Native.Nat.{◌-◌}
 use Rattle.subsumption.proofs.RoleSetLaws.{WidenedTo}
 use Rattle.subsumption.proofs.roles.widen.Given as goal
 
 abbrev pub invariant-loop-s : goal.invariant-loop-s
 invariant-loop-s l = WidenedTo l.initial.into l.into l.narrow l.wide l.s
-
-abbrev pub decreases-loop-s : goal.decreases-loop-s
-decreases-loop-s l = 100 - l.s

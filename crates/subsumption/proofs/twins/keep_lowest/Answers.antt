@@ -1,34 +1,30 @@
 use native.Mathlib.Omega.{arith}
-use lib.ListN.{length-set}
 use Rattle.subsumption.proofs.TwinKeys.{lowered_none, lowered-skip, lowered-more, lowered-done}
 use Rattle.subsumption.proofs.twins.keep_lowest.Goals as goal
+use Rattle.subsumption.proofs.twins.keep_lowest.Goals.{then-marks-p, else-marks-p}
 
 pub loop-p-init : goal.loop-p-init
-loop-p-init c = lowered_none _ _ _ c.requires.marks_len
+loop-p-init c = lowered_none _ _ _ c.told-marks
 
-pub bounds-marks-id : goal.bounds-marks-id
-bounds-marks-id c = omega (arith, c.loop-p.invariant.long, c.requires.count_bound)
+pub bounds-marks-p : goal.bounds-marks-p
+bounds-marks-p c = omega (arith, c.loop-p.invariant.long, c.requires.count_bound)
 
-pub bounds-firsts-id : goal.bounds-firsts-id
-bounds-firsts-id c = omega (arith, c.requires.count_bound, c.requires.firsts_len)
+pub bounds-firsts-p : goal.bounds-firsts-p
+bounds-firsts-p c = omega (arith, c.requires.count_bound, c.told-firsts)
 
-pub overflow_cast-first : goal.overflow_cast-first
-overflow_cast-first c = omega (arith, c.type_inv.firsts c.loop-p.p)
-
-pub bounds-marks-id-then-marks-id : goal.bounds-marks-id-then-marks-id
-bounds-marks-id-then-marks-id c = omega (arith, c.loop-p.invariant.long, c.requires.count_bound)
-
-pub bounds-marks-first : goal.bounds-marks-first
-bounds-marks-first c = simp length-set (omega (arith, c.loop-p.invariant.long, c.requires.count_bound, c.requires.by_index c.loop-p.p (omega arith)))
-
-pub loop-p-preserved-then-marks-id : goal.loop-p-preserved-then-marks-id
-loop-p-preserved-then-marks-id c = lowered-more _ _ _ _ _ c.requires.count_bound c.requires.by_index c.loop-p.invariant (omega arith) c.if-marks-id.true
+pub bounds-marks-p-then-marks-p : goal.bounds-marks-p-then-marks-p
+bounds-marks-p-then-marks-p c = omega (arith, c.loop-p.invariant.long, c.requires.count_bound)
 
 pub loop-p-preserved : goal.loop-p-preserved
-loop-p-preserved c = lowered-skip _ _ _ _ _ c.requires.count_bound c.requires.by_index c.loop-p.invariant (omega arith) c.if-marks-id.false
-
-pub shape_of-marks : goal.shape_of-marks
-shape_of-marks c = omega (arith, c.loop-p.invariant.long, c.requires.marks_len)
+loop-p-preserved c =
+    elim c.if-marks-p.branch [
+      | then-marks-p w ↦
+          rw w.marks-is
+          (lowered-more _ _ _ _ _ c.requires.count_bound c.requires.by_index c.loop-p.invariant (omega arith) w.if-marks-p.true)
+      | else-marks-p w ↦
+          rw w.marks-is
+          (lowered-skip _ _ _ _ _ c.requires.count_bound c.requires.by_index c.loop-p.invariant (omega arith) w.if-marks-p.false)
+    ]
 
 pub returns : goal.returns
 returns c = lowered-done _ _ _ _ _ c.loop-p.invariant (omega arith)

@@ -1,9 +1,5 @@
-use Prim.Native.Nat.{◌-◌}
 use Rattle.subsumption.proofs.TwinKeys.{LoweredTo}
 use Rattle.subsumption.proofs.twins.keep_lowest.Given as goal
 
 abbrev pub invariant-loop-p : goal.invariant-loop-p
 invariant-loop-p l = LoweredTo l.firsts l.count l.initial.marks l.marks l.p
-
-abbrev pub decreases-loop-p : goal.decreases-loop-p
-decreases-loop-p l = l.count - l.p

@@ -1,10 +1,5 @@
-use Prim.Native.Nat.{◌-◌}
-use Rattle.subsumption.specs.Tables.{count_of}
 use Rattle.subsumption.proofs.TwinKeys.{TwinsTo}
 use Rattle.subsumption.proofs.twins.note_twins.Given as goal
 
 abbrev pub invariant-loop-i : goal.invariant-loop-i
 invariant-loop-i l = TwinsTo l.concepts l.firsts l.keys l.slots l.i
-
-abbrev pub decreases-loop-i : goal.decreases-loop-i
-decreases-loop-i l = count_of l.concepts - l.i

@@ -1,7 +1,7 @@
-use mathlib.Core.Path.{refl}
+use mathlib.Core.Path.{refl, sym, ◌∙◌}
 use native.Mathlib.Omega.{arith}
 use Rattle.countermodel.proofs.MemberLaws.Scanning.{unmet-none, unmet-more}
-use Rattle.countermodel.proofs.MemberLaws.Weights.{atom-falls, link-falls, first-falls, second-falls, variable-falls, link-known, first-known, second-known, choice-known}
+use Rattle.countermodel.proofs.MemberLaws.Weights.{atom-falls, link-falls, first-falls, second-falls, variable-falls, link-known, first-known, second-known}
 use Rattle.countermodel.proofs.MemberLaws.Memo.{known-yes, known-no}
 use Rattle.countermodel.proofs.MemberLaws.Walking.{in_top, in-name, in-exists, in-first, in_both, in-var, noted-walked, leads-met, leads-none, sofar-none, sofar-skip, sofar-more, sofar-not, sofar-done}
 use Rattle.countermodel.proofs.membership.walk.+in_all_member_at_some_link.Goals as goal
@@ -38,65 +38,48 @@ pub member_at-returns-then-known-eq2 : goal.member_at-returns-then-known-eq2
 member_at-returns-then-known-eq2 t c =
     known-no _ _ _ _ _ c.requires.remembers _ _ (omega arith) c.if-known-eq2.true
 
-pub member_at-bears-named-requires : goal.member_at-bears-named-requires
-member_at-bears-named-requires t c =
-    record { low_rows = c.requires.walkable.low; stretches = c.requires.stretches; element_bound = c.requires.element_bound.0 }
-
-pub member_at-returns-then-kind-eq-NAME : goal.member_at-returns-then-kind-eq-NAME
-member_at-returns-then-kind-eq-NAME t c =
-    noted-walked _ _ _ _ c.requires.walkable _ _ c.requires.element_bound.0 c.requires.element_bound.1 _ _ c.requires.remembers _ _ c.note.ensures (in-name _ _ _ _ c.requires.walkable _ _ _ c.if-kind-eq-NAME.true c.bears-named.ensures)
-
 pub member_at-some_link-linked-requires : goal.member_at-some_link-linked-requires
 member_at-some_link-linked-requires t c =
-    (omega (arith, link-falls _ _ _ _ c.requires.walkable c.args.id c.if-kind-eq-EXISTENTIAL.true, c.decreases), (c.requires.walkable, (c.requires.stretches, (c.requires.remembers, (c.requires.element_bound.0, link-known _ _ _ _ c.requires.walkable _ c.if-kind-eq-EXISTENTIAL.true c.requires.element_bound.1)))))
-
-pub member_at-returns-then-kind-eq-EXISTENTIAL : goal.member_at-returns-then-kind-eq-EXISTENTIAL
-member_at-returns-then-kind-eq-EXISTENTIAL t c =
-    noted-walked _ _ _ _ c.requires.walkable _ _ c.requires.element_bound.0 c.requires.element_bound.1 _ _ c.some_link-linked.ensures.remembered _ _ c.note-then-kind-eq-EXISTENTIAL.ensures (in-exists _ _ _ _ c.requires.walkable _ _ _ c.if-kind-eq-EXISTENTIAL.true c.some_link-linked.ensures.answered)
+    let e = sym c.node_at.ensures ∙ c.in-Exists.is in
+    (omega (arith, link-falls _ _ _ _ c.requires.walkable c.args.id _ _ e, c.decreases), (c.requires.walkable, (c.requires.stretches, (c.requires.remembers, (c.requires.element_bound.0, link-known _ _ _ _ c.requires.walkable _ _ _ e c.requires.element_bound.1)))))
 
 pub member_at-member_at-first-requires : goal.member_at-member_at-first-requires
 member_at-member_at-first-requires t c =
-    (omega (arith, first-falls _ _ _ _ c.requires.walkable c.args.id c.if-kind-eq-CONJUNCTION.true, c.decreases), (c.requires.walkable, (c.requires.stretches, (c.requires.remembers, (c.requires.element_bound.0, first-known _ _ _ _ c.requires.walkable _ c.if-kind-eq-CONJUNCTION.true c.requires.element_bound.1)))))
-
-pub member_at-returns-then-not-first : goal.member_at-returns-then-not-first
-member_at-returns-then-not-first t c =
-    noted-walked _ _ _ _ c.requires.walkable _ _ c.requires.element_bound.0 c.requires.element_bound.1 _ _ c.member_at-first.ensures.remembered _ _ c.note-then-not-first.ensures (in-first _ _ _ _ c.requires.walkable _ _ _ c.if-kind-eq-CONJUNCTION.true c.member_at-first.ensures.answered (c.if-not-first.true))
+    let e = sym c.node_at.ensures ∙ c.in-And.is in
+    (omega (arith, first-falls _ _ _ _ c.requires.walkable c.args.id _ _ e, c.decreases), (c.requires.walkable, (c.requires.stretches, (c.requires.remembers, (c.requires.element_bound.0, first-known _ _ _ _ c.requires.walkable _ _ _ e c.requires.element_bound.1)))))
 
 pub member_at-member_at-second-requires : goal.member_at-member_at-second-requires
 member_at-member_at-second-requires t c =
-    (omega (arith, second-falls _ _ _ _ c.requires.walkable c.args.id c.if-kind-eq-CONJUNCTION.true, c.decreases), (c.requires.walkable, (c.requires.stretches, (c.member_at-first.ensures.remembered, (c.requires.element_bound.0, second-known _ _ _ _ c.requires.walkable _ c.if-kind-eq-CONJUNCTION.true c.requires.element_bound.1)))))
-
-pub member_at-note-requires-then-kind-eq-CONJUNCTION : goal.member_at-note-requires-then-kind-eq-CONJUNCTION
-member_at-note-requires-then-kind-eq-CONJUNCTION t c =
-    omega (arith, c.requires.walkable.few, c.requires.element_bound.0, c.requires.element_bound.1)
-
-pub member_at-returns-then-kind-eq-CONJUNCTION : goal.member_at-returns-then-kind-eq-CONJUNCTION
-member_at-returns-then-kind-eq-CONJUNCTION t c =
-    noted-walked _ _ _ _ c.requires.walkable _ _ c.requires.element_bound.0 c.requires.element_bound.1 _ _ c.member_at-second.ensures.remembered _ _ c.note-then-kind-eq-CONJUNCTION.ensures (in_both _ _ _ _ c.requires.walkable _ _ _ _ c.if-kind-eq-CONJUNCTION.true c.member_at-first.ensures.answered (c.if-not-first.false) c.member_at-second.ensures.answered)
-
-pub member_at-overflow_cast-choice : goal.member_at-overflow_cast-choice
-member_at-overflow_cast-choice t c =
-    omega (arith, choice-known _ _ _ _ c.requires.walkable c.args.id c.if-kind-eq-VARIABLE.true)
-
-pub member_at-offset_bounds-assignment-a : goal.member_at-offset_bounds-assignment-a
-member_at-offset_bounds-assignment-a t c =
-    omega (arith, choice-known _ _ _ _ c.requires.walkable c.args.id c.if-kind-eq-VARIABLE.true)
-
-pub member_at-bounds-assignment-a : goal.member_at-bounds-assignment-a
-member_at-bounds-assignment-a t c =
-    omega (arith, choice-known _ _ _ _ c.requires.walkable c.args.id c.if-kind-eq-VARIABLE.true)
+    let e = sym c.node_at.ensures ∙ c.in-And.is in
+    (omega (arith, second-falls _ _ _ _ c.requires.walkable c.args.id _ _ e, c.decreases), (c.requires.walkable, (c.requires.stretches, (c.member_at-first.ensures.remembered, (c.requires.element_bound.0, second-known _ _ _ _ c.requires.walkable _ _ _ e c.requires.element_bound.1)))))
 
 pub member_at-in_all-chosen-requires : goal.member_at-in_all-chosen-requires
 member_at-in_all-chosen-requires t c =
-    (omega (arith, variable-falls _ _ _ _ c.requires.walkable c.args.id c.if-kind-eq-VARIABLE.true, c.decreases), (c.requires.walkable, (c.requires.stretches, (c.requires.remembers, c.requires.element_bound.0))))
+    (omega (arith, variable-falls _ _ _ _ c.requires.walkable c.args.id _ (sym c.node_at.ensures ∙ c.in-Variable.is), c.decreases), (c.requires.walkable, (c.requires.stretches, (c.requires.remembers, c.requires.element_bound.0))))
 
-pub member_at-returns-then-kind-eq-VARIABLE : goal.member_at-returns-then-kind-eq-VARIABLE
-member_at-returns-then-kind-eq-VARIABLE t c =
-    noted-walked _ _ _ _ c.requires.walkable _ _ c.requires.element_bound.0 c.requires.element_bound.1 _ _ c.in_all-chosen.ensures.remembered _ _ c.note-then-kind-eq-VARIABLE.ensures (in-var _ _ _ _ c.requires.walkable _ _ _ c.if-kind-eq-VARIABLE.true c.in_all-chosen.ensures.answered)
+pub member_at-returns-in-Top : goal.member_at-returns-in-Top
+member_at-returns-in-Top t c =
+    record { answered = in_top _ _ _ _ c.requires.walkable _ _ (sym c.node_at.ensures ∙ c.in-Top.is); remembered = c.requires.remembers }
 
-pub member_at-returns : goal.member_at-returns
-member_at-returns t c =
-    record { answered = in_top _ _ _ _ c.requires.walkable _ _ c.if-kind-eq-NAME.false c.if-kind-eq-EXISTENTIAL.false c.if-kind-eq-CONJUNCTION.false c.if-kind-eq-VARIABLE.false; remembered = c.requires.remembers }
+pub member_at-returns-in-Name : goal.member_at-returns-in-Name
+member_at-returns-in-Name t c =
+    noted-walked _ _ _ _ c.requires.walkable _ _ c.requires.element_bound.0 c.requires.element_bound.1 _ _ c.requires.remembers _ _ c.note.ensures (in-name _ _ _ _ c.requires.walkable _ _ _ _ (sym c.node_at.ensures ∙ c.in-Name.is) c.bears-named.ensures)
+
+pub member_at-returns-in-Exists : goal.member_at-returns-in-Exists
+member_at-returns-in-Exists t c =
+    noted-walked _ _ _ _ c.requires.walkable _ _ c.requires.element_bound.0 c.requires.element_bound.1 _ _ c.some_link-linked.ensures.remembered _ _ c.note-in-Exists.ensures (in-exists _ _ _ _ c.requires.walkable _ _ _ _ _ (sym c.node_at.ensures ∙ c.in-Exists.is) c.some_link-linked.ensures.answered)
+
+pub member_at-returns-then-not-first : goal.member_at-returns-then-not-first
+member_at-returns-then-not-first t c =
+    noted-walked _ _ _ _ c.requires.walkable _ _ c.requires.element_bound.0 c.requires.element_bound.1 _ _ c.member_at-first.ensures.remembered _ _ c.note-then-not-first.ensures (in-first _ _ _ _ c.requires.walkable _ _ _ _ _ (sym c.node_at.ensures ∙ c.in-And.is) c.member_at-first.ensures.answered (c.if-not-first.true))
+
+pub member_at-returns-else-not-first : goal.member_at-returns-else-not-first
+member_at-returns-else-not-first t c =
+    noted-walked _ _ _ _ c.requires.walkable _ _ c.requires.element_bound.0 c.requires.element_bound.1 _ _ c.member_at-second.ensures.remembered _ _ c.note-in-And.ensures (in_both _ _ _ _ c.requires.walkable _ _ _ _ _ _ (sym c.node_at.ensures ∙ c.in-And.is) c.member_at-first.ensures.answered (c.if-not-first.false) c.member_at-second.ensures.answered)
+
+pub member_at-returns-in-Variable : goal.member_at-returns-in-Variable
+member_at-returns-in-Variable t c =
+    noted-walked _ _ _ _ c.requires.walkable _ _ c.requires.element_bound.0 c.requires.element_bound.1 _ _ c.in_all-chosen.ensures.remembered _ _ c.note-in-Variable.ensures (in-var _ _ _ _ c.requires.walkable _ _ _ _ (sym c.node_at.ensures ∙ c.in-Variable.is) c.in_all-chosen.ensures.answered)
 
 pub some_link-loop-p-init : goal.some_link-loop-p-init
 some_link-loop-p-init t c =
@@ -113,10 +96,6 @@ some_link-loop-p-preserved-then-rows-at-ne1 t c =
 pub some_link-loop-p-preserved-then-rows-at-2 : goal.some_link-loop-p-preserved-then-rows-at-2
 some_link-loop-p-preserved-then-rows-at-2 t c =
     (unmet-more _ _ _ _ _ c.loop-p.invariant.0 (λ w. c.if-rows-at-2.true w.link.role), c.loop-p.invariant.1)
-
-pub some_link-member_at-requires : goal.some_link-member_at-requires
-some_link-member_at-requires t c =
-    (omega (arith, c.decreases), (c.requires.walkable, (c.requires.stretches, (c.loop-p.invariant.1, (c.requires.walkable.low.right _ (omega arith), c.requires.element_bound.1)))))
 
 pub some_link-returns-then-member_at : goal.some_link-returns-then-member_at
 some_link-returns-then-member_at t c =

@@ -1,5 +1,5 @@
-use Prim.Native.Nat.{◌+◌, ◌*◌, ◌-◌}
-use lib.ListN.{length, get_or}
+use Prim.Native.Nat.{◌+◌, ◌*◌}
+use lib.ListN.{get_or}
 use Rattle.countermodel.specs.Rows.{rows_of}
 use Rattle.countermodel.specs.Inner.Membership.{Remembers}
 use Rattle.countermodel.proofs.MemberLaws.Scanning.{Unmet}
@@ -14,10 +14,6 @@ abbrev pub invariant-in_all-loop-q : goal.invariant-in_all-loop-q
 invariant-in_all-loop-q l =
     Sofar l.concepts l.ids l.assignment l.rows l.element l.choice l.q × Remembers l.concepts l.ids l.assignment l.rows l.memo
 
-abbrev pub decreases-in_all-loop-q : goal.decreases-in_all-loop-q
-decreases-in_all-loop-q l =
-    length l.ids - l.q
-
 abbrev pub decreases-member_at : goal.decreases-member_at
 decreases-member_at l = 2 * weight l.concepts.now l.id + 1
 
@@ -28,7 +24,3 @@ abbrev pub invariant-some_link-loop-p : goal.invariant-some_link-loop-p
 invariant-some_link-loop-p l =
     Unmet (Leads l.concepts l.ids l.assignment l.rows l.element l.role l.inner) (get_or l.ends (l.element * 4 + 2) 0) (get_or l.ends (l.element * 4 + 3) 0) (rows_of l.rows) l.p
     × Remembers l.concepts l.ids l.assignment l.rows l.memo
-
-abbrev pub decreases-some_link-loop-p : goal.decreases-some_link-loop-p
-decreases-some_link-loop-p l =
-    get_or l.ends (l.element * 4 + 3) 0 - l.p

@@ -1,4 +1,4 @@
-use Prim.Native.Nat.{◌≤◌, ◌-◌}
+use Prim.Native.Nat.{◌≤◌}
 use mathlib.Core.Path.{◌≡◌}
 use lib.ListN.{length}
 use mathlib.Core.Bool.{true}
@@ -8,6 +8,3 @@ use Rattle.matching.proofs.derivation.rules.all_marked.Given as goal
 
 abbrev pub invariant-loop-q : goal.invariant-loop-q
 invariant-loop-q l = (l.q ≤ length l.atoms) × AllBelow l.atoms l.choice (λ p. seen l.count l.marks l.left p ≡ true) l.q
-
-abbrev pub decreases-loop-q : goal.decreases-loop-q
-decreases-loop-q l = length l.atoms - l.q

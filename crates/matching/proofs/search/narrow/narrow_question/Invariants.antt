@@ -1,4 +1,3 @@
-use Prim.Native.Nat.{◌-◌}
 use mathlib.Core.Path.{◌≡◌}
 use lib.ListN.{length}
 use Rattle.matching.specs.Inner.Search.Narrow.{Narrowed}
@@ -6,6 +5,3 @@ use Rattle.matching.proofs.search.narrow.narrow_question.Given as goal
 
 abbrev pub invariant-loop-k : goal.invariant-loop-k
 invariant-loop-k l = (length l.scratch ≡ 16977) × (length l.high ≡ 8) × Narrowed l.sets l.problem l.initial.high l.high
-
-abbrev pub decreases-loop-k : goal.decreases-loop-k
-decreases-loop-k l = 8 - l.k

@@ -1,9 +1,5 @@
-use Prim.Native.Nat.{◌-◌}
 use Rattle.matching.proofs.SearchLaws.Needs.{Wanting}
 use Rattle.matching.proofs.search.needs.count_needs.Given as goal
 
 abbrev pub invariant-loop-c : goal.invariant-loop-c
 invariant-loop-c l = Wanting l.problem l.store l.initial.allowed l.low l.high l.k l.about l.allowed l.met l.sum l.c
-
-abbrev pub decreases-loop-c : goal.decreases-loop-c
-decreases-loop-c l = l.count - l.c

@@ -1,15 +1,10 @@
-use native.Mathlib.Omega.{arith}
-use Rattle.matching.proofs.SearchLaws.Pairs.{within_none, within_more, within_all, within-not}
+use Rattle.std.proofs.Common.{rules, tests}
+use Rattle.std.proofs.lemmas.Iterator.{cases_from_all, YieldsList-from_slice, YieldsList-from_zip}
+use Rattle.matching.proofs.SearchLaws.Pairs.{Covered, within-cases}
 use Rattle.matching.proofs.search.pairs.is_within.Goals as goal
 
-pub loop-k-init : goal.loop-k-init
-loop-k-init c = within_none _ _
-
-pub returns-then-a-k : goal.returns-then-a-k
-returns-then-a-k c = within-not c.args.a c.args.b c.loop-k.k c.if-a-k.true
-
-pub loop-k-preserved : goal.loop-k-preserved
-loop-k-preserved c = within_more _ _ _ c.if-a-k.false c.loop-k.invariant
-
 pub returns : goal.returns
-returns c = within_all _ _ _ c.requires.0 (omega arith) c.loop-k.invariant
+returns c =
+    within-cases _ _ c.requires.0 c.requires.1 _
+    (cases_from_all c.all.new.self _ _ Covered (λ p. Covered p → ⊥) c.all.ensures.ran
+    (YieldsList-from_zip (YieldsList-from_slice c.args.a cc) (YieldsList-from_slice c.args.b cc)) (λ x q k. search (rules, tests)) (λ x q k. search (rules, tests)))

@@ -1,10 +1,6 @@
-use Prim.Native.Nat.{◌-◌}
 use lib.Bits.{bit_and}
 use Rattle.matching.proofs.SearchLaws.Pairs.{Combined}
 use Rattle.matching.proofs.search.pairs.meet.Given as goal
 
 abbrev pub invariant-loop-k : goal.invariant-loop-k
 invariant-loop-k l = Combined bit_and l.initial.common l.b l.common l.k
-
-abbrev pub decreases-loop-k : goal.decreases-loop-k
-decreases-loop-k l = 8 - l.k

@@ -17,13 +17,13 @@ pub overflow_cast-free : goal.overflow_cast-free
 overflow_cast-free c = omega (arith, c.type_inv.problem (c.args.e * 3 + 1))
 
 pub counts-requires : goal.counts-requires
-counts-requires c = record { into_len = c.requires.into_len; r_bound = (c.requires.readable.low-roles _ c.requires.j_lt_count.1 c.if-problem-e-ne2.false, c.requires.readable.low-roles _ c.requires.j_lt_count.0 c.requires.j_lt_count.2) }
+counts-requires c = record { r_bound = (c.requires.readable.low-roles _ c.requires.j_lt_count.1 c.if-problem-e-ne2.false, c.requires.readable.low-roles _ c.requires.j_lt_count.0 c.requires.j_lt_count.2) }
 
 pub returns-then-right : goal.returns-then-right
 returns-then-right c = fit-counts _ _ _ _ _ c.if-problem-e-ne2.false c.if-problem-e-eq1.false true _ c.if-right.true c.counts.ensures
 
 pub counts-requires-2 : goal.counts-requires-2
-counts-requires-2 c = record { into_len = c.requires.into_len; r_bound = (c.requires.readable.low-roles _ c.requires.j_lt_count.0 c.requires.j_lt_count.2, c.requires.readable.low-roles _ c.requires.j_lt_count.1 c.if-problem-e-ne2.false) }
+counts-requires-2 c = record { r_bound = (c.requires.readable.low-roles _ c.requires.j_lt_count.0 c.requires.j_lt_count.2, c.requires.readable.low-roles _ c.requires.j_lt_count.1 c.if-problem-e-ne2.false) }
 
 pub returns : goal.returns
 returns c = fit-counts _ _ _ _ _ c.if-problem-e-ne2.false c.if-problem-e-eq1.false false _ c.if-right.false c.counts-2.ensures

@@ -22,17 +22,11 @@ note_lines-requires c = record { variables_value = c.requires.accepted.passed; s
 pub note_roles-requires : goal.note_roles-requires
 note_roles-requires c = record { low_roles = roles-low _ c.requires.accepted.passed; into_value = refl }
 
-pub slice_bounds-note_fits-end : goal.slice_bounds-note_fits-end
-slice_bounds-note_fits-end c = sym c.note_roles.ensures.long
-
 pub note_fits-requires : goal.note_fits-requires
-note_fits-requires c = record { readable = readable _ _ _ c.requires.accepted c.note_numbers.ensures; into_len = c.note_roles.ensures.long; sets_len = lined-long _ _ _ c.note_lines.ensures c.requires.sets_value }
-
-pub slice_bounds-note_fits-end-2 : goal.slice_bounds-note_fits-end-2
-slice_bounds-note_fits-end-2 c = sym c.note_roles.ensures.long
+note_fits-requires c = record { readable = readable _ _ _ c.requires.accepted c.note_numbers.ensures; sets_len = lined-long _ _ _ c.note_lines.ensures c.requires.sets_value }
 
 pub note_fits-requires-2 : goal.note_fits-requires-2
-note_fits-requires-2 c = record { readable = readable _ _ _ c.requires.accepted c.note_numbers.ensures; into_len = c.note_roles.ensures.long; sets_len = c.note_fits.ensures.long ∙ lined-long _ _ _ c.note_lines.ensures c.requires.sets_value }
+note_fits-requires-2 c = record { readable = readable _ _ _ c.requires.accepted c.note_numbers.ensures; sets_len = c.note_fits.ensures.long ∙ lined-long _ _ _ c.note_lines.ensures c.requires.sets_value }
 
 pub note_cones-requires : goal.note_cones-requires
 note_cones-requires c = record { readable = readable _ _ _ c.requires.accepted c.note_numbers.ensures; sets_len = c.note_fits-2.ensures.long ∙ c.note_fits.ensures.long ∙ lined-long _ _ _ c.note_lines.ensures c.requires.sets_value; no_cones = cones-empty _ _ _ c.note_lines.ensures c.requires.sets_value _ _ _ _ _ c.note_fits.ensures c.note_fits-2.ensures }

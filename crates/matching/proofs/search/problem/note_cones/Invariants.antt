@@ -1,10 +1,5 @@
-use Prim.Native.Nat.{◌-◌}
-use Rattle.matching.specs.Inner.Search.Problem.{question_count}
 use Rattle.matching.proofs.SearchLaws.Making.Cones.{ConesTo}
 use Rattle.matching.proofs.search.problem.note_cones.Given as goal
 
 abbrev pub invariant-loop-m : goal.invariant-loop-m
 invariant-loop-m l = ConesTo l.problem l.count l.initial.sets l.m l.sets
-
-abbrev pub decreases-loop-m : goal.decreases-loop-m
-decreases-loop-m l = question_count l.problem - l.m

@@ -1,9 +1,5 @@
-use Prim.Native.Nat.{◌-◌}
 use Rattle.matching.proofs.SearchLaws.Sets.{WalkedTo}
 use Rattle.matching.proofs.search.sets.next_in.Given as goal
 
 abbrev pub invariant-loop-w : goal.invariant-loop-w
 invariant-loop-w l = WalkedTo l.sets l.at l.from l.w l.start
-
-abbrev pub decreases-loop-w : goal.decreases-loop-w
-decreases-loop-w l = 3 - l.w

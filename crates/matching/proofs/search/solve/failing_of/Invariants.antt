@@ -1,11 +1,7 @@
 use mathlib.Core.Path.{◌≡◌}
 use lib.ListN.{length}
-use Prim.Native.Nat.{◌-◌}
 use Rattle.matching.proofs.SearchLaws.Solve.{HoldTo}
 use Rattle.matching.proofs.search.solve.failing_of.Given as goal
 
 abbrev pub invariant-loop-m : goal.invariant-loop-m
 invariant-loop-m l = HoldTo l.sets l.problem l.choice l.right l.m × (length l.scratch ≡ 16977)
-
-abbrev pub decreases-loop-m : goal.decreases-loop-m
-decreases-loop-m l = l.count - l.m

@@ -1,22 +1,12 @@
-use native.Mathlib.Omega.{arith}
-use mathlib.Core.Bool.{false}
-use Rattle.matching.proofs.SearchLaws.Solve.{step-answered, by-known}
+use Rattle.matching.proofs.SearchLaws.Solve.{by-known}
 use Rattle.matching.proofs.search.solve.step_by_hint.Goals as goal
 
-pub bounds-scratch-16976 : goal.bounds-scratch-16976
-bounds-scratch-16976 c = omega (arith, c.requires.lent.scratch-long)
-
-pub look_up-known-requires : goal.look_up-known-requires
-look_up-known-requires c = record { room = c.requires.lent.room; low_len = (c.requires.full_len.1, c.requires.full_len.2) }
-
-pub returns-then-known : goal.returns-then-known
-returns-then-known c = step-answered _ _ _ _ _ _ _ c.answered.result.done c.answered.result.found false _ _ _ _ c.answered.result.pair c.answered.ensures c.look_up-known.ensures.low_len_2 c.requires.lent.room (by-known _ _ _ _ _ _ c.look_up-known.result.shut _ _ c.look_up-known.ensures.recalled c.if-known.true)
-
-pub shape_of-store : goal.shape_of-store
-shape_of-store c = omega (arith, c.requires.lent.room.long, c.step_by_choice.ensures.1.0.long)
-
-pub shape_of-scratch : goal.shape_of-scratch
-shape_of-scratch c = omega (arith, c.requires.lent.room.long, c.step_by_choice.ensures.1.0.long)
-
-pub returns : goal.returns
-returns c = c.step_by_choice.ensures
+pub returns-then-is_shut : goal.returns-then-is_shut
+returns-then-is_shut c =
+    record {
+      room = c.requires.lent.room;
+      stepped = (
+        (c.in-Some.ensures.low-long, c.in-Some.ensures.high-long),
+        by-known _ _ _ _ _ _ _ _ c.in-Some.ensures _ c.is_shut.ensures c.if-is_shut.true,
+      );
+    }

@@ -1,9 +1,5 @@
-use Prim.Native.Nat.{◌-◌}
 use Rattle.matching.proofs.SearchLaws.Pairs.{MixedTo}
 use Rattle.matching.proofs.search.widen.with_others.Given as goal
 
 abbrev pub invariant-loop-k : goal.invariant-loop-k
 invariant-loop-k l = MixedTo l.initial.mix l.target l.mix l.k
-
-abbrev pub decreases-loop-k : goal.decreases-loop-k
-decreases-loop-k l = 8 - l.k

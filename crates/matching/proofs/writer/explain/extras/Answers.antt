@@ -1,3 +1,4 @@
+use Rattle.std.proofs.Common.{rules}
 use Rattle.matching.proofs.WriterLaws.Explain.{member-bound, inclusion-bound, choice-bound, variable-bound, zero-bound}
 use Rattle.matching.proofs.writer.explain.extras.Goals as goal
 
@@ -7,11 +8,8 @@ returns-then-rule-eq3 c = member-bound _ _ _ _ c.if-rule-eq3.true
 pub returns-then-rule-eq6 : goal.returns-then-rule-eq6
 returns-then-rule-eq6 c = inclusion-bound _ _ _ _ c.if-rule-eq6.true c.requires.concepts_bound.1
 
-pub row_at-row-requires : goal.row_at-row-requires
-row_at-row-requires c = c.requires.left_bound
-
-pub returns-then-row-ne-VARIABLE : goal.returns-then-row-ne-VARIABLE
-returns-then-row-ne-VARIABLE c = variable-bound _ _ _ _ _ c.if-rule-eq7.true c.row_at-row.ensures c.if-row-ne-VARIABLE.true
+pub returns-in_default : goal.returns-in_default
+returns-in_default c = variable-bound _ _ _ _ c.if-rule-eq7.true (λ k e. search rules)
 
 pub returns-then-rule-eq7 : goal.returns-then-rule-eq7
 returns-then-rule-eq7 c = choice-bound _ _ _ _ c.if-rule-eq7.true c.requires.concepts_bound.0

@@ -3,7 +3,7 @@ use Rattle.matching.proofs.writer.explain.test_line.Goals as goal
 
 -- src/writer/explain.rt:170:8
 pub by_rule-requires : goal.by_rule-requires
-by_rule-requires c = record { ready = c.requires.grounds.ready; into_len = c.requires.into_len; square = c.requires.square; left_bound = (c.if-count-left.false, c.if-count-right.false) }
+by_rule-requires c = record { ready = c.requires.grounds.ready; square = c.requires.square; left_bound = (c.if-count-left.false, c.if-count-right.false) }
 
 -- src/writer/explain.rt:182:9
 pub returns-then-by_rule : goal.returns-then-by_rule

@@ -12,7 +12,7 @@ pub loop-q-preserved-then-picked-eq0 : goal.loop-q-preserved-then-picked-eq0
 loop-q-preserved-then-picked-eq0 c = spread-skip _ _ _ _ _ _ _ (omega arith) c.loop-q.invariant c.if-picked-eq0.true
 
 pub flow-new-requires : goal.flow-new-requires
-flow-new-requires c = record { columns_len = omega arith; from_bound = (omega arith, c.requires.known.low c.loop-q.q (omega arith)) }
+flow-new-requires c = record { from_bound = (omega arith, c.requires.known.low c.loop-q.q (omega arith)) }
 
 pub loop-q-preserved : goal.loop-q-preserved
 loop-q-preserved c = spread-turn _ _ _ _ _ _ _ (omega arith) c.loop-q.invariant _ _ (omega arith) c.if-picked-eq0.false c.flow-new.ensures

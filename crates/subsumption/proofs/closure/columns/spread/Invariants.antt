@@ -1,10 +1,5 @@
-use Prim.Native.Nat.{◌-◌}
-use lib.ListN.{length}
 use Rattle.subsumption.proofs.Choices.{Spread}
 use Rattle.subsumption.proofs.closure.columns.spread.Given as goal
 
 abbrev pub invariant-loop-q : goal.invariant-loop-q
 invariant-loop-q l = Spread l.q l.atoms l.choice l.initial.columns l.from l.columns l.changed
-
-abbrev pub decreases-loop-q : goal.decreases-loop-q
-decreases-loop-q l = length l.atoms - l.q

@@ -3,7 +3,7 @@ use Rattle.subsumption.proofs.Linking.{firsts-none, firsts_more, firsts-done, se
 use Rattle.subsumption.proofs.closure.names.note_firsts.Goals as goal
 
 pub loop-j-init : goal.loop-j-init
-loop-j-init c = (firsts-none _ _ c.requires.firsts_len, seen_none _)
+loop-j-init c = (firsts-none _ _ c.told-firsts, seen_none _)
 
 pub first_named-first-requires : goal.first_named-first-requires
 first_named-first-requires c = record { nameable = c.requires.nameable; seen = c.loop-j.invariant.1; j_bound = omega arith }
@@ -19,9 +19,6 @@ bounds-firsts-j c = omega (arith, c.loop-j.invariant.0.long, c.requires.nameable
 
 pub loop-j-preserved : goal.loop-j-preserved
 loop-j-preserved c = (firsts_more _ _ _ _ c.requires.nameable.few c.loop-j.invariant.0 (omega arith) c.first_named-first.ensures, c.note_seen.ensures)
-
-pub shape_of-firsts : goal.shape_of-firsts
-shape_of-firsts c = omega (arith, c.loop-j.invariant.0.long, c.requires.firsts_len)
 
 pub returns : goal.returns
 returns c = firsts-done _ _ _ c.loop-j.invariant.0 (omega arith)
