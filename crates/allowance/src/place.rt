@@ -107,6 +107,7 @@ impl Place {
         ensures { NextFrom count permitted self.low self.high self.settled result }
     {
         let mut at = self;
+        // up the parents to the first that goes on: the place itself says how many are left
         while at.settled > 0 {
             let taken = at.is_taken(count);
             let parent = at.up(permitted, count);

@@ -76,6 +76,7 @@ pub fn walk(
         settled: 0,
     };
     let mut met: u32 = 0;
+    // from place to place until the walk is over: nothing counts them beforehand
     loop {
         if is_open(sets, problem, &mut scratch, &mut kept, permitted, place) {
             if met == allowance {

@@ -50,15 +50,6 @@ fn find_all_permitted(tables: Tables, allowance: u32, out: &mut [u64]) -> Counte
     }
 }
 
-fn least(a: usize, b: usize) -> usize
-    ensures { result ≡ min a b }
-{
-    if a < b {
-        return a;
-    }
-    b
-}
-
 // Table k on its stretch of the buffer.
 fn find_at(tables: Tables, allowance: u32, k: usize, out: &mut [u64]) -> Counted
     requires { k < 8 }
@@ -66,8 +57,8 @@ fn find_at(tables: Tables, allowance: u32, k: usize, out: &mut [u64]) -> Counted
 {
     let width = tables.variables as usize;
     let size = out.len();
-    let from = least(k * width, size);
-    let to = least(from + width, size);
+    let from = (k * width).min(size);
+    let to = (from + width).min(size);
     find_all_permitted(tables, allowance, &mut out[from..to])
 }
 

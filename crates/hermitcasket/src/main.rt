@@ -3,7 +3,6 @@
 
 mod answer;
 mod filled;
-mod input;
 mod lines;
 mod parts;
 mod print;
@@ -43,7 +42,7 @@ fn write_parts<W: Write>(
 
 fn main(rt: HostRuntime) {
     let mut text = [0u8; 8193];
-    let n = input::read_full(&mut rt.stdin(), &mut text);
+    let n = numerals::read_full(&mut rt.stdin(), &mut text);
     let mut concepts = [0u16; 576];
     let mut into = [0u64; ROLE_WORDS];
     let mut table = [0u8; TABLE_BYTES];

@@ -83,6 +83,7 @@ fn rounds(
     let mut order = [0u16; CONCEPTS];
     note_order(square, concepts.len() / 3, &mut order);
     let mut busy = true;
+    // until a round is quiet: nothing says beforehand how many it takes
     while busy {
         busy = round(
             concepts, inclusions, atoms, choices, chain, idle, &order, into, outer, inners, roles,

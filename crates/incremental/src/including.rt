@@ -109,6 +109,7 @@ fn include_left(
     let pairs = inclusions.len() / 2;
     let mut changed = false;
     let mut m = chain[l] as usize;
+    // along the pairs of one left side, each of which leads to the next
     while m < pairs {
         let right = inclusions[m * 2 + 1] as usize;
         let new = flow(square, right, i);
@@ -143,6 +144,7 @@ fn scan_lefts(
 {
     let mut changed = false;
     let mut l = next_open(square, covered, i, from);
+    // the next id is looked for in a row to which the steps add
     while l < to {
         let new = include_left(inclusions, chain, count, square, done, covered, i, l);
         changed = changed | new;

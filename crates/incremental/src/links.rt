@@ -11,7 +11,7 @@ ghost use Rattle.incremental.specs.Inner.Links.{Existentials, Joins, ByRole, ByI
 
 use crate::marking::{holds, take};
 use square::helpers::{COLUMNS, insert};
-use subsumption::helpers::{Node, node_at};
+use subsumption::helpers::{Node, Words, node_at};
 use subsumption::limits::{CONCEPTS, ROLE_WORDS};
 
 // Of the roles, the words: three a role, and lines to 128.
@@ -34,14 +34,6 @@ pub fn note_existentials(concepts: &[u16], outer: &mut [u64], inners: &mut [u64]
         insert(inners, 0, inner as usize);
         insert(roles, role as usize * 3, e);
     }
-}
-
-// A set of ids, by value.
-#[derive(Clone, Copy)]
-struct Words {
-    first: u64,
-    second: u64,
-    third: u64,
 }
 
 // The set with all lines, from line `from` on, that the word picks.

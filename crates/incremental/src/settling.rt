@@ -11,7 +11,7 @@ ghost use Rattle.incremental.specs.Inner.Settling.{SpreadPass, InnerPass, MeetPa
 
 use crate::marking::{flow, meet, take};
 use square::helpers::COLUMNS;
-use subsumption::helpers::{Node, node_at};
+use subsumption::helpers::{Node, Words, node_at};
 
 const ALL: u64 = 18446744073709551615;
 
@@ -32,14 +32,6 @@ fn spread(atoms: &[u16], choice: u64, square: &mut [u64], to: usize) -> bool
         changed = changed | new;
     }
     changed
-}
-
-// The three words of a line.
-#[derive(Clone, Copy)]
-struct Words {
-    first: u64,
-    second: u64,
-    third: u64,
 }
 
 // The bits that the columns of all chosen atoms have.

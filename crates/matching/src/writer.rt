@@ -79,6 +79,7 @@ fn write_more(
     let count = concepts.len() / 3;
     let mut n = written;
     let mut from = 0;
+    // until the asked pair is written: nothing says beforehand how many lines that takes
     loop {
         let next = next_line(concepts, inclusions, into, atoms, assignment, marks, from);
         if let Some(

@@ -180,6 +180,7 @@ pub fn judge_text(
         want: ITEM,
     };
     let mut at = skip_spaces(text, 0);
+    // each token says where the next may begin
     while at < text.len() {
         let end = token_end(text, at);
         reader = step_token(

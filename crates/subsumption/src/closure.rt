@@ -45,6 +45,7 @@ fn include_until_quiet(inclusions: &[u16], columns: &mut [u64; WORDS]) -> bool
 {
     let mut changed = false;
     let mut busy = true;
+    // until a pass is quiet: nothing says beforehand how many it takes
     while busy {
         busy = include_all(inclusions, columns);
         changed = changed | busy;
@@ -150,6 +151,7 @@ pub fn close(
     let mut kinds = [0u64; KIND_WORDS];
     note_kinds(&into, &lines, &mut kinds);
     let mut busy = true;
+    // until a pass is quiet: nothing says beforehand how many it takes
     while busy {
         busy = round(
             concepts, inclusions, atoms, assignment, &firsts, &outer, &inners, &kinds, columns,

@@ -18,15 +18,6 @@ fn ones_below(word: u64, n: usize) -> usize
     u64::count_ones(word % (1 << n)) as usize
 }
 
-fn past(n: usize, by: usize) -> usize
-    ensures { result ≡ n - by }
-{
-    if n < by {
-        return 0;
-    }
-    n - by
-}
-
 // The ids below count that are in column j.
 fn ones_in(columns: &[u64; WORDS], j: usize, count: usize) -> usize
     requires j_bound { j < 192 }
@@ -35,8 +26,8 @@ fn ones_in(columns: &[u64; WORDS], j: usize, count: usize) -> usize
     ensures upper_bound { result ≤ 192 }
 {
     let first = ones_below(columns[j * 3], count);
-    let second = ones_below(columns[j * 3 + 1], past(count, 64));
-    let third = ones_below(columns[j * 3 + 2], past(count, 128));
+    let second = ones_below(columns[j * 3 + 1], count.saturating_sub(64));
+    let third = ones_below(columns[j * 3 + 2], count.saturating_sub(128));
     first + second + third
 }
 

@@ -2,6 +2,7 @@
 // which asks what the tables' checks have shown.
 pub use crate::atoms::mark_variables;
 pub use crate::check::{check_assignment, check_concepts, is_past};
+pub use crate::closure::columns::Words;
 pub use crate::decide::decide_known;
 pub use crate::listing::list_asked;
 pub use crate::roles::{counts, note_roles};

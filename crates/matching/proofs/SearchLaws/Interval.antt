@@ -1,4 +1,5 @@
 -- Why the search is right: what a test of either side tells of a whole interval, and how an interval is split.
+use Rattle.std.specs.Prelude.{Option, Some, None}
 use Rattle.subsumption.specs.Refusal.{Done}
 use Prim.Native.Nat.{ℕ, ◌+◌, ◌*◌, ◌/◌, ◌%◌, ◌<◌, ◌≤◌}
 use mathlib.Core.Path.{◌≡◌, refl, sym, ap, ◌∙◌, subst}
@@ -18,7 +19,7 @@ use Rattle.matching.specs.Solving.{takes}
 use Rattle.matching.specs.Inner.Search.{Decided, HoldsAt, Within, SolutionIn, NoSolution}
 use Rattle.matching.specs.Inner.Search.Problem.{AskedAt}
 use Rattle.matching.specs.Inner.Search.Pairs.{Changed}
-use Rattle.matching.specs.Inner.Search.Interval.{IntervalOf, undecided, open_pairs}
+use Rattle.matching.specs.Inner.Search.Interval.{IntervalOf, Picked, undecided, open_pairs}
 use Rattle.matching.specs.Inner.Search.Solve.{Refuted}
 use Rattle.matching.proofs.SearchLaws.Fronts.{front-known, front-takes, front-within, accepted-bits, within-accepted}
 use Rattle.matching.proofs.SearchLaws.Monotone.{monotone, antitone, left-free}
@@ -204,3 +205,10 @@ decided-true P b x e = subst (Decided P) e x
 
 pub decided-false : (P : Type 0) (b : Bool) → Decided P b → b ≡ false → P → ⊥
 decided-false P b x e = subst (Decided P) e x
+
+-- ---- answers
+pub picked-at : (low high : List ℕ) (r : Option ℕ) (p : ℕ) → Picked low high r → r ≡ Some p → (p < 512) × (undecided low high p ≡ true)
+picked-at low high r p x e = subst (Picked low high) e x
+
+pub picked_none : (low high : List ℕ) (r : Option ℕ) → Picked low high r → r ≡ None → (p : ℕ) → p < 512 → undecided low high p ≡ false
+picked_none low high r x e = subst (Picked low high) e x

@@ -17,7 +17,7 @@ use Rattle.subsumption.proofs.Accepted.{well_formed}
 use Rattle.subsumption.proofs.Nodes.{node-exists, exists-node}
 use Rattle.subsumption.proofs.Trees.{variable-top, variable-name, variable-exists, inner-exists, inner-and}
 use Rattle.square.specs.Inner.Square.{on_line}
-use Rattle.matching.specs.declared.search.sets.Words.{Words}
+use Rattle.subsumption.specs.declared.closure.columns.Words.{Words}
 use Rattle.matching.specs.Inner.Search.{Decided}
 use Rattle.matching.specs.Inner.Search.Sets.{in_words, NextIn, Same, Joined, PutAt}
 use Rattle.matching.specs.Inner.Search.Problem.{cone_at, closers_at, held_at, left_at, right_at, inner_at, FreeId, Problem}

@@ -19,7 +19,7 @@ use Rattle.subsumption.proofs.Bits.{bit-or, bit-and, bit-ones, bit_past, bit-shr
 use Rattle.square.specs.Inner.Square.{on_line}
 use Rattle.square.proofs.BitLaws.{Lowest, lowest, no_bits}
 use Rattle.square.proofs.SetLaws.{line-three}
-use Rattle.matching.specs.declared.search.sets.Words.{Words}
+use Rattle.subsumption.specs.declared.closure.columns.Words.{Words}
 use Rattle.matching.specs.Inner.Search.Sets.{NextBit, NextIn, Compared, PutAt}
 use Rattle.matching.specs.Inner.Search.Problem.{line_at, fit_at}
 

@@ -22,7 +22,7 @@ use Rattle.subsumption.proofs.Membership.{subsumed-ground}
 use Rattle.subsumption.proofs.Nodes.{exists-node}
 use Rattle.subsumption.proofs.Soundness.{subsumed-same, subsumed-trans}
 use Rattle.square.specs.Inner.Square.{on_line}
-use Rattle.matching.specs.declared.search.sets.Words.{Words}
+use Rattle.subsumption.specs.declared.closure.columns.Words.{Words}
 use Rattle.matching.specs.Inner.Search.Sets.{in_words, Joined}
 use Rattle.matching.specs.Inner.Search.Problem.{line_at, fit_at, closers_at, held_at, atom_at, inner_at, FreeId, nothing, Fitting, closes, in_members, Closers, Problem}
 use Rattle.matching.specs.Inner.Search.Patterns.{ReadBy, ValueRead, BelowAll, ChosenAbove, AboveSome, LinkOf, Linked, MembersOf, Follows, by-set, by-top, by_and, ClosedUp, Upper, Exact, Generates, ValueOf}

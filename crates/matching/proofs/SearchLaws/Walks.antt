@@ -12,7 +12,7 @@ use Rattle.subsumption.specs.Atoms.{bit}
 use Rattle.subsumption.proofs.Bools.{or_cases, or-first, or-second, both_true, both-intro, last-cases, le-or-lt}
 use Rattle.subsumption.proofs.Nodes.{and-node, var-node}
 use Rattle.square.specs.Inner.Square.{on_line}
-use Rattle.matching.specs.declared.search.sets.Words.{Words}
+use Rattle.subsumption.specs.declared.closure.columns.Words.{Words}
 use Rattle.matching.specs.Inner.Search.{Decided}
 use Rattle.matching.specs.Inner.Search.Sets.{in_words, NextBit, NextIn, Same, Grown, Joined, Compared}
 use Rattle.matching.specs.Inner.Search.Problem.{Numbers, line_at, fit_at, atom_at, inner_at}

@@ -8,10 +8,10 @@ ghost use Rattle.matching.specs.Inner.Search.Patterns.{ValueRead, BelowAll, Abov
 
 use crate::limits::{ATOM_IDS, CLOSERS, COLUMNS, CONES, HELD, SIDES};
 use crate::search::sets::{
-    Words, fit_at, is_in, is_same, join, meet, next_bit, next_in, put_words, words_at,
+    fit_at, is_in, is_same, join, meet, next_bit, next_in, put_words, words_at,
 };
 use square::helpers::has;
-use subsumption::helpers::{Node, node_at};
+use subsumption::helpers::{Node, Words, node_at};
 
 const ALL: u64 = 18446744073709551615;
 
@@ -139,6 +139,7 @@ fn close_up(sets: &[u64], problem: &[u16], at: usize, x: Words) -> Words
     ensures { ClosedUp sets.now problem.now at x result }
 {
     let mut sum = x;
+    // until nothing is added: nothing says beforehand how often
     loop {
         let more = close_once(sets, problem, at, sum);
         if is_same(more, sum) {

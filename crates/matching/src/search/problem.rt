@@ -21,9 +21,9 @@ ghost use Rattle.matching.specs.Inner.Sizes.{problem_size};
 use crate::limits::{
     ATOM_IDS, CLOSERS, CONES, FITS_LEFT, HELD, HOLDS, QUESTION_COUNT, SIDES, TABLE,
 };
-use crate::search::sets::{Words, fit_at, is_same, join, meet, next_in, words_at};
+use crate::search::sets::{fit_at, is_same, join, meet, next_in, words_at};
 use square::helpers::{has, insert, load};
-use subsumption::helpers::{Node, counts, mark_variables, node_at, note_roles};
+use subsumption::helpers::{Node, Words, counts, mark_variables, node_at, note_roles};
 use subsumption::kinds::{CONJUNCTION, EXISTENTIAL, VARIABLE};
 use subsumption::limits::{CONCEPTS, ROLE_WORDS};
 use subsumption::{Tables, write_table};
@@ -394,6 +394,7 @@ fn keep_all(sets: &mut [u64], problem: &[u16], count: usize, at: usize, wanted: 
     ensures { KeptAll problem.now count at sets.old sets.new wanted.old wanted.new }
 {
     let mut from: usize = 0;
+    // what is kept makes more wanted, so the search begins anew until there is none
     loop {
         let e = next_new(sets, problem, count, at, wanted, from);
         if e < count {

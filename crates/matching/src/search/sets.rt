@@ -5,13 +5,7 @@ ghost use Rattle.matching.specs.Inner.Search.Problem.{fit_at};
 ghost use Rattle.matching.specs.Inner.Search.Sets.{in_words, NextBit, NextIn, Same, Joined, Compared, PutAt};
 
 use crate::limits::{FITS_LEFT, FITS_RIGHT};
-
-#[derive(Clone, Copy)]
-pub struct Words {
-    pub first: u64,
-    pub second: u64,
-    pub third: u64,
-}
+use subsumption::helpers::Words;
 
 // Where the existentials stand that fit one with a variable.
 pub fn fit_at(right: bool, id: usize) -> usize

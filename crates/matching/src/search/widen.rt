@@ -109,6 +109,7 @@ fn widen_runs(
     let mut failing = choice;
     let mut from: usize = 0;
     let mut size: usize = PAIRS;
+    // the step is doubled where it may be taken and halved where not
     while from < PAIRS {
         let end = PAIRS - from;
         let start = start_of(end, size);

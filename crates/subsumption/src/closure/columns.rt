@@ -77,7 +77,7 @@ pub fn below(columns: &[u64; WORDS], i: usize, j: usize) -> bool
     (columns[j * 3 + i / 64] >> (i % 64)) % 2 == 1
 }
 
-// The three words of a column.
+// A set of ids, as a column is one: three words of 64.
 #[derive(Clone, Copy)]
 pub struct Words {
     pub first: u64,

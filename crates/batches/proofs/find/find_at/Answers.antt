@@ -8,4 +8,4 @@ pub overflow_mul-k : goal.overflow_mul-k
 overflow_mul-k c = omega (arith, mul-le-mul_right {m = c.args.k} {n = 8} c.args.tables.variables (omega arith))
 
 pub returns : goal.returns
-returns c = finds-at _ _ _ _ _ _ _ (counted_reply c.find_all_permitted.result) c.least-from.ensures c.least-to.ensures c.find_all_permitted.auto.out c.find_all_permitted.ensures
+returns c = finds-at _ _ _ _ _ _ _ (counted_reply c.find_all_permitted.result) c.min-from.ensures c.min-to.ensures c.find_all_permitted.auto.out c.find_all_permitted.ensures

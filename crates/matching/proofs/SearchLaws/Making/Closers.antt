@@ -13,7 +13,7 @@ use Rattle.subsumption.proofs.Bools.{or-first, or-second, or-skip, or_cases, bot
 use Rattle.subsumption.proofs.Nodes.{and-node}
 use Rattle.square.specs.Inner.Square.{on_line}
 use Rattle.square.specs.Inner.Sets.{Inserted}
-use Rattle.matching.specs.declared.search.sets.Words.{Words}
+use Rattle.subsumption.specs.declared.closure.columns.Words.{Words}
 use Rattle.matching.specs.Inner.Search.Sets.{in_words, NextIn, Same, Joined}
 use Rattle.matching.specs.Inner.Search.Problem.{line_at, fit_at, cone_at, closers_at, held_at, right_at, inner_at, question_count, Numbers, closes, in_members, Covered, Closers}
 use Rattle.matching.specs.Inner.Search.Making.{kind_at, Outside, is_closer, Grew, WantsInner, AskedFor, NewAt, NextNew, Kept, KeptAll, ClosersNoted}

@@ -6,7 +6,7 @@ use Rattle.subsumption.specs.Atoms.{bit}
 use Rattle.subsumption.specs.Subsumption.{Subsumed}
 use Rattle.subsumption.specs.Check.{assignment_fault}
 use Rattle.square.specs.Inner.Square.{on_line}
-use Rattle.matching.specs.declared.search.sets.Words.{Words}
+use Rattle.subsumption.specs.declared.closure.columns.Words.{Words}
 use Rattle.matching.specs.Inner.Search.{Decided, HoldsAt}
 use Rattle.matching.specs.Inner.Search.Sets.{in_words, Same, Grown}
 use Rattle.matching.specs.Inner.Search.Problem.{line_at, fit_at, cone_at, held_at, atom_at, inner_at, FreeId, Problem}

@@ -3,7 +3,7 @@ use Rattle.std.specs.Prelude.{ℕ, ◌+◌, ◌<◌, ◌≤◌, ◌≡◌, List,
 use Rattle.subsumption.specs.Tables.{or}
 use Rattle.subsumption.specs.Atoms.{bit}
 use Rattle.square.specs.Inner.Square.{on_line}
-use Rattle.matching.specs.declared.search.sets.Words.{Words}
+use Rattle.subsumption.specs.declared.closure.columns.Words.{Words}
 
 -- c is in the three words
 abbrev pub in_words : Words → ℕ → Bool

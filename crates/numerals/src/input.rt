@@ -1,4 +1,4 @@
-// Reading a whole text.
+// Reading a program's whole input.
 ghost use Rattle.std.specs.Prelude.{◌≤◌, length};
 
 use std::io::Read;
@@ -8,11 +8,9 @@ pub fn read_full<R: Read>(input: &mut R, buffer: &mut [u8]) -> usize
     ensures { result ≤ length buffer.new }
 {
     let mut done = 0;
+    // each read says how far it came
     while done < buffer.len() {
-        let n = match input.read(&mut buffer[done..]) {
-            Ok(n) => n,
-            Err(_) => 0,
-        };
+        let n = input.read(&mut buffer[done..]).unwrap_or(0);
         if n == 0 {
             break;
         }

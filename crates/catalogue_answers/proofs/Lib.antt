@@ -1,0 +1,2 @@
+-- From an operation's answer to numbers.
+pub mod AnswerLaws
