@@ -200,7 +200,8 @@ fn by_all(
     all_marked(atoms, assignment[k as usize], marks, count, left)
 }
 
-// What the rule asks of a line whose left and right are ids.
+// What the rule asks of a line whose left and right are ids. Each rule reads the rows that it asks of, where it asks: both read before
+// the rule is known made long lists take half as long again.
 pub fn by_rule(
     concepts: &[u16],
     inclusions: &[u16],
@@ -220,33 +221,40 @@ pub fn by_rule(
         marks.now rule left right extra result }
 {
     let count = concepts.len() / 3;
-    let l = node_at(concepts, left);
-    let r = node_at(concepts, right);
     if rule == 3 {
+        let l = node_at(concepts, left);
         return by_member(marks, count, l, right, extra);
     }
     if rule == 6 {
         return by_inclusion(inclusions, marks, count, left, right, extra);
     }
     if rule == 7 {
+        let l = node_at(concepts, left);
         return by_choice(atoms, assignment, marks, count, l, right, extra);
     }
     if extra != 0 {
         return false;
     }
     if rule == 1 {
+        let l = node_at(concepts, left);
+        let r = node_at(concepts, right);
         return by_name(left, right, l, r);
     }
     if rule == 2 {
+        let r = node_at(concepts, right);
         return by_top(r);
     }
     if rule == 4 {
+        let r = node_at(concepts, right);
         return by_both(marks, count, left, r);
     }
     if rule == 5 {
+        let l = node_at(concepts, left);
+        let r = node_at(concepts, right);
         return by_inner(into, marks, count, l, r);
     }
     if rule == 8 {
+        let r = node_at(concepts, right);
         return by_all(atoms, assignment, marks, count, left, r);
     }
     false
