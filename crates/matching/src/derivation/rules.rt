@@ -200,8 +200,8 @@ fn by_all(
     all_marked(atoms, assignment[k as usize], marks, count, left)
 }
 
-// What the rule asks of a line whose left and right are ids. Each rule reads the rows that it asks of, where it asks: both read before
-// the rule is known made long lists take half as long again.
+// What the rule asks of a line whose left and right are ids. A rule reads only the rows that it needs: with both read for every line the
+// check of a long list took half as much time again.
 pub fn by_rule(
     concepts: &[u16],
     inclusions: &[u16],
